@@ -1,0 +1,18 @@
+// The numbers by which a circuit's parts are known. Sources come first among the lines, gates follow.
+
+/// The number of a line: sources have 0 to s - 1, gate g has s + g.
+#[derive(Clone, Copy, Debug, Default, PartialEq, Eq, PartialOrd, Ord, Hash)]
+pub struct LineId(pub u32);
+
+/// The number of a gate, from 0 in the order of the file.
+#[derive(Clone, Copy, Debug, Default, PartialEq, Eq, PartialOrd, Ord, Hash)]
+pub struct GateId(pub u32);
+
+/// One pin of one gate. The pins of a gate are numbered from 0, in the order of its arguments.
+#[derive(Clone, Copy, Debug, Default, PartialEq, Eq, PartialOrd, Ord, Hash)]
+pub struct PinRef {
+    /// The gate.
+    pub gate: GateId,
+    /// The pin's number at that gate.
+    pub pin: u32,
+}
