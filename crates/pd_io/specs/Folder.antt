@@ -1,0 +1,71 @@
+-- What a file object holds and tells: names with bytes, the names asked, the file that is read and the one that is
+-- written (this project's own).
+use Rattle.std.specs.Prelude.{◌≡◌, ◌⊎◌, ⊤, ℕ, ◌+◌, ◌≤◌, List, [], ◌∷◌, ◌++◌, length, take, drop, Option, None, Some, Result, Ok, Err, unwrap_or, option_map, nat_eq, if◌then◌else◌}
+use Rattle.std.specs.Cmp.Lexicographic.{pointwise}
+use Rattle.pd_io.specs.declared.fault.FileFault.{FileFault}
+use Rattle.pd_io.specs.declared.fault.FileFault.TheVariants.{Failed, NoMemory}
+use Rattle.pd_io.specs.Telling.{IsFrontOf}
+
+-- what stands under each name, and nothing where the name is absent
+abbrev pub Contents : Type 0
+Contents = List ℕ → Option (List ℕ)
+
+-- an absent name counts as holding no bytes
+abbrev pub bytes_at : Contents → List ℕ → List ℕ
+bytes_at held name = unwrap_or (held name) []
+
+-- the contents with these bytes under this name, and all other names as before
+abbrev pub put : Contents → List ℕ → List ℕ → Contents
+put held name bytes other = if pointwise nat_eq other name then Some bytes else held other
+
+-- what an object that tells shows: what it holds, and the names that it was asked to read, in order
+pub record Folder : Type 0 where
+  pub held : Contents
+  pub asked : List (List ℕ)
+
+-- the file that is open for reading, and how many of its bytes were taken
+pub record Reader : Type 0 where
+  pub name : List ℕ
+  pub place : ℕ
+
+-- the names asked after a `begin_read` of one more: want of memory leaves them
+abbrev pub asked_after : Result ⊤ FileFault → List (List ℕ) → List ℕ → List (List ℕ)
+asked_after (Ok done) asked name = asked ++ name ∷ []
+asked_after (Err Failed) asked name = asked ++ name ∷ []
+asked_after (Err NoMemory) asked name = asked
+
+-- a `read` moves the reader by the bytes that it gave; a fault leaves it
+abbrev pub moved : Option Reader → Result ℕ FileFault → Option Reader
+moved reader (Ok count) = option_map (λ r. record { name = r.name; place = r.place + count }) reader
+moved reader (Err fault) = reader
+
+-- the first count bytes of a buffer are the next ones of these; there are none exactly at the end
+pub record IsNext (left : List ℕ) (count : ℕ) (buffer : List ℕ) : Type 0 where
+  pub bytes : take count buffer ≡ take count left
+  pub within : count ≤ length left
+  pub none_at_end : count ≡ 0 → left ≡ []
+
+-- a `read` gave the next bytes of the file that is open
+abbrev pub GivesNext : Folder → Option Reader → ℕ → List ℕ → Type 0
+GivesNext folder None count buffer = ⊥
+GivesNext folder (Some reader) count buffer = IsNext (drop reader.place (bytes_at folder.held reader.name)) count buffer
+
+-- a `begin_write` makes the name hold nothing; a fault leaves the contents
+abbrev pub emptied : Result ⊤ FileFault → Contents → List ℕ → Contents
+emptied (Ok done) held name = put held name []
+emptied (Err fault) held name = held
+
+-- the bytes that a `write` took: the first count of them; a fault takes none
+abbrev pub taken_of : Result ℕ FileFault → List ℕ → List ℕ
+taken_of (Ok count) bytes = take count bytes
+taken_of (Err fault) bytes = []
+
+-- a `write` appends what it took to the file that is open for writing
+abbrev pub appended : Contents → Option (List ℕ) → Result ℕ FileFault → List ℕ → Contents
+appended held None result bytes = held
+appended held (Some name) (Ok count) bytes = put held name (bytes_at held name ++ take count bytes)
+appended held (Some name) (Err fault) bytes = held
+
+-- nothing was written, or the name holds a front of this text and every other name is as before
+abbrev pub HoldsFront : Contents → Contents → List ℕ → List ℕ → Type 0
+HoldsFront old new name text = (new ≡ old) ⊎ ((front : List ℕ) × IsFrontOf front text × (new ≡ put old name front))

@@ -1,0 +1,11 @@
+//! The outside as traits: files and sinks, and whole files read and written over them.
+//! Stands on the kit alone. The layers above use `Files`, `Sink`, `read_whole`, `write_whole` and `write_all`.
+#![tactic(auto)]
+
+mod fault;
+mod files;
+mod sink;
+
+pub use fault::{FileFault, ReadFault, WriteFault};
+pub use files::Files;
+pub use sink::Sink;

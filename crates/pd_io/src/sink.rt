@@ -1,0 +1,24 @@
+// A place that bytes go to, in order, as standard output.
+ghost use Rattle.std.specs.Prelude.{◌≡◌, ℕ, ◌<◌, ◌≤◌, List, ◌++◌, length, Option, IfOk};
+ghost use Rattle.pd_io.specs.declared.fault.FileFault.TheVariants.{Failed};
+ghost use Rattle.pd_io.specs.Counts.{HasCause};
+ghost use Rattle.pd_io.specs.Telling.{Tells};
+ghost use Rattle.pd_io.specs.Folder.{taken_of};
+
+use crate::FileFault;
+
+/// A place that bytes go to, in order.
+pub trait Sink {
+    /// The bytes taken so far, where the object tells.
+    ghost taken: { Self → Option (List ℕ) };
+
+    /// How often a write failed, at most 2^64 - 1.
+    ghost faults: { Self → ℕ };
+
+    /// Takes the first of the bytes, at least one, and answers how many. A fault takes none.
+    fn write(&mut self, bytes: &[u8]) -> Result<usize, FileFault>
+        requires { 0 < length bytes.now }
+        ensures within { IfOk result (λ count. (0 < count) × (count ≤ length bytes.now)) }
+        ensures told { Tells (taken self.old) (taken self.new) (λ old new. new ≡ old ++ taken_of result bytes.now) }
+        ensures cause { HasCause (faults self.old) (faults self.new) result Failed };
+}
