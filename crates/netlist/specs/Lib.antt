@@ -1,0 +1,9 @@
+pub mod Circuit
+pub mod Conditions
+pub mod Evaluation
+pub mod Meaning
+pub mod Order
+pub mod Paths
+pub mod Steadiness
+pub mod Values
+pub mod Waves

@@ -1,0 +1,43 @@
+-- What a test shows: a late path, a wrong sample, settled sides (path delay faults under transport delays).
+use Rattle.std.specs.Prelude.{◌≡◌, ◌≢◌, ⊤, ℕ, ◌+◌, ℤ, pos, ◌-ℤ◌, ◌<ℤ◌, List, [], ◌∷◌, sum_by, slice_get, Some}
+use Rattle.pd_base.specs.declared.ids.LineId.{LineId}
+use Rattle.pd_base.specs.declared.ids.PinRef.{PinRef}
+use Rattle.pd_base.specs.Pair.{Vectors}
+use Rattle.pd_base.specs.Route.{Route}
+use Rattle.netlist.specs.Circuit.{Circuit, pins_at}
+use Rattle.netlist.specs.Values.{value}
+use Rattle.netlist.specs.Waves.{Delays, wave_of}
+use Rattle.netlist.specs.Paths.{end_of, length_of}
+
+-- the path is longer than the time of sampling
+abbrev pub IsLate : Route → Delays → ℤ → Type 0
+IsLate path delays time = time <ℤ pos (length_of delays path)
+
+-- what is sampled at the path's end is not the value that the second vector leads to
+abbrev pub IsWrong : Circuit → Route → Vectors → Delays → ℤ → Type 0
+IsWrong c path pair delays time = wave_of c pair delays (end_of c path) time ≢ value c pair.second (end_of c path)
+
+-- under each delay assignment, whenever the path is late the sample is wrong
+abbrev pub Detects : Circuit → Route → Vectors → Type 0
+Detects c path pair = (delays : Delays) (time : ℤ) → IsLate path delays time → IsWrong c path pair delays time
+
+-- the line that a pin reads has its value under the second vector at this time less the pin's delay
+abbrev pub IsSettledPin : Circuit → Vectors → Delays → ℤ → ℕ → ℕ × LineId → Type 0
+IsSettledPin c pair delays time gate pin =
+    wave_of c pair delays pin.1.0 (time -ℤ pos (delays (record { gate = record { 0 = gate }; pin = pin.0 }))) ≡ value c pair.second pin.1.0
+
+-- each side pin of each step has settled, read back from the time of sampling by the delays behind its gate
+abbrev pub AreSettled : Circuit → Vectors → Delays → ℤ → List PinRef → Type 0
+AreSettled c pair delays time [] = ⊤
+AreSettled c pair delays time (step ∷ steps) =
+    ((pin : ℕ) (line : LineId) → pin ≢ step.pin → slice_get (pins_at c step.gate.0) pin ≡ Some line
+    → IsSettledPin c pair delays (time -ℤ pos (sum_by delays steps)) step.gate.0 (pin, line))
+    × AreSettled c pair delays time steps
+
+-- the path's sides have settled at a time
+abbrev pub IsSettled : Circuit → Route → Vectors → Delays → ℤ → Type 0
+IsSettled c path pair delays time = AreSettled c pair delays time path.steps
+
+-- under each delay assignment, whenever the path is late and its sides have settled the sample is wrong
+abbrev pub DetectsSettled : Circuit → Route → Vectors → Type 0
+DetectsSettled c path pair = (delays : Delays) (time : ℤ) → IsLate path delays time → IsSettled c path pair delays time → IsWrong c path pair delays time
