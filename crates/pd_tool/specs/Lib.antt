@@ -1,5 +1,14 @@
+pub mod ChainText
+pub mod Endings
+pub mod Generation
+pub mod Headline
+pub mod Lines
 pub mod ProofsText
 pub mod ReportText
+pub mod Requests
+pub mod RobustRun
+pub mod Standing
 pub mod Summary
 pub mod TestsText
 pub mod Tokens
+pub mod Words

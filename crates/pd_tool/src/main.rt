@@ -1,4 +1,9 @@
 //! A path delay fault test generator.
 #![tactic(auto)]
 
-fn main(_rt: HostRuntime) {}
+mod ending;
+mod status;
+mod words;
+
+fn main(_rt: HostRuntime) {
+}

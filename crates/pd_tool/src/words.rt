@@ -1,0 +1,120 @@
+// The words of the command line, read by hand from the left. What they may ask for stands in specs/Words.antt.
+ghost use Rattle.std.specs.Prelude.{◌≡◌, ◌<◌, Ok, Err, length, position, nat_eq, IfSome, MatchResult};
+ghost use Rattle.std.specs.Cmp.Lexicographic.{pointwise};
+ghost use Rattle.pd_tool.specs.Words.{command_of, first_fault, first_same, gen};
+ghost use Rattle.pd_tool.specs.Requests.{request_of, texts};
+
+/// Why the words were refused. Places count from 1, the command word being 1.
+#[derive(Clone, Copy, Debug, PartialEq, Eq)]
+pub enum WordsFault {
+    /// No word, or a first one that is no command.
+    Command,
+    /// The word at this place begins with a hyphen.
+    OptionAt(usize),
+    /// The word at this place is empty.
+    EmptyAt(usize),
+    /// There are too many or too few file names.
+    Count,
+    /// The words at these two places are the same file name.
+    SameAt(usize, usize),
+}
+
+/// A call of `gen`: the names of its files, by role.
+#[derive(Clone, Copy, Debug)]
+pub struct Request<'a> {
+    /// The netlist, to be read.
+    pub net: &'a str,
+    /// The delays, to be read.
+    pub delays: &'a str,
+    /// The tests, to be written.
+    pub tests: &'a str,
+    /// The report, to be written.
+    pub report: &'a str,
+    /// The proofs, to be written.
+    pub proofs: &'a str,
+}
+
+/// How many file names `gen` takes.
+const NAMES: usize = 5;
+
+/// The place of the first file name.
+const FIRST_NAME: usize = 2;
+
+/// What the words ask for, or the first reason why they are refused.
+#[tactic(auto, using(crate::proofs::FiveNames::five_names))]
+pub fn read_words<'a>(words: &[&'a str]) -> Result<Request<'a>, WordsFault>
+    ensures { MatchResult result
+        (λ request. command_of (texts words.now) ≡ Ok (gen (request_of request)))
+        (λ fault. command_of (texts words.now) ≡ Err fault) }
+{
+    let [command, names @ ..] = words else {
+        return Err(WordsFault::Command);
+    };
+    if *command != "gen" {
+        return Err(WordsFault::Command);
+    }
+    if let Some(fault) = fault_among(names) {
+        return Err(fault);
+    }
+    if let Some(fault) = same_among(names) {
+        return Err(fault);
+    }
+    let [net, delays, tests, report, proofs] = names else {
+        return Err(WordsFault::Count);
+    };
+    Ok(Request {
+        net,
+        delays,
+        tests,
+        report,
+        proofs,
+    })
+}
+
+// The first name that cannot stand where it does, or that some are missing.
+fn fault_among(names: &[&str]) -> Option<WordsFault>
+    ensures { result ≡ first_fault 2 5 (texts names.now) }
+{
+    for (index, name) in names.iter().enumerate() {
+        if let [b'-', ..] = name.as_bytes() {
+            return Some(WordsFault::OptionAt(FIRST_NAME + index));
+        }
+        if name.is_empty() {
+            return Some(WordsFault::EmptyAt(FIRST_NAME + index));
+        }
+        if index == NAMES {
+            return Some(WordsFault::Count);
+        }
+    }
+    if names.len() == NAMES {
+        None
+    } else {
+        Some(WordsFault::Count)
+    }
+}
+
+// The first two equal names.
+fn same_among(names: &[&str]) -> Option<WordsFault>
+    ensures { result ≡ first_same 2 (texts names.now) }
+{
+    for (index, name) in names.iter().enumerate() {
+        if let Some(distance) = distance_to_same(name, &names[index + 1..]) {
+            let first = FIRST_NAME + index;
+            return Some(WordsFault::SameAt(first, first + 1 + distance));
+        }
+    }
+    None
+}
+
+// How many names stand before the first one that is equal.
+fn distance_to_same(name: &str, later: &[&str]) -> Option<usize>
+    ensures same { result ≡ position (pointwise nat_eq name.now) (texts later.now) }
+    ensures within { IfSome result (λ distance. distance < length later.now) }
+{
+    for (distance, other) in later.iter().enumerate() {
+        if *other == name {
+            return Some(distance);
+        }
+    }
+    None
+}
