@@ -1,1 +1,4 @@
 pub mod Evaluation
+pub mod PinCopies
+pub mod Steadiness
+pub mod ThreeValues
