@@ -3,7 +3,7 @@ use Rattle.std.specs.List.{AllByRecursion, range_with_len}
 use Rattle.std.specs.Prelude.{◌^◌, AllPairs, ◌≢◌, ◌≡◌, ℕ, ◌+◌, ◌-◌, ◌<◌, ◌≤◌, ⊤, Bool, not, List, [], ◌∷◌, ◌++◌, length, map, filter, Contains, slice_get, slice_index_or, Some, ◌==◌}
 use Rattle.pd_base.specs.declared.ids.LineId.{LineId}
 use Rattle.netlist.specs.declared.kind.GateKind.{GateKind}
-use Rattle.netlist.specs.declared.kind.GateKind.TheVariants.{Buff}
+use Rattle.netlist.specs.declared.kind.GateKind.TheVariants.{And, Nand, Or, Nor, Xor, Xnor, Not, Buff}
 
 -- a gate: its name, its kind, and the line that each pin reads
 pub record Gate : Type 0 where
@@ -81,9 +81,21 @@ IsLoopFree c = (gate : ℕ) → gate < gate_count c → ¬ IsLooped c gate
 abbrev pub ReadsLines : Circuit → Type 0
 ReadsLines c = (gate : ℕ) → gate < gate_count c → AllByRecursion (λ pin. pin.0 < line_count c) (pins_at c gate)
 
+-- how many pins a gate of this kind may have: NOT and BUFF one, the others one or more
+abbrev pub IsFanIn : GateKind → ℕ → Type 0
+IsFanIn And count = 0 < count
+IsFanIn Nand count = 0 < count
+IsFanIn Or count = 0 < count
+IsFanIn Nor count = 0 < count
+IsFanIn Xor count = 0 < count
+IsFanIn Xnor count = 0 < count
+IsFanIn Not count = count ≡ 1
+IsFanIn Buff count = count ≡ 1
+
 -- what is true of the circuit of every netlist
 pub record IsCircuit (c : Circuit) : Type 0 where
   pub names : AllPairs (λ a b. a ≢ b) (line_names c)
+  pub fan_in : (gate : ℕ) → gate < gate_count c → IsFanIn (kind_at c gate) (length (pins_at c gate))
   pub reads_lines : ReadsLines c
   pub loop_free : IsLoopFree c
   pub outputs : AllByRecursion (λ line. line.0 < line_count c) c.outputs
