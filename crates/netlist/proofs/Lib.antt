@@ -1,4 +1,10 @@
 pub mod Evaluation
+pub mod GateValues
+pub mod OnPathPin
+pub mod PathSteps
 pub mod PinCopies
+pub mod PinPlaces
+pub mod Prefixes
+pub mod RobustPath
 pub mod Steadiness
 pub mod ThreeValues
