@@ -1,5 +1,6 @@
 pub mod Evaluation
 pub mod GateValues
+pub mod NonrobustPath
 pub mod OnPathPin
 pub mod PathSteps
 pub mod PinCopies
