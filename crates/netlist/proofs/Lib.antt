@@ -1,5 +1,6 @@
 pub mod Evaluation
 pub mod GateValues
+pub mod Looking
 pub mod NonrobustPath
 pub mod OnPathPin
 pub mod PathSteps
@@ -8,4 +9,5 @@ pub mod PinPlaces
 pub mod Prefixes
 pub mod RobustPath
 pub mod Steadiness
+pub mod StoredLists
 pub mod ThreeValues

@@ -1,6 +1,6 @@
 -- A circuit as all definitions see it (ISCAS .bench: gates by name, flip-flops cut at their data lines).
 use Rattle.std.specs.List.{AllByRecursion, range_with_len}
-use Rattle.std.specs.Prelude.{◌^◌, AllPairs, ◌≢◌, ◌≡◌, ℕ, ◌+◌, ◌-◌, ◌<◌, ◌≤◌, ⊤, Bool, not, List, [], ◌∷◌, ◌++◌, length, map, filter, Contains, slice_get, slice_index_or, Some, ◌==◌}
+use Rattle.std.specs.Prelude.{◌^◌, AllPairs, ◌≢◌, ◌≡◌, ℕ, ◌+◌, ◌-◌, ◌<◌, ◌≤◌, ⊤, not, List, [], ◌∷◌, ◌++◌, length, map, filter, slice_get, slice_index_or, Some, ◌==◌}
 use Rattle.pd_base.specs.declared.ids.LineId.{LineId}
 use Rattle.netlist.specs.declared.kind.GateKind.{GateKind}
 use Rattle.netlist.specs.declared.kind.GateKind.TheVariants.{And, Nand, Or, Nor, Xor, Xnor, Not, Buff}

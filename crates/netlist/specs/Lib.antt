@@ -1,9 +1,15 @@
+pub mod Chain
 pub mod Circuit
 pub mod Conditions
 pub mod Evaluation
+pub mod Fanout
+pub mod Greatest
+pub mod Levels
 pub mod Meaning
+pub mod Names
 pub mod Order
 pub mod Paths
 pub mod Steadiness
+pub mod Stored
 pub mod Values
 pub mod Waves

@@ -1,5 +1,5 @@
 -- Which lines stand still under a pair of vectors, whatever the delays are (hazard analysis with three values).
-use Rattle.std.specs.Prelude.{◌≡◌, ℕ, Bool, true, false, not, ◌&&◌, cond, List, [], ◌∷◌, map, Option, Some, None, option_map, is_some, if◌then◌else◌, unwrap_or}
+use Rattle.std.specs.Prelude.{◌≡◌, ℕ, Bool, true, false, not, cond, List, [], ◌∷◌, map, Option, Some, None, option_map, is_some, if◌then◌else◌, unwrap_or}
 use Rattle.std.specs.List.{list_all, list_any}
 use Rattle.pd_base.specs.Pair.{Vectors}
 use Rattle.netlist.specs.declared.kind.GateKind.{GateKind}

@@ -1,5 +1,5 @@
 -- The Boolean value of a line under a vector (the Boolean function of a circuit).
-use Rattle.std.specs.Prelude.{ℕ, Bool, true, false, not, cond, List, [], ◌∷◌, map, slice_index_or}
+use Rattle.std.specs.Prelude.{ℕ, Bool, false, not, cond, List, [], ◌∷◌, map, slice_index_or}
 use Rattle.std.specs.List.{list_all, list_any}
 use Rattle.netlist.specs.declared.kind.GateKind.{GateKind}
 use Rattle.netlist.specs.declared.kind.GateKind.TheVariants.{And, Nand, Or, Nor, Xor, Xnor, Not, Buff}

@@ -2,6 +2,10 @@
 //! Stands on pd_base. The layers above use a `Netlist` as the circuit that its contracts show.
 #![tactic(auto)]
 
+mod chains;
 mod kind;
+mod netlist;
 
+pub use chains::chain;
 pub use kind::GateKind;
+pub use netlist::Netlist;

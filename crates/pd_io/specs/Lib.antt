@@ -1,3 +1,5 @@
 pub mod Counts
+pub mod Fault
 pub mod Folder
 pub mod Telling
+pub mod Whole

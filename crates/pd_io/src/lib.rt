@@ -5,7 +5,9 @@
 mod fault;
 mod files;
 mod sink;
+mod whole;
 
 pub use fault::{FileFault, ReadFault, WriteFault};
 pub use files::Files;
 pub use sink::Sink;
+pub use whole::{read_whole, write_all, write_whole};

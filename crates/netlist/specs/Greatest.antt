@@ -1,0 +1,7 @@
+-- The greatest of some numbers.
+use Rattle.std.specs.Prelude.{ℕ, List, [], ◌∷◌, max}
+
+-- the greatest, or 0 of none
+abbrev pub greatest : List ℕ → ℕ
+greatest [] = 0
+greatest (x ∷ xs) = max x (greatest xs)

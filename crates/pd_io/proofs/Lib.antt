@@ -1,0 +1,4 @@
+pub mod Handing
+pub mod Reading
+pub mod Tellings
+pub mod Writing

@@ -1,0 +1,5 @@
+pub mod ProofsText
+pub mod ReportText
+pub mod Summary
+pub mod TestsText
+pub mod Tokens

@@ -1,0 +1,44 @@
+-- The line that `gen` prints on out (this project's own format).
+use Rattle.std.specs.Prelude.{ℕ, ◌+◌, Bool, true, false, List, [], ◌∷◌, ◌++◌, length, count_by, codes, decimal}
+use Rattle.refutation_check.specs.declared.run.Verdict.{Verdict}
+use Rattle.refutation_check.specs.declared.run.Verdict.TheVariants.{Robust, Nonrobust, Untestable, Aborted}
+use Rattle.refutation_check.specs.declared.run.ListedPath.{ListedPath}
+use Rattle.refutation_check.specs.declared.run.Run.{Run}
+use Rattle.pd_tool.specs.Tokens.{spaced, line}
+
+-- the verdicts of all faults, path by path, the rising transition first
+abbrev pub verdicts_of : List ListedPath → List Verdict
+verdicts_of [] = []
+verdicts_of (listed ∷ paths) = listed.rise ∷ listed.fall ∷ verdicts_of paths
+
+abbrev pub is_robust : Verdict → Bool
+is_robust (Robust test) = true
+is_robust (Nonrobust test proof) = false
+is_robust (Untestable proof) = false
+is_robust (Aborted robust nonrobust) = false
+
+abbrev pub is_nonrobust : Verdict → Bool
+is_nonrobust (Robust test) = false
+is_nonrobust (Nonrobust test proof) = true
+is_nonrobust (Untestable proof) = false
+is_nonrobust (Aborted robust nonrobust) = false
+
+abbrev pub is_untestable : Verdict → Bool
+is_untestable (Robust test) = false
+is_untestable (Nonrobust test proof) = false
+is_untestable (Untestable proof) = true
+is_untestable (Aborted robust nonrobust) = false
+
+abbrev pub is_aborted : Verdict → Bool
+is_aborted (Robust test) = false
+is_aborted (Nonrobust test proof) = false
+is_aborted (Untestable proof) = false
+is_aborted (Aborted robust nonrobust) = true
+
+-- how many paths there are, and how many faults have each verdict
+abbrev pub summary_text : Run → List ℕ
+summary_text run =
+    let verdicts = verdicts_of run.paths in
+    line (codes "paths " ++ decimal (length run.paths) ++ codes " robust " ++ decimal (count_by is_robust verdicts)
+    ++ codes " nonrobust " ++ decimal (count_by is_nonrobust verdicts) ++ codes " untestable " ++ decimal (count_by is_untestable verdicts)
+    ++ codes " aborted " ++ decimal (count_by is_aborted verdicts))
