@@ -1,2 +1,13 @@
+pub mod Evaluation
+pub mod GateValues
 pub mod Looking
+pub mod NonrobustPath
+pub mod OnPathPin
+pub mod PathSteps
+pub mod PinCopies
+pub mod PinPlaces
+pub mod Prefixes
+pub mod RobustPath
+pub mod Steadiness
 pub mod StoredLists
+pub mod ThreeValues
