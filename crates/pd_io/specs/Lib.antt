@@ -1,5 +1,6 @@
 pub mod Counts
 pub mod Fault
 pub mod Folder
+pub mod Shelf
 pub mod Telling
 pub mod Whole

@@ -4,6 +4,8 @@
 
 mod fault;
 mod files;
+mod named;
+mod shelf;
 mod sink;
 mod whole;
 
