@@ -1,3 +1,4 @@
+pub mod Counts
 pub mod ProofsText
 pub mod ReportText
 pub mod Summary

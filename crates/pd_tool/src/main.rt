@@ -1,4 +1,6 @@
 //! A path delay fault test generator.
 #![tactic(auto)]
 
+mod texts;
+
 fn main(_rt: HostRuntime) {}

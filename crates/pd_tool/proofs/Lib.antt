@@ -1,0 +1,2 @@
+pub mod NumberedLines
+pub mod VerdictCounts
