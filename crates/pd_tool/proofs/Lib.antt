@@ -1,2 +1,3 @@
 pub mod NumberedLines
+pub mod ObservedLines
 pub mod VerdictCounts

@@ -7,7 +7,7 @@ use Rattle.refutation_check.specs.declared.run.Verdict.{Verdict}
 use Rattle.refutation_check.specs.declared.run.Verdict.TheVariants.{Robust, Nonrobust, Untestable, Aborted}
 use Rattle.pd_tool.specs.declared.texts.summary.Counts.{Counts}
 use Rattle.pd_tool.specs.Counts.{AreCountsOf, counts_sum, counts_with}
-use Rattle.pd_tool.specs.Summary.{verdicts_of, is_robust, is_nonrobust, is_untestable, is_aborted}
+use Rattle.pd_tool.specs.Summary.{verdicts_of}
 
 pub verdicts_of_push : (paths : List ListedPath) (listed : ListedPath) → verdicts_of (paths ++ listed ∷ []) ≡ (verdicts_of paths ++ listed.rise ∷ []) ++ listed.fall ∷ []
 verdicts_of_push [] listed = refl

@@ -3,6 +3,8 @@
 mod pieces;
 mod proofs;
 mod summary;
+mod tests;
 
 pub(crate) use proofs::proofs_text;
 pub(crate) use summary::summary_text;
+pub(crate) use tests::tests_text;

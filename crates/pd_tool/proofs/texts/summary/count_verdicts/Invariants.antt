@@ -1,4 +1,4 @@
-use Rattle.std.proofs.Common.{◌≡◌, ◌+◌, ◌*◌, take}
+use Rattle.std.proofs.Common.{◌≡◌, ◌*◌, take}
 use Rattle.pd_tool.specs.Counts.{AreCountsOf, counts_sum}
 use Rattle.pd_tool.specs.Summary.{verdicts_of}
 use Rattle.pd_tool.proofs.texts.summary.count_verdicts.Given as goal
