@@ -1,4 +1,5 @@
 pub mod ChainText
+pub mod Counts
 pub mod Endings
 pub mod Generation
 pub mod Headline

@@ -3,7 +3,7 @@
 
 mod ending;
 mod status;
+mod texts;
 mod words;
 
-fn main(_rt: HostRuntime) {
-}
+fn main(_rt: HostRuntime) {}

@@ -2,7 +2,7 @@
 ghost use Rattle.std.specs.Prelude.{◌≡◌, ◌+◌, ◌<◌, ◌^◌, Ok, Err, length, nat_eq, IfNone, MatchResult};
 ghost use Rattle.std.specs.List.{position_from};
 ghost use Rattle.std.specs.Cmp.Lexicographic.{pointwise};
-ghost use Rattle.pd_tool.specs.Words.{command_of, first_fault, first_same, gen};
+ghost use Rattle.pd_tool.specs.Words.{command_of, names_fault, first_fault, first_same, gen};
 ghost use Rattle.pd_tool.specs.Requests.{request_of, texts};
 
 /// Why the words were refused. Places count from 1, the command word being 1.
@@ -53,10 +53,7 @@ pub fn read_words<'a>(words: &[&'a str]) -> Result<Request<'a>, WordsFault>
     if *command != "gen" {
         return Err(WordsFault::Command);
     }
-    if let Some(fault) = fault_among(names) {
-        return Err(fault);
-    }
-    if let Some(fault) = same_among(names) {
+    if let Some(fault) = names_fault(names) {
         return Err(fault);
     }
     let [net, delays, tests, report, proofs] = names else {
@@ -69,6 +66,14 @@ pub fn read_words<'a>(words: &[&'a str]) -> Result<Request<'a>, WordsFault>
         report,
         proofs,
     })
+}
+
+// Why the words behind `gen` are refused, if they are.
+fn names_fault(names: &[&str]) -> Option<WordsFault>
+    ensures fault { result ≡ names_fault (texts names.now) }
+    ensures count { IfNone result (length names.now ≡ 5) }
+{
+    fault_among(names).or_else(|| same_among(names))
 }
 
 // The first name that cannot stand where it does, or that some are missing.

@@ -1,0 +1,3 @@
+pub mod NumberedLines
+pub mod ObservedLines
+pub mod VerdictCounts
