@@ -7,7 +7,9 @@ use Rattle.std.proofs.lemmas.List.{get_or_past}
 use Rattle.std.proofs.lemmas.Option.{none-some, same_Some}
 use Rattle.pd_base.specs.declared.ids.LineId.{LineId}
 use Rattle.netlist.specs.declared.kind.GateKind.{GateKind}
-use Rattle.netlist.specs.Circuit.{Gate, IsCircuit, IsLooped, ReadsGate, ReadsOn, no_gate, line_names, pins_at, gate_count, line_count}
+use Rattle.netlist.specs.declared.kind.GateKind.TheVariants.{Not, Buff}
+use Rattle.std.proofs.Common.{slice_index_or, ◌⊎◌}
+use Rattle.netlist.specs.Circuit.{Gate, IsFanIn, kind_at, IsCircuit, IsLooped, ReadsGate, ReadsOn, no_gate, line_names, pins_at, gate_count, line_count}
 use Rattle.netlist.specs.Chain.{IsChain, chain_gates, chain_circuit, chain_names}
 
 -- the line of this number
@@ -30,6 +32,14 @@ chain_pins-at line [] i within = absurd (omega arith)
 chain_pins-at line (gate ∷ gates) zero within = ap (λ n. line_id n ∷ []) (sym (add-zero line))
 chain_pins-at line (gate ∷ gates) (suc i) within =
     chain_pins-at (line + 1) gates i (omega arith) ∙ ap (λ n. line_id n ∷ []) (omega arith)
+
+-- each gate of a chain has the one pin of its kind
+one_pin_each : (line : ℕ) (gates : List (GateKind × List ℕ)) (i : ℕ) → AllByRecursion (λ gate. (gate.0 ≡ Not) ⊎ (gate.0 ≡ Buff)) gates → i < length gates
+    → IsFanIn (slice_index_or (chain_gates line gates) i no_gate).kind (length (slice_index_or (chain_gates line gates) i no_gate).pins)
+one_pin_each line [] i kinds within = absurd (omega arith)
+one_pin_each line (gate ∷ gates) zero (inl inverter, others) within = subst (λ kind. IsFanIn kind 1) (sym inverter) refl
+one_pin_each line (gate ∷ gates) zero (inr buffer, others) within = subst (λ kind. IsFanIn kind 1) (sym buffer) refl
+one_pin_each line (gate ∷ gates) (suc i) (kind, others) within = one_pin_each (line + 1) gates i others (omega arith)
 
 module _ (source : List ℕ) (gates : List (GateKind × List ℕ)) where
   -- the names of a chain's lines
@@ -65,12 +75,17 @@ module _ (source : List ℕ) (gates : List (GateKind × List ℕ)) where
       let n = chain_gates-length 0 gates in
       subst (AllByRecursion (λ pin. pin.0 < line_count (chain_circuit source gates))) (sym (chain_pins-at 0 gates gate (omega arith))) (omega arith, tt)
 
+  chain_fan_in : IsChain source gates → (gate : ℕ) → gate < gate_count (chain_circuit source gates)
+      → IsFanIn (kind_at (chain_circuit source gates) gate) (length (pins_at (chain_circuit source gates) gate))
+  chain_fan_in chain gate within = let n = chain_gates-length 0 gates in one_pin_each 0 gates gate chain.kinds (omega arith)
+
   -- a chain is a circuit
   pub chain_IsCircuit : IsChain source gates → IsCircuit (chain_circuit source gates)
   chain_IsCircuit chain =
       let n = chain_gates-length 0 gates in
       record {
         names = subst (AllPairs (λ a b. a ≢ b)) (sym chain_line_names) chain.distinct;
+        fan_in = chain_fan_in chain;
         reads_lines = chain_reads;
         loop_free = not_looped;
         outputs = (omega arith, tt);
