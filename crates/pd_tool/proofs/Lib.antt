@@ -1,3 +1,5 @@
 pub mod NumberedLines
 pub mod ObservedLines
+pub mod Pieces
+pub mod Unread
 pub mod VerdictCounts

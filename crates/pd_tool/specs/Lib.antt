@@ -9,6 +9,7 @@ pub mod ReportText
 pub mod Requests
 pub mod RobustRun
 pub mod Standing
+pub mod Steps
 pub mod Summary
 pub mod TestsText
 pub mod Tokens

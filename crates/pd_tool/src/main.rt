@@ -2,8 +2,11 @@
 #![tactic(auto)]
 
 mod ending;
+mod inputs;
 mod status;
+mod telling;
 mod texts;
 mod words;
+mod works;
 
 fn main(_rt: HostRuntime) {}
