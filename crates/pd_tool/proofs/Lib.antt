@@ -3,3 +3,4 @@ pub mod ObservedLines
 pub mod Pieces
 pub mod Unread
 pub mod VerdictCounts
+pub mod Unwritten

@@ -16,7 +16,8 @@ use Rattle.pd_tool.specs.declared.works.Texts.{Texts}
 use Rattle.pd_tool.specs.Words.{GenRequest}
 use Rattle.pd_tool.specs.ChainText.{IsNet, unit_delays_text, unit_delays}
 use Rattle.pd_tool.specs.RobustRun.{IsRobustRun}
-use Rattle.pd_tool.specs.Standing.{Due, FilesStandAt, OutStandsAt}
+use Rattle.pd_tool.specs.Standing.{Due, FilesStandAt, put_all}
+use Rattle.pd_tool.specs.Endings.{place_of}
 use Rattle.pd_tool.specs.Generation.{input_names, names_up_to}
 use Rattle.pd_tool.specs.TestsText.{tests_text}
 use Rattle.pd_tool.specs.ReportText.{report_text}
@@ -93,3 +94,31 @@ abbrev pub due_of : GenRequest → Texts → List Due
 due_of request texts =
     record { name = request.tests; text = texts.tests.items } ∷ record { name = request.report; text = texts.report.items }
     ∷ record { name = request.proofs; text = texts.proofs.items } ∷ []
+
+-- a write ended so: a fault of this output was counted, or memory ran out
+abbrev pub IsWriteEnding : Output → Ending → ℕ → ℕ → Type 0
+IsWriteEnding output Done old_faults new_faults = ⊥
+IsWriteEnding output (Words fault) old_faults new_faults = ⊥
+IsWriteEnding output (ReadFault input) old_faults new_faults = ⊥
+IsWriteEnding output (WriteFault unwritten) old_faults new_faults = (unwritten ≡ output) × Rose old_faults new_faults
+IsWriteEnding output NoMemory old_faults new_faults = Unit {0}
+IsWriteEnding output (NotBuilt input) old_faults new_faults = ⊥
+
+-- the writing has come to this place among the files, and no name was asked
+pub record FilesStand (place : ℕ) (due : List Due) (before after : Folder) : Type 0 where
+  pub held : FilesStandAt place due before.held after.held
+  pub asked : after.asked ≡ before.asked
+
+-- the files were not all written: the first that was not, why, and what stands
+abbrev pub AreUnwritten : List Due → Ending → Option Folder → Option Folder → ℕ → ℕ → Type 0
+AreUnwritten due Done old new old_faults new_faults = ⊥
+AreUnwritten due (Words fault) old new old_faults new_faults = ⊥
+AreUnwritten due (ReadFault input) old new old_faults new_faults = ⊥
+AreUnwritten due (WriteFault output) old new old_faults new_faults =
+    (place_of output < length due) × Rose old_faults new_faults × Tells old new (FilesStand (place_of output) due)
+AreUnwritten due NoMemory old new old_faults new_faults = (place : ℕ) × (place < length due) × Tells old new (FilesStand place due)
+AreUnwritten due (NotBuilt input) old new old_faults new_faults = ⊥
+
+-- all these files are whole, and no name was asked
+abbrev pub AreWhole : List Due → Folder → Folder → Type 0
+AreWhole due before after = after ≡ record { held = put_all before.held due; asked = before.asked }

@@ -8,5 +8,6 @@ mod telling;
 mod texts;
 mod words;
 mod works;
+mod writes;
 
 fn main(_rt: HostRuntime) {}
