@@ -1,3 +1,6 @@
+pub mod LineNames
 pub mod NumberedLines
 pub mod ObservedLines
+pub mod PlainTexts
+pub mod ReportWriting
 pub mod VerdictCounts

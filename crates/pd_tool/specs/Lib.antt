@@ -1,5 +1,7 @@
 pub mod Counts
+pub mod PlainTexts
 pub mod ProofsText
+pub mod ReportRows
 pub mod ReportText
 pub mod Summary
 pub mod TestsText

@@ -2,6 +2,8 @@
 // of them says is defined in specs/. The pieces of which lines are made are in texts/pieces.rt.
 mod pieces;
 mod proofs;
+mod report;
+mod steps;
 mod summary;
 mod tests;
 
