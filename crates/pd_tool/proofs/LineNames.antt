@@ -1,6 +1,5 @@
 -- The names of lines, and the texts of steps that are made of them.
-use Rattle.std.proofs.Common.{◌≡◌, ℕ, ◌+◌, ◌<◌, ◌≤◌, ◌^◌, List, [], ◌∷◌, ◌++◌, All, length, get_or, drop, map, decimal, flat_map, refl, ap, ◌∙◌, subst, arith}
-use Rattle.std.specs.List.{join_with_byte}
+use Rattle.std.proofs.Common.{◌≡◌, ℕ, ◌+◌, ◌<◌, ◌≤◌, ◌^◌, List, [], ◌∷◌, ◌++◌, length, get_or, drop, map, decimal, flat_map, refl, ap, ◌∙◌, subst, arith}
 use Rattle.std.proofs.lemmas.List.{get_or-append-add, get_or-map, length-map, length-append}
 use Rattle.std.proofs.lemmas.List.Elements.{All-append}
 use Rattle.pd_base.specs.declared.ids.PinRef.{PinRef}

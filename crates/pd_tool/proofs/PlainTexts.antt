@@ -1,5 +1,5 @@
 -- Texts without commas, quotes and line ends: how they come about, and that csv writes them as they are.
-use Rattle.std.proofs.Common.{◌≡◌, ℕ, zero, suc, ◌+◌, ◌<◌, ◌≤◌, ◌^◌, ◌/◌, ◌%◌, ◌||◌, Bool, true, false, List, [], ◌∷◌, ◌++◌, length, All, flat_map, decimal, refl, sym, ap, ◌∙◌, arith}
+use Rattle.std.proofs.Common.{◌≡◌, ℕ, zero, suc, ◌+◌, ◌<◌, ◌≤◌, ◌^◌, ◌%◌, ◌||◌, Bool, true, false, List, [], ◌∷◌, ◌++◌, length, flat_map, decimal, refl, sym, ap, arith}
 use Rattle.std.specs.List.{AllByRecursion, join_with_byte, list_any}
 use Rattle.std.proofs.lemmas.Bool.Decides.{nat_tests}
 use Rattle.std.proofs.lemmas.Fmt.{decimal_by_steps}
@@ -79,7 +79,8 @@ pub plain_each_by_test : (texts : List (List ℕ)) → list_any (needs_quotes de
 plain_each_by_test [] passes = tt
 plain_each_by_test (text ∷ texts) passes = (
   IsPlain_by_test text (or_false_left (needs_quotes default_writer text) (list_any (needs_quotes default_writer) texts) passes),
-  plain_each_by_test texts (or_false_right (needs_quotes default_writer text) (list_any (needs_quotes default_writer) texts) passes))
+  plain_each_by_test texts (or_false_right (needs_quotes default_writer text) (list_any (needs_quotes default_writer) texts) passes),
+)
 
 pub plain_header : AllByRecursion IsPlain header_fields
 plain_header = plain_each_by_test header_fields refl

@@ -1,9 +1,9 @@
 -- What csv's writer says of a row, at a report's writer.
-use Rattle.std.proofs.Common.{◌≡◌, ◌≢◌, ℕ, ◌≤◌, Option, Some, List, ◌++◌, Vec, length, refl, sym, ap, ◌∙◌, false}
+use Rattle.std.proofs.Common.{◌≡◌, ◌≢◌, ℕ, ◌≤◌, Option, Some, List, ◌++◌, Vec, length, ap, ◌∙◌, false}
 use Rattle.std.specs.declared.alloc.Global.{Global}
 use Rattle.std.specs.Io.KnownBytes.{Appends}
 use Rattle.std.specs.List.{AllByRecursion}
-use Rattle.csv.specs.Writing.{default_writer, writer_setup, fields_written, has_written, text_written, row_text}
+use Rattle.csv.specs.Writing.{writer_setup, fields_written, has_written, text_written, row_text}
 use Rattle.csv.specs.declared.writer.QuoteStyle.TheVariants as style
 use Rattle.csv.specs.declared.writer.Writer.{Writer}
 use Rattle.pd_tool.specs.PlainTexts.{IsPlain}

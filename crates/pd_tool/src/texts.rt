@@ -3,10 +3,12 @@
 mod pieces;
 mod proofs;
 mod report;
+mod rows;
 mod steps;
 mod summary;
 mod tests;
 
 pub(crate) use proofs::proofs_text;
+pub(crate) use report::report_text;
 pub(crate) use summary::summary_text;
 pub(crate) use tests::tests_text;

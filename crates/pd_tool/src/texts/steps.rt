@@ -10,7 +10,11 @@ use pd_base::{LineId, OutOfMemory, PinRef, push_decimal};
 use std::alloc::Global;
 
 /// The steps of a path with single spaces between, or a dash where there are none.
-pub(crate) fn steps_text(alloc: Global, net: &Netlist, steps: &[PinRef]) -> Result<Vec<u8>, OutOfMemory>
+pub(crate) fn steps_text(
+    alloc: Global,
+    net: &Netlist,
+    steps: &[PinRef],
+) -> Result<Vec<u8>, OutOfMemory>
     requires names { HasPlainNames net.now }
     requires gates { HasItsGates net.now steps.now }
     ensures text { IfOk result (λ text. text.items ≡ steps_text net.now steps.now) }

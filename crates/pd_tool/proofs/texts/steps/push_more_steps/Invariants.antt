@@ -7,5 +7,5 @@ use Rattle.pd_tool.proofs.texts.steps.push_more_steps.Given as goal
 abbrev pub invariant-loop-step : goal.invariant-loop-step
 invariant-loop-step l = record {
   text : l.out.items ≡ l.initial.out.items ++ flat_map (λ step. spaced (step_text l.net step)) (take l.step-index l.steps);
-  plain : IsPlain l.out.items
+  plain : IsPlain l.out.items;
 }
