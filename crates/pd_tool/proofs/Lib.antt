@@ -1,5 +1,4 @@
 pub mod LineNames
-pub mod NumberedLines
 pub mod ObservedLines
 pub mod PlainTexts
 pub mod ReportWriting
