@@ -1,8 +1,17 @@
+pub mod ChainText
 pub mod Counts
+pub mod Endings
+pub mod Generation
+pub mod Headline
+pub mod Lines
 pub mod PlainTexts
 pub mod ProofsText
 pub mod ReportRows
 pub mod ReportText
+pub mod Requests
+pub mod RobustRun
+pub mod Standing
 pub mod Summary
 pub mod TestsText
 pub mod Tokens
+pub mod Words

@@ -1,6 +1,9 @@
 //! A path delay fault test generator.
 #![tactic(auto)]
 
+mod ending;
+mod status;
 mod texts;
+mod words;
 
 fn main(_rt: HostRuntime) {}

@@ -1,0 +1,19 @@
+use Rattle.std.proofs.Common.{◌≡◌, ◌+◌, ◌-◌, ◌^◌, ◌≤◌, length, vec_len}
+use Rattle.pd_io.proofs.Reading.{Reading}
+use Rattle.pd_io.proofs.whole.read_whole.Given as goal
+
+abbrev pub invariant-loop-buffer : goal.invariant-loop-buffer
+invariant-loop-buffer g l =
+    let files = g.F.Files in
+    record {
+      reading : Reading (files.folder l.fn.files) (files.folder l.files) (files.reader l.files) l.name l.bytes.items;
+      within : vec_len l.bytes ≤ l.limit + 1;
+      buffer : length l.buffer ≡ 4096;
+      writer : files.writer l.files ≡ files.writer l.fn.files;
+      never_falls : files.read_faults l.fn.files ≤ files.read_faults l.files;
+      counted : files.read_faults l.files ≤ 2 ^ 64 - 1;
+      write_faults : files.write_faults l.files ≡ files.write_faults l.fn.files;
+    }
+
+abbrev pub decreases-loop-buffer : goal.decreases-loop-buffer
+decreases-loop-buffer g l = l.limit + 1 - vec_len l.bytes

@@ -1,0 +1,17 @@
+use Rattle.std.proofs.Common.{◌≡◌, ◌-◌, ◌^◌, ◌≤◌, length}
+use Rattle.pd_io.proofs.Writing.{Writing}
+use Rattle.pd_io.proofs.whole.write_whole.Given as goal
+
+abbrev pub invariant-loop-rest : goal.invariant-loop-rest
+invariant-loop-rest g l =
+    let files = g.F.Files in
+    record {
+      writing : Writing (files.folder l.fn.files) (files.folder l.files) (files.writer l.files) l.name l.bytes l.rest;
+      reader : files.reader l.files ≡ files.reader l.fn.files;
+      never_falls : files.write_faults l.fn.files ≤ files.write_faults l.files;
+      within : files.write_faults l.files ≤ 2 ^ 64 - 1;
+      read_faults : files.read_faults l.files ≡ files.read_faults l.fn.files;
+    }
+
+abbrev pub decreases-loop-rest : goal.decreases-loop-rest
+decreases-loop-rest g l = length l.rest

@@ -1,0 +1,94 @@
+// Whole files read and written over any file object, and all bytes handed to a sink.
+ghost use Rattle.std.specs.Prelude.{◌≡◌, ◌+◌, ◌-◌, ◌^◌, ◌<◌, ◌≤◌, ◌++◌, length, Some, None, IfOk, OnOk, OnErr, IsErrOf, vec_len};
+ghost use Rattle.pd_io.specs.Counts.{HasCause};
+ghost use Rattle.pd_io.specs.Telling.{Tells};
+ghost use Rattle.pd_io.specs.Folder.{bytes_at};
+ghost use Rattle.pd_io.specs.Whole.{AsksFor, written, HoldsPart, TookFront};
+
+use crate::{FileFault, Files, ReadFault, Sink, WriteFault};
+use std::alloc::Global;
+
+/// How many bytes are read at once.
+const PIECE: usize = 4096;
+
+/// Reads a whole file of at most `limit` bytes. A longer one is `TooLong`, after `limit + 1` of its bytes
+/// were taken. `Failed` comes where a call of the object failed, and `NoMemory` where a growth was refused.
+pub fn read_whole<F: Files>(
+    alloc: Global,
+    files: &mut F,
+    name: &str,
+    limit: usize,
+) -> Result<Vec<u8>, ReadFault>
+    requires { limit < usize.MAX }
+
+    // Ok: all bytes of the file, and the reader stands at its end.
+    ensures bytes { IfOk result (λ bytes. Tells (F.folder files.old) (F.folder files.new) (λ old _.
+        bytes.items ≡ bytes_at old.held name.now)) }
+    ensures within { IfOk result (λ bytes. vec_len bytes ≤ limit) }
+    ensures place { IfOk result (λ bytes.
+        F.reader files.new ≡ Some (record { name = name.now; place = vec_len bytes })) }
+    ensures writer { OnOk result (F.writer files.new ≡ F.writer files.old) }
+
+    // TooLong: the file holds more, and limit + 1 of its bytes were taken.
+    ensures too_long { IsErrOf result ReadFault.TooLong → Tells (F.folder files.old) (F.folder files.new) (λ old _.
+        limit < length (bytes_at old.held name.now)) }
+    ensures too_long_place { IsErrOf result ReadFault.TooLong →
+        F.reader files.new ≡ Some (record { name = name.now; place = limit + 1 }) }
+    ensures too_long_writer { IsErrOf result ReadFault.TooLong → F.writer files.new ≡ F.writer files.old }
+
+    // Failed: a fault was counted.
+    ensures cause { HasCause (F.read_faults files.old) (F.read_faults files.new) result ReadFault.Failed }
+
+    ensures told { Tells (F.folder files.old) (F.folder files.new) (AsksFor result name.now) }
+    ensures write_faults { F.write_faults files.new ≡ F.write_faults files.old }
+{
+    files.begin_read(name)?;
+    let mut bytes = Vec::new(alloc);
+    let mut buffer = [0; PIECE];
+    while bytes.len() <= limit {
+        let room = (limit + 1 - bytes.len()).min(PIECE);
+        let count = files.read(&mut buffer[..room])?;
+        if count == 0 {
+            return Ok(bytes);
+        }
+        bytes.extend_from_slice(&buffer[..count])?;
+    }
+    Err(ReadFault::TooLong)
+}
+
+/// Makes the name hold these bytes: begins the file, hands over the whole rest with each write, and finishes.
+/// After a fault the name is as before, or holds a front of the bytes.
+pub fn write_whole<F: Files>(files: &mut F, name: &str, bytes: &[u8]) -> Result<(), WriteFault>
+    ensures ok { OnOk result (Tells (F.folder files.old) (F.folder files.new) (λ old new.
+        new ≡ written old name.now bytes.now)) }
+    ensures writer { OnOk result (F.writer files.new ≡ None) }
+    ensures reader { OnOk result (F.reader files.new ≡ F.reader files.old) }
+    ensures err { OnErr result (Tells (F.folder files.old) (F.folder files.new) (HoldsPart name.now bytes.now)) }
+    ensures cause { HasCause (F.write_faults files.old) (F.write_faults files.new) result WriteFault.Failed }
+    ensures read_faults { F.read_faults files.new ≡ F.read_faults files.old }
+{
+    files.begin_write(name)?;
+    let mut rest = bytes;
+    while !rest.is_empty() {
+        let count = files.write(rest)?;
+        rest = &rest[count..];
+    }
+    files.finish()?;
+    Ok(())
+}
+
+/// Hands all bytes to a sink. After a fault it took a front of them.
+pub fn write_all<S: Sink>(sink: &mut S, bytes: &[u8]) -> Result<(), FileFault>
+    ensures ok { OnOk result (Tells (S.taken sink.old) (S.taken sink.new) (λ old new. new ≡ old ++ bytes.now)) }
+    ensures err { OnErr result (Tells (S.taken sink.old) (S.taken sink.new) (TookFront bytes.now)) }
+    ensures cause { OnErr result (HasCause (S.faults sink.old) (S.faults sink.new) result FileFault.Failed) }
+    ensures never_falls { S.faults sink.old ≤ S.faults sink.new }
+    ensures counted { 0 < length bytes.now → S.faults sink.new ≤ 2 ^ 64 - 1 }
+{
+    let mut rest = bytes;
+    while !rest.is_empty() {
+        let count = sink.write(rest)?;
+        rest = &rest[count..];
+    }
+    Ok(())
+}

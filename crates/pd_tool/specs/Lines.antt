@@ -1,0 +1,58 @@
+-- The line on err for each ending, and how an ending is reported (this project's own).
+use Rattle.std.specs.Prelude.{◌≡◌, ◌⊎◌, ℕ, List, [], ◌∷◌, ◌++◌, Option, codes, decimal}
+use Rattle.pd_io.specs.Counts.{Rose}
+use Rattle.pd_io.specs.Telling.{Tells, IsFrontOf}
+use Rattle.pd_tool.specs.declared.ending.Ending.{Ending}
+use Rattle.pd_tool.specs.declared.ending.Ending.TheVariants.{Done, Words, ReadFault, WriteFault, NoMemory, NotBuilt}
+use Rattle.pd_tool.specs.declared.ending.Input.{Input}
+use Rattle.pd_tool.specs.declared.ending.Input.TheVariants.{Net, Delays}
+use Rattle.pd_tool.specs.declared.ending.Output.{Output}
+use Rattle.pd_tool.specs.declared.ending.Output.TheVariants.{Tests, Report, Proofs, Out}
+use Rattle.pd_tool.specs.declared.words.WordsFault.{WordsFault}
+use Rattle.pd_tool.specs.declared.words.WordsFault.TheVariants.{Command, OptionAt, EmptyAt, Count, SameAt}
+use Rattle.pd_tool.specs.declared.status.Status.{Status}
+use Rattle.pd_tool.specs.declared.status.Status.TheVariants as exit
+use Rattle.pd_tool.specs.Tokens.{line, spaced}
+
+abbrev pub input_word : Input → List ℕ
+input_word Net = codes "NET"
+input_word Delays = codes "DELAYS"
+
+abbrev pub output_word : Output → List ℕ
+output_word Tests = codes "TESTS"
+output_word Report = codes "REPORT"
+output_word Proofs = codes "PROOFS"
+output_word Out = codes "out"
+
+abbrev pub words_reason : WordsFault → List ℕ
+words_reason Command = codes "command"
+words_reason (OptionAt place) = codes "option at " ++ decimal place
+words_reason (EmptyAt place) = codes "empty at " ++ decimal place
+words_reason Count = codes "count"
+words_reason (SameAt first second) = codes "same at " ++ decimal first ++ spaced (decimal second)
+
+-- the line on err for an ending; `Done` has none
+abbrev pub line_of : Ending → List ℕ
+line_of Done = []
+line_of (Words fault) = line (codes "words: " ++ words_reason fault)
+line_of (ReadFault input) = line (codes "read fault " ++ input_word input)
+line_of (WriteFault output) = line (codes "write fault " ++ output_word output)
+line_of NoMemory = line (codes "want of memory")
+line_of (NotBuilt input) = line (codes "not built: " ++ input_word input)
+
+abbrev pub status_of : Ending → Status
+status_of Done = exit.Done
+status_of (Words fault) = exit.Words
+status_of (ReadFault input) = exit.ReadFault
+status_of (WriteFault output) = exit.WriteFault
+status_of NoMemory = exit.NoMemory
+status_of (NotBuilt input) = exit.NotBuilt
+
+-- The status is that of the ending, and its line stands on err, whole unless a fault of err was counted; or err had no
+-- memory, the status says so, and a front of the line stands there.
+abbrev pub IsReported : Ending → Status → Option (List ℕ) → Option (List ℕ) → ℕ → ℕ → Type 0
+IsReported ending status old new old_faults new_faults =
+    ((status ≡ status_of ending)
+        × Tells old new (λ before after. (after ≡ before ++ line_of ending)
+            ⊎ (Rose old_faults new_faults × ((front : List ℕ) × IsFrontOf front (line_of ending) × (after ≡ before ++ front)))))
+    ⊎ ((status ≡ exit.NoMemory) × Tells old new (λ before after. (front : List ℕ) × IsFrontOf front (line_of ending) × (after ≡ before ++ front)))

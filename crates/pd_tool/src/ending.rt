@@ -1,0 +1,35 @@
+// How a call ends, with all detail. The status and the line on err are made of it at the very end.
+use crate::words::WordsFault;
+
+/// An input of `gen`, by its role.
+#[derive(Clone, Copy, Debug, PartialEq, Eq)]
+pub enum Input {
+    Net,
+    Delays,
+}
+
+/// An output of `gen`, by its role: a file, or out.
+#[derive(Clone, Copy, Debug, PartialEq, Eq)]
+pub enum Output {
+    Tests,
+    Report,
+    Proofs,
+    Out,
+}
+
+/// How a call ended.
+#[derive(Clone, Copy, Debug, PartialEq, Eq)]
+pub enum Ending {
+    /// The work was done.
+    Done,
+    /// The words were refused.
+    Words(WordsFault),
+    /// This input could not be read.
+    ReadFault(Input),
+    /// This output could not be written.
+    WriteFault(Output),
+    /// Memory ran out.
+    NoMemory,
+    /// This input has a form that is not built yet.
+    NotBuilt(Input),
+}

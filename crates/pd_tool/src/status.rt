@@ -1,0 +1,18 @@
+// The exit status of a call.
+
+/// How a call ended, as the number with which the program ends.
+#[derive(Clone, Copy, Debug, PartialEq, Eq)]
+pub enum Status {
+    /// The work was done.
+    Done = 0,
+    /// The words were refused.
+    Words = 2,
+    /// A file could not be read.
+    ReadFault = 5,
+    /// A file or out could not be written.
+    WriteFault = 6,
+    /// Memory ran out.
+    NoMemory = 7,
+    /// An input is of a form that is not built yet.
+    NotBuilt = 9,
+}
