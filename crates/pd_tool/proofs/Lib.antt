@@ -1,6 +1,8 @@
-pub mod NumberedLines
+pub mod LineNames
 pub mod ObservedLines
 pub mod Pieces
+pub mod PlainTexts
+pub mod ReportWriting
 pub mod Unread
-pub mod VerdictCounts
 pub mod Unwritten
+pub mod VerdictCounts

@@ -4,7 +4,9 @@ pub mod Endings
 pub mod Generation
 pub mod Headline
 pub mod Lines
+pub mod PlainTexts
 pub mod ProofsText
+pub mod ReportRows
 pub mod ReportText
 pub mod Requests
 pub mod RobustRun

@@ -2,9 +2,13 @@
 // of them says is defined in specs/. The pieces of which lines are made are in texts/pieces.rt.
 mod pieces;
 mod proofs;
+mod report;
+mod rows;
+mod steps;
 mod summary;
 mod tests;
 
 pub(crate) use proofs::proofs_text;
+pub(crate) use report::report_text;
 pub(crate) use summary::summary_text;
 pub(crate) use tests::tests_text;

@@ -1,0 +1,10 @@
+use Rattle.std.proofs.Common.{◌≡◌, ◌+◌, ◌++◌, drop, flat_map}
+use Rattle.pd_tool.specs.ReportRows.{IsBetweenRows, rows_text}
+use Rattle.pd_tool.specs.ReportText.{report_rows, report_text, row_line}
+use Rattle.pd_tool.proofs.texts.report.report_text.Given as goal
+
+abbrev pub invariant-loop-index : goal.invariant-loop-index
+invariant-loop-index l = record {
+  ready : IsBetweenRows l.rows;
+  text : rows_text l.rows ++ flat_map row_line (report_rows l.net (l.index + 1) (drop l.index l.paths)) ≡ report_text l.net l.paths;
+}
