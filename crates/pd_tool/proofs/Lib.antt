@@ -1,3 +1,4 @@
+pub mod GenEndings
 pub mod LineNames
 pub mod ObservedLines
 pub mod Pieces

@@ -2,7 +2,9 @@
 #![tactic(auto)]
 
 mod ending;
+mod generating;
 mod inputs;
+mod run;
 mod status;
 mod telling;
 mod texts;
