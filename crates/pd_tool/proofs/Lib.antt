@@ -1,1 +1,3 @@
+pub mod ChainPath
+pub mod ChainTests
 pub mod FiveNames
