@@ -1,5 +1,5 @@
 -- A circuit in which each gate reads the line before it has one path: from the source through every gate.
-use Rattle.std.proofs.Common.{◌≡◌, inl, inr, ℕ, zero, suc, ◌+◌, ◌<◌, ◌≤◌, List, [], ◌∷◌, length, get_or, remove, slice_get, sum_by, Some, refl, sym, ap, ap₂, subst, ◌∙◌, arith, add-zero}
+use Rattle.std.proofs.Common.{◌≡◌, inl, inr, ℕ, zero, suc, ◌+◌, ◌<◌, ◌≤◌, List, [], ◌∷◌, length, get_or, remove, slice_get, sum_by, Some, refl, sym, ap, ap₂, subst, ◌∙◌, arith, add-zero, zero-add}
 use Rattle.std.specs.Prelude.{Contains}
 use Rattle.std.specs.List.{AllByRecursion}
 use Rattle.std.proofs.lemmas.List.Sums.{sum_by-cons}
@@ -46,7 +46,7 @@ chain_reads_in_turn c chain =
     let long = chain_gates-length 0 chain.gates in
     subst ReadsInTurn (sym chain.circuit) (record {
       one_source = refl;
-      one_pin = λ gate within. chain_pins-at 0 chain.gates gate (omega arith);
+      one_pin = λ gate within. chain_pins-at 0 chain.gates gate (omega arith) ∙ ap (λ n. line_id n ∷ []) (zero-add gate);
       last_observed = ap (λ n. line_id n ∷ []) (sym long);
     })
 

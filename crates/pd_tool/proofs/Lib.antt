@@ -1,3 +1,4 @@
 pub mod ChainPath
+pub mod ChainRobust
 pub mod ChainTests
 pub mod FiveNames
