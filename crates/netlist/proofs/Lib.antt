@@ -1,5 +1,10 @@
+pub mod ChainCircuit
+pub mod ChainLists
+pub mod ChainSteps
+pub mod ChainStored
 pub mod Evaluation
 pub mod GateValues
+pub mod Inserting
 pub mod Looking
 pub mod NonrobustPath
 pub mod OnPathPin

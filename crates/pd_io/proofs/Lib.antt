@@ -1,4 +1,5 @@
 pub mod Handing
+pub mod NamedFiles
 pub mod Reading
 pub mod Tellings
 pub mod Writing

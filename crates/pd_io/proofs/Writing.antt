@@ -11,7 +11,7 @@ use Rattle.pd_io.proofs.Tellings.{tells_chain, tells_weaker}
 use Rattle.pd_io.proofs.Handing.{split_more}
 
 -- of two tests of one Bool the outer one tells
-cond_twice : {A : Type 0} (b : Bool) (x y z : A) → cond b x (cond b y z) ≡ cond b x z
+pub cond_twice : {A : Type 0} (b : Bool) (x y z : A) → cond b x (cond b y z) ≡ cond b x z
 cond_twice true x y z = refl
 cond_twice false x y z = refl
 

@@ -23,6 +23,10 @@ pub record Folder : Type 0 where
   pub held : Contents
   pub asked : List (List ℕ)
 
+-- nothing is held, and nothing was asked
+abbrev pub empty_folder : Folder
+empty_folder = record { held = λ _. None; asked = [] }
+
 -- the file that is open for reading, and how many of its bytes were taken
 pub record Reader : Type 0 where
   pub name : List ℕ

@@ -1,7 +1,8 @@
 // The faults of the outside, and how a fault of a call becomes one of a whole file.
 ghost use Rattle.std.specs.Prelude.{◌≡◌};
 ghost use Rattle.pd_io.specs.Fault.{read_fault_of, write_fault_of};
-ghost use Rattle.pd_io.specs.declared.fault.ReadFault.TheVariants.{NoMemory};
+ghost use Rattle.pd_io.specs.declared.fault.FileFault.TheVariants as call;
+ghost use Rattle.pd_io.specs.declared.fault.ReadFault.TheVariants as reading;
 
 use std::alloc::AllocError;
 use thiserror::Error;
@@ -52,7 +53,7 @@ impl From<FileFault> for ReadFault {
 }
 
 impl From<AllocError> for ReadFault {
-    ghost from_gives = { λ _ error. error ≡ NoMemory };
+    ghost from_gives = { λ _ error. error ≡ reading.NoMemory };
 
     fn from(_: AllocError) -> ReadFault {
         ReadFault::NoMemory
@@ -67,5 +68,13 @@ impl From<FileFault> for WriteFault {
             FileFault::Failed => WriteFault::Failed,
             FileFault::NoMemory => WriteFault::NoMemory,
         }
+    }
+}
+
+impl From<AllocError> for FileFault {
+    ghost from_gives = { λ _ error. error ≡ call.NoMemory };
+
+    fn from(_: AllocError) -> FileFault {
+        FileFault::NoMemory
     }
 }

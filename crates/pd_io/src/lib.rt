@@ -4,10 +4,14 @@
 
 mod fault;
 mod files;
+mod named;
+mod shelf;
 mod sink;
+mod steady;
 mod whole;
 
 pub use fault::{FileFault, ReadFault, WriteFault};
 pub use files::Files;
 pub use sink::Sink;
+pub use steady::{SteadyFiles, SteadySink};
 pub use whole::{read_whole, write_all, write_whole};

@@ -1,5 +1,5 @@
 -- A circuit in which each gate reads the line before it has one path: from the source through every gate.
-use Rattle.std.proofs.Common.{◌≡◌, inl, inr, ℕ, zero, suc, ◌+◌, ◌<◌, ◌≤◌, List, [], ◌∷◌, length, get_or, remove, slice_get, sum_by, Some, refl, sym, ap, ap₂, subst, ◌∙◌, arith, add-zero, zero-add}
+use Rattle.std.proofs.Common.{◌≡◌, inr, ℕ, zero, suc, ◌+◌, ◌<◌, ◌≤◌, List, [], ◌∷◌, remove, slice_get, sum_by, Some, refl, sym, ap, ap₂, subst, ◌∙◌, arith, add-zero, zero-add}
 use Rattle.std.specs.Prelude.{Contains}
 use Rattle.std.specs.List.{AllByRecursion}
 use Rattle.std.proofs.lemmas.List.Sums.{sum_by-cons}
@@ -9,36 +9,21 @@ use Rattle.pd_base.specs.declared.ids.PinRef.{PinRef}
 use Rattle.pd_base.specs.declared.fault.Kind.{Kind}
 use Rattle.pd_base.specs.Pair.{Vectors}
 use Rattle.pd_base.specs.Route.{Route}
-use Rattle.netlist.specs.declared.kind.GateKind.{GateKind}
-use Rattle.netlist.specs.Chain.{chain_gates}
-use Rattle.netlist.specs.Circuit.{Circuit, source_count, gate_count, gate_line, kind_at, pins_at, observed_lines, no_gate}
+use Rattle.netlist.specs.Circuit.{Circuit, source_count, gate_count, gate_line, kind_at, pins_at, observed_lines}
 use Rattle.netlist.specs.Values.{value}
 use Rattle.netlist.specs.Waves.{Delays}
 use Rattle.netlist.specs.Paths.{IsPinOn, Connects, line_after, IsPath, end_of}
 use Rattle.netlist.specs.Order.{AreFirst}
 use Rattle.netlist.specs.Conditions.{IsSideOf, SidesMeet}
+use Rattle.netlist.proofs.ChainCircuit.{line_id, chain_gates-length, chain_pins-at}
 use Rattle.pd_tool.specs.ChainText.{unit_delays}
 use Rattle.pd_tool.specs.ChainRun.{IsChainCircuit, first_pin, steps_through, chain_route}
-
--- the line of this number
-abbrev pub line_id : ℕ → LineId
-line_id line = record { 0 = line }
 
 -- there is one source, each gate reads the line before it by its one pin, and the last line is observed
 pub record ReadsInTurn (c : Circuit) : Type 0 where
   pub one_source : source_count c ≡ 1
   pub one_pin : (gate : ℕ) → gate < gate_count c → pins_at c gate ≡ line_id gate ∷ []
   pub last_observed : observed_lines c ≡ line_id (gate_count c) ∷ []
-
-chain_gates-length : (line : ℕ) (gates : List (GateKind × List ℕ)) → length (chain_gates line gates) ≡ length gates
-chain_gates-length line [] = refl
-chain_gates-length line (gate ∷ gates) = ap suc (chain_gates-length (line + 1) gates)
-
-chain_pins-at : (line : ℕ) (gates : List (GateKind × List ℕ)) (i : ℕ) → i < length gates → (get_or (chain_gates line gates) i no_gate).pins ≡ line_id (line + i) ∷ []
-chain_pins-at line [] i within = absurd (omega arith)
-chain_pins-at line (gate ∷ gates) zero within = ap (λ n. line_id n ∷ []) (sym (add-zero line))
-chain_pins-at line (gate ∷ gates) (suc i) within =
-    chain_pins-at (line + 1) gates i (omega arith) ∙ ap (λ n. line_id n ∷ []) (omega arith)
 
 -- a chain's circuit is such a one
 pub chain_reads_in_turn : (c : Circuit) → IsChainCircuit c → ReadsInTurn c

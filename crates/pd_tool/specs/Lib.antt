@@ -1,5 +1,6 @@
 pub mod ChainRun
 pub mod ChainText
+pub mod Counts
 pub mod Endings
 pub mod Generation
 pub mod Headline

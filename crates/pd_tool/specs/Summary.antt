@@ -1,10 +1,10 @@
 -- The line that `gen` prints on out (this project's own format).
-use Rattle.std.specs.Prelude.{ℕ, ◌+◌, Bool, true, false, List, [], ◌∷◌, ◌++◌, length, count_by, codes, decimal}
+use Rattle.std.specs.Prelude.{ℕ, Bool, true, false, List, [], ◌∷◌, ◌++◌, length, count_by, codes, decimal}
 use Rattle.refutation_check.specs.declared.run.Verdict.{Verdict}
 use Rattle.refutation_check.specs.declared.run.Verdict.TheVariants.{Robust, Nonrobust, Untestable, Aborted}
 use Rattle.refutation_check.specs.declared.run.ListedPath.{ListedPath}
 use Rattle.refutation_check.specs.declared.run.Run.{Run}
-use Rattle.pd_tool.specs.Tokens.{spaced, line}
+use Rattle.pd_tool.specs.Tokens.{line}
 
 -- the verdicts of all faults, path by path, the rising transition first
 abbrev pub verdicts_of : List ListedPath → List Verdict

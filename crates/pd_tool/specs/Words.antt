@@ -1,5 +1,6 @@
 -- What the words of the command line ask for (this project's own).
-use Rattle.std.specs.Prelude.{◌==◌, ◌||◌, ℕ, ◌+◌, ◌-◌, Bool, true, false, List, [], ◌∷◌, Option, None, Some, option_map, Result, Ok, Err, position, slice_index_or, codes, nat_eq, if◌then◌else◌}
+use Rattle.std.specs.Prelude.{◌==◌, ◌||◌, ℕ, ◌+◌, ◌-◌, Bool, true, false, List, [], ◌∷◌, Option, None, Some, option_map, Result, Ok, Err, slice_index_or, codes, nat_eq, if◌then◌else◌}
+use Rattle.std.specs.List.{position_from}
 use Rattle.std.specs.Cmp.Lexicographic.{pointwise}
 use Rattle.pd_tool.specs.declared.words.WordsFault.{WordsFault}
 use Rattle.pd_tool.specs.declared.words.WordsFault.TheVariants.{Command as NoCommand, OptionAt, EmptyAt, Count, SameAt}
@@ -46,7 +47,7 @@ fault_or (Some first) second = Some first
 abbrev pub first_same : ℕ → List (List ℕ) → Option WordsFault
 first_same place [] = None
 first_same place (name ∷ names) =
-    fault_or (option_map (λ later. SameAt place (place + 1 + later)) (position (pointwise nat_eq name) names)) (first_same (place + 1) names)
+    fault_or (option_map (λ later. SameAt place later) (position_from (pointwise nat_eq name) (place + 1) names)) (first_same (place + 1) names)
 
 -- why the words behind `gen` are refused, if they are
 abbrev pub names_fault : List (List ℕ) → Option WordsFault

@@ -1,7 +1,7 @@
 // The run of a chain: its one path, and a robust test for each transition. A chain has no side pins, so that any pair of
 // vectors that launches the transition is one.
 ghost use Rattle.std.specs.Prelude.{◌≡◌, [], ◌∷◌, IfOk};
-ghost use Rattle.netlist.specs.Circuit.{IsCircuit, gate_count};
+ghost use Rattle.netlist.specs.Circuit.{gate_count};
 ghost use Rattle.netlist.specs.Conditions.{final_bit};
 ghost use Rattle.netlist.specs.Values.{gate_value, value};
 ghost use Rattle.pd_tool.specs.ChainRun.{IsChainCircuit, chain_route};
@@ -54,14 +54,17 @@ fn chain_test(alloc: Global, net: &Netlist, dir: Direction) -> Result<Test, OutO
     requires { IsChainCircuit net.now }
     ensures { IfOk result (λ test. IsRobustTest net.now 1 (chain_route (gate_count net.now)) dir test) }
 {
-    let sources = net.sources() as usize;
     let last = bit_after(dir);
+    let expected = last_value(net, last);
     Ok(Test {
         path: 1,
         dir,
         kind: Kind::Robust,
-        pair: Pair::new(vec![in alloc; !last; sources]?, vec![in alloc; last; sources]?),
-        expected: Items::new(Vec::from_slice(alloc, &[last_value(net, last)])?),
+        pair: Pair::new(
+            Vec::from_slice(alloc, &[!last])?,
+            Vec::from_slice(alloc, &[last])?,
+        ),
+        expected: Items::new(Vec::from_slice(alloc, &[expected])?),
     })
 }
 
@@ -77,8 +80,7 @@ fn bit_after(dir: Direction) -> bool
 
 // The value of the last line, where the source has this bit.
 fn last_value(net: &Netlist, bit: bool) -> bool
-    requires chain { IsChainCircuit net.now }
-    requires circuit { IsCircuit net.now }
+    requires { IsChainCircuit net.now }
     ensures { result ≡ value net.now (bit ∷ []) (gate_count net.now) }
 {
     let mut value = bit;

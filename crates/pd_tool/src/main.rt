@@ -4,7 +4,7 @@
 mod chain_run;
 mod ending;
 mod status;
+mod texts;
 mod words;
 
-fn main(_rt: HostRuntime) {
-}
+fn main(_rt: HostRuntime) {}

@@ -1,7 +1,8 @@
 // The words of the command line, read by hand from the left. What they may ask for stands in specs/Words.antt.
-ghost use Rattle.std.specs.Prelude.{◌≡◌, ◌<◌, Ok, Err, length, position, nat_eq, IfSome, MatchResult};
+ghost use Rattle.std.specs.Prelude.{◌≡◌, ◌+◌, ◌<◌, ◌^◌, Ok, Err, length, nat_eq, IfNone, MatchResult};
+ghost use Rattle.std.specs.List.{position_from};
 ghost use Rattle.std.specs.Cmp.Lexicographic.{pointwise};
-ghost use Rattle.pd_tool.specs.Words.{command_of, first_fault, first_same, gen};
+ghost use Rattle.pd_tool.specs.Words.{command_of, names_fault, first_fault, first_same, gen};
 ghost use Rattle.pd_tool.specs.Requests.{request_of, texts};
 
 /// Why the words were refused. Places count from 1, the command word being 1.
@@ -41,7 +42,6 @@ const NAMES: usize = 5;
 const FIRST_NAME: usize = 2;
 
 /// What the words ask for, or the first reason why they are refused.
-#[tactic(auto, using(crate::proofs::FiveNames::five_names))]
 pub fn read_words<'a>(words: &[&'a str]) -> Result<Request<'a>, WordsFault>
     ensures { MatchResult result
         (λ request. command_of (texts words.now) ≡ Ok (gen (request_of request)))
@@ -53,10 +53,7 @@ pub fn read_words<'a>(words: &[&'a str]) -> Result<Request<'a>, WordsFault>
     if *command != "gen" {
         return Err(WordsFault::Command);
     }
-    if let Some(fault) = fault_among(names) {
-        return Err(fault);
-    }
-    if let Some(fault) = same_among(names) {
+    if let Some(fault) = names_fault(names) {
         return Err(fault);
     }
     let [net, delays, tests, report, proofs] = names else {
@@ -71,9 +68,18 @@ pub fn read_words<'a>(words: &[&'a str]) -> Result<Request<'a>, WordsFault>
     })
 }
 
+// Why the words behind `gen` are refused, if they are.
+fn names_fault(names: &[&str]) -> Option<WordsFault>
+    ensures fault { result ≡ names_fault (texts names.now) }
+    ensures count { IfNone result (length names.now ≡ 5) }
+{
+    fault_among(names).or_else(|| same_among(names))
+}
+
 // The first name that cannot stand where it does, or that some are missing.
 fn fault_among(names: &[&str]) -> Option<WordsFault>
-    ensures { result ≡ first_fault 2 5 (texts names.now) }
+    ensures first { result ≡ first_fault 2 5 (texts names.now) }
+    ensures count { IfNone result (length names.now ≡ 5) }
 {
     for (index, name) in names.iter().enumerate() {
         if let [b'-', ..] = name.as_bytes() {
@@ -97,24 +103,31 @@ fn fault_among(names: &[&str]) -> Option<WordsFault>
 fn same_among(names: &[&str]) -> Option<WordsFault>
     ensures { result ≡ first_same 2 (texts names.now) }
 {
-    for (index, name) in names.iter().enumerate() {
-        if let Some(distance) = distance_to_same(name, &names[index + 1..]) {
-            let first = FIRST_NAME + index;
-            return Some(WordsFault::SameAt(first, first + 1 + distance));
+    let mut place = FIRST_NAME;
+    let mut rest = names;
+    while let [name, later @ ..] = rest {
+        if let Some(second) = place_of_same(name, place + 1, later) {
+            return Some(WordsFault::SameAt(place, second));
         }
+        place += 1;
+        rest = later;
     }
     None
 }
 
-// How many names stand before the first one that is equal.
-fn distance_to_same(name: &str, later: &[&str]) -> Option<usize>
-    ensures same { result ≡ position (pointwise nat_eq name.now) (texts later.now) }
-    ensures within { IfSome result (λ distance. distance < length later.now) }
+// The place of the first word that is this name, where the words begin at this place.
+fn place_of_same(name: &str, first: usize, words: &[&str]) -> Option<usize>
+    requires { first + length words.now < 2 ^ 64 }
+    ensures { result ≡ position_from (pointwise nat_eq name.now) first (texts words.now) }
 {
-    for (distance, other) in later.iter().enumerate() {
-        if *other == name {
-            return Some(distance);
+    let mut place = first;
+    let mut rest = words;
+    while let [word, later @ ..] = rest {
+        if name == *word {
+            return Some(place);
         }
+        place += 1;
+        rest = later;
     }
     None
 }

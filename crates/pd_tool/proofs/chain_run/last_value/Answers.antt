@@ -5,11 +5,11 @@ use Rattle.pd_tool.proofs.ChainTests.{chain_value-first, chain_value-next}
 use Rattle.pd_tool.proofs.chain_run.last_value.Goals as goal
 
 pub loop-gate-init : goal.loop-gate-init
-loop-gate-init c = sym (chain_value-first c.args.net.now c.requires.chain c.args.bit)
+loop-gate-init c = sym (chain_value-first c.args.net.now c.requires c.args.bit)
 
 pub loop-gate-preserved : goal.loop-gate-preserved
 loop-gate-preserved c =
     c.value_behind-value.ensures
     ∙ ap (λ kind. gate_value kind (c.loop-gate.value ∷ [])) c.kind.ensures
     ∙ ap (λ value. gate_value (kind_at c.args.net.now c.loop-gate.gate) (value ∷ [])) c.loop-gate.invariant
-    ∙ sym (chain_value-next c.args.net.now c.requires.chain c.requires.circuit (c.args.bit ∷ []) c.loop-gate.gate (omega arith))
+    ∙ sym (chain_value-next c.args.net.now c.requires (c.args.bit ∷ []) c.loop-gate.gate (omega arith))

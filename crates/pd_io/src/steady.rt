@@ -1,0 +1,117 @@
+// Files and a sink in memory that never fail: only want of memory is ever answered. Their counts of faults stay 0.
+ghost use Rattle.std.specs.Prelude.{◌≡◌, [], Some, None, OnOk, OnErr, option_copied};
+ghost use Rattle.pd_io.specs.Folder.{empty_folder};
+ghost use Rattle.pd_io.specs.Whole.{written};
+ghost use Rattle.pd_io.specs.Steady.{steady_folder, steady_reader, steady_writer, steady_bytes};
+
+use crate::named::take_front;
+use crate::shelf::Shelf;
+use crate::{FileFault, Files, Sink};
+use pd_base::OutOfMemory;
+use std::alloc::Global;
+
+/// Files in memory. An absent name reads as an empty file. A read gives and a write takes at most 4,096 bytes.
+#[derive(Drop)]
+pub struct SteadyFiles {
+    shelf: Shelf,
+}
+
+impl SteadyFiles {
+    /// Files that hold nothing and were asked nothing.
+    pub fn new(alloc: Global) -> SteadyFiles
+        ensures folder { steady_folder result ≡ empty_folder }
+        ensures reader { steady_reader result ≡ None }
+        ensures writer { steady_writer result ≡ None }
+    {
+        SteadyFiles {
+            shelf: Shelf::new(alloc),
+        }
+    }
+
+    /// Makes a name hold these bytes. All other names stay.
+    pub fn put(&mut self, name: &str, bytes: &[u8]) -> Result<(), OutOfMemory>
+        ensures ok { OnOk result (steady_folder self.new ≡ written (steady_folder self.old) name.now bytes.now) }
+        ensures err { OnErr result (steady_folder self.new ≡ steady_folder self.old) }
+        ensures reader { steady_reader self.new ≡ steady_reader self.old }
+        ensures writer { steady_writer self.new ≡ steady_writer self.old }
+    {
+        self.shelf.put(name, bytes)?;
+        Ok(())
+    }
+
+    /// The bytes under a name, and `None` exactly for an absent name.
+    pub fn get(&self, name: &str) -> Option<&[u8]>
+        ensures { option_copied result ≡ (steady_folder self.now).held name.now }
+    {
+        self.shelf.get(name)
+    }
+}
+
+impl Files for SteadyFiles {
+    ghost folder = { λ files. Some (steady_folder files) };
+
+    ghost reader = { steady_reader };
+
+    ghost writer = { steady_writer };
+
+    ghost read_faults = { λ _. 0 };
+
+    ghost write_faults = { λ _. 0 };
+
+    fn begin_read(&mut self, name: &str) -> Result<(), FileFault> {
+        self.shelf.begin_read(name)?;
+        Ok(())
+    }
+
+    fn read(&mut self, buf: &mut [u8]) -> Result<usize, FileFault> {
+        Ok(self.shelf.read(buf))
+    }
+
+    fn begin_write(&mut self, name: &str) -> Result<(), FileFault> {
+        self.shelf.begin_write(name)?;
+        Ok(())
+    }
+
+    fn write(&mut self, bytes: &[u8]) -> Result<usize, FileFault> {
+        Ok(self.shelf.write(bytes)?)
+    }
+
+    fn finish(&mut self) -> Result<(), FileFault> {
+        self.shelf.finish();
+        Ok(())
+    }
+}
+
+/// A sink in memory. A write takes at most 4,096 bytes.
+#[derive(Drop)]
+pub struct SteadySink {
+    bytes: Vec<u8>,
+}
+
+impl SteadySink {
+    /// A sink that took nothing.
+    pub fn new(alloc: Global) -> SteadySink
+        ensures { steady_bytes result ≡ [] }
+    {
+        SteadySink {
+            bytes: Vec::new(alloc),
+        }
+    }
+
+    /// The bytes taken, in order.
+    pub fn bytes(&self) -> &[u8]
+        ensures { result.now ≡ steady_bytes self.now }
+    {
+        self.bytes.as_slice()
+    }
+}
+
+impl Sink for SteadySink {
+    ghost taken = { λ sink. Some (steady_bytes sink) };
+
+    ghost faults = { λ _. 0 };
+
+    fn write(&mut self, bytes: &[u8]) -> Result<usize, FileFault> {
+        Ok(take_front(&mut self.bytes, bytes)?)
+    }
+}

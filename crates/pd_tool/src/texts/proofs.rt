@@ -1,0 +1,71 @@
+// The proofs file.
+ghost use Rattle.std.specs.Prelude.{◌≡◌, ◌++◌, IfOk, OnOk, decimal, flat_map};
+ghost use Rattle.pd_tool.specs.ProofsText.{claim_word, node_text, proof_line, proofs_text};
+ghost use Rattle.pd_tool.specs.Tokens.{spaced};
+
+use crate::texts::pieces::{direction_word, kind_word, push_spaced, push_spaced_number};
+use pd_base::{OutOfMemory, push_decimal};
+use refutation_check::{Node, Proof};
+use std::alloc::Global;
+
+/// The text of the proofs file: its heading, and a line for each proof, numbered from 1.
+pub(crate) fn proofs_text(alloc: Global, proofs: &[Proof]) -> Result<Vec<u8>, OutOfMemory>
+    ensures { IfOk result (λ text. text.items ≡ proofs_text proofs.now) }
+{
+    let mut text = Vec::from_slice(alloc, b"pdfgen proofs 1\n")?;
+    for (index, proof) in proofs.iter().enumerate() {
+        push_proof_line(&mut text, index as u64 + 1, proof)?;
+    }
+    Ok(text)
+}
+
+// Appends the line of a proof. Where memory is refused, a part of it may have been written.
+fn push_proof_line(out: &mut Vec<u8>, number: u64, proof: &Proof) -> Result<(), OutOfMemory>
+    ensures { OnOk result (out.new.items ≡ out.old.items ++ proof_line number proof.now) }
+{
+    push_decimal(out, number)?;
+    push_spaced(out, claim_word(proof.spent))?;
+    push_spaced(out, kind_word(proof.kind))?;
+    push_spaced(out, direction_word(proof.dir))?;
+    push_spaced_number(out, u64::from(proof.path))?;
+    push_spaced_number(out, u64::from(proof.steps))?;
+    push_tree(out, proof.tree.nodes())?;
+    out.push(b'\n')?;
+    Ok(())
+}
+
+// What a proof claims: that the budget was spent, or else a refutation.
+fn claim_word(spent: bool) -> &'static [u8]
+    ensures { result.now ≡ claim_word spent }
+{
+    if spent { b"spent" } else { b"refutes" }
+}
+
+// Appends the nodes of a tree, each behind a space.
+fn push_tree(out: &mut Vec<u8>, nodes: &[Node]) -> Result<(), OutOfMemory>
+    ensures { OnOk result (out.new.items ≡ out.old.items ++ flat_map (λ node. spaced (node_text node)) nodes.now) }
+{
+    for node in nodes {
+        push_node(out, node)?;
+    }
+    Ok(())
+}
+
+fn push_node(out: &mut Vec<u8>, node: &Node) -> Result<(), OutOfMemory>
+    ensures { OnOk result (out.new.items ≡ out.old.items ++ spaced (node_text node.now)) }
+{
+    match node {
+        Node::Closed => push_spaced(out, b"X"),
+        Node::Waiting => push_spaced(out, b"O"),
+        Node::Value(source) => push_split(out, b"V", *source),
+        Node::Steadiness(source) => push_split(out, b"H", *source),
+    }
+}
+
+// Appends a space, the letter of a split, and the number of its source.
+fn push_split(out: &mut Vec<u8>, letter: &[u8], source: u32) -> Result<(), OutOfMemory>
+    ensures { OnOk result (out.new.items ≡ out.old.items ++ spaced (letter.now ++ decimal source)) }
+{
+    push_spaced(out, letter)?;
+    push_decimal(out, u64::from(source))
+}

@@ -1,0 +1,85 @@
+// The line of counts that a run ends with.
+ghost use Rattle.std.specs.Prelude.{◌≡◌, ◌+◌, ◌-◌, ◌++◌, ◌^◌, ◌<◌, IfOk, OnOk, decimal, length};
+ghost use Rattle.pd_tool.specs.Summary.{summary_text, verdicts_of};
+ghost use Rattle.pd_tool.specs.Counts.{AreCountsOf, counts_sum, counts_with};
+
+use pd_base::{OutOfMemory, push_decimal};
+use refutation_check::{ListedPath, Run, Verdict};
+use std::alloc::Global;
+
+// How many faults have each verdict.
+#[derive(Clone, Copy)]
+struct Counts {
+    robust: u32,
+    nonrobust: u32,
+    untestable: u32,
+    aborted: u32,
+}
+
+/// The line that says how many paths a run lists, and how many of their faults have each verdict.
+pub(crate) fn summary_text(alloc: Global, run: &Run) -> Result<Vec<u8>, OutOfMemory>
+    requires { length run.now.paths < 2 ^ 31 }
+    ensures { IfOk result (λ text. text.items ≡ summary_text run.now) }
+{
+    let paths = run.paths.as_slice();
+    let counts = count_verdicts(paths);
+    let mut text = Vec::new(alloc);
+    push_count(&mut text, b"paths ", paths.len() as u64)?;
+    push_count(&mut text, b" robust ", u64::from(counts.robust))?;
+    push_count(&mut text, b" nonrobust ", u64::from(counts.nonrobust))?;
+    push_count(&mut text, b" untestable ", u64::from(counts.untestable))?;
+    push_count(&mut text, b" aborted ", u64::from(counts.aborted))?;
+    text.push(b'\n')?;
+    Ok(text)
+}
+
+// Appends a word, with its spaces, and a count.
+fn push_count(out: &mut Vec<u8>, word: &[u8], count: u64) -> Result<(), OutOfMemory>
+    ensures { OnOk result (out.new.items ≡ out.old.items ++ word.now ++ decimal count) }
+{
+    out.extend_from_slice(word)?;
+    push_decimal(out, count)
+}
+
+// Counts the verdicts of both transitions of each path.
+fn count_verdicts(paths: &[ListedPath]) -> Counts
+    requires { length paths.now < 2 ^ 31 }
+    ensures { AreCountsOf result (verdicts_of paths.now) }
+{
+    let mut counts = Counts {
+        robust: 0,
+        nonrobust: 0,
+        untestable: 0,
+        aborted: 0,
+    };
+    for listed in paths {
+        counts = count_one(counts, listed.rise);
+        counts = count_one(counts, listed.fall);
+    }
+    counts
+}
+
+// The counts with one more verdict counted.
+fn count_one(counts: Counts, verdict: Verdict) -> Counts
+    requires { counts_sum counts < 2 ^ 32 - 1 }
+    ensures { result ≡ counts_with counts verdict }
+{
+    match verdict {
+        Verdict::Robust { .. } => Counts {
+            robust: counts.robust + 1,
+            ..counts
+        },
+        Verdict::Nonrobust { .. } => Counts {
+            nonrobust: counts.nonrobust + 1,
+            ..counts
+        },
+        Verdict::Untestable { .. } => Counts {
+            untestable: counts.untestable + 1,
+            ..counts
+        },
+        Verdict::Aborted { .. } => Counts {
+            aborted: counts.aborted + 1,
+            ..counts
+        },
+    }
+}
