@@ -59,9 +59,10 @@ module _ (c : Circuit) (turn : ReadsInTurn c) where
   connects : (gate count : ℕ) → gate + count ≤ gate_count c → Connects c gate (steps_through gate count)
   connects gate zero within = tt
   connects gate (suc count) within =
-      let here : gate < gate_count c = omega arith in
-      ((here, ap (λ pins. slice_get pins 0) (turn.one_pin gate here)),
-      subst (λ line. Connects c line (steps_through (gate + 1) count)) (sym (next_line gate)) (connects (gate + 1) count (omega arith)))
+      let here : gate < gate_count c = omega arith in (
+        (here, ap (λ pins. slice_get pins 0) (turn.one_pin gate here)),
+        subst (λ line. Connects c line (steps_through (gate + 1) count)) (sym (next_line gate)) (connects (gate + 1) count (omega arith)),
+      )
 
   line_after-steps_through : (gate count : ℕ) → line_after c gate (steps_through gate count) ≡ gate + count
   line_after-steps_through gate zero = sym (add-zero gate)
@@ -92,9 +93,10 @@ module _ (c : Circuit) (turn : ReadsInTurn c) where
 
   -- the way through every gate is a path
   pub chain_route_is_path : IsPath c (chain_route (gate_count c))
-  chain_route_is_path =
-      ((omega (arith, turn.one_source), connects 0 (gate_count c) (omega arith)),
-      subst (λ lines. Contains lines (line_id (end_of c (chain_route (gate_count c))))) (sym turn.last_observed) (0, omega arith, ap line_id (sym end_of-chain_route)))
+  chain_route_is_path = (
+    (omega (arith, turn.one_source), connects 0 (gate_count c) (omega arith)),
+    subst (λ lines. Contains lines (line_id (end_of c (chain_route (gate_count c))))) (sym turn.last_observed) (0, omega arith, ap line_id (sym end_of-chain_route)),
+  )
 
   -- and there is no other
   only_path : (other : Route) → IsPath c other → other ≡ chain_route (gate_count c)
@@ -108,11 +110,11 @@ module _ (c : Circuit) (turn : ReadsInTurn c) where
   -- so it is the first paths of the circuit
   pub chain_route_is_first : (delays : Delays) (count : ℕ) → 1 < count → AreFirst c delays count (chain_route (gate_count c) ∷ [])
   chain_route_is_first delays count many = record {
-        are_paths = (chain_route_is_path, tt);
-        rising = tt;
-        none_before = λ other path missing. absurd (missing (listed other path));
-        full = inr (many, listed);
-      }
+    are_paths = (chain_route_is_path, tt);
+    rising = tt;
+    none_before = λ other path missing. absurd (missing (listed other path));
+    full = inr (many, listed);
+  }
     where
       listed : (other : Route) → IsPath c other → Contains (chain_route (gate_count c) ∷ []) other
       listed other path = (0, omega arith, sym (only_path other path))
@@ -120,6 +122,7 @@ module _ (c : Circuit) (turn : ReadsInTurn c) where
   -- it has no side pins, so that any pair of vectors meets their conditions
   pub chain_sides_meet : (kind : Kind) (pair : Vectors) (gate count : ℕ) → gate + count ≤ gate_count c → SidesMeet kind c pair gate (steps_through gate count)
   chain_sides_meet kind pair gate zero within = tt
-  chain_sides_meet kind pair gate (suc count) within =
-      (subst (λ pins. AllByRecursion (λ side. IsSideOf kind c pair (kind_at c gate) (value c pair.second gate) side.0) (remove pins 0)) (sym (turn.one_pin gate (omega arith))) tt,
-      subst (λ line. SidesMeet kind c pair line (steps_through (gate + 1) count)) (sym (next_line gate)) (chain_sides_meet kind pair (gate + 1) count (omega arith)))
+  chain_sides_meet kind pair gate (suc count) within = (
+    subst (λ pins. AllByRecursion (λ side. IsSideOf kind c pair (kind_at c gate) (value c pair.second gate) side.0) (remove pins 0)) (sym (turn.one_pin gate (omega arith))) tt,
+    subst (λ line. SidesMeet kind c pair line (steps_through (gate + 1) count)) (sym (next_line gate)) (chain_sides_meet kind pair (gate + 1) count (omega arith)),
+  )

@@ -1,5 +1,5 @@
 -- A run that lists the one path of a chain, with a robust test for each transition, is a robust run.
-use Rattle.std.proofs.Common.{◌≡◌, ℕ, List, [], ◌∷◌, map, lit< , sym, ap, subst, ◌∙◌}
+use Rattle.std.proofs.Common.{◌≡◌, ℕ, List, [], ◌∷◌, map, lit<, sym, ap, subst, ◌∙◌}
 use Rattle.std.specs.List.{AllByRecursion}
 use Rattle.pd_base.specs.Route.{Route}
 use Rattle.pd_base.specs.declared.test.Test.{Test}
@@ -26,9 +26,11 @@ module _ (c : Circuit) (listed : ListedPath) (is_route : listed.path ≡ chain_r
   length_listed long = long ∙ sym (length-steps_through 0 (gate_count c)) ∙ ap (length_of unit_delays) (sym is_route)
 
   tests_listed : (rise fall : Test) → IsRobustTest c 1 (chain_route (gate_count c)) Rise rise → IsRobustTest c 1 (chain_route (gate_count c)) Fall fall → HaveTests c 1 (listed ∷ []) (rise ∷ fall ∷ [])
-  tests_listed rise fall rises falls =
-      (subst (λ path. IsRobustTest c 1 path Rise rise) (sym is_route) rises,
-      subst (λ path. IsRobustTest c 1 path Fall fall) (sym is_route) falls, tt)
+  tests_listed rise fall rises falls = (
+    subst (λ path. IsRobustTest c 1 path Rise rise) (sym is_route) rises,
+    subst (λ path. IsRobustTest c 1 path Fall fall) (sym is_route) falls,
+    tt,
+  )
 
   -- the parts of the run are those of the chain's one path
   pub chain_run_is_robust : IsChainCircuit c → listed.length ≡ gate_count c → listed.rise ≡ Robust 1 → listed.fall ≡ Robust 2

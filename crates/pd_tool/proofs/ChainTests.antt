@@ -38,9 +38,10 @@ chain_observed c turn vector = ap (map (λ (line : LineId). value c vector line.
 
 -- the vectors of one bit each, the second of which is that of the direction, are a robust test
 pub chain_meets : (c : Circuit) → ReadsInTurn c → (dir : Direction) (pair : Vectors) → pair.first ≡ not (final_bit dir) ∷ [] → pair.second ≡ final_bit dir ∷ [] → Meets kind.Robust c (chain_route (gate_count c)) dir pair
-chain_meets c turn dir pair first second =
-    ((ap (λ bits. bit_of bits 0) second, ap (λ bits. bit_of bits 0) first),
-    chain_sides_meet c turn kind.Robust pair 0 (gate_count c) (omega arith))
+chain_meets c turn dir pair first second = (
+  (ap (λ bits. bit_of bits 0) second, ap (λ bits. bit_of bits 0) first),
+  chain_sides_meet c turn kind.Robust pair 0 (gate_count c) (omega arith),
+)
 
 pub chain_test_is_robust : (c : Circuit) → IsChainCircuit c → (dir : Direction) (test : Test) → test.path ≡ 1 → test.dir ≡ dir → test.kind ≡ kind.Robust
     → test.pair.first ≡ not (final_bit dir) ∷ [] → test.pair.second ≡ final_bit dir ∷ [] → test.expected ≡ value c (final_bit dir ∷ []) (gate_count c) ∷ []

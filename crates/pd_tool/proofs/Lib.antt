@@ -1,7 +1,6 @@
 pub mod ChainPath
 pub mod ChainRobust
 pub mod ChainTests
-pub mod FiveNames
 pub mod NumberedLines
 pub mod ObservedLines
 pub mod VerdictCounts
