@@ -1,7 +1,6 @@
 -- A run that lists the one path of a chain, with a robust test for each transition, is a robust run.
-use Rattle.std.proofs.Common.{◌≡◌, ℕ, List, [], ◌∷◌, map, lit<, sym, ap, subst, ◌∙◌}
+use Rattle.std.proofs.Common.{◌≡◌, List, [], ◌∷◌, ◌++◌, map, lit<, sym, ap, subst, ◌∙◌}
 use Rattle.std.specs.List.{AllByRecursion}
-use Rattle.pd_base.specs.Route.{Route}
 use Rattle.pd_base.specs.declared.test.Test.{Test}
 use Rattle.pd_base.specs.declared.fault.Direction.TheVariants.{Rise, Fall}
 use Rattle.refutation_check.specs.declared.run.Verdict.TheVariants.{Robust}
@@ -43,3 +42,11 @@ module _ (c : Circuit) (listed : ListedPath) (is_route : listed.path ≡ chain_r
     tests = subst (λ paths. HaveTests c 1 paths run.tests) (sym paths) (subst (HaveTests c 1 (listed ∷ [])) (sym tests) (tests_listed rise fall rises falls));
     proofs = proofs;
   }
+
+-- what stands in a vector after one item was pushed
+pub pushed_one : {X : Type 0} (items pushed none : List X) (x : X) → items ≡ pushed → pushed ≡ none ++ x ∷ [] → none ≡ [] → items ≡ x ∷ []
+pushed_one items pushed none x are push empty = are ∙ push ∙ ap (λ l. l ++ x ∷ []) empty
+
+-- and after two were
+pub pushed_two : {X : Type 0} (items pushed before none : List X) (x y : X) → items ≡ pushed → pushed ≡ before ++ y ∷ [] → before ≡ none ++ x ∷ [] → none ≡ [] → items ≡ x ∷ y ∷ []
+pushed_two items pushed before none x y are push push_before empty = are ∙ push ∙ ap (λ l. l ++ y ∷ []) (push_before ∙ ap (λ l. l ++ x ∷ []) empty)

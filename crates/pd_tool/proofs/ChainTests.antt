@@ -1,13 +1,13 @@
 -- The tests of a chain: what its last line has under a vector, and that a pair that launches the transition is robust.
-use Rattle.std.proofs.Common.{◌≡◌, ℕ, ◌+◌, ◌<◌, ◌≤◌, Bool, not, List, [], ◌∷◌, map, length, sym, ap, subst, ◌∙◌, arith}
+use Rattle.std.proofs.Common.{◌≡◌, ℕ, ◌+◌, ◌<◌, Bool, not, List, [], ◌∷◌, map, length, sym, ap, subst, ◌∙◌, arith}
 use Rattle.pd_base.specs.declared.ids.LineId.{LineId}
 use Rattle.pd_base.specs.declared.test.Test.{Test}
 use Rattle.pd_base.specs.declared.fault.Direction.{Direction}
 use Rattle.pd_base.specs.declared.fault.Kind.TheVariants as kind
 use Rattle.pd_base.specs.Pair.{Vectors}
-use Rattle.netlist.specs.Circuit.{Circuit, IsCircuit, source_count, gate_count, kind_at}
+use Rattle.netlist.specs.Circuit.{Circuit, IsCircuit, gate_count, kind_at}
 use Rattle.netlist.specs.Values.{gate_value, value, observed_values, bit_of}
-use Rattle.netlist.specs.Conditions.{final_bit, Launches, Meets}
+use Rattle.netlist.specs.Conditions.{final_bit, Meets}
 use Rattle.netlist.proofs.ChainCircuit.{chain_IsCircuit}
 use Rattle.netlist.proofs.GateValues.{value_of_gate, value_of_source}
 use Rattle.netlist.proofs.PinPlaces.{at_pins}

@@ -99,3 +99,6 @@ fn value_behind(kind: GateKind, bit: bool) -> bool
         GateKind::Nand | GateKind::Nor | GateKind::Xnor | GateKind::Not => !bit,
     }
 }
+
+#[cfg(test)]
+mod tests;

@@ -1,7 +1,8 @@
-use Rattle.std.proofs.Common.{refl, ap, ◌∙◌, ◌++◌, ◌∷◌, []}
+use Rattle.std.proofs.Common.{refl, ◌∙◌}
+use Rattle.pd_base.specs.declared.test.Test.{Test}
 use Rattle.refutation_check.specs.declared.run.ListedPath.{ListedPath}
 use Rattle.refutation_check.specs.declared.run.Verdict.TheVariants.{Robust}
-use Rattle.pd_tool.proofs.ChainRobust.{chain_run_is_robust}
+use Rattle.pd_tool.proofs.ChainRobust.{chain_run_is_robust, pushed_one, pushed_two}
 use Rattle.pd_tool.proofs.chain_run.chain_run.Goals as goal
 
 pub returns : goal.returns
@@ -12,8 +13,7 @@ returns c =
     record {
       robust = chain_run_is_robust c.args.net.now listed c.in_ok-chain_path.ensures c.requires.chain (c.from.ensures ∙ c.gates.ensures) refl refl
           rise fall c.in_ok-chain_test.ensures c.in_ok-chain_test-2.ensures _
-          (c.new.ensures ∙ c.in_ok-push.ensures.items ∙ ap (λ paths. paths ++ listed ∷ []) c.new-paths.ensures.items)
-          (c.new-2.ensures ∙ c.in_ok-push-3.ensures.items
-          ∙ ap (λ tests. tests ++ fall ∷ []) (c.in_ok-push-2.ensures.items ∙ ap (λ tests. tests ++ rise ∷ []) c.new-tests.ensures.items))
+          (pushed_one {X = ListedPath} _ _ _ listed c.new.ensures c.in_ok-push.ensures.items c.new-paths.ensures.items)
+          (pushed_two {X = Test} _ _ _ _ rise fall c.new-2.ensures c.in_ok-push-3.ensures.items c.in_ok-push-2.ensures.items c.new-tests.ensures.items)
           (c.new-4.ensures ∙ c.new-3.ensures.items);
     }

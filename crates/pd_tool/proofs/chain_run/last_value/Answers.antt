@@ -1,4 +1,4 @@
-use Rattle.std.proofs.Common.{[], ◌∷◌, ap, sym, ◌∙◌, arith, ◌≡◌}
+use Rattle.std.proofs.Common.{[], ◌∷◌, ap, sym, ◌∙◌, arith}
 use Rattle.netlist.specs.Circuit.{kind_at}
 use Rattle.netlist.specs.Values.{gate_value}
 use Rattle.pd_tool.proofs.ChainTests.{chain_value-first, chain_value-next}
