@@ -2,7 +2,7 @@
 ghost use Rattle.std.specs.Prelude.{◌≡◌, ◌+◌, ◌<◌, ◌^◌, Ok, Err, length, nat_eq, IfNone, MatchResult};
 ghost use Rattle.std.specs.List.{position_from};
 ghost use Rattle.std.specs.Cmp.Lexicographic.{pointwise};
-ghost use Rattle.pd_tool.specs.Words.{command_of, names_fault, first_fault, first_same, gen};
+ghost use Rattle.pd_tool.specs.Words.{command_of, gen_request, names_fault, first_fault, first_same, gen};
 ghost use Rattle.pd_tool.specs.Requests.{request_of, texts};
 
 /// Why the words were refused. Places count from 1, the command word being 1.
@@ -56,16 +56,21 @@ pub fn read_words<'a>(words: &[&'a str]) -> Result<Request<'a>, WordsFault>
     if let Some(fault) = names_fault(names) {
         return Err(fault);
     }
-    let [net, delays, tests, report, proofs] = names else {
-        return Err(WordsFault::Count);
-    };
-    Ok(Request {
-        net,
-        delays,
-        tests,
-        report,
-        proofs,
-    })
+    Ok(request_for(names))
+}
+
+// The request with these names, each in the place of its role.
+fn request_for<'a>(names: &[&'a str]) -> Request<'a>
+    requires { length names.now ≡ 5 }
+    ensures { request_of result ≡ gen_request (texts names.now) }
+{
+    Request {
+        net: names[0],
+        delays: names[1],
+        tests: names[2],
+        report: names[3],
+        proofs: names[4],
+    }
 }
 
 // Why the words behind `gen` are refused, if they are.
