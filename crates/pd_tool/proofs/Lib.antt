@@ -1,5 +1,9 @@
+pub mod ChainPath
+pub mod ChainRobust
+pub mod ChainTests
 pub mod GenEndings
 pub mod LineNames
+pub mod NumberedLines
 pub mod ObservedLines
 pub mod Pieces
 pub mod PlainTexts

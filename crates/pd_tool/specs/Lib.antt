@@ -1,3 +1,4 @@
+pub mod ChainRun
 pub mod ChainText
 pub mod Counts
 pub mod Endings

@@ -1,6 +1,7 @@
 //! A path delay fault test generator.
 #![tactic(auto)]
 
+mod chain_run;
 mod ending;
 mod generating;
 mod inputs;
