@@ -114,6 +114,7 @@ out_untouched place due text (Some bytes) = record { nothing_before = λ _. refl
 pub stands_among_files : (request : GenRequest) (inputs : Inputs) (texts : Texts) (place : ℕ) (old mid new : Option Folder) (a b c d : ℕ) (out : Option (List ℕ)) (e : ℕ)
     → request.paths ≡ 100 → Tells old mid (AreRead request inputs) → AreTexts inputs texts → Tells mid new (FilesStand place (due_of request texts))
     → StandsAt place request (seen old a c out e) (seen new b d out e)
+unfolding work_of
 stands_among_files request inputs texts place old mid new a b c d out e paths t made stand = record {
   work = work_of request inputs texts old mid paths t made;
   files = tells_chain old mid new (AreRead request inputs) (FilesStand place (due_of request texts))
@@ -156,6 +157,7 @@ pub written_ending : (request : GenRequest) (inputs : Inputs) (texts : Texts) (o
     → request.paths ≡ 100 → Tells old mid (AreRead request inputs) → AreTexts inputs texts → Tells mid new (AreWhole (due_of request texts))
     → text ≡ texts.summary.items → Tells out out' (λ before after. after ≡ before ++ text)
     → IsWritten request (seen old a c out e) (seen new b d out' e')
+unfolding work_of
 written_ending request inputs texts old mid new a b c d out out' e e' text paths t made w is printed = record {
   work = work_of request inputs texts old mid paths t made;
   files = files_whole request inputs texts old mid new made t w;
@@ -167,6 +169,7 @@ pub unprinted_stands : (request : GenRequest) (inputs : Inputs) (texts : Texts) 
     → request.paths ≡ 100 → Tells old mid (AreRead request inputs) → AreTexts inputs texts → Tells mid new (AreWhole (due_of request texts))
     → text ≡ texts.summary.items → Tells out out' (TookFront text)
     → StandsAt 3 request (seen old a c out e) (seen new b d out' e')
+unfolding work_of
 unprinted_stands request inputs texts old mid new a b c d out out' e e' text paths t made w is took = record {
   work = work_of request inputs texts old mid paths t made;
   files = tells_weaker old new (λ before after. after ≡ record { held = put_all before.held (due_files request made.circuit made.run); asked = before.asked ++ input_names request })
@@ -190,3 +193,21 @@ unprinted_ending request inputs texts (WriteFault output) old mid new a b c d ou
 unprinted_ending request inputs texts NoMemory old mid new a b c d out out' e e' text paths t made w is took h =
     inr (3, unprinted_stands request inputs texts old mid new a b c d out out' e e' text paths t made w is took)
 unprinted_ending request inputs texts (NotBuilt input) old mid new a b c d out out' e e' text paths t made w is took h = absurd h
+
+-- the last step's result, where it is good
+pub written_done : (request : GenRequest) (inputs : Inputs) (texts : Texts) (result : Result ⊤ Ending) (old mid new : Option Folder) (a b c d : ℕ) (out out' : Option (List ℕ)) (e e' : ℕ) (text : List ℕ)
+    → request.paths ≡ 100 → Tells old mid (AreRead request inputs) → AreTexts inputs texts → Tells mid new (AreWhole (due_of request texts))
+    → text ≡ texts.summary.items → OnOk result (Tells out out' (λ before after. after ≡ before ++ text))
+    → OnOk result (IsEnding (Ok (gen request)) Done (seen old a c out e) (seen new b d out' e'))
+written_done request inputs texts (Ok done) old mid new a b c d out out' e e' text paths t made w is printed =
+    written_ending request inputs texts old mid new a b c d out out' e e' text paths t made w is printed
+written_done request inputs texts (Err ending) old mid new a b c d out out' e e' text paths t made w is printed = tt
+
+-- and where it is a fault
+pub unprinted_ended : (request : GenRequest) (inputs : Inputs) (texts : Texts) (result : Result ⊤ Ending) (old mid new : Option Folder) (a b c d : ℕ) (out out' : Option (List ℕ)) (e e' : ℕ) (text : List ℕ)
+    → request.paths ≡ 100 → Tells old mid (AreRead request inputs) → AreTexts inputs texts → Tells mid new (AreWhole (due_of request texts))
+    → text ≡ texts.summary.items → OnErr result (Tells out out' (TookFront text)) → IfErr result (λ ending. IsWriteEnding Out ending e e')
+    → IfErr result (λ ending. IsEnding (Ok (gen request)) ending (seen old a c out e) (seen new b d out' e'))
+unprinted_ended request inputs texts (Ok done) old mid new a b c d out out' e e' text paths t made w is took h = tt
+unprinted_ended request inputs texts (Err ending) old mid new a b c d out out' e e' text paths t made w is took h =
+    unprinted_ending request inputs texts ending old mid new a b c d out out' e e' text paths t made w is took h

@@ -1,6 +1,8 @@
 pub mod ChainPath
+pub mod ChainReading
 pub mod ChainRobust
 pub mod ChainTests
+pub mod Completeness
 pub mod GenEndings
 pub mod LineNames
 pub mod NumberedLines
