@@ -21,3 +21,6 @@ pub use sink::Sink;
 pub use std_files::{StdFiles, StdSink};
 pub use steady::{SteadyFiles, SteadySink};
 pub use whole::{read_whole, write_all, write_whole};
+
+#[cfg(test)]
+mod tests;
