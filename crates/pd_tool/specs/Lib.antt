@@ -1,3 +1,4 @@
+pub mod ChainPieces
 pub mod ChainText
 pub mod Counts
 pub mod Endings

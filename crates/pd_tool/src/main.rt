@@ -1,6 +1,7 @@
 //! A path delay fault test generator.
 #![tactic(auto)]
 
+mod chain_reader;
 mod ending;
 mod status;
 mod texts;
