@@ -1,3 +1,4 @@
+pub mod ChainReading
 pub mod NumberedLines
 pub mod ObservedLines
 pub mod VerdictCounts

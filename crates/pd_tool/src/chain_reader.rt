@@ -152,28 +152,22 @@ fn after<'a>(bytes: &'a [u8], front: &[u8]) -> Option<&'a [u8]>
 fn are_distinct(source: &[u8], gates: &[(GateKind, Items<u8>)]) -> bool
     ensures { IsTrue result ↔ AllPairs (λ a b. a ≢ b) (chain_names source.now gates.now) }
 {
-    let mut name = source;
-    let mut rest = gates;
-    while let [gate, later @ ..] = rest {
-        if !is_new(name, rest) {
+    for (index, gate) in gates.iter().enumerate() {
+        if !is_new(gate.1.as_slice(), source, &gates[..index]) {
             return false;
         }
-        name = gate.1.as_slice();
-        rest = later;
     }
     true
 }
 
-// Whether no gate has this name.
-fn is_new(name: &[u8], gates: &[(GateKind, Items<u8>)]) -> bool
-    ensures { IsTrue result ↔ AllByRecursion (λ other. name.now ≢ other) (map (λ gate. gate.1) gates.now) }
+// Whether neither the source nor a gate has this name.
+fn is_new(name: &[u8], source: &[u8], gates: &[(GateKind, Items<u8>)]) -> bool
+    ensures { IsTrue result ↔ All (λ other. other ≢ name.now) (chain_names source.now gates.now) }
 {
-    let mut rest = gates;
-    while let [gate, later @ ..] = rest {
+    for gate in gates {
         if gate.1.as_slice() == name {
             return false;
         }
-        rest = later;
     }
-    true
+    source != name
 }
