@@ -1,7 +1,10 @@
 -- A text is read as a chain in one way only: a name ends where its letters and digits do, and so each piece is known
 -- from the bytes that it begins. And no chain of the built form is long.
-use Rattle.std.proofs.Common.{◌≡◌, ◌≢◌, ◌⊎◌, inl, inr, ℕ, zero, suc, ◌+◌, ◌*◌, ◌<◌, ◌≤◌, List, [], ◌∷◌, ◌++◌, length, map, take, drop, codes, refl, sym, ap, subst, ◌∙◌, arith, append_assoc}
+use Rattle.std.proofs.Common.{◌≡◌, ◌≢◌, ◌⊎◌, inl, inr, Bool, true, false, not, ℕ, zero, suc, ◌+◌, ◌*◌, ◌<◌, ◌≤◌, List, [], ◌∷◌, ◌++◌, length, map, take, drop, codes, refl, sym, ap, subst, ◌∙◌, arith, append_assoc}
+use Rattle.std.specs.Prelude.{nat_eq}
 use Rattle.std.specs.List.{All, AllByRecursion}
+use Rattle.std.specs.Cmp.Lexicographic.{pointwise}
+use Rattle.std.proofs.lemmas.Slice.Eq.{bytes_eq-Decides}
 use Rattle.std.proofs.lemmas.List.{append_cancel_left, append-nil, length-append, length-take-le, take-append-drop}
 use Rattle.std.proofs.lemmas.List.Elements.{recursion_from_All}
 use Rattle.netlist.specs.declared.kind.GateKind.{GateKind}
@@ -10,6 +13,21 @@ use Rattle.netlist.specs.Circuit.{Circuit}
 use Rattle.netlist.specs.Chain.{IsChain, IsLetterOrDigit, IsShortName, chain_names}
 use Rattle.pd_tool.specs.ChainText.{IsNet, gate_lines, kind_text, last_name, chain_text, most_gates, unit_delays_text}
 use Rattle.pd_tool.specs.ChainPieces.{AreLines, EndsName, IsChainGate, IsChainKind, IsMark, gate_line, head_text}
+
+not_true : (b : Bool) → true ≡ not b → b ≡ true → ⊥
+not_true true e h = cc
+not_true false e h = cc
+
+not_false : (b : Bool) → false ≡ not b → b ≡ true
+not_false true e = refl
+not_false false e = cc
+
+-- what `!=` tells of two texts
+pub differ : (xs ys : List ℕ) → true ≡ not (pointwise nat_eq xs ys) → xs ≢ ys
+differ xs ys e same = not_true (pointwise nat_eq xs ys) e ((bytes_eq-Decides xs ys).1 same)
+
+pub agree : (xs ys : List ℕ) → false ≡ not (pointwise nat_eq xs ys) → xs ≡ ys
+agree xs ys e = (bytes_eq-Decides xs ys).0 (not_false (pointwise nat_eq xs ys) e)
 
 -- two splits at the end of the letters and digits are one
 pub same_name : (n m r s : List ℕ) → AllByRecursion IsLetterOrDigit n → AllByRecursion IsLetterOrDigit m → EndsName r → EndsName s → n ++ r ≡ m ++ s → (n ≡ m) × (r ≡ s)
@@ -47,7 +65,7 @@ same_marked n m mark r s is short_n short_m e =
     (known.0, append_cancel_left mark r s known.1)
 
 -- the pieces of a gate's line, from the left
-gate_line_parts : (before : List ℕ) (gate : GateKind × List ℕ) (rest : List ℕ)
+pub gate_line_parts : (before : List ℕ) (gate : GateKind × List ℕ) (rest : List ℕ)
     → gate_line before gate ++ rest ≡ gate.1 ++ codes " = " ++ (kind_text gate.0 ++ codes "(" ++ (before ++ (codes ")\n" ++ rest)))
 gate_line_parts before gate rest =
     let name = gate.1 in
@@ -55,7 +73,7 @@ gate_line_parts before gate rest =
     simp append_assoc
 
 -- the pieces of the first two lines, from the left
-head_parts : (source last rest : List ℕ)
+pub head_parts : (source last rest : List ℕ)
     → head_text source last ++ rest ≡ codes "INPUT(" ++ (source ++ codes ")\nOUTPUT(" ++ (last ++ codes ")\n" ++ rest))
 head_parts source last rest = simp append_assoc
 

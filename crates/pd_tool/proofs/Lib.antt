@@ -1,3 +1,5 @@
+pub mod ChainLines
+pub mod ChainNames
 pub mod ChainReading
 pub mod NumberedLines
 pub mod ObservedLines

@@ -13,7 +13,7 @@ use pd_base::{Items, OutOfMemory};
 use std::alloc::Global;
 
 /// How many gates a chain may have so far: at most 32.
-pub const MOST_GATES: usize = 0;
+pub const MOST_GATES: usize = 32;
 
 /// How many letters and digits a name may have.
 const LONGEST_NAME: usize = 16;
@@ -81,7 +81,10 @@ fn gates_of(
         before = name;
         rest = later;
     }
-    Ok(if before == last { Some(gates) } else { None })
+    if before != last {
+        return Ok(None);
+    }
+    Ok(Some(gates))
 }
 
 // The kind and the name of the gate on the first line, which reads the line of this name, and what follows it.
