@@ -1,3 +1,5 @@
+pub mod ChainLines
+pub mod ChainNames
 pub mod ChainPath
 pub mod ChainReading
 pub mod ChainRobust

@@ -1,3 +1,4 @@
+pub mod ChainPieces
 pub mod ChainRun
 pub mod ChainText
 pub mod Counts

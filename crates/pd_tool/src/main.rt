@@ -2,6 +2,7 @@
 //! Its whole contract is that of `run::run`; main hands in the words and ends with the status.
 #![tactic(auto)]
 
+mod chain_reader;
 mod chain_run;
 mod ending;
 mod generating;
