@@ -64,6 +64,15 @@ abbrev pub WasRead : Option (Vec ℕ Global) → (List ℕ → Type 0) → Type 
 WasRead None P = ⊥
 WasRead (Some read) P = P read.items
 
+-- the texts are those of a circuit and of one run, in which every fault is robust
+pub record AreTextsOf (circuit : Circuit) (texts : Texts) : Type 0 where
+  pub run : Run
+  pub robust : IsRobustRun circuit unit_delays 100 run
+  pub tests : texts.tests.items ≡ tests_text circuit run.tests
+  pub report : texts.report.items ≡ report_text circuit run.paths
+  pub proofs : texts.proofs.items ≡ proofs_text run.proofs
+  pub summary : texts.summary.items ≡ summary_text run
+
 -- the texts are those of one circuit and one run, and the circuit that of the input
 pub record AreTexts (inputs : Inputs) (texts : Texts) : Type 0 where
   pub net : List ℕ
