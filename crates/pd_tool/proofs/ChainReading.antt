@@ -22,12 +22,19 @@ not_false : (b : Bool) → false ≡ not b → b ≡ true
 not_false true e = refl
 not_false false e = cc
 
+not-true : (b : Bool) → (b ≡ true → ⊥) → b ≡ false
+not-true true h = absurd (h refl)
+not-true false h = refl
+
 -- what `!=` tells of two texts
 pub differ : (xs ys : List ℕ) → true ≡ not (pointwise nat_eq xs ys) → xs ≢ ys
 differ xs ys e same = not_true (pointwise nat_eq xs ys) e ((bytes_eq-Decides xs ys).1 same)
 
 pub agree : (xs ys : List ℕ) → false ≡ not (pointwise nat_eq xs ys) → xs ≡ ys
 agree xs ys e = (bytes_eq-Decides xs ys).0 (not_false (pointwise nat_eq xs ys) e)
+
+pub not_same : (xs ys : List ℕ) → xs ≢ ys → not (pointwise nat_eq xs ys) ≡ true
+not_same xs ys other = ap not (not-true (pointwise nat_eq xs ys) (λ same. other ((bytes_eq-Decides xs ys).0 same)))
 
 -- two splits at the end of the letters and digits are one
 pub same_name : (n m r s : List ℕ) → AllByRecursion IsLetterOrDigit n → AllByRecursion IsLetterOrDigit m → EndsName r → EndsName s → n ++ r ≡ m ++ s → (n ≡ m) × (r ≡ s)
