@@ -1,12 +1,12 @@
 -- The texts of the built form are short, so a file over 4,096 bytes has not the form.
-use Rattle.std.proofs.Common.{◌≡◌, ℕ, ◌+◌, ◌*◌, ◌≤◌, List, [], ◌∷◌, ◌++◌, length, map, codes, ap, ◌∙◌, arith}
+use Rattle.std.proofs.Common.{◌≡◌, ℕ, ◌+◌, ◌*◌, ◌≤◌, List, [], ◌∷◌, ◌++◌, length, map, ap, ◌∙◌, arith}
 use Rattle.std.specs.List.{AllByRecursion}
 use Rattle.std.proofs.lemmas.List.{length-append}
 use Rattle.netlist.specs.declared.kind.GateKind.{GateKind}
 use Rattle.netlist.specs.declared.kind.GateKind.TheVariants.{And, Nand, Or, Nor, Xor, Xnor, Not, Buff}
 use Rattle.netlist.specs.Circuit.{Circuit}
 use Rattle.netlist.specs.Chain.{IsShortName}
-use Rattle.pd_tool.specs.ChainText.{IsNet, chain_text, gate_lines, kind_text, last_name, unit_delays_text}
+use Rattle.pd_tool.specs.ChainText.{IsNet, gate_lines, kind_text, last_name, unit_delays_text}
 use Rattle.pd_tool.specs.ChainPieces.{gate_line, head_text}
 use Rattle.pd_tool.proofs.ChainLines.{ChainGate, last_is_short}
 use Rattle.pd_tool.proofs.ChainReading.{gate_line_parts, head_parts}
@@ -27,7 +27,7 @@ line_is_short before rest gate before_short name_short =
     let kind = kind_text gate.0 in
     let kind_short : length kind ≤ 4 = kind_is_short gate.0 in
     let whole : length (gate_line before gate ++ rest) ≡ length gate.1 + (3 + (length kind + (1 + (length before + (2 + length rest))))) =
-        ap length (gate_line_parts before gate rest) ∙ simp length-append (omega arith) in
+    ap length (gate_line_parts before gate rest) ∙ simp length-append (omega arith) in
     omega arith
 
 lines_are_short : (before : List ℕ) (gates : List ChainGate) → length before ≤ 16 → AllByRecursion IsShortName (map (λ gate. gate.1) gates) → length (gate_lines before gates) ≤ 42 * length gates
@@ -38,7 +38,7 @@ lines_are_short before (gate ∷ gates) short names =
 head_is_short : (source last rest : List ℕ) → length source ≤ 16 → length last ≤ 16 → length (head_text source last ++ rest) ≤ 49 + length rest
 head_is_short source last rest source_short last_short =
     let whole : length (head_text source last ++ rest) ≡ 6 + (length source + (9 + (length last + (2 + length rest)))) =
-        ap length (head_parts source last rest) ∙ simp length-append (omega arith) in
+    ap length (head_parts source last rest) ∙ simp length-append (omega arith) in
     omega arith
 
 -- a netlist in its built form has at most 4,096 bytes

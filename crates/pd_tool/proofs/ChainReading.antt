@@ -1,18 +1,17 @@
 -- A text is read as a chain in one way only: a name ends where its letters and digits do, and so each piece is known
 -- from the bytes that it begins. And no chain of the built form is long.
-use Rattle.std.proofs.Common.{◌≡◌, ◌≢◌, ◌⊎◌, inl, inr, Bool, true, false, not, ℕ, zero, suc, ◌+◌, ◌*◌, ◌<◌, ◌≤◌, List, [], ◌∷◌, ◌++◌, length, map, take, drop, codes, refl, sym, ap, subst, ◌∙◌, arith, append_assoc}
+use Rattle.std.proofs.Common.{◌≡◌, ◌≢◌, inl, inr, Bool, true, false, not, ℕ, ◌≤◌, List, [], ◌∷◌, ◌++◌, length, take, drop, codes, refl, sym, ap, subst, ◌∙◌, arith, append_assoc}
 use Rattle.std.specs.Prelude.{nat_eq}
 use Rattle.std.specs.List.{All, AllByRecursion}
 use Rattle.std.specs.Cmp.Lexicographic.{pointwise}
 use Rattle.std.proofs.lemmas.Slice.Eq.{bytes_eq-Decides}
-use Rattle.std.proofs.lemmas.List.{append_cancel_left, append-nil, length-append, length-take-le, take-append-drop}
+use Rattle.std.proofs.lemmas.List.{append_cancel_left, length-take-le, take-append-drop}
 use Rattle.std.proofs.lemmas.List.Elements.{recursion_from_All}
 use Rattle.netlist.specs.declared.kind.GateKind.{GateKind}
-use Rattle.netlist.specs.declared.kind.GateKind.TheVariants.{And, Nand, Or, Nor, Xor, Xnor, Not, Buff}
-use Rattle.netlist.specs.Circuit.{Circuit}
-use Rattle.netlist.specs.Chain.{IsChain, IsLetterOrDigit, IsShortName, chain_names}
-use Rattle.pd_tool.specs.ChainText.{IsNet, gate_lines, kind_text, last_name, chain_text, most_gates, unit_delays_text}
-use Rattle.pd_tool.specs.ChainPieces.{AreLines, EndsName, IsChainGate, IsChainKind, IsMark, gate_line, head_text}
+use Rattle.netlist.specs.declared.kind.GateKind.TheVariants.{Not, Buff}
+use Rattle.netlist.specs.Chain.{IsLetterOrDigit, IsShortName}
+use Rattle.pd_tool.specs.ChainText.{kind_text}
+use Rattle.pd_tool.specs.ChainPieces.{EndsName, IsChainGate, IsChainKind, IsMark, gate_line, head_text}
 
 not_true : (b : Bool) → true ≡ not b → b ≡ true → ⊥
 not_true true e h = cc
@@ -149,4 +148,3 @@ same_head s l t m r q s_short l_short t_short m_short e =
     let named = after_source t m (s ++ codes ")\nOUTPUT(" ++ (l ++ codes ")\n" ++ r)) (l ++ codes ")\n" ++ r) q s t_short s_short (sym (head_parts s l r) ∙ e) refl in
     let known = same_marked l m (codes ")\n") r q bracket_ends l_short m_short named.1 in
     (named.0, known.0, known.1)
-

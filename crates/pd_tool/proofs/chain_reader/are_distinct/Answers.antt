@@ -6,9 +6,10 @@ use Rattle.pd_tool.proofs.chain_reader.are_distinct.Goals as goal
 pub returns-then-not-is_new : goal.returns-then-not-is_new
 returns-then-not-is_new c =
     let named : c.as_slice.result.now ≡ c.index-gates-index.result.1 = c.as_slice.ensures in
-    let IsNew : List ℕ → Type 0 = λ name. IsNewName name c.args.source.now (take c.loop-index.index c.args.gates.now) in
-    (λ h. absurd (false≢true h),
-     λ pairs. c.if-not-is_new.ensures.1 (subst IsNew (sym named) (distinct_name c.args.source.now c.args.gates.now c.loop-index.index c.index-gates-index.result c.loop-index-test.true c.index-gates-index.is pairs)))
+    let IsNew : List ℕ → Type 0 = λ name. IsNewName name c.args.source.now (take c.loop-index.index c.args.gates.now) in (
+      λ h. absurd (false≢true h),
+      λ pairs. c.if-not-is_new.ensures.1 (subst IsNew (sym named) (distinct_name c.args.source.now c.args.gates.now c.loop-index.index c.index-gates-index.result c.loop-index-test.true c.index-gates-index.is pairs)),
+    )
 
 pub loop-index-preserved : goal.loop-index-preserved
 loop-index-preserved c =

@@ -2,7 +2,6 @@ use Rattle.std.proofs.Common.{◌≡◌, ◌≢◌, ◌∙◌, List, ap, refl, s
 use Rattle.std.proofs.lemmas.Bool.{false≢true}
 use Rattle.netlist.specs.Chain.{IsChain, chain_circuit, chain_names}
 use Rattle.pd_tool.specs.ChainText.{gate_lines, last_name}
-use Rattle.pd_tool.specs.ChainPieces.{AreLines}
 use Rattle.pd_tool.proofs.ChainLines.{ChainGate, lines_are_chain, lines_are_net, net_distinct, net_head, net_lines}
 use Rattle.pd_tool.proofs.chain_reader.read_chain.Goals as goal
 
