@@ -174,3 +174,6 @@ fn is_new(name: &[u8], source: &[u8], gates: &[(GateKind, Items<u8>)]) -> bool
     }
     source != name
 }
+
+#[cfg(test)]
+mod tests;
