@@ -1,5 +1,5 @@
 -- The gates of a chain are known from their lines, and a chain from its text.
-use Rattle.std.proofs.Common.{◌≡◌, ◌≢◌, ◌⊎◌, ℕ, ◌<◌, ◌≤◌, List, [], ◌∷◌, ◌++◌, length, map, codes, refl, sym, ap, subst, ◌∙◌, arith, append_assoc, AllPairs}
+use Rattle.std.proofs.Common.{◌≡◌, ◌≢◌, ℕ, ◌<◌, ◌≤◌, List, [], ◌∷◌, ◌++◌, length, map, codes, refl, sym, ap, subst, ◌∙◌, arith, append_assoc, AllPairs}
 use Rattle.std.specs.List.{AllByRecursion}
 use Rattle.std.proofs.lemmas.List.{append-nil, length-append}
 use Rattle.netlist.specs.declared.kind.GateKind.{GateKind}
@@ -170,13 +170,15 @@ pub net_lines : (bytes source last lines : List ℕ) (c : Circuit) → IsShortNa
 net_lines bytes source last lines c short last_short e net =
     let known = net_head bytes c net in
     let same = same_head source last net.source (last_name net.source net.gates) lines (gate_lines net.source net.gates) short last_short known.0 known.1 (sym e ∙ known.2) in
-    let from : source ≡ net.source = same.0 in
-    (from, record {
-      each = gates_each net.gates net.chain.names.1 net.chain.kinds;
-      built = net.built;
-      spelled = same.2 ∙ ap (λ name. gate_lines name net.gates) (sym from);
-      last_is = same.1 ∙ ap (λ name. last_name name net.gates) (sym from);
-    })
+    let from : source ≡ net.source = same.0 in (
+      from,
+      record {
+        each = gates_each net.gates net.chain.names.1 net.chain.kinds;
+        built = net.built;
+        spelled = same.2 ∙ ap (λ name. gate_lines name net.gates) (sym from);
+        last_is = same.1 ∙ ap (λ name. last_name name net.gates) (sym from);
+      },
+    )
 
 -- a chain has distinct names
 pub net_distinct : (bytes source last lines : List ℕ) (gates : List ChainGate) (c : Circuit) → IsShortName source → IsShortName last → bytes ≡ head_text source last ++ lines → AreLines source last lines gates → IsNet bytes c

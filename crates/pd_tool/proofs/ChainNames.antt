@@ -1,5 +1,5 @@
 -- Distinct names: each name is new among those before it.
-use Rattle.std.proofs.Common.{◌≡◌, ◌≢◌, ℕ, suc, ◌+◌, ◌<◌, ◌≤◌, List, [], ◌∷◌, ◌++◌, length, map, take, drop, get_or, refl, sym, ap, subst, ◌∙◌, arith, append_assoc, AllPairs, add-one}
+use Rattle.std.proofs.Common.{◌≡◌, ◌≢◌, ℕ, ◌+◌, ◌<◌, ◌≤◌, List, [], ◌∷◌, ◌++◌, length, map, take, drop, get_or, refl, sym, ap, subst, ◌∙◌, arith, AllPairs}
 use Rattle.std.specs.List.{All}
 use Rattle.std.proofs.lemmas.List.{drop_more, take_more, take_all, take-append-drop, map-append, length-append, length-map, get_or-map, get_or_append_left, get_or_at}
 use Rattle.std.proofs.lemmas.List.Elements.{All-cons, All-head, All-tail, All-map, All-more}

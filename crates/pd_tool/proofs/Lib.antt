@@ -1,3 +1,4 @@
+pub mod ChainLength
 pub mod ChainLines
 pub mod ChainNames
 pub mod ChainPath

@@ -13,7 +13,7 @@ use pd_base::{Items, OutOfMemory};
 use std::alloc::Global;
 
 /// How many gates a chain may have so far: at most 32.
-pub const MOST_GATES: usize = 32;
+pub const MOST_GATES: usize = 0;
 
 /// How many letters and digits a name may have.
 const LONGEST_NAME: usize = 16;
@@ -174,3 +174,6 @@ fn is_new(name: &[u8], source: &[u8], gates: &[(GateKind, Items<u8>)]) -> bool
     }
     source != name
 }
+
+#[cfg(test)]
+mod tests;
