@@ -8,11 +8,11 @@ pub mod ChainTests
 pub mod Completeness
 pub mod GenEndings
 pub mod LineNames
-pub mod NumberedLines
 pub mod ObservedLines
 pub mod Pieces
 pub mod PlainTexts
 pub mod ReportWriting
+pub mod RunTexts
 pub mod Unread
 pub mod Unwritten
 pub mod VerdictCounts
