@@ -13,7 +13,7 @@ use pd_base::{Items, OutOfMemory};
 use std::alloc::Global;
 
 /// How many gates a chain may have so far: at most 32.
-pub const MOST_GATES: usize = 0;
+pub const MOST_GATES: usize = 32;
 
 /// How many letters and digits a name may have.
 const LONGEST_NAME: usize = 16;
