@@ -1,3 +1,4 @@
+pub mod ChainNames
 pub mod LineNames
 pub mod ObservedLines
 pub mod PlainTexts

@@ -6,6 +6,8 @@ mod report;
 mod rows;
 mod steps;
 mod summary;
+#[cfg(test)]
+mod tests;
 mod tests_file;
 
 pub(crate) use proofs_file::proofs_text;
