@@ -5,6 +5,8 @@
 mod chains;
 mod kind;
 mod netlist;
+#[cfg(test)]
+mod tests;
 
 pub use chains::chain;
 pub use kind::GateKind;

@@ -19,7 +19,7 @@ pub(crate) struct StoredGate {
 }
 
 /// A circuit of named lines. Contracts see it as the circuit that it stands for.
-#[derive(Drop)]
+#[derive(Debug, Drop)]
 pub struct Netlist {
     pub(crate) sources: u32,
     pub(crate) names: IndexSet<Vec<u8>>,

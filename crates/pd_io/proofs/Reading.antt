@@ -1,6 +1,6 @@
 -- A file that is read piece by piece.
 use Rattle.std.proofs.Common.{◌≡◌, inl, ℕ, ◌+◌, ◌<◌, ◌≤◌, List, [], ◌++◌, length, take, drop, Option, Some, Result, Ok, refl, sym, ap, subst, ◌∙◌, append_assoc, length-append, arith}
-use Rattle.std.proofs.lemmas.List.{append-nil, take-append-drop, drop_at, length-take-le}
+use Rattle.std.proofs.lemmas.List.{append-nil, take-append-drop, take-append-le, drop_at, length-take-le}
 use Rattle.pd_io.specs.declared.fault.ReadFault.{ReadFault}
 use Rattle.pd_io.specs.Telling.{Tells, IsFrontOf}
 use Rattle.pd_io.specs.Folder.{Folder, Reader, Contents, bytes_at, moved, IsNext, GivesNext}
@@ -48,6 +48,10 @@ given_at folder held reader name bytes buffer count e h g =
     let F : Option Reader → Type 0 = λ r. GivesNext folder r count buffer in
     let H : Contents → Type 0 = λ c. IsNext (drop (length bytes) (bytes_at c name)) count buffer in
     subst H h (subst F e g)
+
+-- a front of a buffer is one of its first part
+pub more_bytes : (more bytes buffer rest : List ℕ) (count : ℕ) → more ≡ bytes ++ take count (buffer ++ rest) → count ≤ length buffer → more ≡ bytes ++ take count buffer
+more_bytes more bytes buffer rest count e w = e ∙ ap (λ l. bytes ++ l) (take-append-le count buffer rest w)
 
 -- a read gave the next bytes
 pub reading_more : (before now next : Option Folder) (reader after : Option Reader) (name bytes buffer more : List ℕ) (count : ℕ) → Reading before now reader name bytes → count ≤ length buffer → Tells now next (λ old _. GivesNext old reader count buffer) → next ≡ now → after ≡ moved reader (Ok count) → more ≡ bytes ++ take count buffer → Reading before next after name more

@@ -1,7 +1,10 @@
 pub mod Counts
 pub mod Fault
 pub mod Folder
+pub mod Memory
+pub mod Plan
 pub mod Shelf
+pub mod StdFiles
 pub mod Steady
 pub mod Telling
 pub mod Whole

@@ -1,40 +1,74 @@
--- What the report asks of a circuit and of a path: chains have plain names, and what a path is made of is in its circuit.
-use Rattle.std.proofs.Common.{◌≡◌, ℕ, zero, suc, ◌+◌, List, [], ◌∷◌, All, map, refl, sym, ap, subst, inl, inr, arith}
-use Rattle.std.specs.List.{AllByRecursion}
-use Rattle.netlist.specs.declared.kind.GateKind.{GateKind}
-use Rattle.netlist.specs.Chain.{IsChain, IsLetterOrDigit, IsShortName, chain_circuit, chain_gates, chain_names}
-use Rattle.netlist.specs.Circuit.{Circuit, gate_line, line_names}
-use Rattle.netlist.specs.Paths.{Connects, IsPrefix}
-use Rattle.pd_base.specs.declared.ids.PinRef.{PinRef}
-use Rattle.pd_base.specs.Route.{Route}
-use Rattle.pd_tool.specs.PlainTexts.{HasItsGates, HasPlainNames, IsNameable, IsPlain, IsPlainByte}
+-- Distinct names: each name is new among those before it.
+use Rattle.std.proofs.Common.{◌≡◌, ◌≢◌, ℕ, ◌+◌, ◌<◌, ◌≤◌, List, [], ◌∷◌, ◌++◌, length, map, take, drop, get_or, refl, sym, ap, subst, ◌∙◌, arith, AllPairs}
+use Rattle.std.specs.List.{All}
+use Rattle.std.proofs.lemmas.List.{drop_more, take_more, take_all, take-append-drop, map-append, length-append, length-map, get_or-map, get_or_append_left, get_or_at}
+use Rattle.std.proofs.lemmas.List.Elements.{All-cons, All-head, All-tail, All-map, All-more}
+use Rattle.std.proofs.lemmas.List.Quantifiers.{all_pairs_push}
+use Rattle.netlist.specs.Chain.{chain_names}
+use Rattle.pd_tool.proofs.ChainLines.{ChainGate}
 
-letter_plain : (byte : ℕ) → IsLetterOrDigit byte → IsPlainByte byte
-letter_plain byte (inl digit) = (omega arith, omega arith, omega arith, omega arith)
-letter_plain byte (inr (inl capital)) = (omega arith, omega arith, omega arith, omega arith)
-letter_plain byte (inr (inr small)) = (omega arith, omega arith, omega arith, omega arith)
+-- no gate among the first ones has the name
+abbrev pub AreOther : List ℕ → List ChainGate → Type 0
+AreOther name gates = All (λ (gate : ChainGate). gate.1 ≢ name) gates
 
-all_by_step : {X : Type 0} (P Q : X → Type 0) → ((x : X) → P x → Q x) → (xs : List X) → AllByRecursion P xs → All Q xs
-all_by_step P Q step [] all k d within = absurd (omega arith)
-all_by_step P Q step (x ∷ xs) all zero d within = step x all.0
-all_by_step P Q step (x ∷ xs) all (suc k) d within = all_by_step P Q step xs all.1 k d (omega arith)
+-- no line has the name
+abbrev pub IsNewName : List ℕ → List ℕ → List ChainGate → Type 0
+IsNewName name source gates = All (λ (other : List ℕ). other ≢ name) (chain_names source gates)
 
-name_of_gates : (line : ℕ) (gates : List (GateKind × List ℕ)) → map (λ g. g.name) (chain_gates line gates) ≡ map (λ gate. gate.1) gates
-name_of_gates line [] = refl
-name_of_gates line (gate ∷ gates) = ap (λ (names : List (List ℕ)). gate.1 ∷ names) (name_of_gates (line + 1) gates)
+pub other_more : (name : List ℕ) (gates : List ChainGate) (i : ℕ) (gate : ChainGate) → i < length gates → gate ≡ get_or gates i gate → AreOther name (take i gates) → gate.1 ≢ name → AreOther name (take (i + 1) gates)
+other_more name gates i gate within is others other =
+    All-more (λ (gate : ChainGate). gate.1 ≢ name) gates i gate within others (λ same. other (ap (λ (g : ChainGate). g.1) is ∙ same))
 
--- a chain's names have letters and digits alone
-pub chain_HasPlainNames : (source : List ℕ) (gates : List (GateKind × List ℕ)) → IsChain source gates → HasPlainNames (chain_circuit source gates)
-chain_HasPlainNames source gates chain =
-    let named : line_names (chain_circuit source gates) ≡ chain_names source gates = ap (λ (names : List (List ℕ)). source ∷ names) (name_of_gates 0 gates) in
-    subst (All IsPlain) (sym named)
-    (all_by_step IsShortName IsPlain (λ name short. all_by_step IsLetterOrDigit IsPlainByte letter_plain name short.2) (chain_names source gates) chain.names)
+pub known_name : (name source : List ℕ) (gates : List ChainGate) (i : ℕ) (gate : ChainGate) → i < length gates → gate ≡ get_or gates i gate → gate.1 ≡ name → ¬ IsNewName name source gates
+known_name name source gates i gate within is same new =
+    let at : get_or (map (λ (g : ChainGate). g.1) gates) i name ≡ (get_or gates i gate).1 = get_or-map (λ (g : ChainGate). g.1) gates i gate name within in
+    All-tail (λ (other : List ℕ). other ≢ name) source (map (λ (g : ChainGate). g.1) gates) new i name (omega (arith, length-map gates (λ (g : ChainGate). g.1))) (at ∙ sym (ap (λ (g : ChainGate). g.1) is) ∙ same)
 
-connected_gates : (c : Circuit) (line : ℕ) (steps : List PinRef) → Connects c line steps → HasItsGates c steps
-connected_gates c line [] connects k d within = absurd (omega arith)
-connected_gates c line (step ∷ steps) connects zero d within = connects.0.0
-connected_gates c line (step ∷ steps) connects (suc k) d within = connected_gates c (gate_line c step.gate.0) steps connects.1 k d (omega arith)
+-- a name that no gate has is new where the source has another
+pub new_name : (name source : List ℕ) (gates : List ChainGate) (i : ℕ) → length gates ≤ i → AreOther name (take i gates) → source ≢ name → IsNewName name source gates
+new_name name source gates i all others other =
+    let Others : List ChainGate → Type 0 = AreOther name in
+    All-cons (λ (other : List ℕ). other ≢ name) source (map (λ (g : ChainGate). g.1) gates) other
+    (All-map (λ (other : List ℕ). other ≢ name) (λ (g : ChainGate). g.1) gates (subst Others (take_all i gates all) others))
 
--- a path's source and gates are in its circuit
-pub prefix_IsNameable : (c : Circuit) (path : Route) → IsPrefix c path → IsNameable c path
-prefix_IsNameable c path prefix = record { source = omega (arith, prefix.0); steps = connected_gates c path.source.0 path.steps prefix.1 }
+pub new_source : (name source : List ℕ) (gates : List ChainGate) → IsNewName name source gates → source ≢ name
+new_source name source gates new = All-head (λ (other : List ℕ). other ≢ name) source (map (λ (g : ChainGate). g.1) gates) new
+
+-- the names of some gates, and the name of the next
+names_more : (source : List ℕ) (gates : List ChainGate) (i : ℕ) (gate : ChainGate) → i < length gates → gate ≡ get_or gates i gate → chain_names source (take (i + 1) gates) ≡ chain_names source (take i gates) ++ gate.1 ∷ []
+names_more source gates i gate within is =
+    let more : take (i + 1) gates ≡ take i gates ++ gate ∷ [] = take_more gates i gate within ∙ ap (λ (g : ChainGate). take i gates ++ g ∷ []) (sym is) in
+    ap (chain_names source) more ∙ ap (λ names. source ∷ names) (map-append (λ (g : ChainGate). g.1) (take i gates) (gate ∷ []))
+
+-- all names: those of some gates, the name of the next, and the others
+names_split : (source : List ℕ) (gates : List ChainGate) (i : ℕ) (gate : ChainGate) → i < length gates → gate ≡ get_or gates i gate
+    → chain_names source gates ≡ chain_names source (take i gates) ++ gate.1 ∷ map (λ (g : ChainGate). g.1) (drop (i + 1) gates)
+names_split source gates i gate within is =
+    let next : drop i gates ≡ gate ∷ drop (i + 1) gates = drop_more gates i gate within ∙ ap (λ (g : ChainGate). g ∷ drop (i + 1) gates) (sym is) in
+    let parts : gates ≡ take i gates ++ gate ∷ drop (i + 1) gates = sym (take-append-drop i gates) ∙ ap (λ rest. take i gates ++ rest) next in
+    ap (chain_names source) parts ∙ ap (λ names. source ∷ names) (map-append (λ (g : ChainGate). g.1) (take i gates) (gate ∷ drop (i + 1) gates))
+
+differs_from_later : (names : List (List ℕ)) (name : List ℕ) (later : List (List ℕ)) → AllPairs (λ a b. a ≢ b) (names ++ name ∷ later) → All (λ (other : List ℕ). other ≢ name) names
+differs_from_later names name later pairs k d within same =
+    let left : get_or (names ++ name ∷ later) k d ≡ get_or names k d = get_or_append_left names (name ∷ later) d k within in
+    let right : get_or (names ++ name ∷ later) (length names) d ≡ name = get_or_at names name later d (length names) refl in
+    pairs k (length names) d within (omega (arith, length-append names (name ∷ later))) (left ∙ same ∙ sym right)
+
+-- among distinct names each is new
+pub distinct_name : (source : List ℕ) (gates : List ChainGate) (i : ℕ) (gate : ChainGate) → i < length gates → gate ≡ get_or gates i gate → AllPairs (λ a b. a ≢ b) (chain_names source gates)
+    → IsNewName gate.1 source (take i gates)
+distinct_name source gates i gate within is pairs =
+    let Distinct : List (List ℕ) → Type 0 = AllPairs (λ a b. a ≢ b) in
+    differs_from_later (chain_names source (take i gates)) gate.1 (map (λ (g : ChainGate). g.1) (drop (i + 1) gates)) (subst Distinct (names_split source gates i gate within is) pairs)
+
+-- and a new name leaves the names distinct
+pub distinct_more : (source : List ℕ) (gates : List ChainGate) (i : ℕ) (gate : ChainGate) → i < length gates → gate ≡ get_or gates i gate → AllPairs (λ a b. a ≢ b) (chain_names source (take i gates))
+    → IsNewName gate.1 source (take i gates) → AllPairs (λ a b. a ≢ b) (chain_names source (take (i + 1) gates))
+distinct_more source gates i gate within is pairs new =
+    let Distinct : List (List ℕ) → Type 0 = AllPairs (λ a b. a ≢ b) in
+    subst Distinct (sym (names_more source gates i gate within is)) (all_pairs_push (λ a b. a ≢ b) (chain_names source (take i gates)) gate.1 pairs new)
+
+pub distinct_all : (source : List ℕ) (gates : List ChainGate) (i : ℕ) → length gates ≤ i → AllPairs (λ a b. a ≢ b) (chain_names source (take i gates)) → AllPairs (λ a b. a ≢ b) (chain_names source gates)
+distinct_all source gates i all pairs =
+    let Distinct : List ChainGate → Type 0 = λ some. AllPairs (λ a b. a ≢ b) (chain_names source some) in
+    subst Distinct (take_all i gates all) pairs

@@ -5,10 +5,11 @@ use Rattle.netlist.specs.declared.kind.GateKind.TheVariants.{And, Nand, Or, Nor,
 use Rattle.netlist.specs.Circuit.{Circuit}
 use Rattle.netlist.specs.Chain.{IsChain, chain_circuit}
 use Rattle.netlist.specs.Waves.{Delays}
+use Rattle.pd_tool.specs.declared.chain_reader.TheConstants.{MOST_GATES}
 
 -- how many gates a chain may have so far
 abbrev pub most_gates : ℕ
-most_gates = 0
+most_gates = MOST_GATES
 
 abbrev pub kind_text : GateKind → List ℕ
 kind_text And = codes "AND"

@@ -22,6 +22,10 @@ pub record Seen : Type 0 where
   pub out : Option (List ℕ)
   pub out_faults : ℕ
 
+abbrev pub seen : Option Folder → ℕ → ℕ → Option (List ℕ) → ℕ → Seen
+seen folder read_faults write_faults out out_faults =
+    record { folder = folder; read_faults = read_faults; write_faults = write_faults; out = out; out_faults = out_faults }
+
 -- the call asks for `gen`, and this holds of its request
 abbrev pub AsksForGen : Result Command WordsFault → (GenRequest → Type 0) → Type 0
 AsksForGen (Ok (gen request)) P = P request

@@ -1,3 +1,5 @@
+pub mod ChainPieces
+pub mod ChainRun
 pub mod ChainText
 pub mod Counts
 pub mod Endings
@@ -11,6 +13,7 @@ pub mod ReportText
 pub mod Requests
 pub mod RobustRun
 pub mod Standing
+pub mod Steps
 pub mod Summary
 pub mod TestsText
 pub mod Tokens

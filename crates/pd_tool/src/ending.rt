@@ -1,5 +1,9 @@
 // How a call ends, with all detail. The status and the line on err are made of it at the very end.
+ghost use Rattle.std.specs.Prelude.{◌≡◌};
+ghost use Rattle.pd_tool.specs.declared.ending.Ending.TheVariants.{NoMemory};
+
 use crate::words::WordsFault;
+use pd_base::OutOfMemory;
 
 /// An input of `gen`, by its role.
 #[derive(Clone, Copy, Debug, PartialEq, Eq)]
@@ -32,4 +36,12 @@ pub enum Ending {
     NoMemory,
     /// This input has a form that is not built yet.
     NotBuilt(Input),
+}
+
+impl From<OutOfMemory> for Ending {
+    ghost from_gives = { λ _ ending. ending ≡ NoMemory };
+
+    fn from(_: OutOfMemory) -> Ending {
+        Ending::NoMemory
+    }
 }

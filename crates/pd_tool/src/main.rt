@@ -1,9 +1,64 @@
-//! A path delay fault test generator.
+//! The program `pdfgen`: a path delay fault test generator whose answers are proved. Stands on all crates below.
+//! Its whole contract is that of `run::run`; main hands in the words and ends with the status.
 #![tactic(auto)]
 
+mod chain_reader;
+mod chain_run;
 mod ending;
+mod generating;
+mod inputs;
+mod run;
 mod status;
+mod telling;
 mod texts;
 mod words;
+mod works;
+mod writes;
 
-fn main(_rt: HostRuntime) {}
+use pd_io::{StdFiles, StdSink};
+use run::run;
+use status::Status;
+use std::alloc::Global;
+use std::env;
+use std::io;
+use std::process::ExitCode;
+
+fn main(rt: HostRuntime) -> ExitCode {
+    let status = match arguments(&rt) {
+        Ok(arguments) => call(rt, arguments.as_slice()),
+        Err(error) => match error.kind() {
+            io::ErrorKind::OutOfMemory => Status::NoMemory,
+            // Words that are no text are no words.
+            _ => call(rt, &[]),
+        },
+    };
+    ExitCode::from(status as u8)
+}
+
+// The words behind the program's own name.
+fn arguments<R: env::Env + AllocGlobal>(rt: &R) -> io::Result<Vec<String>> {
+    let mut arguments = Vec::new(rt.alloc());
+    for argument in env::args(rt)?.skip(1) {
+        arguments.push(argument)?;
+    }
+    Ok(arguments)
+}
+
+// One call over the real files and streams.
+fn call(rt: HostRuntime, arguments: &[String]) -> Status {
+    let alloc = rt.alloc();
+    match words_of(alloc, arguments) {
+        Ok(words) => run(
+            alloc,
+            words.as_slice(),
+            &mut StdFiles::new(alloc, rt),
+            &mut StdSink::new(rt.stdout()),
+            &mut StdSink::new(rt.stderr()),
+        ),
+        Err(_) => Status::NoMemory,
+    }
+}
+
+fn words_of(alloc: Global, arguments: &[String]) -> Result<Vec<&str>, std::alloc::AllocError> {
+    arguments.iter().map(|argument| argument.as_str()).collect(alloc)
+}

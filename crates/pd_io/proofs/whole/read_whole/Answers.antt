@@ -1,6 +1,6 @@
 use Rattle.std.proofs.Common.{◌≡◌, ◌≤◌, ◌++◌, List, ℕ, length, sym, ap, subst, ◌∙◌, refl, take, drop, arith, length-append}
-use Rattle.std.proofs.lemmas.List.{take-append-le, length-drop, length-take, length-take-le}
-use Rattle.pd_io.proofs.Reading.{Reading, reading_begun, reading_more}
+use Rattle.std.proofs.lemmas.List.{length-drop, length-take, length-take-le}
+use Rattle.pd_io.proofs.Reading.{Reading, more_bytes, reading_begun, reading_more}
 use Rattle.pd_io.proofs.whole.read_whole.Goals as goal
 
 pub loop-buffer-init : goal.loop-buffer-init
@@ -24,7 +24,7 @@ loop-buffer-preserved g c =
     let rest = drop c.min-room.result c.loop-buffer.buffer in
     let fits : count ≤ length buffer = c.in_ok-count.ensures.within in
     let more : c.extend_from_slice.new.self.items ≡ c.loop-buffer.bytes.items ++ take count buffer =
-    c.in_ok-extend_from_slice.ensures.items ∙ ap (λ l. c.loop-buffer.bytes.items ++ l) (take-append-le count buffer rest fits) in
+    more_bytes c.extend_from_slice.new.self.items c.loop-buffer.bytes.items buffer rest count c.in_ok-extend_from_slice.ensures.items fits in
     let size : length buffer ≡ c.min-room.result = omega (arith, c.read.auto.buf, length-take {A = ℕ}) in
     record {
       reading = reading_more _ _ _ _ _ _ _ buffer _ _ c.loop-buffer.invariant.reading fits c.in_ok-count.ensures.bytes c.read.ensures.folder c.in_ok-count.ensures.place more;

@@ -1,0 +1,10 @@
+use Rattle.std.proofs.Common.{[], ◌∷◌, ◌++◌, ap, sym, ◌∙◌, arith}
+use Rattle.std.proofs.lemmas.List.FromFn.{map-range_with_len_more}
+use Rattle.pd_tool.specs.ChainRun.{first_pin}
+use Rattle.pd_tool.proofs.chain_run.chain_path.Goals as goal
+
+pub loop-gate-preserved : goal.loop-gate-preserved
+loop-gate-preserved c =
+    c.in_ok-push.ensures.items
+    ∙ ap (λ steps. steps ++ first_pin c.loop-gate.gate ∷ []) c.loop-gate.invariant
+    ∙ sym (map-range_with_len_more first_pin 0 c.loop-gate.gate c.loop-gate.gate (omega arith))

@@ -1,0 +1,179 @@
+// Reads the inputs in the form that is built today: a netlist that spells a chain, and a delay file that leaves every
+// delay at one unit. What spells a chain is defined in specs/ChainText.antt, its pieces in specs/ChainPieces.antt; that a
+// text is read in one way only is shown in proofs/ChainReading.antt.
+ghost use Rattle.std.specs.Prelude.{◌≡◌, ◌≢◌, ℕ, ◌<◌, ◌≤◌, ◌↔◌, List, ◌++◌, length, map, take, drop, codes, IsTrue, IfOk, IfSome, IfNone, MatchOption, AllPairs};
+ghost use Rattle.std.specs.List.{All, AllByRecursion};
+ghost use Rattle.netlist.specs.Circuit.{Circuit};
+ghost use Rattle.netlist.specs.Chain.{IsChain, IsLetterOrDigit, IsShortName, chain_names};
+ghost use Rattle.pd_tool.specs.ChainText.{IsNet, kind_text, unit_delays_text};
+ghost use Rattle.pd_tool.specs.ChainPieces.{AreLines, EndsName, IsChainGate, IsChainKind, IsMark, gate_line, head_text};
+
+use netlist::{GateKind, Netlist, chain};
+use pd_base::{Items, OutOfMemory};
+use std::alloc::Global;
+
+/// How many gates a chain may have so far: at most 32.
+pub const MOST_GATES: usize = 0;
+
+/// How many letters and digits a name may have.
+const LONGEST_NAME: usize = 16;
+
+const UNIT_DELAYS: &[u8] = b"gate,pin,delay\n";
+
+/// The netlist of the chain that the bytes spell, or None exactly where they spell no chain of at most `MOST_GATES`
+/// gates.
+pub fn read_chain(alloc: Global, bytes: &[u8]) -> Result<Option<Netlist>, OutOfMemory>
+    ensures found { IfOk result (λ found. IfSome found (λ net. IsNet bytes.now net)) }
+    ensures none { IfOk result (λ found. IfNone found ((c : Circuit) → ¬ IsNet bytes.now c)) }
+{
+    let Some((source, last, lines)) = head(bytes) else {
+        return Ok(None);
+    };
+    let Some(gates) = gates_of(alloc, source, last, lines)? else {
+        return Ok(None);
+    };
+    if !are_distinct(source, gates.as_slice()) {
+        return Ok(None);
+    }
+    Ok(Some(chain(alloc, source, gates.as_slice())?))
+}
+
+/// Whether the bytes are the delay file that leaves every delay at one unit.
+pub fn is_unit_delays(bytes: &[u8]) -> bool
+    ensures { IsTrue result ↔ (bytes.now ≡ unit_delays_text) }
+{
+    bytes == UNIT_DELAYS
+}
+
+// The names of the source and of the output, and what follows their two lines.
+fn head(bytes: &[u8]) -> Option<(&[u8], &[u8], &[u8])>
+    ensures { MatchOption result
+        ((source last rest : List ℕ) → IsShortName source → IsShortName last → bytes.now ≢ head_text source last ++ rest)
+        (λ found. IsShortName found.0.now × IsShortName found.1.now × (bytes.now ≡ head_text found.0.now found.1.now ++ found.2.now)) }
+{
+    let rest = after(bytes, b"INPUT(")?;
+    let (source, rest) = name_then(rest, b")\nOUTPUT(")?;
+    let (last, rest) = name_then(rest, b")\n")?;
+    Some((source, last, rest))
+}
+
+// The gates that the lines spell, from the source to the last name, if there are not too many.
+fn gates_of(
+    alloc: Global,
+    source: &[u8],
+    last: &[u8],
+    lines: &[u8],
+) -> Result<Option<Vec<(GateKind, Items<u8>)>>, OutOfMemory>
+    ensures found { IfOk result (λ found. IfSome found (λ gates. AreLines source.now last.now lines.now gates.items)) }
+    ensures none { IfOk result (λ found. IfNone found ((gates : List (GateKind × List ℕ)) → ¬ AreLines source.now last.now lines.now gates)) }
+{
+    let mut gates = Vec::new(alloc);
+    let mut before = source;
+    let mut rest = lines;
+    while !rest.is_empty() {
+        if gates.len() == MOST_GATES {
+            return Ok(None);
+        }
+        let Some((kind, name, later)) = gate_at(before, rest) else {
+            return Ok(None);
+        };
+        gates.push((kind, Items::new(Vec::from_slice(alloc, name)?)))?;
+        before = name;
+        rest = later;
+    }
+    if before != last {
+        return Ok(None);
+    }
+    Ok(Some(gates))
+}
+
+// The kind and the name of the gate on the first line, which reads the line of this name, and what follows it.
+fn gate_at<'a>(before: &[u8], bytes: &'a [u8]) -> Option<(GateKind, &'a [u8], &'a [u8])>
+    ensures { MatchOption result
+        ((gate : GateKind × List ℕ) (rest : List ℕ) → IsChainGate gate → bytes.now ≢ gate_line before.now gate ++ rest)
+        (λ found. IsChainGate (found.0, found.1.now) × (bytes.now ≡ gate_line before.now (found.0, found.1.now) ++ found.2.now)) }
+{
+    let (name, rest) = name_then(bytes, b" = ")?;
+    let (kind, rest) = kind_at(rest)?;
+    let rest = after(rest, before)?;
+    let rest = after(rest, b")\n")?;
+    Some((kind, name, rest))
+}
+
+// The kind of a gate, with the bracket that opens its argument, and what follows it.
+fn kind_at(bytes: &[u8]) -> Option<(GateKind, &[u8])>
+    ensures { MatchOption result
+        ((kind : GateKind) (rest : List ℕ) → IsChainKind kind → bytes.now ≢ kind_text kind ++ codes "(" ++ rest)
+        (λ found. IsChainKind found.0 × (bytes.now ≡ kind_text found.0 ++ codes "(" ++ found.1.now)) }
+{
+    if let Some(rest) = after(bytes, b"NOT(") {
+        return Some((GateKind::Not, rest));
+    }
+    let rest = after(bytes, b"BUFF(")?;
+    Some((GateKind::Buff, rest))
+}
+
+// The name that ends where this mark begins, and what follows the mark.
+fn name_then<'a>(bytes: &'a [u8], mark: &[u8]) -> Option<(&'a [u8], &'a [u8])>
+    requires { IsMark mark.now }
+    ensures { MatchOption result
+        ((name rest : List ℕ) → IsShortName name → bytes.now ≢ name ++ mark.now ++ rest)
+        (λ found. IsShortName found.0.now × (bytes.now ≡ found.0.now ++ mark.now ++ found.1.now)) }
+{
+    let length = name_length(bytes);
+    if length == 0 || length > LONGEST_NAME {
+        return None;
+    }
+    let (name, rest) = bytes.split_at(length);
+    Some((name, after(rest, mark)?))
+}
+
+// How many letters and digits the bytes begin with.
+fn name_length(bytes: &[u8]) -> usize
+    ensures within { result ≤ length bytes.now }
+    ensures letters { All IsLetterOrDigit (take result bytes.now) }
+    ensures ends { EndsName (drop result bytes.now) }
+{
+    for (index, byte) in bytes.iter().enumerate() {
+        if !byte.is_ascii_alphanumeric() {
+            return index;
+        }
+    }
+    bytes.len()
+}
+
+// What follows these bytes, where the others begin with them.
+fn after<'a>(bytes: &'a [u8], front: &[u8]) -> Option<&'a [u8]>
+    ensures { MatchOption result
+        ((rest : List ℕ) → bytes.now ≢ front.now ++ rest)
+        (λ rest. bytes.now ≡ front.now ++ rest.now) }
+{
+    bytes.strip_prefix(front)
+}
+
+// Whether the names of the source and of the gates are distinct.
+fn are_distinct(source: &[u8], gates: &[(GateKind, Items<u8>)]) -> bool
+    ensures { IsTrue result ↔ AllPairs (λ a b. a ≢ b) (chain_names source.now gates.now) }
+{
+    for (index, gate) in gates.iter().enumerate() {
+        if !is_new(gate.1.as_slice(), source, &gates[..index]) {
+            return false;
+        }
+    }
+    true
+}
+
+// Whether neither the source nor a gate has this name.
+fn is_new(name: &[u8], source: &[u8], gates: &[(GateKind, Items<u8>)]) -> bool
+    ensures { IsTrue result ↔ All (λ other. other ≢ name.now) (chain_names source.now gates.now) }
+{
+    for gate in gates {
+        if gate.1.as_slice() == name {
+            return false;
+        }
+    }
+    source != name
+}
+
+#[cfg(test)]
+mod tests;
