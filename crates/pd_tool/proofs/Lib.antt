@@ -10,7 +10,6 @@ pub mod GenEndings
 pub mod LineNames
 pub mod ObservedLines
 pub mod Pieces
-pub mod PlainNames
 pub mod PlainTexts
 pub mod ReportWriting
 pub mod Unread
