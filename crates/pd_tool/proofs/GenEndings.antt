@@ -17,6 +17,7 @@ use Rattle.pd_tool.specs.declared.ending.Output.TheVariants.{Tests, Report, Proo
 use Rattle.pd_tool.specs.declared.inputs.Inputs.{Inputs}
 use Rattle.pd_tool.specs.declared.works.Texts.{Texts}
 use Rattle.pd_tool.specs.Words.{GenRequest, gen}
+use Rattle.pd_tool.proofs.ChainLength.{net_is_short}
 use Rattle.pd_tool.specs.ChainText.{IsNet, unit_delays_text, unit_delays}
 use Rattle.pd_tool.specs.RobustRun.{IsRobustRun}
 use Rattle.pd_tool.specs.Standing.{Due, FilesStandAt, OutStandsAt, put_all}
@@ -48,39 +49,38 @@ untouched_by_reading request inputs old mid a b c d out e t = record {
   out = told_as_before out;
 }
 
-module _ (net_is_short : (bytes : List ℕ) (c : Circuit) → IsNet bytes c → length bytes ≤ 4096) where
-  not_built_net : (request : GenRequest) (inputs : Inputs) (before after : Folder) → AreRead request inputs before after
-      → ((c : Circuit) → WasRead inputs.net (λ read. IsNet read c) → ⊥) → IsNotBuilt Net request before.held
-  not_built_net request inputs before after read none c net =
-      none c (was_read inputs.net (bytes_at before.held request.net) (λ bytes. IsNet bytes c) read.net (net_is_short _ c net) net)
+not_built_net : (request : GenRequest) (inputs : Inputs) (before after : Folder) → AreRead request inputs before after
+    → ((c : Circuit) → WasRead inputs.net (λ read. IsNet read c) → ⊥) → IsNotBuilt Net request before.held
+not_built_net request inputs before after read none c net =
+    none c (was_read inputs.net (bytes_at before.held request.net) (λ bytes. IsNet bytes c) read.net (net_is_short _ c net) net)
 
-  not_built_delays : (request : GenRequest) (inputs : Inputs) (before after : Folder) → AreRead request inputs before after
-      → (c : Circuit) × WasRead inputs.net (λ read. IsNet read c) → (WasRead inputs.delays (λ read. read ≡ unit_delays_text) → ⊥)
-      → IsNotBuilt Delays request before.held
-  not_built_delays request inputs before after read (c, net) none =
-      ((c, read_has inputs.net (bytes_at before.held request.net) (λ bytes. IsNet bytes c) read.net net),
-        λ e. none (was_read inputs.delays (bytes_at before.held request.delays) (λ bytes. bytes ≡ unit_delays_text) read.delays (subst (λ (l : List ℕ). length l ≤ 4096) (sym e) (omega arith)) e))
+not_built_delays : (request : GenRequest) (inputs : Inputs) (before after : Folder) → AreRead request inputs before after
+    → (c : Circuit) × WasRead inputs.net (λ read. IsNet read c) → (WasRead inputs.delays (λ read. read ≡ unit_delays_text) → ⊥)
+    → IsNotBuilt Delays request before.held
+not_built_delays request inputs before after read (c, net) none =
+    ((c, read_has inputs.net (bytes_at before.held request.net) (λ bytes. IsNet bytes c) read.net net),
+      λ e. none (was_read inputs.delays (bytes_at before.held request.delays) (λ bytes. bytes ≡ unit_delays_text) read.delays (subst (λ (l : List ℕ). length l ≤ 4096) (sym e) (omega arith)) e))
 
-  of_told : (old mid : Option Folder) (P : Folder → Folder → Type 0) (Q : Folder → Type 0) → Tells old mid P → ((x y : Folder) → P x y → Q x) → OfTold old Q
-  of_told None mid P Q t f = tt
-  of_told (Some x) None P Q t f = absurd t
-  of_told (Some x) (Some y) P Q t f = f x y t
+of_told : (old mid : Option Folder) (P : Folder → Folder → Type 0) (Q : Folder → Type 0) → Tells old mid P → ((x y : Folder) → P x y → Q x) → OfTold old Q
+of_told None mid P Q t f = tt
+of_told (Some x) None P Q t f = absurd t
+of_told (Some x) (Some y) P Q t f = f x y t
 
-  -- both inputs were read, and there are no texts
-  pub no_texts_ending : (request : GenRequest) (inputs : Inputs) (ending : Ending) (old mid : Option Folder) (a b c d : ℕ) (out : Option (List ℕ)) (e : ℕ)
-      → Tells old mid (AreRead request inputs) → HaveNoTexts inputs ending → IsEnding (Ok (gen request)) ending (seen old a c out e) (seen mid b d out e)
-  no_texts_ending request inputs Done old mid a b c d out e t h = absurd h
-  no_texts_ending request inputs (Words fault) old mid a b c d out e t h = absurd h
-  no_texts_ending request inputs (ReadFault input) old mid a b c d out e t h = absurd h
-  no_texts_ending request inputs (WriteFault output) old mid a b c d out e t h = absurd h
-  no_texts_ending request inputs NoMemory old mid a b c d out e t h =
-      inl (input_names request, ([], refl), untouched_by_reading request inputs old mid a b c d out e t)
-  no_texts_ending request inputs (NotBuilt Net) old mid a b c d out e t h =
-      (untouched_by_reading request inputs old mid a b c d out e t,
-        of_told old mid (AreRead request inputs) (λ told. IsNotBuilt Net request told.held) t (λ x y read. not_built_net request inputs x y read h))
-  no_texts_ending request inputs (NotBuilt Delays) old mid a b c d out e t h =
-      (untouched_by_reading request inputs old mid a b c d out e t,
-        of_told old mid (AreRead request inputs) (λ told. IsNotBuilt Delays request told.held) t (λ x y read. not_built_delays request inputs x y read h.0 h.1))
+-- both inputs were read, and there are no texts
+pub no_texts_ending : (request : GenRequest) (inputs : Inputs) (ending : Ending) (old mid : Option Folder) (a b c d : ℕ) (out : Option (List ℕ)) (e : ℕ)
+    → Tells old mid (AreRead request inputs) → HaveNoTexts inputs ending → IsEnding (Ok (gen request)) ending (seen old a c out e) (seen mid b d out e)
+no_texts_ending request inputs Done old mid a b c d out e t h = absurd h
+no_texts_ending request inputs (Words fault) old mid a b c d out e t h = absurd h
+no_texts_ending request inputs (ReadFault input) old mid a b c d out e t h = absurd h
+no_texts_ending request inputs (WriteFault output) old mid a b c d out e t h = absurd h
+no_texts_ending request inputs NoMemory old mid a b c d out e t h =
+    inl (input_names request, ([], refl), untouched_by_reading request inputs old mid a b c d out e t)
+no_texts_ending request inputs (NotBuilt Net) old mid a b c d out e t h =
+    (untouched_by_reading request inputs old mid a b c d out e t,
+      of_told old mid (AreRead request inputs) (λ told. IsNotBuilt Net request told.held) t (λ x y read. not_built_net request inputs x y read h))
+no_texts_ending request inputs (NotBuilt Delays) old mid a b c d out e t h =
+    (untouched_by_reading request inputs old mid a b c d out e t,
+      of_told old mid (AreRead request inputs) (λ told. IsNotBuilt Delays request told.held) t (λ x y read. not_built_delays request inputs x y read h.0 h.1))
 
 -- what a call works on, from what was read and the texts that were made
 pub work_of : (request : GenRequest) (inputs : Inputs) (texts : Texts) (old mid : Option Folder) → request.paths ≡ 100

@@ -12,6 +12,7 @@ pub mod ObservedLines
 pub mod Pieces
 pub mod PlainTexts
 pub mod ReportWriting
+pub mod RunTexts
 pub mod Unread
 pub mod Unwritten
 pub mod VerdictCounts

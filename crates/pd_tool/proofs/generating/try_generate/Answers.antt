@@ -1,14 +1,13 @@
 use Rattle.std.proofs.Common.{refl}
 use Rattle.std.proofs.lemmas.Result.{err_from_is_err_and}
 use Rattle.pd_tool.specs.Requests.{request_of}
-use Rattle.pd_tool.proofs.ChainReading.{net_is_short}
 use Rattle.pd_tool.proofs.GenEndings.{no_texts_ending, unwritten_ending, written_done, unprinted_ended}
 use Rattle.pd_tool.proofs.generating.try_generate.Goals as goal
 
 pub returns-in_err-texts-clause-ended : goal.returns-in_err-texts-clause-ended
 returns-in_err-texts-clause-ended g c =
     let p = err_from_is_err_and c.from_residual-in_err-texts.result c.from_residual-in_err-texts.ensures.1 in
-    rw (p.1, p.2) (no_texts_ending net_is_short _ _ _ _ _ _ _ _ _ _ _ c.in_ok-inputs.ensures.read c.in_err-texts.ensures.none)
+    rw (p.1, p.2) (no_texts_ending _ _ _ _ _ _ _ _ _ _ _ c.in_ok-inputs.ensures.read c.in_err-texts.ensures.none)
 
 pub returns-in_err-write_files-clause-ended : goal.returns-in_err-write_files-clause-ended
 returns-in_err-write_files-clause-ended g c =
