@@ -1,6 +1,6 @@
 -- How a call of the program may end: the cause of each ending, and what stands in the files and on out after it (this
 -- project's own).
-use Rattle.std.specs.Prelude.{◌≡◌, ◌⊎◌, ℕ, List, [], ◌∷◌, ◌++◌, Option, Result, Ok, Err}
+use Rattle.std.specs.Prelude.{◌≡◌, ◌⊎◌, ℕ, List, [], ◌++◌, Option, Result, Ok, Err}
 use Rattle.pd_io.specs.Counts.{Rose}
 use Rattle.pd_io.specs.Folder.{Folder}
 use Rattle.pd_io.specs.Telling.{Tells, IsFrontOf}

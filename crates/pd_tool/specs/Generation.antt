@@ -1,5 +1,5 @@
 -- What one call of `gen` works on and writes: one circuit, one run, and the texts of both (this project's own).
-use Rattle.std.specs.Prelude.{◌≡◌, ⊤, ℕ, List, [], ◌∷◌, ◌++◌, Option, None, Some}
+use Rattle.std.specs.Prelude.{◌≡◌, ⊤, ℕ, List, [], ◌∷◌, Option, None, Some}
 use Rattle.pd_io.specs.Folder.{Folder, Contents, bytes_at}
 use Rattle.netlist.specs.Circuit.{Circuit}
 use Rattle.refutation_check.specs.declared.run.Run.{Run}
@@ -12,7 +12,6 @@ use Rattle.pd_tool.specs.Standing.{Due}
 use Rattle.pd_tool.specs.TestsText.{tests_text}
 use Rattle.pd_tool.specs.ReportText.{report_text}
 use Rattle.pd_tool.specs.ProofsText.{proofs_text}
-use Rattle.pd_tool.specs.Summary.{summary_text}
 
 -- this holds of what an object tells, where it tells
 abbrev pub OfTold : {A : Type 0} → Option A → (A → Type 0) → Type 0

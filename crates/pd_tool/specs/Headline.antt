@@ -6,10 +6,8 @@ use Rattle.netlist.specs.Circuit.{Circuit}
 use Rattle.pd_tool.specs.declared.ending.Ending.{Ending}
 use Rattle.pd_tool.specs.declared.words.WordsFault.{WordsFault}
 use Rattle.pd_tool.specs.declared.status.Status.{Status}
-use Rattle.pd_tool.specs.declared.status.Status.TheVariants as exit
 use Rattle.pd_tool.specs.Words.{Command, gen}
 use Rattle.pd_tool.specs.ChainText.{IsNet, unit_delays_text}
-use Rattle.pd_tool.specs.Generation.{OfTold}
 use Rattle.pd_tool.specs.Endings.{Seen, IsEnding}
 use Rattle.pd_tool.specs.Lines.{IsReported}
 

@@ -1,5 +1,5 @@
 -- The line on err for each ending, and how an ending is reported (this project's own).
-use Rattle.std.specs.Prelude.{◌≡◌, ◌⊎◌, ℕ, List, [], ◌∷◌, ◌++◌, Option, codes, decimal}
+use Rattle.std.specs.Prelude.{◌≡◌, ◌⊎◌, ℕ, List, [], ◌++◌, Option, codes, decimal}
 use Rattle.pd_io.specs.Counts.{Rose}
 use Rattle.pd_io.specs.Telling.{Tells, IsFrontOf}
 use Rattle.pd_tool.specs.declared.ending.Ending.{Ending}

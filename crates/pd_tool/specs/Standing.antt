@@ -1,8 +1,8 @@
 -- What may stand in the files and on out while texts are written: whole files, then one that was begun, then files as
 -- before (this project's own). One definition serves every command: it names its files in order, and its text for out.
-use Rattle.std.specs.Prelude.{◌≡◌, ◌⊎◌, ℕ, zero, suc, ◌<◌, List, [], ◌∷◌, ◌++◌, length, Option}
-use Rattle.pd_io.specs.Folder.{Folder, Contents, put, HoldsFront}
-use Rattle.pd_io.specs.Telling.{Tells, IsFrontOf}
+use Rattle.std.specs.Prelude.{◌≡◌, ℕ, zero, suc, ◌<◌, List, [], ◌∷◌, ◌++◌, length}
+use Rattle.pd_io.specs.Folder.{Contents, put, HoldsFront}
+use Rattle.pd_io.specs.Telling.{IsFrontOf}
 
 -- a file that is due to be written: its name, and the text that is to stand there
 pub record Due : Type 0 where

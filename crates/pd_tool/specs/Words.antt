@@ -1,5 +1,5 @@
 -- What the words of the command line ask for (this project's own).
-use Rattle.std.specs.Prelude.{◌==◌, ◌||◌, ℕ, ◌+◌, ◌-◌, Bool, true, false, List, [], ◌∷◌, Option, None, Some, option_map, Result, Ok, Err, slice_index_or, codes, nat_eq, if◌then◌else◌}
+use Rattle.std.specs.Prelude.{◌==◌, ℕ, ◌+◌, ◌-◌, Bool, true, false, List, [], ◌∷◌, Option, None, Some, option_map, Result, Ok, Err, slice_index_or, codes, nat_eq, if◌then◌else◌}
 use Rattle.std.specs.List.{position_from}
 use Rattle.std.specs.Cmp.Lexicographic.{pointwise}
 use Rattle.pd_tool.specs.declared.words.WordsFault.{WordsFault}

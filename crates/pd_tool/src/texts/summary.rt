@@ -1,5 +1,5 @@
 // The line of counts that a run ends with.
-ghost use Rattle.std.specs.Prelude.{◌≡◌, ◌+◌, ◌-◌, ◌++◌, ◌^◌, ◌<◌, IfOk, OnOk, decimal, length};
+ghost use Rattle.std.specs.Prelude.{◌≡◌, ◌+◌, ◌-◌, ◌++◌, ◌^◌, ◌<◌, IfOk, OnOk, decimal};
 ghost use Rattle.pd_tool.specs.Summary.{summary_text, verdicts_of};
 ghost use Rattle.pd_tool.specs.Counts.{AreCountsOf, counts_sum, counts_with};
 
@@ -10,25 +10,24 @@ use std::alloc::Global;
 // How many faults have each verdict.
 #[derive(Clone, Copy)]
 struct Counts {
-    robust: u32,
-    nonrobust: u32,
-    untestable: u32,
-    aborted: u32,
+    robust: u64,
+    nonrobust: u64,
+    untestable: u64,
+    aborted: u64,
 }
 
 /// The line that says how many paths a run lists, and how many of their faults have each verdict.
 pub(crate) fn summary_text(alloc: Global, run: &Run) -> Result<Vec<u8>, OutOfMemory>
-    requires { length run.now.paths < 2 ^ 31 }
     ensures { IfOk result (λ text. text.items ≡ summary_text run.now) }
 {
     let paths = run.paths.as_slice();
     let counts = count_verdicts(paths);
     let mut text = Vec::new(alloc);
     push_count(&mut text, b"paths ", paths.len() as u64)?;
-    push_count(&mut text, b" robust ", u64::from(counts.robust))?;
-    push_count(&mut text, b" nonrobust ", u64::from(counts.nonrobust))?;
-    push_count(&mut text, b" untestable ", u64::from(counts.untestable))?;
-    push_count(&mut text, b" aborted ", u64::from(counts.aborted))?;
+    push_count(&mut text, b" robust ", counts.robust)?;
+    push_count(&mut text, b" nonrobust ", counts.nonrobust)?;
+    push_count(&mut text, b" untestable ", counts.untestable)?;
+    push_count(&mut text, b" aborted ", counts.aborted)?;
     text.push(b'\n')?;
     Ok(text)
 }
@@ -43,7 +42,6 @@ fn push_count(out: &mut Vec<u8>, word: &[u8], count: u64) -> Result<(), OutOfMem
 
 // Counts the verdicts of both transitions of each path.
 fn count_verdicts(paths: &[ListedPath]) -> Counts
-    requires { length paths.now < 2 ^ 31 }
     ensures { AreCountsOf result (verdicts_of paths.now) }
 {
     let mut counts = Counts {
@@ -61,7 +59,7 @@ fn count_verdicts(paths: &[ListedPath]) -> Counts
 
 // The counts with one more verdict counted.
 fn count_one(counts: Counts, verdict: Verdict) -> Counts
-    requires { counts_sum counts < 2 ^ 32 - 1 }
+    requires { counts_sum counts < 2 ^ 64 - 1 }
     ensures { result ≡ counts_with counts verdict }
 {
     match verdict {

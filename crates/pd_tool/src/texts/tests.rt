@@ -1,78 +1,200 @@
-// The tests file.
-ghost use Rattle.std.specs.Prelude.{◌≡◌, ◌++◌, IfOk, OnOk, codes, decimal};
-ghost use Rattle.pd_tool.specs.TestsText.{names_line, observed_names, test_line, tests_text};
-ghost use Rattle.pd_tool.specs.Tokens.{digits, spaced};
+// Each text once, against lines that were written by hand.
+ghost use Rattle.std.specs.Prelude.{◌≡◌, ◌<◌, ◌^◌, [], ◌∷◌, IfOk, length, vec_len};
+ghost use Rattle.netlist.specs.Chain.{chain_circuit};
+ghost use Rattle.pd_tool.specs.PlainTexts.{AreNameable, HasPlainNames};
 
-use crate::texts::pieces::{direction_word, kind_word, push_spaced, push_spaced_number};
-use netlist::Netlist;
-use pd_base::{LineId, OutOfMemory, Test, push_decimal};
+use crate::texts::{proofs_text, report_text, summary_text, tests_text};
+use netlist::{GateKind, Netlist, chain};
+use pd_base::{Direction, GateId, Items, Kind, LineId, OutOfMemory, Pair, Path, PinRef, Test};
+use refutation_check::{ListedPath, Node, Proof, Run, Tree, Verdict};
 use std::alloc::Global;
+use std::process::Abort;
+use std::test::Fail;
 
-/// The text of the tests file: its heading, the names of the sources and of the observed lines, and a line for each
-/// test, numbered from 1.
-pub(crate) fn tests_text(
-    alloc: Global,
-    net: &Netlist,
-    tests: &[Test],
-) -> Result<Vec<u8>, OutOfMemory>
-    ensures { IfOk result (λ text. text.items ≡ tests_text net.now tests.now) }
+// One source `a` that is also the output.
+fn one_source(alloc: Global) -> Result<Netlist, OutOfMemory>
+    ensures { IfOk result (λ net. net ≡ chain_circuit (97 ∷ []) []) }
 {
-    let mut text = Vec::from_slice(alloc, b"pdfgen tests 1\n")?;
-    push_sources(&mut text, net)?;
-    push_observed(&mut text, net)?;
-    for (index, test) in tests.iter().enumerate() {
-        push_test_line(&mut text, index as u64 + 1, test)?;
-    }
-    Ok(text)
+    chain(alloc, b"a", &[])
 }
 
-// Appends the line that names the sources. Where memory is refused, a part of it may have been written; so too below.
-fn push_sources(out: &mut Vec<u8>, net: &Netlist) -> Result<(), OutOfMemory>
-    ensures { OnOk result (out.new.items ≡ out.old.items ++ names_line (codes "sources") net.now.sources) }
+// A source `a` and an inverter `n` that is the output.
+fn one_inverter(alloc: Global) -> Result<Netlist, OutOfMemory>
+    ensures { IfOk result (λ net. net ≡ chain_circuit (97 ∷ []) ((GateKind.Not, 110 ∷ []) ∷ [])) }
 {
-    out.extend_from_slice(b"sources")?;
-    for source in 0..net.sources() {
-        push_spaced(out, net.name(LineId(source)))?;
-    }
-    out.push(b'\n')?;
+    let gates = [(GateKind::Not, Items::new(Vec::from_slice(alloc, b"n")?))];
+    chain(alloc, b"a", &gates)
+}
+
+fn bits(alloc: Global, bit: bool) -> Result<Vec<bool>, OutOfMemory>
+    ensures { IfOk result (λ bits. vec_len bits ≡ 1) }
+{
+    Ok(Vec::from_slice(alloc, &[bit])?)
+}
+
+fn test_of(alloc: Global, dir: Direction, first: bool, second: bool) -> Result<Test, OutOfMemory> {
+    Ok(Test {
+        path: 1,
+        dir,
+        kind: Kind::Robust,
+        pair: Pair::new(bits(alloc, first)?, bits(alloc, second)?),
+        expected: Items::new(bits(alloc, second)?),
+    })
+}
+
+#[test]
+fn two_tests_of_one_source(rt: HostRuntime) -> Result<(), Fail> {
+    let net = one_source(rt.alloc())?;
+    let tests = [
+        test_of(rt.alloc(), Direction::Rise, false, true)?,
+        test_of(rt.alloc(), Direction::Fall, true, false)?,
+    ];
+    let text = tests_text(rt.alloc(), &net, &tests)?;
+    assert_eq!(rt;
+        text.as_slice(),
+        b"pdfgen tests 1\nsources a\nobserved a\n1 1 rise robust 0 1 1\n2 1 fall robust 1 0 0\n".as_slice()
+    );
     Ok(())
 }
 
-// Appends the line that names the observed lines.
-fn push_observed(out: &mut Vec<u8>, net: &Netlist) -> Result<(), OutOfMemory>
-    ensures { OnOk result (out.new.items ≡ out.old.items ++ names_line (codes "observed") (observed_names net.now)) }
+fn tree_of(rt: &impl Abort, alloc: Global, nodes: &[Node]) -> Result<Tree, OutOfMemory>
+    requires { length nodes.now < 2 ^ 31 }
 {
-    out.extend_from_slice(b"observed")?;
-    let _circuit = net.lines();
-    for line in net.observed() {
-        push_spaced(out, net.name(*line))?;
-    }
-    out.push(b'\n')?;
+    Ok(Tree::from_nodes(Vec::from_slice(alloc, nodes)?).expect(rt, "one whole tree"))
+}
+
+#[test]
+fn two_proofs(rt: HostRuntime) -> Result<(), Fail> {
+    let splits = [
+        Node::Value(1),
+        Node::Waiting,
+        Node::Steadiness(0),
+        Node::Closed,
+        Node::Waiting,
+    ];
+    let proofs = [
+        Proof {
+            spent: false,
+            kind: Kind::Nonrobust,
+            dir: Direction::Fall,
+            path: 1,
+            steps: 2,
+            tree: tree_of(&rt, rt.alloc(), &[Node::Closed])?,
+        },
+        Proof {
+            spent: true,
+            kind: Kind::Robust,
+            dir: Direction::Rise,
+            path: 1,
+            steps: 0,
+            tree: tree_of(&rt, rt.alloc(), &splits)?,
+        },
+    ];
+    let text = proofs_text(rt.alloc(), &proofs)?;
+    assert_eq!(rt;
+        text.as_slice(),
+        b"pdfgen proofs 1\n1 refutes nonrobust fall 1 2 X\n2 spent robust rise 1 0 V1 O H0 X O\n".as_slice()
+    );
     Ok(())
 }
 
-// Appends the line of a test.
-fn push_test_line(out: &mut Vec<u8>, number: u64, test: &Test) -> Result<(), OutOfMemory>
-    ensures { OnOk result (out.new.items ≡ out.old.items ++ test_line number test.now) }
-{
-    push_decimal(out, number)?;
-    push_spaced_number(out, u64::from(test.path))?;
-    push_spaced(out, direction_word(test.dir))?;
-    push_spaced(out, kind_word(test.kind))?;
-    push_spaced_digits(out, test.pair.first())?;
-    push_spaced_digits(out, test.pair.second())?;
-    push_spaced_digits(out, test.expected.as_slice())?;
-    out.push(b'\n')?;
+const HEADER: &[u8] =
+    b"path,direction,length,source,steps,verdict,test,robust_proof,nonrobust_proof\n";
+
+#[test]
+fn the_report_of_one_source(rt: HostRuntime) -> Result<(), Fail> {
+    let net = one_source(rt.alloc())?;
+    let paths = [ListedPath {
+        path: Path::new(rt.alloc(), LineId(0), &[])?,
+        length: 0,
+        rise: Verdict::Robust { test: 1 },
+        fall: Verdict::Robust { test: 2 },
+    }];
+    let text = report_text(rt.alloc(), &net, &paths)?;
+    assert!(rt; text.as_slice().starts_with(HEADER));
+    assert_eq!(rt;
+        &text.as_slice()[HEADER.len()..],
+        b"1,rise,0,a,-,robust,1,-,-\n1,fall,0,a,-,robust,2,-,-\n".as_slice()
+    );
     Ok(())
 }
 
-// Appends a space and a digit for each bit.
-fn push_spaced_digits(out: &mut Vec<u8>, bits: &[bool]) -> Result<(), OutOfMemory>
-    ensures { OnOk result (out.new.items ≡ out.old.items ++ spaced (digits bits.now)) }
-{
-    out.push(b' ')?;
-    for bit in bits {
-        out.push(if *bit { b'1' } else { b'0' })?;
-    }
+#[test]
+fn the_report_of_one_inverter(rt: HostRuntime) -> Result<(), Fail> {
+    let net = one_inverter(rt.alloc())?;
+    let step = PinRef {
+        gate: GateId(0),
+        pin: 0,
+    };
+    let paths = [
+        ListedPath {
+            path: Path::new(rt.alloc(), LineId(0), &[step])?,
+            length: 7,
+            rise: Verdict::Nonrobust { test: 1, proof: 2 },
+            fall: Verdict::Untestable { proof: 3 },
+        },
+        ListedPath {
+            path: Path::new(rt.alloc(), LineId(0), &[step, step])?,
+            length: 5,
+            rise: Verdict::Aborted {
+                robust: 4,
+                nonrobust: 5,
+            },
+            fall: Verdict::Robust { test: 6 },
+        },
+    ];
+    let text = report_text(rt.alloc(), &net, &paths)?;
+    assert!(rt; text.as_slice().starts_with(HEADER));
+    assert_eq!(rt;
+        &text.as_slice()[HEADER.len()..],
+        b"1,rise,7,a,n:0,nonrobust,1,2,-\n1,fall,7,a,n:0,untestable,-,-,3\n2,rise,5,a,n:0 n:0,aborted,-,4,5\n2,fall,5,a,n:0 n:0,robust,6,-,-\n".as_slice()
+    );
     Ok(())
+}
+
+fn run_of(alloc: Global, paths: Vec<ListedPath>) -> Run
+    ensures { result.paths ≡ paths.items }
+{
+    Run {
+        paths: Items::new(paths),
+        tests: Items::new(Vec::new(alloc)),
+        proofs: Items::new(Vec::new(alloc)),
+    }
+}
+
+#[test]
+fn the_counts_of_two_runs(rt: HostRuntime) -> Result<(), Fail> {
+    let none = run_of(rt.alloc(), Vec::new(rt.alloc()));
+    let text = summary_text(rt.alloc(), &none)?;
+    assert_eq!(rt;
+        text.as_slice(),
+        b"paths 0 robust 0 nonrobust 0 untestable 0 aborted 0\n".as_slice()
+    );
+    let mut paths = Vec::new(rt.alloc());
+    paths.push(listed(
+        rt.alloc(),
+        Verdict::Robust { test: 1 },
+        Verdict::Untestable { proof: 1 },
+    )?)?;
+    paths.push(listed(
+        rt.alloc(),
+        Verdict::Untestable { proof: 2 },
+        Verdict::Nonrobust { test: 2, proof: 3 },
+    )?)?;
+    let some = run_of(rt.alloc(), paths);
+    let text = summary_text(rt.alloc(), &some)?;
+    assert_eq!(rt;
+        text.as_slice(),
+        b"paths 2 robust 1 nonrobust 1 untestable 2 aborted 0\n".as_slice()
+    );
+    Ok(())
+}
+
+fn listed(alloc: Global, rise: Verdict, fall: Verdict) -> Result<ListedPath, OutOfMemory> {
+    Ok(ListedPath {
+        path: Path::new(alloc, LineId(0), &[])?,
+        length: 0,
+        rise,
+        fall,
+    })
 }

@@ -1,4 +1,4 @@
-use Rattle.std.proofs.Common.{◌≡◌, ◌++◌, ◌<◌, ◌^◌, arith, rules, append_assoc, subst, sym}
+use Rattle.std.proofs.Common.{◌≡◌, ◌++◌, ◌<◌, ◌^◌, arith, subst, sym}
 use Rattle.std.proofs.lemmas.List.Elements.{All-append}
 use Rattle.std.proofs.lemmas.Grind.{common_steps}
 use Rattle.pd_tool.specs.PlainTexts.{IsPlain, IsPlainByte}
@@ -9,5 +9,5 @@ use Rattle.pd_tool.proofs.texts.steps.push_step.Goals as goal
 pub returns-clause-plain : goal.returns-clause-plain
 returns-clause-plain c =
     let fits : c.args.step.pin < 2 ^ 64 = omega (arith, c.from.type_inv, c.from.ensures) in
-    let text : c.push_decimal.new.out.items ≡ c.args.out.now.items ++ step_text c.args.net.now c.args.step = first_of (search rules, search (rules, append_assoc), grind (arith, common_steps)) in
+    let text : c.push_decimal.new.out.items ≡ c.args.out.now.items ++ step_text c.args.net.now c.args.step = grind (arith, common_steps) in
     subst IsPlain (sym text) (All-append IsPlainByte _ _ c.requires.plain (step_plain c.args.net.now c.args.step c.requires.names c.requires.gate fits))

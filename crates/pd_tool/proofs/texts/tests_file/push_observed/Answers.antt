@@ -1,7 +1,7 @@
 use Rattle.std.proofs.Common.{arith}
 use Rattle.std.proofs.lemmas.Grind.{common_steps}
 use Rattle.pd_tool.proofs.ObservedLines.{observed_in_range, observed_names_more}
-use Rattle.pd_tool.proofs.texts.tests.push_observed.Goals as goal
+use Rattle.pd_tool.proofs.texts.tests_file.push_observed.Goals as goal
 
 pub name-requires : goal.name-requires
 name-requires c = observed_in_range c.args.net.now c.observed-line-items.result.now c.loop-line.line-index _ c.lines-circuit.ensures.circuit c.observed-line-items.ensures c.loop-line-test.true

@@ -1,7 +1,7 @@
 use Rattle.std.proofs.Common.{◌≡◌, ◌++◌, flat_map, take}
 use Rattle.pd_tool.specs.ProofsText.{node_text}
 use Rattle.pd_tool.specs.Tokens.{spaced}
-use Rattle.pd_tool.proofs.texts.proofs.push_tree.Given as goal
+use Rattle.pd_tool.proofs.texts.proofs_file.push_tree.Given as goal
 
 abbrev pub invariant-loop-node : goal.invariant-loop-node
 invariant-loop-node l = l.out.items ≡ l.initial.out.items ++ flat_map (λ node. spaced (node_text node)) (take l.node-index l.nodes)
