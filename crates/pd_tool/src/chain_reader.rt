@@ -1,6 +1,6 @@
 // Reads the inputs in the form that is built today: a netlist that spells a chain, and a delay file that leaves every
 // delay at one unit. What spells a chain is defined in specs/ChainText.antt, its pieces in specs/ChainPieces.antt; that a
-// text is read in one way only is shown in proofs/ChainReading.antt.
+// text is read in one way only is shown in proofs/ChainReading.antt and proofs/ChainLines.antt.
 ghost use Rattle.std.specs.Prelude.{◌≡◌, ◌≢◌, ℕ, ◌<◌, ◌≤◌, ◌↔◌, List, ◌++◌, length, map, take, drop, codes, IsTrue, IfOk, IfSome, IfNone, MatchOption, AllPairs};
 ghost use Rattle.std.specs.List.{All, AllByRecursion};
 ghost use Rattle.netlist.specs.Circuit.{Circuit};
@@ -21,7 +21,7 @@ const LONGEST_NAME: usize = 16;
 const UNIT_DELAYS: &[u8] = b"gate,pin,delay\n";
 
 /// The netlist of the chain that the bytes spell, or None exactly where they spell no chain of at most `MOST_GATES`
-/// gates.
+/// gates. `OutOfMemory` comes where a growth was refused.
 pub fn read_chain(alloc: Global, bytes: &[u8]) -> Result<Option<Netlist>, OutOfMemory>
     ensures found { IfOk result (λ found. IfSome found (λ net. IsNet bytes.now net)) }
     ensures none { IfOk result (λ found. IfNone found ((c : Circuit) → ¬ IsNet bytes.now c)) }
