@@ -16,6 +16,7 @@ IsPlaceOf [] name at = ⊥
 IsPlaceOf (file ∷ files) name zero = has_name name file ≡ true
 IsPlaceOf (file ∷ files) name (suc at) = (has_name name file ≡ false) × IsPlaceOf files name at
 
+-- a place that passes behind places that don't is the first one
 place_from_reads : (files : List NamedFile) (name : List ℕ) (at : ℕ) (d : NamedFile) → at < length files → has_name name (get_or files at d) ≡ true → ((k : ℕ) → k < at → has_name name (get_or files k d) ≡ false) → IsPlaceOf files name at
 unfolding IsPlaceOf
 place_from_reads [] name at d w t b = absurd (omega arith)
@@ -23,6 +24,7 @@ place_from_reads (file ∷ files) name zero d w t b = t
 place_from_reads (file ∷ files) name (suc at) d w t b =
     (b 0 (omega arith), place_from_reads files name at d (omega arith) t (λ k h. b (suc k) (omega arith)))
 
+-- the place that std's `position` gives
 place_of : (files : List NamedFile) (name : List ℕ) (at : ℕ) → position (has_name name) files ≡ Some at → IsPlaceOf files name at
 place_of [] name at e = absurd (absent_nothing at e)
   where
@@ -37,6 +39,7 @@ pub name_at : (files : List NamedFile) (name : List ℕ) (at : ℕ) (file : Name
 name_at files name at file e r =
     sym ((bytes_eq-Decides name (string_bytes file.name)).0 (ap (has_name name) r ∙ (position-Some (has_name name) files at file e).1))
 
+-- what stands under a name is what the file at its place has
 held_place : (files : List NamedFile) (name : List ℕ) (at : ℕ) (d : NamedFile) → IsPlaceOf files name at → held_of files name ≡ Some (get_or files at d).bytes.items
 unfolding IsPlaceOf
 held_place [] name at d p = absurd p
@@ -64,6 +67,7 @@ apart name other file f t s =
     different : (b : Bool) → b ≡ false → b ≡ true → ⊥
     different b f t = cc
 
+-- other bytes in the file of a name, as one looks up any name
 set_at : (files : List NamedFile) (name : List ℕ) (at : ℕ) (file : NamedFile) (other : List ℕ) → IsPlaceOf files name at → string_bytes file.name ≡ name → held_of (set files at file) other ≡ put (held_of files) name file.bytes.items other
 unfolding IsPlaceOf
 set_at [] name at file other p n = absurd p
@@ -78,14 +82,17 @@ set_at (f ∷ files) name (suc at) file other p n =
 pub held_of-set : (files : List NamedFile) (name : List ℕ) (at : ℕ) (file : NamedFile) → position (has_name name) files ≡ Some at → string_bytes file.name ≡ name → held_of (set files at file) ≡ put (held_of files) name file.bytes.items
 held_of-set files name at file e n = λ i other. set_at files name at file other (place_of files name at e) n i
 
+-- a file that is passed by does not count
 passed : (b : Bool) (bytes : List ℕ) (r : Option (List ℕ)) (n m : ℕ) → suc m ≤ cond (not b) (1 + n) 0 → (m ≤ n → r ≡ None) → cond b (Some bytes) r ≡ None
 passed true bytes r n m w h = absurd (omega arith)
 passed false bytes r n m w h = h (omega arith)
 
+-- where no place is left nothing stands under the name
 held_past : (files : List NamedFile) (name : List ℕ) → length files ≤ position_or_len (has_name name) files → held_of files name ≡ None
 held_past [] name w = refl
 held_past (file ∷ files) name w = passed (has_name name file) file.bytes.items (held_of files name) (position_or_len (has_name name) files) (length files) w (held_past files name)
 
+-- a `position` of None is past the end
 unplaced : (a b : ℕ) (t : Bool) → t ≡ ltb a b → cond t (Some a) None ≡ None → b ≤ a
 unplaced a b true e h = absurd cc
 unplaced a b false e h = ltb-false a b (sym e)
@@ -94,10 +101,12 @@ unplaced a b false e h = ltb-false a b (sym e)
 pub held_none : (files : List NamedFile) (name : List ℕ) → position (has_name name) files ≡ None → held_of files name ≡ None
 held_none files name e = held_past files name (unplaced (position_or_len (has_name name) files) (length files) (ltb (position_or_len (has_name name) files) (length files)) refl e)
 
+-- nothing is found in a list only if nothing is found at its head and behind it
 parted : (b : Bool) (bytes : List ℕ) (r : Option (List ℕ)) → cond b (Some bytes) r ≡ None → (b ≡ false) × (r ≡ None)
 parted true bytes r e = absurd cc
 parted false bytes r e = (refl, e)
 
+-- a file of a new name at the end, as one looks up any name
 push_at : (files : List NamedFile) (name : List ℕ) (file : NamedFile) (other : List ℕ) → held_of files name ≡ None → string_bytes file.name ≡ name → held_of (files ++ file ∷ []) other ≡ put (held_of files) name file.bytes.items other
 push_at [] name file other e n = rw n refl
 push_at (f ∷ files) name file other e n =
@@ -109,6 +118,7 @@ push_at (f ∷ files) name file other e n =
 pub held_of-push : (files : List NamedFile) (name : List ℕ) (file : NamedFile) → held_of files name ≡ None → string_bytes file.name ≡ name → held_of (files ++ file ∷ []) ≡ put (held_of files) name file.bytes.items
 held_of-push files name file e n = λ i other. push_at files name file other e n i
 
+-- what stands under a name may be put there again
 kept : (held : Contents) (name bytes other : List ℕ) (b : Bool) → b ≡ pointwise nat_eq other name → held name ≡ Some bytes → cond b (Some bytes) (held other) ≡ held other
 kept held name bytes other true e h =
     let same : other ≡ name = (bytes_eq-Decides other name).0 (sym e) in

@@ -18,6 +18,7 @@ tells_weaker None (Some y) P R p r = p
 tells_weaker (Some x) None P R p r = p
 tells_weaker (Some x) (Some y) P R p r = r x y p
 
+-- what follows from what is told twice of one state
 tells_at : {A : Type 0} (a b : Option A) (P R : A → A → Type 0) (Q : A → Type 0) → Tells a b P → Tells b b (λ y _. Q y) → ((x y : A) → P x y → Q y → R x y) → Tells a b R
 tells_at None None P R Q p q r = p
 tells_at None (Some y) P R Q p q r = p

@@ -57,6 +57,7 @@ writing_all before now next writer name text rest h e same =
     subst F (sym same) (tells_weaker before now (λ old new. new ≡ written old name h.done) (λ old new. new ≡ written old name text) h.told
     (λ x y p. p ∙ ap (λ t. written x name t) (sym (h.split ∙ ap (λ l. h.done ++ l) e ∙ append-nil h.done))))
 
+-- a front that was written is a part of the text
 holds_part : (name text done rest : List ℕ) (old new : Folder) → text ≡ done ++ rest → new ≡ written old name done → HoldsPart name text old new
 holds_part name text done rest old new e p = record {
   held = inr (done, (rest, e), ap (λ f. f.held) p);

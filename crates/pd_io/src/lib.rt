@@ -17,10 +17,10 @@ mod whole;
 pub use fault::{FileFault, ReadFault, WriteFault};
 pub use files::Files;
 pub use memory::{FileCall, MemoryFiles, MemorySink};
-pub use sink::Sink;
+pub use sink::{Sink, write_all};
 pub use std_files::{StdFiles, StdSink};
 pub use steady::{SteadyFiles, SteadySink};
-pub use whole::{read_whole, write_all, write_whole};
+pub use whole::{read_whole, write_whole};
 
 #[cfg(test)]
 mod tests;

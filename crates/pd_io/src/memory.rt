@@ -7,7 +7,7 @@ ghost use Rattle.pd_io.specs.Plan.{unplanned, fails_next, after_call, with_faili
 ghost use Rattle.pd_io.specs.Memory.{memory_folder, memory_reader, memory_writer, memory_read_faults, memory_write_faults, memory_plans, no_plans, plans_with, refuses, memory_bytes, memory_faults, sink_plan};
 
 use crate::count::FaultCount;
-use crate::named::take_front;
+use crate::named::{MOST, take_front};
 use crate::plan::Plan;
 use crate::shelf::Shelf;
 use crate::{FileFault, Files, Sink};
@@ -145,6 +145,7 @@ impl Files for MemoryFiles {
         requires open { IsSome (memory_reader self.old) }
         requires room { 0 < length buf.old }
         ensures within { IfOk result (λ count. count ≤ length buf.new) }
+        ensures most { IfOk result (λ count. count ≤ MOST) }
         ensures place { memory_reader self.new ≡ moved (memory_reader self.old) result }
         ensures bytes { IfOk result (λ count. GivesNext (memory_folder self.old) (memory_reader self.old) count buf.new) }
         ensures writer { memory_writer self.new ≡ memory_writer self.old }
@@ -196,6 +197,7 @@ impl Files for MemoryFiles {
         requires open { IsSome (memory_writer self.old) }
         requires some { 0 < length bytes.now }
         ensures within { IfOk result (λ count. (0 < count) × (count ≤ length bytes.now)) }
+        ensures most { IfOk result (λ count. count ≤ MOST) }
         ensures told { memory_folder self.new ≡ record {
           held = appended (memory_folder self.old).held (memory_writer self.old) result bytes.now;
           asked = (memory_folder self.old).asked;
@@ -292,6 +294,7 @@ impl Sink for MemorySink {
     fn write(&mut self, bytes: &[u8]) -> Result<usize, FileFault>
         requires { 0 < length bytes.now }
         ensures within { IfOk result (λ count. (0 < count) × (count ≤ length bytes.now)) }
+        ensures most { IfOk result (λ count. count ≤ MOST) }
         ensures told { memory_bytes self.new ≡ memory_bytes self.old ++ taken_of result bytes.now }
         ensures cause { HasCause (memory_faults self.old) (memory_faults self.new) result FileFault.Failed }
 

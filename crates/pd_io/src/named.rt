@@ -72,6 +72,7 @@ pub(crate) fn append(
 ) -> Result<usize, AllocError>
     requires { 0 < length bytes.now }
     ensures within { IfOk result (λ count. (0 < count) × (count ≤ length bytes.now)) }
+    ensures most { IfOk result (λ count. count ≤ MOST) }
     ensures ok { IfOk result (λ count. held_of files.new.items
         ≡ put (held_of files.old.items) name.now (bytes_at (held_of files.old.items) name.now ++ take count bytes.now)) }
     ensures err { OnErr result (held_of files.new.items ≡ held_of files.old.items) }
@@ -91,6 +92,7 @@ pub(crate) fn append(
 pub(crate) fn take_front(taken: &mut Vec<u8>, bytes: &[u8]) -> Result<usize, AllocError>
     requires { 0 < length bytes.now }
     ensures within { IfOk result (λ count. (0 < count) × (count ≤ length bytes.now)) }
+    ensures most { IfOk result (λ count. count ≤ MOST) }
     ensures ok { IfOk result (λ count. taken.new.items ≡ taken.old.items ++ take count bytes.now) }
     ensures err { OnErr result (taken.new.items ≡ taken.old.items) }
 {
@@ -103,6 +105,7 @@ pub(crate) fn take_front(taken: &mut Vec<u8>, bytes: &[u8]) -> Result<usize, All
 pub(crate) fn copy_front(buf: &mut [u8], bytes: &[u8]) -> usize
     requires { 0 < length buf.old }
     ensures within { result ≤ length buf.new }
+    ensures most { result ≤ MOST }
     ensures next { IsNext bytes.now result buf.new }
 {
     let count = bytes.len().min(buf.len()).min(MOST);

@@ -5,7 +5,7 @@ ghost use Rattle.pd_io.specs.Folder.{empty_folder, put, moved, GivesNext, append
 ghost use Rattle.pd_io.specs.Whole.{asked_for, written};
 ghost use Rattle.pd_io.specs.Shelf.{folder_of, reader_of, writer_of};
 
-use crate::named::{NamedFile, append, bytes_of, copy_front, left_of, store};
+use crate::named::{MOST, NamedFile, append, bytes_of, copy_front, left_of, store};
 use std::alloc::{AllocError, Global};
 
 /// A file that is open for reading, and how many of its bytes were taken.
@@ -93,6 +93,7 @@ impl Shelf {
         requires open { IsSome (reader_of self.old) }
         requires room { 0 < length buf.old }
         ensures within { result ≤ length buf.new }
+        ensures most { result ≤ MOST }
         ensures place { reader_of self.new ≡ moved (reader_of self.old) (Ok result) }
         ensures bytes { GivesNext (folder_of self.old) (reader_of self.old) result buf.new }
         ensures folder { folder_of self.new ≡ folder_of self.old }
@@ -128,6 +129,7 @@ impl Shelf {
         requires open { IsSome (writer_of self.old) }
         requires some { 0 < length bytes.now }
         ensures within { IfOk result (λ count. (0 < count) × (count ≤ length bytes.now)) }
+        ensures most { IfOk result (λ count. count ≤ MOST) }
         ensures ok { IfOk result (λ count. folder_of self.new ≡ record (folder_of self.old) {
           held = appended (folder_of self.old).held (writer_of self.old) (Ok count) bytes.now;
         }) }

@@ -1,9 +1,10 @@
-// A place that bytes go to, in order, as standard output.
-ghost use Rattle.std.specs.Prelude.{◌≡◌, ℕ, ◌<◌, ◌≤◌, List, ◌++◌, length, Option, IfOk};
+// A place that bytes go to, in order, as standard output; and all bytes of a text handed to it.
+ghost use Rattle.std.specs.Prelude.{◌≡◌, ℕ, ◌-◌, ◌^◌, ◌<◌, ◌≤◌, List, ◌++◌, length, Option, IfOk, OnOk, OnErr};
 ghost use Rattle.pd_io.specs.declared.fault.FileFault.TheVariants.{Failed};
 ghost use Rattle.pd_io.specs.Counts.{HasCause};
 ghost use Rattle.pd_io.specs.Telling.{Tells};
 ghost use Rattle.pd_io.specs.Folder.{taken_of};
+ghost use Rattle.pd_io.specs.Whole.{TookFront};
 
 use crate::FileFault;
 
@@ -21,4 +22,20 @@ pub trait Sink {
         ensures within { IfOk result (λ count. (0 < count) × (count ≤ length bytes.now)) }
         ensures told { Tells (taken self.old) (taken self.new) (λ old new. new ≡ old ++ taken_of result bytes.now) }
         ensures cause { HasCause (faults self.old) (faults self.new) result Failed };
+}
+
+/// Hands all bytes to a sink. After a fault it took a front of them.
+pub fn write_all<S: Sink>(sink: &mut S, bytes: &[u8]) -> Result<(), FileFault>
+    ensures ok { OnOk result (Tells (S.taken sink.old) (S.taken sink.new) (λ old new. new ≡ old ++ bytes.now)) }
+    ensures err { OnErr result (Tells (S.taken sink.old) (S.taken sink.new) (TookFront bytes.now)) }
+    ensures cause { OnErr result (HasCause (S.faults sink.old) (S.faults sink.new) result FileFault.Failed) }
+    ensures never_falls { S.faults sink.old ≤ S.faults sink.new }
+    ensures counted { 0 < length bytes.now → S.faults sink.new ≤ 2 ^ 64 - 1 }
+{
+    let mut rest = bytes;
+    while !rest.is_empty() {
+        let count = sink.write(rest)?;
+        rest = &rest[count..];
+    }
+    Ok(())
 }

@@ -1,11 +1,11 @@
-// Whole files read and written over any file object, and all bytes handed to a sink.
-ghost use Rattle.std.specs.Prelude.{◌≡◌, ◌+◌, ◌-◌, ◌^◌, ◌<◌, ◌≤◌, ◌++◌, length, Some, None, IfOk, OnOk, OnErr, IsErrOf, vec_len};
+// Whole files read and written over any file object.
+ghost use Rattle.std.specs.Prelude.{◌≡◌, ◌+◌, ◌<◌, ◌≤◌, length, Some, None, IfOk, OnOk, OnErr, IsErrOf, vec_len};
 ghost use Rattle.pd_io.specs.Counts.{HasCause};
 ghost use Rattle.pd_io.specs.Telling.{Tells};
 ghost use Rattle.pd_io.specs.Folder.{bytes_at};
-ghost use Rattle.pd_io.specs.Whole.{AsksFor, written, HoldsPart, TookFront};
+ghost use Rattle.pd_io.specs.Whole.{AsksFor, written, HoldsPart};
 
-use crate::{FileFault, Files, ReadFault, Sink, WriteFault};
+use crate::{Files, ReadFault, WriteFault};
 use std::alloc::Global;
 
 /// How many bytes are read at once.
@@ -74,21 +74,5 @@ pub fn write_whole<F: Files>(files: &mut F, name: &str, bytes: &[u8]) -> Result<
         rest = &rest[count..];
     }
     files.finish()?;
-    Ok(())
-}
-
-/// Hands all bytes to a sink. After a fault it took a front of them.
-pub fn write_all<S: Sink>(sink: &mut S, bytes: &[u8]) -> Result<(), FileFault>
-    ensures ok { OnOk result (Tells (S.taken sink.old) (S.taken sink.new) (λ old new. new ≡ old ++ bytes.now)) }
-    ensures err { OnErr result (Tells (S.taken sink.old) (S.taken sink.new) (TookFront bytes.now)) }
-    ensures cause { OnErr result (HasCause (S.faults sink.old) (S.faults sink.new) result FileFault.Failed) }
-    ensures never_falls { S.faults sink.old ≤ S.faults sink.new }
-    ensures counted { 0 < length bytes.now → S.faults sink.new ≤ 2 ^ 64 - 1 }
-{
-    let mut rest = bytes;
-    while !rest.is_empty() {
-        let count = sink.write(rest)?;
-        rest = &rest[count..];
-    }
     Ok(())
 }

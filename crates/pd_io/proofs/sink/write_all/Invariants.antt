@@ -1,6 +1,6 @@
 use Rattle.std.proofs.Common.{◌-◌, ◌^◌, ◌<◌, ◌≤◌, length}
 use Rattle.pd_io.proofs.Handing.{Handed}
-use Rattle.pd_io.proofs.whole.write_all.Given as goal
+use Rattle.pd_io.proofs.sink.write_all.Given as goal
 
 abbrev pub invariant-loop-rest : goal.invariant-loop-rest
 invariant-loop-rest g l = record {

@@ -1,7 +1,7 @@
 use Rattle.std.proofs.Common.{arith}
 use Rattle.std.proofs.lemmas.List.{take_rest}
 use Rattle.pd_io.proofs.Handing.{handed_more}
-use Rattle.pd_io.proofs.whole.write_all.Goals as goal
+use Rattle.pd_io.proofs.sink.write_all.Goals as goal
 
 pub loop-rest-preserved : goal.loop-rest-preserved
 loop-rest-preserved g c = record {
