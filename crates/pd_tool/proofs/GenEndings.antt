@@ -57,9 +57,10 @@ not_built_net request inputs before after read none c net =
 not_built_delays : (request : GenRequest) (inputs : Inputs) (before after : Folder) → AreRead request inputs before after
     → (c : Circuit) × WasRead inputs.net (λ read. IsNet read c) → (WasRead inputs.delays (λ read. read ≡ unit_delays_text) → ⊥)
     → IsNotBuilt Delays request before.held
-not_built_delays request inputs before after read (c, net) none =
-    ((c, read_has inputs.net (bytes_at before.held request.net) (λ bytes. IsNet bytes c) read.net net),
-      λ e. none (was_read inputs.delays (bytes_at before.held request.delays) (λ bytes. bytes ≡ unit_delays_text) read.delays (subst (λ (l : List ℕ). length l ≤ 4096) (sym e) (omega arith)) e))
+not_built_delays request inputs before after read (c, net) none = (
+  (c, read_has inputs.net (bytes_at before.held request.net) (λ bytes. IsNet bytes c) read.net net),
+  λ e. none (was_read inputs.delays (bytes_at before.held request.delays) (λ bytes. bytes ≡ unit_delays_text) read.delays (subst (λ (l : List ℕ). length l ≤ 4096) (sym e) (omega arith)) e),
+)
 
 of_told : (old mid : Option Folder) (P : Folder → Folder → Type 0) (Q : Folder → Type 0) → Tells old mid P → ((x y : Folder) → P x y → Q x) → OfTold old Q
 of_told None mid P Q t f = tt
@@ -75,12 +76,14 @@ no_texts_ending request inputs (ReadFault input) old mid a b c d out e t h = abs
 no_texts_ending request inputs (WriteFault output) old mid a b c d out e t h = absurd h
 no_texts_ending request inputs NoMemory old mid a b c d out e t h =
     inl (input_names request, ([], refl), untouched_by_reading request inputs old mid a b c d out e t)
-no_texts_ending request inputs (NotBuilt Net) old mid a b c d out e t h =
-    (untouched_by_reading request inputs old mid a b c d out e t,
-      of_told old mid (AreRead request inputs) (λ told. IsNotBuilt Net request told.held) t (λ x y read. not_built_net request inputs x y read h))
-no_texts_ending request inputs (NotBuilt Delays) old mid a b c d out e t h =
-    (untouched_by_reading request inputs old mid a b c d out e t,
-      of_told old mid (AreRead request inputs) (λ told. IsNotBuilt Delays request told.held) t (λ x y read. not_built_delays request inputs x y read h.0 h.1))
+no_texts_ending request inputs (NotBuilt Net) old mid a b c d out e t h = (
+  untouched_by_reading request inputs old mid a b c d out e t,
+  of_told old mid (AreRead request inputs) (λ told. IsNotBuilt Net request told.held) t (λ x y read. not_built_net request inputs x y read h),
+)
+no_texts_ending request inputs (NotBuilt Delays) old mid a b c d out e t h = (
+  untouched_by_reading request inputs old mid a b c d out e t,
+  of_told old mid (AreRead request inputs) (λ told. IsNotBuilt Delays request told.held) t (λ x y read. not_built_delays request inputs x y read h.0 h.1),
+)
 
 -- what a call works on, from what was read and the texts that were made
 pub work_of : (request : GenRequest) (inputs : Inputs) (texts : Texts) (old mid : Option Folder) → request.paths ≡ 100
@@ -119,8 +122,10 @@ stands_among_files request inputs texts place old mid new a b c d out e paths t 
   work = work_of request inputs texts old mid paths t made;
   files = tells_chain old mid new (AreRead request inputs) (FilesStand place (due_of request texts))
       (λ before after. FilesStandAt place (due_files request made.circuit made.run) before.held after.held × (after.asked ≡ before.asked ++ input_names request)) t stand
-      (λ x y z read s. (subst (λ (due : List Due). FilesStandAt place due x.held z.held) (due_is request inputs texts made) (subst (λ (f : Folder). FilesStandAt place (due_of request texts) f.held z.held) read.asked s.held),
-        s.asked ∙ ap (λ (f : Folder). f.asked) read.asked));
+      (λ x y z read s. (
+        subst (λ (due : List Due). FilesStandAt place due x.held z.held) (due_is request inputs texts made) (subst (λ (f : Folder). FilesStandAt place (due_of request texts) f.held z.held) read.asked s.held),
+        s.asked ∙ ap (λ (f : Folder). f.asked) read.asked,
+      ));
   out = out_untouched place (due_files request made.circuit made.run) (summary_text made.run) out;
 }
 
@@ -150,7 +155,7 @@ pub files_whole : (request : GenRequest) (inputs : Inputs) (texts : Texts) (old 
 files_whole request inputs texts old mid new made t w = tells_chain old mid new (AreRead request inputs) (AreWhole (due_of request texts))
     (λ before after. after ≡ record { held = put_all before.held (due_files request made.circuit made.run); asked = before.asked ++ input_names request }) t w
     (λ x y z read whole. whole ∙ ap (λ (f : Folder). record { held = put_all f.held (due_of request texts); asked = f.asked }) read.asked
-        ∙ ap (λ (due : List Due). record { held = put_all x.held due; asked = x.asked ++ input_names request }) (due_is request inputs texts made))
+    ∙ ap (λ (due : List Due). record { held = put_all x.held due; asked = x.asked ++ input_names request }) (due_is request inputs texts made))
 
 -- all is written
 pub written_ending : (request : GenRequest) (inputs : Inputs) (texts : Texts) (old mid new : Option Folder) (a b c d : ℕ) (out out' : Option (List ℕ)) (e e' : ℕ) (text : List ℕ)
@@ -189,7 +194,7 @@ unprinted_ending request inputs texts (Words fault) old mid new a b c d out out'
 unprinted_ending request inputs texts (ReadFault input) old mid new a b c d out out' e e' text paths t made w is took h = absurd h
 unprinted_ending request inputs texts (WriteFault output) old mid new a b c d out out' e e' text paths t made w is took h =
     subst (λ (o : Output). IsEnding (Ok (gen request)) (WriteFault o) (seen old a c out e) (seen new b d out' e')) (sym h.0)
-        (h.1, unprinted_stands request inputs texts old mid new a b c d out out' e e' text paths t made w is took)
+    (h.1, unprinted_stands request inputs texts old mid new a b c d out out' e e' text paths t made w is took)
 unprinted_ending request inputs texts NoMemory old mid new a b c d out out' e e' text paths t made w is took h =
     inr (3, unprinted_stands request inputs texts old mid new a b c d out out' e e' text paths t made w is took)
 unprinted_ending request inputs texts (NotBuilt input) old mid new a b c d out out' e e' text paths t made w is took h = absurd h

@@ -28,9 +28,11 @@ pieces_all before now bytes h = tells_weaker before now (λ old new. new ≡ old
 pub piece_part : (before now next : Option (List ℕ)) (bytes piece rest : List ℕ) → Handed before now bytes (piece ++ rest)
     → Tells now next (TookFront piece) → Tells before next (TookFront bytes)
 piece_part before now next bytes piece rest h t = tells_chain before now next (λ old new. new ≡ old ++ h.done) (TookFront piece) (TookFront bytes) h.told t
-    (λ x y z p (front, (left, e), took). (h.done ++ front,
-        (left ++ rest, h.split ∙ ap (λ (l : List ℕ). h.done ++ (l ++ rest)) e ∙ ap (λ (l : List ℕ). h.done ++ l) (append_assoc front left rest) ∙ sym (append_assoc h.done front (left ++ rest))),
-        took ∙ ap (λ (l : List ℕ). l ++ front) p ∙ append_assoc x h.done front))
+    (λ x y z p (front, (left, e), took). (
+      h.done ++ front,
+      (left ++ rest, h.split ∙ ap (λ (l : List ℕ). h.done ++ (l ++ rest)) e ∙ ap (λ (l : List ℕ). h.done ++ l) (append_assoc front left rest) ∙ sym (append_assoc h.done front (left ++ rest))),
+      took ∙ ap (λ (l : List ℕ). l ++ front) p ∙ append_assoc x h.done front,
+    ))
 
 -- the first piece, and the others
 pub first_piece : (pieces : List (Bor (List ℕ))) (d : Bor (List ℕ)) → 1 ≤ length pieces

@@ -35,7 +35,7 @@ pub chain_has_plain_names : (c : Circuit) → IsChainCircuit c → HasPlainNames
 chain_has_plain_names c chain =
     let names = All-from_recursion IsPlain (chain_names chain.source chain.gates) (plain_names (chain_names chain.source chain.gates) chain.chain.names) in
     subst (λ (circuit : Circuit). All IsPlain (line_names circuit)) (sym chain.circuit)
-        (subst (All IsPlain) (sym (chain_line_names chain.source chain.gates)) names)
+    (subst (All IsPlain) (sym (chain_line_names chain.source chain.gates)) names)
 
 -- steps that connect go through gates of the circuit
 gates_of_steps : (c : Circuit) (line : ℕ) (steps : List PinRef) → Connects c line steps → AllByRecursion (λ step. step.gate.0 < gate_count c) steps

@@ -64,7 +64,7 @@ second_unwritten first second third text more ending old mid new a b c e f le p 
     let whole = subst (λ (t : List ℕ). Tells old mid (λ before after. after ≡ written before first.name t)) e p in
     let part = subst (λ (t : List ℕ). Tells mid new (HoldsPart second.name t)) f q in
     unwritten_at 1 Report (first ∷ second ∷ third ∷ []) ending old new a c refl (omega arith)
-        (then_stand 0 first (second ∷ third ∷ []) old mid new whole (first_part second (third ∷ []) mid new part)) (ends_later Report ending a b c le h)
+    (then_stand 0 first (second ∷ third ∷ []) old mid new whole (first_part second (third ∷ []) mid new part)) (ends_later Report ending a b c le h)
 
 -- two files are whole, and the third was not written, if this result is a fault
 pub third_unwritten : (first second third : Due) (text more last : List ℕ) (result : Result ⊤ Ending) (old mid late new : Option Folder) (a b c d : ℕ)
@@ -78,4 +78,4 @@ third_unwritten first second third text more last (Err ending) old mid late new 
     let also = subst (λ (t : List ℕ). Tells mid late (λ before after. after ≡ written before second.name t)) f q in
     let part = subst (λ (t : List ℕ). Tells late new (HoldsPart third.name t)) g r in
     unwritten_at 2 Proofs (first ∷ second ∷ third ∷ []) ending old new a d refl (omega arith)
-        (third_stands first second third old mid late new whole also part) (ends_later Proofs ending a c d (omega arith) h)
+    (third_stands first second third old mid late new whole also part) (ends_later Proofs ending a c d (omega arith) h)

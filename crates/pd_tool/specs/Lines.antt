@@ -53,6 +53,6 @@ status_of (NotBuilt input) = exit.NotBuilt
 abbrev pub IsReported : Ending → Status → Option (List ℕ) → Option (List ℕ) → ℕ → ℕ → Type 0
 IsReported ending status old new old_faults new_faults =
     ((status ≡ status_of ending)
-        × Tells old new (λ before after. (after ≡ before ++ line_of ending)
-            ⊎ (Rose old_faults new_faults × ((front : List ℕ) × IsFrontOf front (line_of ending) × (after ≡ before ++ front)))))
+    × Tells old new (λ before after. (after ≡ before ++ line_of ending)
+    ⊎ (Rose old_faults new_faults × ((front : List ℕ) × IsFrontOf front (line_of ending) × (after ≡ before ++ front)))))
     ⊎ ((status ≡ exit.NoMemory) × Tells old new (λ before after. (front : List ℕ) × IsFrontOf front (line_of ending) × (after ≡ before ++ front)))

@@ -19,9 +19,8 @@ use pd_io::{StdFiles, StdSink};
 use run::run;
 use status::Status;
 use std::alloc::Global;
-use std::env;
-use std::io;
 use std::process::ExitCode;
+use std::{env, io};
 
 fn main(rt: HostRuntime) -> ExitCode {
     let status = match arguments(&rt) {
@@ -60,5 +59,8 @@ fn call(rt: HostRuntime, arguments: &[String]) -> Status {
 }
 
 fn words_of(alloc: Global, arguments: &[String]) -> Result<Vec<&str>, std::alloc::AllocError> {
-    arguments.iter().map(|argument| argument.as_str()).collect(alloc)
+    arguments
+        .iter()
+        .map(|argument| argument.as_str())
+        .collect(alloc)
 }

@@ -41,7 +41,7 @@ pub fn run<F: Files, O: Sink, E: Sink>(
     // Where nothing fails, inputs of the built form lead to status 0.
     ensures complete { HasBuiltInputs (command_of (texts words.now)) (F.folder files.old)
         → IsCalm (seen (F.folder files.old) (F.read_faults files.old) (F.write_faults files.old) (O.taken out.old) (O.faults out.old))
-            (seen (F.folder files.new) (F.read_faults files.new) (F.write_faults files.new) (O.taken out.new) (O.faults out.new))
+        (seen (F.folder files.new) (F.read_faults files.new) (F.write_faults files.new) (O.taken out.new) (O.faults out.new))
         → (result ≡ Status.Done) ⊎ (result ≡ Status.NoMemory) }
 {
     let ending = perform(alloc, words, files, out);
@@ -49,12 +49,7 @@ pub fn run<F: Files, O: Sink, E: Sink>(
 }
 
 // Does the work of the command, and tells how it ended.
-fn perform<F: Files, O: Sink>(
-    alloc: Global,
-    words: &[&str],
-    files: &mut F,
-    out: &mut O,
-) -> Ending
+fn perform<F: Files, O: Sink>(alloc: Global, words: &[&str], files: &mut F, out: &mut O) -> Ending
     ensures { IsEnding (command_of (texts words.now)) result
         (seen (F.folder files.old) (F.read_faults files.old) (F.write_faults files.old) (O.taken out.old) (O.faults out.old))
         (seen (F.folder files.new) (F.read_faults files.new) (F.write_faults files.new) (O.taken out.new) (O.faults out.new)) }

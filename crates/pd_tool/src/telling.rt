@@ -45,7 +45,10 @@ fn write_line<E: Sink>(ending: &Ending, err: &mut E) -> Result<(), FileFault>
         Ending::Done => Ok(()),
         Ending::Words(fault) => write_words_line(fault, err),
         Ending::ReadFault(input) => write_pieces(err, &[b"read fault ", input_name(input), b"\n"]),
-        Ending::WriteFault(output) => write_pieces(err, &[b"write fault ", output_name(output), b"\n"]),
+        Ending::WriteFault(output) => write_pieces(
+            err,
+            &[b"write fault ", output_name(output), b"\n"],
+        ),
         Ending::NoMemory => write_pieces(err, &[b"want of memory\n"]),
         Ending::NotBuilt(input) => write_pieces(err, &[b"not built: ", input_name(input), b"\n"]),
     }
@@ -61,10 +64,16 @@ fn write_words_line<E: Sink>(fault: &WordsFault, err: &mut E) -> Result<(), File
     match fault {
         WordsFault::Command => write_pieces(err, &[b"words: command\n"]),
         WordsFault::OptionAt(place) => {
-            write_pieces(err, &[b"words: option at ", first.format(*place).as_bytes(), b"\n"])
+            write_pieces(
+                err,
+                &[b"words: option at ", first.format(*place).as_bytes(), b"\n"],
+            )
         }
         WordsFault::EmptyAt(place) => {
-            write_pieces(err, &[b"words: empty at ", first.format(*place).as_bytes(), b"\n"])
+            write_pieces(
+                err,
+                &[b"words: empty at ", first.format(*place).as_bytes(), b"\n"],
+            )
         }
         WordsFault::Count => write_pieces(err, &[b"words: count\n"]),
         WordsFault::SameAt(place, later) => {

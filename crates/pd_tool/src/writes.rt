@@ -12,19 +12,25 @@ use crate::works::Texts;
 use pd_io::{FileFault, Files, Sink, WriteFault, write_all, write_whole};
 
 /// Writes the three files in their order. After a fault those before it are whole, and those behind it were not begun.
-pub fn write_files<F: Files>(
-    request: &Request,
-    texts: &Texts,
-    files: &mut F,
-) -> Result<(), Ending>
+pub fn write_files<F: Files>(request: &Request, texts: &Texts, files: &mut F) -> Result<(), Ending>
     ensures whole { OnOk result (Tells (F.folder files.old) (F.folder files.new) (AreWhole (due_of (request_of request.now) texts.now))) }
     ensures unwritten { IfErr result (λ ending. AreUnwritten (due_of (request_of request.now) texts.now) ending
         (F.folder files.old) (F.folder files.new) (F.write_faults files.old) (F.write_faults files.new)) }
     ensures read_faults { F.read_faults files.new ≡ F.read_faults files.old }
 {
     write_file(files, request.tests, texts.tests.as_slice(), Output::Tests)?;
-    write_file(files, request.report, texts.report.as_slice(), Output::Report)?;
-    write_file(files, request.proofs, texts.proofs.as_slice(), Output::Proofs)
+    write_file(
+        files,
+        request.report,
+        texts.report.as_slice(),
+        Output::Report,
+    )?;
+    write_file(
+        files,
+        request.proofs,
+        texts.proofs.as_slice(),
+        Output::Proofs,
+    )
 }
 
 // Writes one file.

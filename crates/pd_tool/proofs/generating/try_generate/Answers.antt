@@ -13,7 +13,7 @@ pub returns-in_err-write_files-clause-ended : goal.returns-in_err-write_files-cl
 returns-in_err-write_files-clause-ended g c =
     let p = err_from_is_err_and c.from_residual-in_err-write_files.result c.from_residual-in_err-write_files.ensures.1 in
     rw (p.1, p.2) (unwritten_ending (request_of c.args.request.now) _ _ _ _ _ _ _ _ _ _ _ _ _ refl c.in_ok-inputs.ensures.read c.in_ok-texts.ensures.texts
-        c.read_inputs.ensures.write_faults c.in_err-write_files.ensures.unwritten)
+    c.read_inputs.ensures.write_faults c.in_err-write_files.ensures.unwritten)
 
 pub returns-clause-done : goal.returns-clause-done
 returns-clause-done g c = written_done (request_of c.args.request.now) _ _ _ _ _ _ _ _ _ _ _ _ _ _ _ refl c.in_ok-inputs.ensures.read c.in_ok-texts.ensures.texts

@@ -11,4 +11,4 @@ report_text-requires-clause-names c = chain_has_plain_names c.args.net.now c.req
 pub report_text-requires-clause-paths : goal.report_text-requires-clause-paths
 report_text-requires-clause-paths c =
     subst (λ (paths : List ListedPath). AreNameable c.args.net.now paths) (sym c.as_slice-2.ensures)
-        (robust_is_nameable c.args.net.now unit_delays 100 c.in_ok-run.run' c.in_ok-run.ensures.robust)
+    (robust_is_nameable c.args.net.now unit_delays 100 c.in_ok-run.run' c.in_ok-run.ensures.robust)

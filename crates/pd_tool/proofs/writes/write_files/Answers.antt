@@ -8,15 +8,15 @@ returns-in_err-write_file-2-clause-unwritten g c =
     let p = err_from_is_err_and c.from_residual-in_err-write_file-2.result c.from_residual-in_err-write_file-2.ensures.1 in
     let request = request_of c.args.request.now in let texts = c.args.texts.now in
     rw (p.1, p.2) (second_unwritten
-        (record { name = request.tests; text = texts.tests.items }) (record { name = request.report; text = texts.report.items }) (record { name = request.proofs; text = texts.proofs.items })
-        _ _ _ _ _ _ _ _ _ c.as_slice.ensures.value c.as_slice-2.ensures.value c.write_file.ensures.never_falls
-        c.in_ok-write_file.ensures.whole c.in_err-write_file-2.ensures.part c.in_err-write_file-2.ensures.cause)
+    (record { name = request.tests; text = texts.tests.items }) (record { name = request.report; text = texts.report.items }) (record { name = request.proofs; text = texts.proofs.items })
+    _ _ _ _ _ _ _ _ _ c.as_slice.ensures.value c.as_slice-2.ensures.value c.write_file.ensures.never_falls
+    c.in_ok-write_file.ensures.whole c.in_err-write_file-2.ensures.part c.in_err-write_file-2.ensures.cause)
 
 pub returns-clause-unwritten : goal.returns-clause-unwritten
 returns-clause-unwritten g c =
     let request = request_of c.args.request.now in let texts = c.args.texts.now in
     third_unwritten
-        (record { name = request.tests; text = texts.tests.items }) (record { name = request.report; text = texts.report.items }) (record { name = request.proofs; text = texts.proofs.items })
-        _ _ _ _ _ _ _ _ _ _ _ _ c.as_slice.ensures.value c.as_slice-2.ensures.value c.as_slice-3.ensures.value
-        c.write_file.ensures.never_falls c.write_file-2.ensures.never_falls
-        c.in_ok-write_file.ensures.whole c.in_ok-write_file-2.ensures.whole c.write_file-3.ensures.part c.write_file-3.ensures.cause
+    (record { name = request.tests; text = texts.tests.items }) (record { name = request.report; text = texts.report.items }) (record { name = request.proofs; text = texts.proofs.items })
+    _ _ _ _ _ _ _ _ _ _ _ _ c.as_slice.ensures.value c.as_slice-2.ensures.value c.as_slice-3.ensures.value
+    c.write_file.ensures.never_falls c.write_file-2.ensures.never_falls
+    c.in_ok-write_file.ensures.whole c.in_ok-write_file-2.ensures.whole c.write_file-3.ensures.part c.write_file-3.ensures.cause
