@@ -1,5 +1,5 @@
 //! The outside as traits: files and sinks, and whole files read and written over them.
-//! Stands on the kit alone. The layers above use `Files`, `Sink`, `read_whole`, `write_whole` and `write_all`.
+//! Stands on pd_base. The layers above use `Files`, `Sink`, `read_whole`, `write_whole` and `write_all`.
 #![tactic(auto)]
 
 mod count;
