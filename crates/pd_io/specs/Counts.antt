@@ -1,5 +1,5 @@
 -- Counts of faults: by them a caller sees that a fault that it was told of did occur (this project's own).
-use Rattle.std.specs.Prelude.{◌≡◌, ℕ, ◌-◌, ◌^◌, ◌<◌, ◌≤◌, Result, Err}
+use Rattle.std.specs.Prelude.{◌≡◌, ℕ, ◌-◌, ◌^◌, ◌<◌, ◌≤◌, ◌≢◌, Result, Err, MatchResult}
 
 -- a count is greater afterwards; one that stands at the end of its type counts as risen
 abbrev pub Rose : ℕ → ℕ → Type 0
@@ -10,3 +10,5 @@ pub record HasCause {T E : Type 0} (old new : ℕ) (result : Result T E) (fault 
   pub never_falls : old ≤ new
   pub within : new ≤ 2 ^ 64 - 1
   pub risen : result ≡ Err fault → Rose old new
+  -- no call but one that answers the fault raises the count
+  pub calm : MatchResult result (λ _. new ≡ old) (λ other. other ≢ fault → new ≡ old)

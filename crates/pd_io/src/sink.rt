@@ -29,6 +29,7 @@ pub fn write_all<S: Sink>(sink: &mut S, bytes: &[u8]) -> Result<(), FileFault>
     ensures ok { OnOk result (Tells (S.taken sink.old) (S.taken sink.new) (λ old new. new ≡ old ++ bytes.now)) }
     ensures err { OnErr result (Tells (S.taken sink.old) (S.taken sink.new) (TookFront bytes.now)) }
     ensures cause { OnErr result (HasCause (S.faults sink.old) (S.faults sink.new) result FileFault.Failed) }
+    ensures calm { OnOk result (S.faults sink.new ≡ S.faults sink.old) }
     ensures never_falls { S.faults sink.old ≤ S.faults sink.new }
     ensures counted { 0 < length bytes.now → S.faults sink.new ≤ 2 ^ 64 - 1 }
 {

@@ -1,11 +1,11 @@
-use Rattle.std.proofs.Common.{◌-◌, ◌^◌, ◌<◌, ◌≤◌, length}
+use Rattle.std.proofs.Common.{◌≡◌, ◌-◌, ◌^◌, ◌<◌, ◌≤◌, length}
 use Rattle.pd_io.proofs.Handing.{Handed}
 use Rattle.pd_io.proofs.sink.write_all.Given as goal
 
 abbrev pub invariant-loop-rest : goal.invariant-loop-rest
 invariant-loop-rest g l = record {
   handed : Handed (g.S.Sink.taken l.fn.sink) (g.S.Sink.taken l.sink) l.bytes l.rest;
-  never_falls : g.S.Sink.faults l.fn.sink ≤ g.S.Sink.faults l.sink;
+  calm : g.S.Sink.faults l.sink ≡ g.S.Sink.faults l.fn.sink;
   counted : length l.rest < length l.bytes → g.S.Sink.faults l.sink ≤ 2 ^ 64 - 1;
 }
 

@@ -12,7 +12,7 @@ loop-buffer-init g c =
       within = omega arith;
       buffer = refl;
       writer = c.in_ok-begin_read.ensures.writer;
-      never_falls = omega arith;
+      calm = c.in_ok-begin_read.ensures.cause.calm;
       counted = omega arith;
       write_faults = c.begin_read.ensures.write_faults;
     }
@@ -31,7 +31,7 @@ loop-buffer-preserved g c =
       within = omega (arith, ap length more, length-append c.loop-buffer.bytes.items (take count buffer), length-take-le count buffer fits, size);
       buffer = length-append buffer rest ∙ omega (arith, size, length-drop c.min-room.result c.loop-buffer.buffer);
       writer = c.read.ensures.writer ∙ c.loop-buffer.invariant.writer;
-      never_falls = omega arith;
+      calm = c.in_ok-count.ensures.cause.calm ∙ c.loop-buffer.invariant.calm;
       counted = omega arith;
       write_faults = c.read.ensures.write_faults ∙ c.loop-buffer.invariant.write_faults;
     }

@@ -10,7 +10,7 @@ invariant-loop-buffer g l =
       within : vec_len l.bytes ≤ l.limit + 1;
       buffer : length l.buffer ≡ 4096;
       writer : files.writer l.files ≡ files.writer l.fn.files;
-      never_falls : files.read_faults l.fn.files ≤ files.read_faults l.files;
+      calm : files.read_faults l.files ≡ files.read_faults l.fn.files;
       counted : files.read_faults l.files ≤ 2 ^ 64 - 1;
       write_faults : files.write_faults l.files ≡ files.write_faults l.fn.files;
     }

@@ -7,7 +7,7 @@ pub loop-rest-preserved : goal.loop-rest-preserved
 loop-rest-preserved g c = record {
   writing = writing_more _ _ _ _ _ _ _ _ _ _ c.loop-rest.invariant.writing c.in_ok-count.ensures.told c.write.ensures.writer (take_rest c.loop-rest.rest.now c.in_ok-count.count);
   reader = c.write.ensures.reader ∙ c.loop-rest.invariant.reader;
-  never_falls = omega arith;
+  calm = c.in_ok-count.ensures.cause.calm ∙ c.loop-rest.invariant.calm;
   within = omega arith;
   read_faults = c.write.ensures.read_faults ∙ c.loop-rest.invariant.read_faults;
 }

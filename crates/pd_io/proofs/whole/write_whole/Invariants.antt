@@ -8,7 +8,7 @@ invariant-loop-rest g l =
     record {
       writing : Writing (files.folder l.fn.files) (files.folder l.files) (files.writer l.files) l.name l.bytes l.rest;
       reader : files.reader l.files ≡ files.reader l.fn.files;
-      never_falls : files.write_faults l.fn.files ≤ files.write_faults l.files;
+      calm : files.write_faults l.files ≡ files.write_faults l.fn.files;
       within : files.write_faults l.files ≤ 2 ^ 64 - 1;
       read_faults : files.read_faults l.files ≡ files.read_faults l.fn.files;
     }
