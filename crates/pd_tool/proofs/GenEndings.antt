@@ -23,8 +23,8 @@ use Rattle.pd_tool.specs.RobustRun.{IsRobustRun}
 use Rattle.pd_tool.specs.Standing.{Due, FilesStandAt, OutStandsAt, put_all}
 use Rattle.pd_tool.specs.Generation.{GenWork, OfTold, due_files, input_names, IsNotBuilt}
 use Rattle.pd_tool.specs.Summary.{summary_text}
-use Rattle.pd_tool.specs.Endings.{IsEnding, IsUntouched, IsWritten, Seen, StandsAt, WriteRose, place_of, seen}
-use Rattle.pd_tool.specs.Steps.{AreRead, AreTexts, AreUnwritten, AreWhole, AsksOnly, FilesStand, HaveNoTexts, IsReadAs, IsWriteEnding, WasRead, due_of}
+use Rattle.pd_tool.specs.Endings.{IsEnding, IsStill, IsUntouched, IsWritten, Seen, StandsAt, WriteRose, place_of, seen}
+use Rattle.pd_tool.specs.Stages.{AreRead, AreTexts, AreUnwritten, AreWhole, AsksOnly, FilesStand, HaveNoTexts, IsReadAs, IsWriteEnding, WasRead, due_of}
 
 -- an object tells of itself that nothing changed
 pub told_as_before : {A : Type 0} (told : Option A) → Tells told told (λ before after. after ≡ before)
@@ -160,13 +160,14 @@ files_whole request inputs texts old mid new made t w = tells_chain old mid new 
 -- all is written
 pub written_ending : (request : GenRequest) (inputs : Inputs) (texts : Texts) (old mid new : Option Folder) (a b c d : ℕ) (out out' : Option (List ℕ)) (e e' : ℕ) (text : List ℕ)
     → request.paths ≡ 100 → Tells old mid (AreRead request inputs) → AreTexts inputs texts → Tells mid new (AreWhole (due_of request texts))
-    → text ≡ texts.summary.items → Tells out out' (λ before after. after ≡ before ++ text)
+    → text ≡ texts.summary.items → Tells out out' (λ before after. after ≡ before ++ text) → IsStill (seen old a c out e) (seen new b d out' e')
     → IsWritten request (seen old a c out e) (seen new b d out' e')
 unfolding work_of
-written_ending request inputs texts old mid new a b c d out out' e e' text paths t made w is printed = record {
+written_ending request inputs texts old mid new a b c d out out' e e' text paths t made w is printed still = record {
   work = work_of request inputs texts old mid paths t made;
   files = files_whole request inputs texts old mid new made t w;
   out = subst (λ (l : List ℕ). Tells out out' (λ before after. after ≡ before ++ l)) (is ∙ made.summary) printed;
+  still = still;
 }
 
 -- all files are whole, and out was not written
@@ -202,11 +203,11 @@ unprinted_ending request inputs texts (NotBuilt input) old mid new a b c d out o
 -- the last step's result, where it is good
 pub written_done : (request : GenRequest) (inputs : Inputs) (texts : Texts) (result : Result ⊤ Ending) (old mid new : Option Folder) (a b c d : ℕ) (out out' : Option (List ℕ)) (e e' : ℕ) (text : List ℕ)
     → request.paths ≡ 100 → Tells old mid (AreRead request inputs) → AreTexts inputs texts → Tells mid new (AreWhole (due_of request texts))
-    → text ≡ texts.summary.items → OnOk result (Tells out out' (λ before after. after ≡ before ++ text))
+    → text ≡ texts.summary.items → OnOk result (Tells out out' (λ before after. after ≡ before ++ text)) → b ≡ a → d ≡ c → OnOk result (e' ≡ e)
     → OnOk result (IsEnding (Ok (gen request)) Done (seen old a c out e) (seen new b d out' e'))
-written_done request inputs texts (Ok done) old mid new a b c d out out' e e' text paths t made w is printed =
-    written_ending request inputs texts old mid new a b c d out out' e e' text paths t made w is printed
-written_done request inputs texts (Err ending) old mid new a b c d out out' e e' text paths t made w is printed = tt
+written_done request inputs texts (Ok done) old mid new a b c d out out' e e' text paths t made w is printed read write calm =
+    written_ending request inputs texts old mid new a b c d out out' e e' text paths t made w is printed (record { read = read; write = write; out = calm })
+written_done request inputs texts (Err ending) old mid new a b c d out out' e e' text paths t made w is printed read write calm = tt
 
 -- and where it is a fault
 pub unprinted_ended : (request : GenRequest) (inputs : Inputs) (texts : Texts) (result : Result ⊤ Ending) (old mid new : Option Folder) (a b c d : ℕ) (out out' : Option (List ℕ)) (e e' : ℕ) (text : List ℕ)

@@ -11,7 +11,7 @@ use Rattle.pd_tool.specs.declared.ending.Input.{Input}
 use Rattle.pd_tool.specs.declared.ending.Input.TheVariants.{Net, Delays}
 use Rattle.pd_tool.specs.Words.{GenRequest}
 use Rattle.pd_tool.specs.Generation.{input_names, names_up_to}
-use Rattle.pd_tool.specs.Steps.{AsksOnly, IsUnread, AreUnread}
+use Rattle.pd_tool.specs.Stages.{AsksOnly, IsUnread, AreUnread}
 
 -- nothing was asked
 pub asks_none : (folder : Folder) → AsksOnly [] folder folder

@@ -12,7 +12,7 @@ use Rattle.pd_tool.specs.declared.ending.Ending.TheVariants.{Done, Words, ReadFa
 use Rattle.pd_tool.specs.declared.ending.Output.{Output}
 use Rattle.pd_tool.specs.Standing.{Due, FilesStandAt, put_all}
 use Rattle.pd_tool.specs.Endings.{place_of}
-use Rattle.pd_tool.specs.Steps.{FilesStand, AreUnwritten, AreWhole, IsWriteEnding}
+use Rattle.pd_tool.specs.Stages.{FilesStand, AreUnwritten, AreWhole, IsWriteEnding}
 
 -- no file was begun before the first
 pub first_part : (due : Due) (more : List Due) (old new : Option Folder) → Tells old new (HoldsPart due.name due.text) → Tells old new (FilesStand 0 (due ∷ more))

@@ -55,12 +55,25 @@ pub record StandsAt (place : ℕ) (request : GenRequest) (old new : Seen) : Type
       FilesStandAt place (due_files request work.circuit work.run) before.held after.held × (after.asked ≡ before.asked ++ input_names request))
   pub out : Tells old.out new.out (OutStandsAt place (due_files request work.circuit work.run) (summary_text work.run))
 
--- all is written: the three names hold the texts of one run, all other names what they held, and out took the summary
+-- no count of faults rose
+pub record IsStill (old new : Seen) : Type 0 where
+  pub read : new.read_faults ≡ old.read_faults
+  pub write : new.write_faults ≡ old.write_faults
+  pub out : new.out_faults ≡ old.out_faults
+
+-- all is written, and nothing failed: the three names hold the texts of one run, all other names what they held, and out
+-- took the summary
 pub record IsWritten (request : GenRequest) (old new : Seen) : Type 0 where
   pub work : GenWork request old.folder
   pub files : Tells old.folder new.folder (λ before after.
       after ≡ record { held = put_all before.held (due_files request work.circuit work.run); asked = before.asked ++ input_names request })
   pub out : Tells old.out new.out (λ before after. after ≡ before ++ summary_text work.run)
+  pub still : IsStill old new
+
+-- the work that the call asks for was done
+abbrev pub IsDone : Result Command WordsFault → Seen → Seen → Type 0
+IsDone (Ok (gen request)) old new = IsWritten request old new
+IsDone (Err fault) old new = ⊥
 
 -- the count of the object to which this output goes rose
 abbrev pub WriteRose : Output → Seen → Seen → Type 0
@@ -72,7 +85,7 @@ WriteRose Out old new = Rose old.out_faults new.out_faults
 -- The cause of each ending, and what stands after it.
 abbrev pub IsEnding : Result Command WordsFault → Ending → Seen → Seen → Type 0
 -- the work of the command was done
-IsEnding command Done old new = AsksForGen command (λ request. IsWritten request old new)
+IsEnding command Done old new = IsDone command old new
 -- the words are refused so
 IsEnding command (Words fault) old new = (command ≡ Err fault) × IsUntouched [] old new
 -- a count of read faults rose, and this is the input that was read last

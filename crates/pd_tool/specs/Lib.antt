@@ -12,8 +12,8 @@ pub mod ReportRows
 pub mod ReportText
 pub mod Requests
 pub mod RobustRun
+pub mod Stages
 pub mod Standing
-pub mod Steps
 pub mod Summary
 pub mod TestsText
 pub mod Tokens

@@ -1,5 +1,5 @@
 // The command `gen`: reads its inputs, makes the texts of one run, writes them.
-ghost use Rattle.std.specs.Prelude.{Ok, OnOk, IfErr};
+ghost use Rattle.std.specs.Prelude.{◌≡◌, ◌≢◌, None, Ok, OnOk, IfErr};
 ghost use Rattle.pd_tool.specs.declared.ending.Ending.TheVariants.{Done};
 ghost use Rattle.pd_tool.specs.Words.{gen};
 ghost use Rattle.pd_tool.specs.Requests.{request_of};
@@ -20,9 +20,10 @@ pub fn generate<F: Files, O: Sink>(
     files: &mut F,
     out: &mut O,
 ) -> Ending
-    ensures { IsEnding (Ok (gen (request_of request.now))) result
+    ensures ending { IsEnding (Ok (gen (request_of request.now))) result
         (seen (F.folder files.old) (F.read_faults files.old) (F.write_faults files.old) (O.taken out.old) (O.faults out.old))
         (seen (F.folder files.new) (F.read_faults files.new) (F.write_faults files.new) (O.taken out.new) (O.faults out.new)) }
+    ensures closed { result ≡ Done → F.writer files.new ≡ None }
 {
     match try_generate(alloc, request, files, out) {
         Ok(()) => Ending::Done,
@@ -40,6 +41,8 @@ fn try_generate<F: Files, O: Sink>(
     ensures done { OnOk result (IsEnding (Ok (gen (request_of request.now))) Done
         (seen (F.folder files.old) (F.read_faults files.old) (F.write_faults files.old) (O.taken out.old) (O.faults out.old))
         (seen (F.folder files.new) (F.read_faults files.new) (F.write_faults files.new) (O.taken out.new) (O.faults out.new))) }
+    ensures closed { OnOk result (F.writer files.new ≡ None) }
+    ensures not_done { IfErr result (λ ending. ending ≢ Done) }
     ensures ended { IfErr result (λ ending. IsEnding (Ok (gen (request_of request.now))) ending
         (seen (F.folder files.old) (F.read_faults files.old) (F.write_faults files.old) (O.taken out.old) (O.faults out.old))
         (seen (F.folder files.new) (F.read_faults files.new) (F.write_faults files.new) (O.taken out.new) (O.faults out.new))) }

@@ -1,9 +1,9 @@
 // Reading the inputs of `gen`, each of at most so many bytes. What they spell is asked elsewhere.
-ghost use Rattle.std.specs.Prelude.{◌≡◌, ◌≤◌, [], ◌∷◌, IfOk, IfErr};
+ghost use Rattle.std.specs.Prelude.{◌≡◌, ◌≤◌, [], ◌∷◌, IfOk, IfErr, OnOk};
 ghost use Rattle.pd_io.specs.Folder.{bytes_at};
 ghost use Rattle.pd_io.specs.Telling.{Tells};
 ghost use Rattle.pd_tool.specs.Requests.{request_of};
-ghost use Rattle.pd_tool.specs.Steps.{AreRead, AreUnread, AsksOnly, IsReadAs, IsUnread};
+ghost use Rattle.pd_tool.specs.Stages.{AreRead, AreUnread, AsksOnly, IsReadAs, IsUnread};
 
 use crate::ending::{Ending, Input};
 use crate::words::Request;
@@ -31,6 +31,7 @@ pub fn read_inputs<F: Files>(
     ensures read { IfOk result (λ inputs. Tells (F.folder files.old) (F.folder files.new) (AreRead (request_of request.now) inputs)) }
     ensures unread { IfErr result (λ ending. AreUnread (request_of request.now) ending
         (F.folder files.old) (F.folder files.new) (F.read_faults files.old) (F.read_faults files.new)) }
+    ensures calm { OnOk result (F.read_faults files.new ≡ F.read_faults files.old) }
     ensures write_faults { F.write_faults files.new ≡ F.write_faults files.old }
 {
     let net = read_input(alloc, files, request.net, Input::Net)?;
@@ -49,6 +50,7 @@ fn read_input<F: Files>(
     ensures read { IfOk result (λ read. Tells (F.folder files.old) (F.folder files.new) (λ before _. IsReadAs read (bytes_at before.held name.now))) }
     ensures unread { IfErr result (λ ending. IsUnread input name.now ending
         (F.folder files.old) (F.folder files.new) (F.read_faults files.old) (F.read_faults files.new)) }
+    ensures calm { OnOk result (F.read_faults files.new ≡ F.read_faults files.old) }
     ensures never_falls { F.read_faults files.old ≤ F.read_faults files.new }
     ensures write_faults { F.write_faults files.new ≡ F.write_faults files.old }
 {

@@ -1,8 +1,11 @@
 // A whole call of the program, over any files and sinks.
-ghost use Rattle.std.specs.Prelude.{◌≡◌, ◌⊎◌, Ok, Err};
-ghost use Rattle.pd_tool.specs.Words.{command_of, gen, GenRequest};
+ghost use Rattle.std.specs.Prelude.{◌≡◌, ◌⊎◌, None};
+ghost use Rattle.pd_io.specs.Telling.{Tells};
+ghost use Rattle.pd_tool.specs.declared.ending.Input.{Input};
+ghost use Rattle.pd_tool.specs.Words.{command_of};
 ghost use Rattle.pd_tool.specs.Requests.{texts};
-ghost use Rattle.pd_tool.specs.Endings.{AsksForGen, IsEnding, IsWritten, seen};
+ghost use Rattle.pd_tool.specs.Endings.{AsksForGen, IsDone, IsEnding, seen};
+ghost use Rattle.pd_tool.specs.Generation.{IsNotBuilt, OfTold};
 ghost use Rattle.pd_tool.specs.Headline.{AreRefused, Ends, HasBuiltInputs, IsCalm};
 
 use crate::ending::Ending;
@@ -24,10 +27,12 @@ pub fn run<F: Files, O: Sink, E: Sink>(
     out: &mut O,
     err: &mut E,
 ) -> Status
-    // At status 0 the three names hold the texts of one run, which lists the first paths, each with robust tests.
-    ensures done { result ≡ Status.Done → AsksForGen (command_of (texts words.now)) (λ request. IsWritten request
+    // Status 0: the files hold the texts of one run, which lists the first paths, each with its robust tests.
+    ensures done { result ≡ Status.Done → IsDone (command_of (texts words.now))
         (seen (F.folder files.old) (F.read_faults files.old) (F.write_faults files.old) (O.taken out.old) (O.faults out.old))
-        (seen (F.folder files.new) (F.read_faults files.new) (F.write_faults files.new) (O.taken out.new) (O.faults out.new))) }
+        (seen (F.folder files.new) (F.read_faults files.new) (F.write_faults files.new) (O.taken out.new) (O.faults out.new)) }
+    ensures closed { result ≡ Status.Done → F.writer files.new ≡ None }
+    ensures silent { result ≡ Status.Done → Tells (E.taken err.old) (E.taken err.new) (λ before after. after ≡ before) }
 
     // Each status has its cause, what stands in the files and on out after it, and its line on err.
     ensures ended { Ends (command_of (texts words.now)) result
@@ -37,6 +42,10 @@ pub fn run<F: Files, O: Sink, E: Sink>(
 
     // Refused words are refused.
     ensures refused { AreRefused (command_of (texts words.now)) → (result ≡ Status.Words) ⊎ (result ≡ Status.NoMemory) }
+
+    // An input that is refused for its form does not have it, as far as the files tell.
+    ensures not_built { result ≡ Status.NotBuilt → AsksForGen (command_of (texts words.now)) (λ request.
+        OfTold (F.folder files.old) (λ told. (input : Input) × IsNotBuilt input request told.held)) }
 
     // Where nothing fails, inputs of the built form lead to status 0.
     ensures complete { HasBuiltInputs (command_of (texts words.now)) (F.folder files.old)
@@ -50,9 +59,10 @@ pub fn run<F: Files, O: Sink, E: Sink>(
 
 // Does the work of the command, and tells how it ended.
 fn perform<F: Files, O: Sink>(alloc: Global, words: &[&str], files: &mut F, out: &mut O) -> Ending
-    ensures { IsEnding (command_of (texts words.now)) result
+    ensures ending { IsEnding (command_of (texts words.now)) result
         (seen (F.folder files.old) (F.read_faults files.old) (F.write_faults files.old) (O.taken out.old) (O.faults out.old))
         (seen (F.folder files.new) (F.read_faults files.new) (F.write_faults files.new) (O.taken out.new) (O.faults out.new)) }
+    ensures closed { result ≡ Ending.Done → F.writer files.new ≡ None }
 {
     match read_words(words) {
         Ok(request) => generate(alloc, &request, files, out),

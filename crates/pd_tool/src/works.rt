@@ -2,7 +2,7 @@
 ghost use Rattle.std.specs.Prelude.{◌≡◌, ◌↔◌, IfOk, IfErr, IsTrue};
 ghost use Rattle.pd_tool.specs.ChainText.{IsNet, unit_delays_text};
 ghost use Rattle.pd_tool.specs.ChainRun.{IsChainCircuit};
-ghost use Rattle.pd_tool.specs.Steps.{AreTexts, AreTextsOf, HaveNoTexts, WasRead};
+ghost use Rattle.pd_tool.specs.Stages.{AreTexts, AreTextsOf, HaveNoTexts, WasRead};
 
 use crate::chain_reader::{is_unit_delays, read_chain};
 use crate::chain_run::chain_run;

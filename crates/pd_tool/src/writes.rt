@@ -1,10 +1,10 @@
 // Writing the texts: the three files in their order, then out, up to the first fault.
-ghost use Rattle.std.specs.Prelude.{◌≡◌, ◌≤◌, ◌++◌, OnOk, OnErr, IfErr};
+ghost use Rattle.std.specs.Prelude.{◌≡◌, ◌≤◌, ◌++◌, None, OnOk, OnErr, IfErr};
 ghost use Rattle.pd_io.specs.Telling.{Tells};
 ghost use Rattle.pd_io.specs.Whole.{HoldsPart, TookFront, written};
 ghost use Rattle.pd_tool.specs.declared.ending.Output.TheVariants.{Out};
 ghost use Rattle.pd_tool.specs.Requests.{request_of};
-ghost use Rattle.pd_tool.specs.Steps.{AreUnwritten, AreWhole, IsWriteEnding, due_of};
+ghost use Rattle.pd_tool.specs.Stages.{AreUnwritten, AreWhole, IsWriteEnding, due_of};
 
 use crate::ending::{Ending, Output};
 use crate::words::Request;
@@ -16,6 +16,8 @@ pub fn write_files<F: Files>(request: &Request, texts: &Texts, files: &mut F) ->
     ensures whole { OnOk result (Tells (F.folder files.old) (F.folder files.new) (AreWhole (due_of (request_of request.now) texts.now))) }
     ensures unwritten { IfErr result (λ ending. AreUnwritten (due_of (request_of request.now) texts.now) ending
         (F.folder files.old) (F.folder files.new) (F.write_faults files.old) (F.write_faults files.new)) }
+    ensures calm { OnOk result (F.write_faults files.new ≡ F.write_faults files.old) }
+    ensures closed { OnOk result (F.writer files.new ≡ None) }
     ensures read_faults { F.read_faults files.new ≡ F.read_faults files.old }
 {
     write_file(files, request.tests, texts.tests.as_slice(), Output::Tests)?;
@@ -43,6 +45,8 @@ fn write_file<F: Files>(
     ensures whole { OnOk result (Tells (F.folder files.old) (F.folder files.new) (λ before after. after ≡ written before name.now text.now)) }
     ensures part { OnErr result (Tells (F.folder files.old) (F.folder files.new) (HoldsPart name.now text.now)) }
     ensures cause { IfErr result (λ ending. IsWriteEnding output ending (F.write_faults files.old) (F.write_faults files.new)) }
+    ensures calm { OnOk result (F.write_faults files.new ≡ F.write_faults files.old) }
+    ensures closed { OnOk result (F.writer files.new ≡ None) }
     ensures never_falls { F.write_faults files.old ≤ F.write_faults files.new }
     ensures read_faults { F.read_faults files.new ≡ F.read_faults files.old }
 {
@@ -58,6 +62,7 @@ pub fn print<O: Sink>(text: &[u8], out: &mut O) -> Result<(), Ending>
     ensures whole { OnOk result (Tells (O.taken out.old) (O.taken out.new) (λ before after. after ≡ before ++ text.now)) }
     ensures part { OnErr result (Tells (O.taken out.old) (O.taken out.new) (TookFront text.now)) }
     ensures cause { IfErr result (λ ending. IsWriteEnding Out ending (O.faults out.old) (O.faults out.new)) }
+    ensures calm { OnOk result (O.faults out.new ≡ O.faults out.old) }
 {
     match write_all(out, text) {
         Ok(()) => Ok(()),

@@ -1,4 +1,4 @@
-use Rattle.std.proofs.Common.{refl}
+use Rattle.std.proofs.Common.{refl, ◌∙◌}
 use Rattle.std.proofs.lemmas.Result.{err_from_is_err_and}
 use Rattle.pd_tool.specs.Requests.{request_of}
 use Rattle.pd_tool.proofs.GenEndings.{no_texts_ending, unwritten_ending, written_done, unprinted_ended}
@@ -18,6 +18,7 @@ returns-in_err-write_files-clause-ended g c =
 pub returns-clause-done : goal.returns-clause-done
 returns-clause-done g c = written_done (request_of c.args.request.now) _ _ _ _ _ _ _ _ _ _ _ _ _ _ _ refl c.in_ok-inputs.ensures.read c.in_ok-texts.ensures.texts
     c.in_ok-write_files.ensures.whole c.as_slice.ensures.value c.print.ensures.whole
+    (c.write_files.ensures.read_faults ∙ c.in_ok-inputs.ensures.calm) (c.in_ok-write_files.ensures.calm ∙ c.read_inputs.ensures.write_faults) c.print.ensures.calm
 
 pub returns-clause-ended : goal.returns-clause-ended
 returns-clause-ended g c = unprinted_ended (request_of c.args.request.now) _ _ _ _ _ _ _ _ _ _ _ _ _ _ _ refl c.in_ok-inputs.ensures.read c.in_ok-texts.ensures.texts
