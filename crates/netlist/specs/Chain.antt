@@ -1,4 +1,4 @@
--- Chains: circuits of one source and inverters or buffers, each of which reads the line before it.
+-- Chains: circuits of one source and inverters or buffers, each of which reads the line before it (this project's own).
 use Rattle.std.specs.Prelude.{◌≡◌, ◌≢◌, ◌⊎◌, ℕ, ◌+◌, ◌≤◌, List, [], ◌∷◌, map, length, AllPairs}
 use Rattle.std.specs.List.{AllByRecursion}
 use Rattle.netlist.specs.declared.kind.GateKind.{GateKind}

@@ -19,9 +19,11 @@ pub record Circuit : Type 0 where
   pub outputs : List LineId
   pub flops : List (LineId × LineId)
 
+-- how many sources there are
 abbrev pub source_count : Circuit → ℕ
 source_count c = length c.sources
 
+-- how many gates there are
 abbrev pub gate_count : Circuit → ℕ
 gate_count c = length c.gates
 
@@ -37,12 +39,15 @@ gate_line c gate = source_count c + gate
 abbrev pub no_gate : Gate
 no_gate = record { name = []; kind = Buff; pins = [] }
 
+-- the gate of this number
 abbrev pub gate_at : Circuit → ℕ → Gate
 gate_at c gate = slice_index_or c.gates gate no_gate
 
+-- the kind of a gate
 abbrev pub kind_at : Circuit → ℕ → GateKind
 kind_at c gate = (gate_at c gate).kind
 
+-- the lines that the pins of a gate read, by pin
 abbrev pub pins_at : Circuit → ℕ → List LineId
 pins_at c gate = (gate_at c gate).pins
 

@@ -1,4 +1,4 @@
--- The greatest of some numbers.
+-- The greatest of some numbers (this project's own).
 use Rattle.std.specs.Prelude.{ℕ, List, [], ◌∷◌, max}
 
 -- the greatest, or 0 of none

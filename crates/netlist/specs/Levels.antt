@@ -6,7 +6,7 @@ use Rattle.netlist.specs.Circuit.{Circuit, gate_count, gate_line, line_count}
 use Rattle.netlist.specs.Evaluation.{value_of}
 use Rattle.netlist.specs.Greatest.{greatest}
 
--- the level of a line: 0 at a source, at a gate 1 plus the greatest level among its pins' lines
+-- the level of a line: sources stand at 0, and each gate stands one above the highest of the lines that it reads
 abbrev pub level : Circuit → ℕ → ℕ
 level c line = value_of c (λ source. 0) (λ gate levels. 1 + greatest levels) line
 

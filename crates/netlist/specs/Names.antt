@@ -1,4 +1,4 @@
--- Names of lines, by number.
+-- Names of lines, by number (ISCAS .bench: lines are known by name).
 use Rattle.std.specs.Prelude.{ℕ, List, [], map, length, slice_index_or}
 use Rattle.netlist.specs.Circuit.{Circuit, line_names}
 use Rattle.netlist.specs.Greatest.{greatest}

@@ -10,7 +10,7 @@ use Rattle.netlist.specs.Waves.{Delays}
 abbrev pub IsPinOn : Circuit → PinRef → ℕ → Type 0
 IsPinOn c pin line = (pin.gate.0 < gate_count c) × (slice_get (pins_at c pin.gate.0) pin.pin ≡ Some (record { 0 = line }))
 
--- the first step's pin reads this line, and each later step's pin reads the gate of the step before
+-- the steps lead on from this line: the pin of each reads the line that was reached before it
 abbrev pub Connects : Circuit → ℕ → List PinRef → Type 0
 Connects c line [] = ⊤
 Connects c line (step ∷ steps) = IsPinOn c step line × Connects c (gate_line c step.gate.0) steps

@@ -30,6 +30,7 @@ abbrev pub known_parity : List (Option Bool) → Option Bool
 known_parity values =
     if list_all is_some values then Some (parity (map (λ value. unwrap_or value false) values)) else None
 
+-- the value at the only pin of an inverter or a buffer, which may be unknown
 abbrev pub only_known : List (Option Bool) → Option Bool
 only_known [] = None
 only_known (value ∷ values) = value
@@ -54,5 +55,6 @@ agreed_bit pair source =
 abbrev pub steady_value : Circuit → Vectors → ℕ → Option Bool
 steady_value c pair line = value_of c (agreed_bit pair) (λ gate values. known_gate_value (kind_at c gate) values) line
 
+-- the line is steady at this bit under the pair
 abbrev pub IsSteadyAt : Circuit → Vectors → ℕ → Bool → Type 0
 IsSteadyAt c pair line bit = steady_value c pair line ≡ Some bit

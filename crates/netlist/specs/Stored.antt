@@ -1,4 +1,4 @@
--- What a netlist stores, and the circuit that this stands for.
+-- What a netlist stores, and the circuit that this stands for (this project's own).
 use Rattle.std.specs.Prelude.{◌≡◌, ℕ, List, [], ◌∷◌, map, take, drop}
 use Rattle.std.specs.List.{range_with_len}
 use Rattle.std.specs.Global.{Vec}

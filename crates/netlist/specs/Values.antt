@@ -6,9 +6,11 @@ use Rattle.netlist.specs.declared.kind.GateKind.TheVariants.{And, Nand, Or, Nor,
 use Rattle.netlist.specs.Circuit.{Circuit, kind_at, observed_lines}
 use Rattle.netlist.specs.Evaluation.{value_of}
 
+-- whether all values are true
 abbrev pub all_true : List Bool → Bool
 all_true values = list_all (λ value. value) values
 
+-- whether some value is true
 abbrev pub any_true : List Bool → Bool
 any_true values = list_any (λ value. value) values
 

@@ -123,7 +123,7 @@ impl Netlist {
         self.order.as_slice()
     }
 
-    /// The level of a line: 0 at a source, and at a gate 1 plus the greatest level among its pins' lines.
+    /// The level of a line: the number of gates on the longest way to it, its own gate counted, so 0 for a source.
     pub fn level(&self, line: LineId) -> u32
         requires { line.0 < line_count self.now }
         ensures { result ≡ level self.now line.0 }
@@ -160,7 +160,7 @@ impl Netlist {
         self.names.as_slice()[line.0 as usize].as_slice()
     }
 
-    /// The line of this name. None comes exactly where no line has the name.
+    /// Looks a name up: gives the line that bears it, and None if and only if none does.
     pub fn find(&self, name: &[u8]) -> Option<LineId>
         ensures { MatchOption result (¬ Contains (line_names self.now) name.now) (λ line. (line.0 < line_count self.now) × (name_at self.now line.0 ≡ name.now)) }
     {

@@ -1,4 +1,4 @@
--- What a contract sees of a pair of vectors.
+-- What a contract sees of a pair of vectors (this project's own).
 use Rattle.std.specs.Prelude.{Bool, List}
 
 -- one bit per source: before time 0, and from time 0 on

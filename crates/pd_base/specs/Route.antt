@@ -1,4 +1,4 @@
--- What a contract sees of a path.
+-- What a contract sees of a path (this project's own).
 use Rattle.std.specs.Prelude.{List}
 use Rattle.pd_base.specs.declared.ids.LineId.{LineId}
 use Rattle.pd_base.specs.declared.ids.PinRef.{PinRef}

@@ -8,7 +8,7 @@ pub struct LineId(pub u32);
 #[derive(Clone, Copy, Debug, Default, PartialEq, Eq, PartialOrd, Ord, Hash)]
 pub struct GateId(pub u32);
 
-/// One pin of one gate. The pins of a gate are numbered from 0, in the order of its arguments.
+/// A pin, by its gate and its place there: pin 0 takes the first argument of the gate, pin 1 the second, and so on.
 #[derive(Clone, Copy, Debug, Default, PartialEq, Eq, PartialOrd, Ord, Hash)]
 pub struct PinRef {
     /// The gate.

@@ -1,9 +1,9 @@
-// A vector that contracts see as the list of its items, so that equal values are those with equal items.
+// A vector of which a contract sees only what it holds: its capacity is hidden, so equal items make equal values.
 ghost use Rattle.std.specs.Prelude.{◌≡◌};
 
 use std::marker::Model;
 
-/// A vector seen as the list of its items.
+/// A vector that shows its items, in order, and nothing of how they are kept.
 #[derive(Debug, Drop)]
 pub struct Items<T> {
     items: Vec<T>,

@@ -10,7 +10,7 @@ use Rattle.pd_io.specs.Telling.{IsFrontOf}
 abbrev pub Contents : Type 0
 Contents = List ℕ → Option (List ℕ)
 
--- an absent name counts as holding no bytes
+-- the bytes under a name, none where the name is absent
 abbrev pub bytes_at : Contents → List ℕ → List ℕ
 bytes_at held name = unwrap_or (held name) []
 

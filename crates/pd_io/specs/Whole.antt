@@ -17,7 +17,7 @@ AsksFor result name old new = (new ≡ asked_for old name) ⊎ ((result ≡ Err 
 abbrev pub written : Folder → List ℕ → List ℕ → Folder
 written folder name text = record folder { held = put folder.held name text }
 
--- writing stopped on the way: the name is as before, or holds a front of the text; all else is as before
+-- after a write that broke off: under the name stands what stood there or a front of the text, and nothing else changed
 pub record HoldsPart (name text : List ℕ) (old new : Folder) : Type 0 where
   pub held : HoldsFront old.held new.held name text
   pub asked : new.asked ≡ old.asked

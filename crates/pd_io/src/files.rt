@@ -34,8 +34,8 @@ pub trait Files {
         ensures cause { HasCause (read_faults self.old) (read_faults self.new) result Failed }
         ensures write_faults { write_faults self.new ≡ write_faults self.old };
 
-    /// Gives the next bytes of the file that is open: at least one, and 0 exactly at the end. A fault leaves
-    /// the place.
+    /// Puts the bytes that follow the place into the front of the buffer, and answers how many these are. The
+    /// answer is 0 at the end of the file and nowhere else. After a fault the place is the same.
     fn read(&mut self, buf: &mut [u8]) -> Result<usize, FileFault>
         requires open { IsSome (reader self.old) }
         requires room { 0 < length buf.old }

@@ -17,15 +17,20 @@ use std::alloc::Global;
 /// A method of `Files`.
 #[derive(Clone, Copy, Debug, PartialEq, Eq)]
 pub enum FileCall {
+    /// Opening a file for reading.
     BeginRead,
+    /// Reading the next bytes.
     Read,
+    /// Opening a file for writing.
     BeginWrite,
+    /// Writing the next bytes.
     Write,
+    /// Ending the file that is written.
     Finish,
 }
 
-/// Files in memory. Reading an absent name fails. A read gives and a write takes at most 4,096 bytes. A call
-/// that fails changes nothing but what `Files` says of a fault.
+/// Files kept in memory, with calls that were chosen to fail. Opening an absent name for reading fails too. No read
+/// or write moves more than 4,096 bytes. What `Files` says of a fault is all that a failing call changes.
 #[derive(Drop)]
 pub struct MemoryFiles {
     shelf: Shelf,
@@ -153,7 +158,7 @@ impl Files for MemoryFiles {
         ensures cause { HasCause (memory_read_faults self.old) (memory_read_faults self.new) result FileFault.Failed }
         ensures write_faults { memory_write_faults self.new ≡ memory_write_faults self.old }
 
-        // It fails exactly where that is planned, and memory is not wanted.
+        // It fails exactly where that is planned, and it never answers want of memory.
         ensures failed { (result ≡ Err FileFault.Failed) ↔ IsTrue (fails_next (memory_plans self.old).read) }
         ensures memory { IsErrOf result FileFault.NoMemory → ⊥ }
         ensures plans { memory_plans self.new ≡ record (memory_plans self.old) {
@@ -229,7 +234,7 @@ impl Files for MemoryFiles {
         ensures cause { HasCause (memory_write_faults self.old) (memory_write_faults self.new) result FileFault.Failed }
         ensures read_faults { memory_read_faults self.new ≡ memory_read_faults self.old }
 
-        // It fails exactly where that is planned, and memory is not wanted.
+        // It fails exactly where that is planned, and it never answers want of memory.
         ensures failed { (result ≡ Err FileFault.Failed) ↔ IsTrue (fails_next (memory_plans self.old).finish) }
         ensures memory { IsErrOf result FileFault.NoMemory → ⊥ }
         ensures plans { memory_plans self.new ≡ record (memory_plans self.old) {
@@ -245,7 +250,7 @@ impl Files for MemoryFiles {
     }
 }
 
-/// A sink in memory. A write takes at most 4,096 bytes.
+/// A sink that keeps its bytes in memory, with writes that were chosen to fail. One write takes 4,096 bytes or fewer.
 #[derive(Drop)]
 pub struct MemorySink {
     bytes: Vec<u8>,

@@ -10,7 +10,7 @@ use crate::{FileFault, Files, Sink};
 use pd_base::OutOfMemory;
 use std::alloc::Global;
 
-/// Files in memory. An absent name reads as an empty file. A read gives and a write takes at most 4,096 bytes.
+/// Files kept in memory, where reading an absent name finds no bytes. No read or write moves more than 4,096 bytes.
 #[derive(Drop)]
 pub struct SteadyFiles {
     shelf: Shelf,
@@ -82,7 +82,7 @@ impl Files for SteadyFiles {
     }
 }
 
-/// A sink in memory. A write takes at most 4,096 bytes.
+/// A sink that keeps its bytes in memory, and takes no more than 4,096 of them in one write.
 #[derive(Drop)]
 pub struct SteadySink {
     bytes: Vec<u8>,

@@ -56,8 +56,8 @@ pub fn read_whole<F: Files>(
     Err(ReadFault::TooLong)
 }
 
-/// Makes the name hold these bytes: begins the file, hands over the whole rest with each write, and finishes.
-/// After a fault the name is as before, or holds a front of the bytes.
+/// Stores the bytes under the name. One file is begun, every write is offered all that was not yet taken, and then
+/// the file is finished. A fault on the way leaves the name untouched, or leaves a front of the bytes under it.
 pub fn write_whole<F: Files>(files: &mut F, name: &str, bytes: &[u8]) -> Result<(), WriteFault>
     ensures ok { OnOk result (Tells (F.folder files.old) (F.folder files.new) (λ old new.
         new ≡ written old name.now bytes.now)) }

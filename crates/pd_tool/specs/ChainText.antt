@@ -11,6 +11,7 @@ use Rattle.pd_tool.specs.declared.chain_reader.TheConstants.{MOST_GATES}
 abbrev pub most_gates : ℕ
 most_gates = MOST_GATES
 
+-- how a kind of gate is spelled in a netlist
 abbrev pub kind_text : GateKind → List ℕ
 kind_text And = codes "AND"
 kind_text Nand = codes "NAND"

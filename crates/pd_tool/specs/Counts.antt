@@ -1,4 +1,4 @@
--- How many faults have each verdict, counted one by one.
+-- How many faults have each verdict, counted one by one (this project's own).
 use Rattle.std.specs.Prelude.{◌≡◌, ℕ, ◌+◌, List, count_by}
 use Rattle.refutation_check.specs.declared.run.Verdict.{Verdict}
 use Rattle.refutation_check.specs.declared.run.Verdict.TheVariants.{Robust, Nonrobust, Untestable, Aborted}

@@ -22,6 +22,7 @@ pub record Seen : Type 0 where
   pub out : Option (List ℕ)
   pub out_faults : ℕ
 
+-- the view of one moment, made of its five parts
 abbrev pub seen : Option Folder → ℕ → ℕ → Option (List ℕ) → ℕ → Seen
 seen folder read_faults write_faults out out_faults =
     record { folder = folder; read_faults = read_faults; write_faults = write_faults; out = out; out_faults = out_faults }

@@ -14,16 +14,19 @@ use Rattle.pd_tool.specs.declared.status.Status.{Status}
 use Rattle.pd_tool.specs.declared.status.Status.TheVariants as exit
 use Rattle.pd_tool.specs.Tokens.{line, spaced}
 
+-- the word for an input in the line on err
 abbrev pub input_word : Input → List ℕ
 input_word Net = codes "NET"
 input_word Delays = codes "DELAYS"
 
+-- the word for an output in the line on err
 abbrev pub output_word : Output → List ℕ
 output_word Tests = codes "TESTS"
 output_word Report = codes "REPORT"
 output_word Proofs = codes "PROOFS"
 output_word Out = codes "out"
 
+-- why the words were refused, as the line on err says it
 abbrev pub words_reason : WordsFault → List ℕ
 words_reason Command = codes "command"
 words_reason (OptionAt place) = codes "option at " ++ decimal place
@@ -40,6 +43,7 @@ line_of (WriteFault output) = line (codes "write fault " ++ output_word output)
 line_of NoMemory = line (codes "want of memory")
 line_of (NotBuilt input) = line (codes "not built: " ++ input_word input)
 
+-- the status of each ending
 abbrev pub status_of : Ending → Status
 status_of Done = exit.Done
 status_of (Words fault) = exit.Words

@@ -1,4 +1,4 @@
--- Texts that stand in a field of the report as they are.
+-- Texts that stand in a field of the report as they are (this project's own).
 use Rattle.std.specs.Prelude.{◌≢◌, ◌<◌, ℕ, List, All}
 use Rattle.pd_base.specs.declared.ids.PinRef.{PinRef}
 use Rattle.pd_base.specs.Route.{Route}

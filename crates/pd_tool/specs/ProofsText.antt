@@ -12,6 +12,7 @@ node_text Waiting = codes "O"
 node_text (Value source) = codes "V" ++ decimal source
 node_text (Steadiness source) = codes "H" ++ decimal source
 
+-- what a proof claims: that the budget was spent, or a refutation
 abbrev pub claim_word : Bool → List ℕ
 claim_word true = codes "spent"
 claim_word false = codes "refutes"
@@ -21,6 +22,7 @@ abbrev pub proof_line : ℕ → Proof → List ℕ
 proof_line number proof = line (decimal number ++ spaced (claim_word proof.spent) ++ spaced (kind_word proof.kind) ++ spaced (direction_word proof.dir)
     ++ spaced (decimal proof.path) ++ spaced (decimal proof.steps) ++ flat_map (λ node. spaced (node_text node)) proof.tree)
 
+-- the lines of the proofs, numbered on from this number
 abbrev pub proof_lines : ℕ → List Proof → List ℕ
 proof_lines number [] = []
 proof_lines number (proof ∷ proofs) = proof_line number proof ++ proof_lines (number + 1) proofs

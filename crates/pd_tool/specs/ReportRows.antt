@@ -1,4 +1,4 @@
--- The report while it is written, row by row.
+-- The report while it is written, row by row (this project's own).
 use Rattle.std.specs.Prelude.{◌≡◌, ℕ, false, Option, None, Some, List, [], ◌∷◌, ◌++◌, Vec, decimal}
 use Rattle.std.specs.List.{AllByRecursion}
 use Rattle.std.specs.declared.alloc.Global.{Global}

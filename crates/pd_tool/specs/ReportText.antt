@@ -36,6 +36,7 @@ fault_fields c number listed direction verdict =
     decimal number ∷ direction_word direction ∷ decimal listed.length ∷ slice_index_or (line_names c) listed.path.source.0 []
     ∷ steps_text c listed.path.steps ∷ verdict_fields verdict
 
+-- the names of the columns, on the first line
 abbrev pub header_fields : List (List ℕ)
 header_fields = codes "path" ∷ codes "direction" ∷ codes "length" ∷ codes "source" ∷ codes "steps" ∷ codes "verdict"
     ∷ codes "test" ∷ codes "robust_proof" ∷ codes "nonrobust_proof" ∷ []

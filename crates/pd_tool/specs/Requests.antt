@@ -1,4 +1,4 @@
--- The words and the request of a call, as contracts see them.
+-- The words and the request of a call, as contracts see them (this project's own).
 use Rattle.std.specs.Prelude.{ℕ, List, map}
 use Rattle.pd_tool.specs.declared.words.Request.{Request}
 use Rattle.pd_tool.specs.Words.{GenRequest}

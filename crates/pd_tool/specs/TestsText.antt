@@ -9,6 +9,7 @@ use Rattle.pd_tool.specs.Tokens.{spaced, line, direction_word, kind_word, digits
 abbrev pub names_line : List ℕ → List (List ℕ) → List ℕ
 names_line heading names = line (heading ++ flat_map spaced names)
 
+-- the names of the observed lines, in order
 abbrev pub observed_names : Circuit → List (List ℕ)
 observed_names c = map (λ observed. slice_index_or (line_names c) observed.0 []) (observed_lines c)
 

@@ -13,10 +13,12 @@ spaced text = 32 ∷ text
 abbrev pub line : List ℕ → List ℕ
 line text = text ++ 10 ∷ []
 
+-- the word for a transition
 abbrev pub direction_word : Direction → List ℕ
 direction_word Rise = codes "rise"
 direction_word Fall = codes "fall"
 
+-- the word for a kind of test
 abbrev pub kind_word : Kind → List ℕ
 kind_word Robust = codes "robust"
 kind_word Nonrobust = codes "nonrobust"

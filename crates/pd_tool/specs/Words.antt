@@ -19,6 +19,7 @@ pub record GenRequest : Type 0 where
 pub data Command : Type 0 where
   gen : GenRequest → Command
 
+-- the word has no bytes
 abbrev pub is_empty : List ℕ → Bool
 is_empty [] = true
 is_empty (byte ∷ bytes) = false
@@ -29,7 +30,7 @@ is_option [] = false
 is_option (byte ∷ bytes) = byte == 45
 
 -- The first word that cannot stand where it does, from this place on, where so many names are still wanted; or that some
--- are missing. Places count from 1, the command word being 1.
+-- are missing. The command stands at place 1.
 abbrev pub first_fault : ℕ → ℕ → List (List ℕ) → Option WordsFault
 first_fault place wanted [] = if wanted == 0 then None else Some Count
 first_fault place wanted (word ∷ words) =
@@ -65,6 +66,7 @@ gen_request names = record {
   budget = 1000;
 }
 
+-- the fault if there is one, and else the command
 abbrev pub unless_refused : Option WordsFault → Command → Result Command WordsFault
 unless_refused None command = Ok command
 unless_refused (Some fault) command = Err fault

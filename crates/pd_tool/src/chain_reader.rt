@@ -12,7 +12,7 @@ use netlist::{GateKind, Netlist, chain};
 use pd_base::{Items, OutOfMemory};
 use std::alloc::Global;
 
-/// How many gates a chain may have so far: at most 32.
+/// The greatest number of gates in a chain that is read today. All is proved for any value up to 32.
 pub const MOST_GATES: usize = 32;
 
 /// How many letters and digits a name may have.

@@ -8,16 +8,22 @@ use pd_base::OutOfMemory;
 /// An input of `gen`, by its role.
 #[derive(Clone, Copy, Debug, PartialEq, Eq)]
 pub enum Input {
+    /// The netlist file.
     Net,
+    /// The delay file.
     Delays,
 }
 
 /// An output of `gen`, by its role: a file, or out.
 #[derive(Clone, Copy, Debug, PartialEq, Eq)]
 pub enum Output {
+    /// The file of tests.
     Tests,
+    /// The report on the listed paths.
     Report,
+    /// The file of proofs.
     Proofs,
+    /// The stream out, which takes the summary.
     Out,
 }
 

@@ -1,5 +1,5 @@
 //! The program `pdfgen`: a path delay fault test generator whose answers are proved. Stands on all crates below.
-//! Its whole contract is that of `run::run`; main hands in the words and ends with the status.
+//! All that is promised stands on `run::run`, which is called here over the real files and streams.
 #![tactic(auto)]
 
 mod chain_reader;

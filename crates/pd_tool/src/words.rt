@@ -5,10 +5,10 @@ ghost use Rattle.std.specs.Cmp.Lexicographic.{pointwise};
 ghost use Rattle.pd_tool.specs.Words.{command_of, gen_request, names_fault, first_fault, first_same, gen};
 ghost use Rattle.pd_tool.specs.Requests.{request_of, texts};
 
-/// Why the words were refused. Places count from 1, the command word being 1.
+/// What is wrong with the words. A place is a word's number; the command stands at 1.
 #[derive(Clone, Copy, Debug, PartialEq, Eq)]
 pub enum WordsFault {
-    /// No word, or a first one that is no command.
+    /// The command is missing, or is none that is known.
     Command,
     /// The word at this place begins with a hyphen.
     OptionAt(usize),

@@ -21,6 +21,7 @@ preorder (by_steadiness source first second) = Steadiness source ∷ (preorder f
 abbrev pub IsTree : List Node → Type 0
 IsTree nodes = (cases : Cases) × (nodes ≡ preorder cases)
 
+-- whether the node is a split
 abbrev pub is_split : Node → Bool
 is_split Closed = false
 is_split Waiting = false

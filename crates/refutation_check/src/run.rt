@@ -7,7 +7,7 @@ use pd_base::{Direction, Items, Kind, Path, Test};
 pub enum Verdict {
     /// A robust test.
     Robust { test: u32 },
-    /// A nonrobust test, and why there is no robust one.
+    /// A nonrobust test, and its robust proof.
     Nonrobust { test: u32, proof: u32 },
     /// A refutation that excludes every pair of vectors.
     Untestable { proof: u32 },
@@ -33,7 +33,7 @@ pub struct ListedPath {
 pub struct Proof {
     /// The tree shows that the budget was spent, and no refutation.
     pub spent: bool,
-    /// The conditions that are refuted.
+    /// The conditions that the tree speaks of.
     pub kind: Kind,
     /// The transition at the source.
     pub dir: Direction,
