@@ -69,3 +69,6 @@ fn perform<F: Files, O: Sink>(alloc: Global, words: &[&str], files: &mut F, out:
         Err(fault) => Ending::Words(fault),
     }
 }
+
+#[cfg(test)]
+mod tests;
