@@ -52,6 +52,15 @@ status_of (WriteFault output) = exit.WriteFault
 status_of NoMemory = exit.NoMemory
 status_of (NotBuilt input) = exit.NotBuilt
 
+-- the number of each status
+abbrev pub number_of : Status → ℕ
+number_of exit.Done = 0
+number_of exit.Words = 2
+number_of exit.ReadFault = 5
+number_of exit.WriteFault = 6
+number_of exit.NoMemory = 7
+number_of exit.NotBuilt = 9
+
 -- The status is that of the ending, and its line stands on err, whole unless a fault of err was counted; or err had no
 -- memory, the status says so, and a front of the line stands there.
 abbrev pub IsReported : Ending → Status → Option (List ℕ) → Option (List ℕ) → ℕ → ℕ → Type 0

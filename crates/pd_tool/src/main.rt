@@ -15,23 +15,25 @@ mod words;
 mod works;
 mod writes;
 
+use ending::Ending;
 use pd_io::{StdFiles, StdSink};
 use run::run;
 use status::Status;
 use std::alloc::Global;
 use std::process::ExitCode;
 use std::{env, io};
+use telling::tell;
 
 fn main(rt: HostRuntime) -> ExitCode {
     let status = match arguments(&rt) {
         Ok(arguments) => call(rt, arguments.as_slice()),
         Err(error) => match error.kind() {
-            io::ErrorKind::OutOfMemory => Status::NoMemory,
+            io::ErrorKind::OutOfMemory => end_without_memory(rt),
             // Words that are no text are no words.
             _ => call(rt, &[]),
         },
     };
-    ExitCode::from(status as u8)
+    ExitCode::from(status.number())
 }
 
 // The words behind the program's own name.
@@ -54,8 +56,13 @@ fn call(rt: HostRuntime, arguments: &[String]) -> Status {
             &mut StdSink::new(rt.stdout()),
             &mut StdSink::new(rt.stderr()),
         ),
-        Err(_) => Status::NoMemory,
+        Err(_) => end_without_memory(rt),
     }
+}
+
+// Memory ran out before the call.
+fn end_without_memory(rt: HostRuntime) -> Status {
+    tell(&Ending::NoMemory, &mut StdSink::new(rt.stderr()))
 }
 
 fn words_of(alloc: Global, arguments: &[String]) -> Result<Vec<&str>, std::alloc::AllocError> {

@@ -1,4 +1,6 @@
 // The exit status of a call.
+ghost use Rattle.std.specs.Prelude.{◌≡◌};
+ghost use Rattle.pd_tool.specs.Lines.{number_of};
 
 /// How a call ended, as the number with which the program ends.
 #[derive(Clone, Copy, Debug, PartialEq, Eq)]
@@ -15,4 +17,13 @@ pub enum Status {
     NoMemory = 7,
     /// An input is of a form that is not built yet.
     NotBuilt = 9,
+}
+
+impl Status {
+    /// The number with which the program ends.
+    pub fn number(self) -> u8
+        ensures { result ≡ number_of self }
+    {
+        self as u8
+    }
 }
