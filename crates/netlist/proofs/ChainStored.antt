@@ -1,24 +1,23 @@
 -- A netlist with the lists of a chain stands for that chain, and stores what a netlist has to.
 use Rattle.std.proofs.Common.{◌≡◌, ℕ, ◌+◌, List, [], ◌∷◌, ◌++◌, length, map, take, drop, refl, sym, ap, subst, ◌∙◌}
 use Rattle.std.specs.List.{range_with_len}
-use Rattle.netlist.specs.declared.kind.GateKind.{GateKind}
 use Rattle.netlist.specs.declared.netlist.Netlist.TheInside.{Inside}
-use Rattle.netlist.specs.Chain.{IsChain, chain_gates, chain_circuit, chain_names}
+use Rattle.netlist.specs.Chain.{ChainGate, IsChain, chain_gates, chain_circuit, chain_names}
 use Rattle.netlist.specs.Greatest.{greatest}
 use Rattle.netlist.specs.Levels.{IsRankOrder}
 use Rattle.netlist.specs.Stored.{IsStored, circuit_of, lists, named_gates, stored_gate}
 use Rattle.netlist.proofs.ChainCircuit.{line_id, chain_IsCircuit, chain_line_names}
-use Rattle.netlist.proofs.ChainLists.{gate_id, pin_of, chain_fanouts, chain_levels, chain_greatest_level, chain_order, chain_pin_total}
+use Rattle.netlist.proofs.ChainLists.{gate_id, only_pin, chain_fanouts, chain_levels, chain_greatest_level, chain_order, chain_pin_total}
 
 -- the fields are those of a chain
-pub record StoresChain (source : List ℕ) (links : List (GateKind × List ℕ)) (n : Inside) : Type 0 where
+pub record StoresChain (source : List ℕ) (links : List ChainGate) (n : Inside) : Type 0 where
   pub sources : n.sources ≡ 1
   pub names : lists n.names.keys ≡ chain_names source links
   pub gates : n.gates.items ≡ map stored_gate (chain_gates 0 links)
   pub outputs : n.outputs.items ≡ line_id (length links) ∷ []
   pub flops : n.flops.items ≡ []
   pub observed : n.observed.items ≡ line_id (length links) ∷ []
-  pub fanouts : lists n.fanouts.items ≡ map (λ gate. pin_of gate ∷ []) (range_with_len 0 (length links)) ++ [] ∷ []
+  pub fanouts : lists n.fanouts.items ≡ map (λ gate. only_pin gate ∷ []) (range_with_len 0 (length links)) ++ [] ∷ []
   pub levels : n.levels.items ≡ range_with_len 0 (length links + 1)
   pub order : n.order.items ≡ map gate_id (range_with_len 0 (length links))
   pub pins : n.pin_total ≡ length links
@@ -26,11 +25,13 @@ pub record StoresChain (source : List ℕ) (links : List (GateKind × List ℕ))
   pub longest : n.longest_name ≡ greatest (map length (chain_names source links))
 
 -- a chain's gates out of their names, and their kinds and pins
-named_chain : (line : ℕ) (gates : List (GateKind × List ℕ)) → named_gates (map (λ gate. gate.1) gates) (map stored_gate (chain_gates line gates)) ≡ chain_gates line gates
+named_chain : (line : ℕ) (gates : List ChainGate)
+    → named_gates (map (λ gate. gate.1) gates) (map stored_gate (chain_gates line gates)) ≡ chain_gates line gates
 named_chain line [] = refl
-named_chain line (gate ∷ gates) = ap (λ more. record { name = gate.1; kind = gate.0; pins = line_id line ∷ [] } ∷ more) (named_chain (line + 1) gates)
+named_chain line (gate ∷ gates) =
+    ap (λ more. record { name = gate.1; kind = gate.0; pins = line_id line ∷ [] } ∷ more) (named_chain (line + 1) gates)
 
-module _ (source : List ℕ) (gates : List (GateKind × List ℕ)) (n : Inside) (stores : StoresChain source gates n) where
+module _ (source : List ℕ) (gates : List ChainGate) (n : Inside) (stores : StoresChain source gates n) where
   -- the fields stand for the chain
   pub chain_view : circuit_of n ≡ chain_circuit source gates
   chain_view = (λ i.
@@ -44,6 +45,7 @@ module _ (source : List ℕ) (gates : List (GateKind × List ℕ)) (n : Inside) 
       gates_are : named_gates (drop n.sources (lists n.names.keys)) n.gates.items ≡ chain_gates 0 gates
       gates_are = (λ i. named_gates (drop (stores.sources i) (stores.names i)) (stores.gates i)) ∙ named_chain 0 gates
 
+  -- the fields store the chain
   chain_keeps : IsChain source gates → IsStored (chain_circuit source gates) n
   chain_keeps chain = record {
     circuit = chain_IsCircuit source gates chain;
@@ -61,6 +63,6 @@ module _ (source : List ℕ) (gates : List (GateKind × List ℕ)) (n : Inside) 
     longest = stores.longest ∙ ap (λ names. greatest (map length names)) (sym (chain_line_names source gates));
   }
 
-  -- and are what a netlist of it has to store
+  -- so they store the circuit that they stand for
   pub chain_stored : IsChain source gates → IsStored (circuit_of n) n
   chain_stored chain = subst (λ c. IsStored c n) (sym chain_view) (chain_keeps chain)

@@ -12,7 +12,9 @@ use Rattle.std.proofs.lemmas.Slice.Eq.{bytes_eq-Decides}
 use Rattle.indexmap.specs.IndexSet.{insert_key}
 use Rattle.netlist.specs.Stored.{lists}
 
-any_in_lists : {X : Type 0} (p : List X → Bool) (vecs : List (Vec X)) → list_any (λ v. p v.items) vecs ≡ list_any p (lists vecs)
+-- some vector's list passes where some list does
+any_in_lists : {X : Type 0} (p : List X → Bool) (vecs : List (Vec X))
+    → list_any (λ v. p v.items) vecs ≡ list_any p (lists vecs)
 any_in_lists p [] = refl
 any_in_lists p (v ∷ vecs) = ap (λ b. p v.items || b) (any_in_lists p vecs)
 
@@ -26,7 +28,8 @@ module _ (names : List (List ℕ)) (distinct : AllPairs (λ a b. a ≢ b) names)
       (All-from_get_or (λ other. bytes_eq name other ≡ false) (take i names) [] (λ k before.
       false_from_ne_true (bytes_eq name (get_or (take i names) k [])) (λ same.
       let here : k < i = omega arith in
-      distinct k i [] here within (sym (get_or-take i names k [] here) ∙ sym ((bytes_eq-Decides name (get_or (take i names) k [])).0 same)))))
+      let equal = (bytes_eq-Decides name (get_or (take i names) k [])).0 same in
+      distinct k i [] here within (sym (get_or-take i names k [] here) ∙ sym equal))))
 
   -- so it goes last
   pub insert_next : (keys : List (Vec ℕ)) (v : Vec ℕ) → lists keys ≡ take i names → v.items ≡ get_or names i []

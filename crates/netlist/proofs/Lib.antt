@@ -2,6 +2,7 @@ pub mod ChainCircuit
 pub mod ChainLists
 pub mod ChainSteps
 pub mod ChainStored
+pub mod CircuitLines
 pub mod Evaluation
 pub mod GateValues
 pub mod Inserting
@@ -12,6 +13,7 @@ pub mod PathSteps
 pub mod PinCopies
 pub mod PinPlaces
 pub mod Prefixes
+pub mod Readers
 pub mod RobustPath
 pub mod Steadiness
 pub mod StoredLists

@@ -18,33 +18,52 @@ use Rattle.netlist.proofs.GateValues.{value_of_gate}
 
 -- what each side pin of a step shows and its line's final value are held as the step's gate asks
 abbrev pub SidesHeld : Circuit → Vectors → PinRef → Bool → (ℕ → LineId → Bool) → Type 0
-SidesHeld c pair step final shown = (pin : ℕ) (side : LineId) → pin ≢ step.pin → slice_get (pins_at c step.gate.0) pin ≡ Some side → IsHeld (kind_at c step.gate.0) final (shown pin side) (value c pair.second side.0)
+SidesHeld c pair step final shown =
+    (pin : ℕ) (side : LineId) → pin ≢ step.pin → slice_get (pins_at c step.gate.0) pin ≡ Some side
+    → IsHeld (kind_at c step.gate.0) final (shown pin side) (value c pair.second side.0)
 
 -- where the on-path pin shows the other value than its line's final one and the sides are held, so does the gate
-pub step_differs : (c : Circuit) → IsCircuit c → (pair : Vectors) (step : PinRef) (line : ℕ) → IsPinOn c step line → (shown : ℕ → LineId → Bool) → shown step.pin (record { 0 = line }) ≡ not (value c pair.second line) → SidesHeld c pair step (value c pair.second line) shown → gate_value (kind_at c step.gate.0) (at_pins shown (pins_at c step.gate.0)) ≡ not (value c pair.second (gate_line c step.gate.0))
+pub step_differs : (c : Circuit) → IsCircuit c → (pair : Vectors) (step : PinRef) (line : ℕ) → IsPinOn c step line
+    → (shown : ℕ → LineId → Bool) → shown step.pin (record { 0 = line }) ≡ not (value c pair.second line)
+    → SidesHeld c pair step (value c pair.second line) shown
+    → gate_value (kind_at c step.gate.0) (at_pins shown (pins_at c step.gate.0))
+    ≡ not (value c pair.second (gate_line c step.gate.0))
 step_differs c is pair step line on shown other held =
-    gate_differs (kind_at c step.gate.0) (value c pair.second line) step.pin (at_pins shown (pins_at c step.gate.0)) (at_pins (λ pin side. value c pair.second side.0) (pins_at c step.gate.0))
-    (subst (IsFanIn (kind_at c step.gate.0)) (sym (length-at_pins (λ pin side. value c pair.second side.0) (pins_at c step.gate.0))) (is.fan_in step.gate.0 on.0))
-    (differ_at_pins (IsHeld (kind_at c step.gate.0) (value c pair.second line)) (value c pair.second line) shown (λ pin side. value c pair.second side.0) (pins_at c step.gate.0) step.pin (record { 0 = line }) on.1 other refl held)
-    ∙ ap not (sym (value_of_gate c is pair.second step.gate.0 on.0))
+    let gate = step.gate.0 in
+    let kind = kind_at c gate in
+    let pins = pins_at c gate in
+    let final = value c pair.second line in
+    let last = λ (pin : ℕ) (side : LineId). value c pair.second side.0 in
+    gate_differs kind final step.pin (at_pins shown pins) (at_pins last pins)
+    (subst (IsFanIn kind) (sym (length-at_pins last pins)) (is.fan_in gate on.0))
+    (differ_at_pins (IsHeld kind final) final shown last pins step.pin (record { 0 = line }) on.1 other refl held)
+    ∙ ap not (sym (value_of_gate c is pair.second gate on.0))
 
-settles_held : (c : Circuit) (pair : Vectors) (controlling final : Bool) (side : ℕ) (shown : Bool) → ((bit : Bool) → IsSteadyAt c pair side bit → shown ≡ bit) → SettlesBeside c pair controlling final side → HeldBeside controlling final shown (value c pair.second side)
-settles_held c pair true true side shown same meets = (same false meets, steady_second c pair side false meets)
-settles_held c pair true false side shown same meets = meets
-settles_held c pair false true side shown same meets = meets
-settles_held c pair false false side shown same meets = (same true meets, steady_second c pair side true meets)
+module _ (c : Circuit) (pair : Vectors) where
+  -- a side that does what a robust test asks of it is held, where what its pin shows is constant on steady lines
+  settles_held : (controlling final : Bool) (side : ℕ) (shown : Bool)
+      → ((bit : Bool) → IsSteadyAt c pair side bit → shown ≡ bit)
+      → SettlesBeside c pair controlling final side → HeldBeside controlling final shown (value c pair.second side)
+  settles_held true true side shown same meets = (same false meets, steady_second c pair side false meets)
+  settles_held true false side shown same meets = meets
+  settles_held false true side shown same meets = meets
+  settles_held false false side shown same meets = (same true meets, steady_second c pair side true meets)
 
-steady_held : (c : Circuit) (pair : Vectors) (side : ℕ) (shown : Bool) (known : Option Bool) → steady_value c pair side ≡ known → ((bit : Bool) → IsSteadyAt c pair side bit → shown ≡ bit) → is_some known ≡ true → shown ≡ value c pair.second side
-steady_held c pair side shown None e same some = absurd cc
-steady_held c pair side shown (Some bit) e same some = same bit e ∙ sym (steady_second c pair side bit e)
+  -- what is shown of a steady line is its final value
+  steady_held : (side : ℕ) (shown : Bool) (known : Option Bool) → steady_value c pair side ≡ known
+      → ((bit : Bool) → IsSteadyAt c pair side bit → shown ≡ bit) → is_some known ≡ true → shown ≡ value c pair.second side
+  steady_held side shown None e same some = absurd cc
+  steady_held side shown (Some bit) e same some = same bit e ∙ sym (steady_second c pair side bit e)
 
--- a side that meets the robust condition is held, where what its pin shows is constant on steady lines
-pub robust_held : (c : Circuit) (pair : Vectors) (kind : GateKind) (final : Bool) (side : ℕ) (shown : Bool) → ((bit : Bool) → IsSteadyAt c pair side bit → shown ≡ bit) → IsRobustSide c pair kind final side → IsHeld kind final shown (value c pair.second side)
-robust_held c pair And final side shown same meets = settles_held c pair false final side shown same meets
-robust_held c pair Nand final side shown same meets = settles_held c pair false final side shown same meets
-robust_held c pair Or final side shown same meets = settles_held c pair true final side shown same meets
-robust_held c pair Nor final side shown same meets = settles_held c pair true final side shown same meets
-robust_held c pair Xor final side shown same meets = steady_held c pair side shown (steady_value c pair side) refl same meets
-robust_held c pair Xnor final side shown same meets = steady_held c pair side shown (steady_value c pair side) refl same meets
-robust_held c pair Not final side shown same meets = tt
-robust_held c pair Buff final side shown same meets = tt
+  -- a side that meets the robust condition is held, where what its pin shows is constant on steady lines
+  pub robust_held : (kind : GateKind) (final : Bool) (side : ℕ) (shown : Bool)
+      → ((bit : Bool) → IsSteadyAt c pair side bit → shown ≡ bit)
+      → IsRobustSide c pair kind final side → IsHeld kind final shown (value c pair.second side)
+  robust_held And final side shown same meets = settles_held false final side shown same meets
+  robust_held Nand final side shown same meets = settles_held false final side shown same meets
+  robust_held Or final side shown same meets = settles_held true final side shown same meets
+  robust_held Nor final side shown same meets = settles_held true final side shown same meets
+  robust_held Xor final side shown same meets = steady_held side shown (steady_value c pair side) refl same meets
+  robust_held Xnor final side shown same meets = steady_held side shown (steady_value c pair side) refl same meets
+  robust_held Not final side shown same meets = tt
+  robust_held Buff final side shown same meets = tt

@@ -14,47 +14,85 @@ at_pins pin_value [] = []
 at_pins pin_value (line ∷ lines) = pin_value zero line ∷ at_pins (λ pin. pin_value (suc pin)) lines
 
 -- a pin of a gate by its numbers
-abbrev pub pin_of : ℕ → ℕ → PinRef
-pin_of gate pin = record { gate = record { 0 = gate }; pin = pin }
+abbrev pub pin_ref : ℕ → ℕ → PinRef
+pin_ref gate pin = record { gate = record { 0 = gate }; pin = pin }
 
-pub length-at_pins : (pin_value : ℕ → LineId → Bool) (lines : List LineId) → length (at_pins pin_value lines) ≡ length lines
+-- there are as many values as pins
+pub length-at_pins : (pin_value : ℕ → LineId → Bool) (lines : List LineId)
+    → length (at_pins pin_value lines) ≡ length lines
 length-at_pins pin_value [] = refl
 length-at_pins pin_value (line ∷ lines) = ap suc (length-at_pins (λ pin. pin_value (suc pin)) lines)
 
-pub map-is_at_pins : (value : ℕ → Bool) (lines : List LineId) → map (λ line. value line.0) lines ≡ at_pins (λ pin line. value line.0) lines
+-- the values of the pins' lines are such a list
+pub map-is_at_pins : (value : ℕ → Bool) (lines : List LineId)
+    → map (λ line. value line.0) lines ≡ at_pins (λ pin line. value line.0) lines
 map-is_at_pins value [] = refl
 map-is_at_pins value (line ∷ lines) = ap (λ values. value line.0 ∷ values) (map-is_at_pins value lines)
 
-pin_values_from : (copy : PinCopy) (gate first : ℕ) (wave : ℕ → Wave) (time : ℤ) (pin_value : ℕ → LineId → Bool) (lines : List LineId) → ((pin : ℕ) (line : LineId) → pin_value pin line ≡ copy (pin_of gate (first + pin)) (wave line.0) time) → pin_values copy gate first (map (λ line. wave line.0) lines) time ≡ at_pins pin_value lines
-pin_values_from copy gate first wave time pin_value [] each = refl
-pin_values_from copy gate first wave time pin_value (line ∷ lines) each =
-    ap₂ (λ value values. value ∷ values)
-    (ap (λ pin. copy (pin_of gate pin) (wave line.0) time) (sym (add-zero first)) ∙ sym (each zero line))
-    (pin_values_from copy gate (first + 1) wave time (λ pin. pin_value (suc pin)) lines (λ pin other. each (suc pin) other ∙ ap (λ k. copy (pin_of gate k) (wave other.0) time) (shifted pin)))
-  where
-    shifted : (pin : ℕ) → first + suc pin ≡ first + 1 + pin
-    shifted pin = omega arith
+-- the value that a pin of a gate shows at a time, where its line has this wave
+abbrev pub copy_value : PinCopy → ℕ → (ℕ → Wave) → ℤ → ℕ → LineId → Bool
+copy_value copy gate wave time pin line = copy (pin_ref gate pin) (wave line.0) time
 
-pub pin_values-is_at_pins : (copy : PinCopy) (gate : ℕ) (wave : ℕ → Wave) (time : ℤ) (lines : List LineId) → pin_values copy gate 0 (map (λ line. wave line.0) lines) time ≡ at_pins (λ pin line. copy (pin_of gate pin) (wave line.0) time) lines
-pin_values-is_at_pins copy gate wave time lines = pin_values_from copy gate 0 wave time (λ pin line. copy (pin_of gate pin) (wave line.0) time) lines (λ pin line. ap (λ k. copy (pin_of gate k) (wave line.0) time) (sym (zero-add pin)))
+module _ (copy : PinCopy) (gate : ℕ) (wave : ℕ → Wave) (time : ℤ) where
+  -- what the pins from one on show of their lines' waves is such a list
+  pin_values_from : (first : ℕ) (pin_value : ℕ → LineId → Bool) (lines : List LineId)
+      → ((pin : ℕ) (line : LineId) → pin_value pin line ≡ copy_value copy gate wave time (first + pin) line)
+      → pin_values copy gate first (map (λ line. wave line.0) lines) time ≡ at_pins pin_value lines
+  pin_values_from first pin_value [] each = refl
+  pin_values_from first pin_value (line ∷ lines) each =
+      ap₂ (λ value values. value ∷ values)
+      (ap (λ pin. copy_value copy gate wave time pin line) (sym (add-zero first)) ∙ sym (each zero line))
+      (pin_values_from (first + 1) (λ pin. pin_value (suc pin)) lines
+      (λ pin other. each (suc pin) other ∙ ap (λ k. copy_value copy gate wave time k other) (shifted pin)))
+    where
+      shifted : (pin : ℕ) → first + suc pin ≡ first + 1 + pin
+      shifted pin = omega arith
+
+  -- what the pins show of their lines' waves is such a list
+  pub pin_values-is_at_pins : (lines : List LineId)
+      → pin_values copy gate 0 (map (λ line. wave line.0) lines) time ≡ at_pins (copy_value copy gate wave time) lines
+  pin_values-is_at_pins lines =
+      pin_values_from 0 (copy_value copy gate wave time) lines
+      (λ pin line. ap (λ k. copy_value copy gate wave time k line) (sym (zero-add pin)))
 
 -- what holds of all side lines holds of the line of each pin other than the on-path one
-pub beside_at : (P : LineId → Type 0) (lines : List LineId) (on_path pin : ℕ) (line : LineId) → AllByRecursion P (remove lines on_path) → pin ≢ on_path → slice_get lines pin ≡ Some line → P line
+pub beside_at : (P : LineId → Type 0) (lines : List LineId) (on_path pin : ℕ) (line : LineId)
+    → AllByRecursion P (remove lines on_path) → pin ≢ on_path → slice_get lines pin ≡ Some line → P line
 beside_at P [] on_path pin line all other e = absurd cc
 beside_at P (first ∷ lines) zero zero line all other e = absurd (other refl)
 beside_at P (first ∷ lines) zero (suc pin) line all other e = all_at_place P lines pin line all e
 beside_at P (first ∷ lines) (suc on_path) zero line all other e = let same : first ≡ line = cc in subst P same all.0
-beside_at P (first ∷ lines) (suc on_path) (suc pin) line all other e = beside_at P lines on_path pin line all.1 (λ same. other (ap suc same)) e
+beside_at P (first ∷ lines) (suc on_path) (suc pin) line all other e =
+    beside_at P lines on_path pin line all.1 (λ same. other (ap suc same)) e
 
-zip_at_pins : (Held : Bool → Bool → Type 0) (pin_value last_value : ℕ → LineId → Bool) (lines : List LineId) → ((pin : ℕ) (line : LineId) → slice_get lines pin ≡ Some line → Held (pin_value pin line) (last_value pin line)) → AllZip Held (at_pins pin_value lines) (at_pins last_value lines)
-zip_at_pins Held pin_value last_value [] held = tt
-zip_at_pins Held pin_value last_value (line ∷ lines) held = (held zero line refl, zip_at_pins Held (λ pin. pin_value (suc pin)) (λ pin. last_value (suc pin)) lines (λ pin. held (suc pin)))
+module _ (Held : Bool → Bool → Type 0) where
+  -- two values of each pin that are held make two lists that are held, place by place
+  zip_at_pins : (pin_value last_value : ℕ → LineId → Bool) (lines : List LineId)
+      → ((pin : ℕ) (line : LineId) → slice_get lines pin ≡ Some line → Held (pin_value pin line) (last_value pin line))
+      → AllZip Held (at_pins pin_value lines) (at_pins last_value lines)
+  zip_at_pins pin_value last_value [] held = tt
+  zip_at_pins pin_value last_value (line ∷ lines) held = (
+    held zero line refl,
+    zip_at_pins (λ pin. pin_value (suc pin)) (λ pin. last_value (suc pin)) lines (λ pin. held (suc pin)),
+  )
 
--- the on-path pin's values and those of all other pins, put together
-pub differ_at_pins : (Held : Bool → Bool → Type 0) (final : Bool) (pin_value last_value : ℕ → LineId → Bool) (lines : List LineId) (on_path : ℕ) (line : LineId) → slice_get lines on_path ≡ Some line → pin_value on_path line ≡ not final → last_value on_path line ≡ final → ((pin : ℕ) (side : LineId) → pin ≢ on_path → slice_get lines pin ≡ Some side → Held (pin_value pin side) (last_value pin side)) → DifferAt Held final on_path (at_pins pin_value lines) (at_pins last_value lines)
-differ_at_pins Held final pin_value last_value [] on_path line e other same held = absurd cc
-differ_at_pins Held final pin_value last_value (first ∷ lines) zero line e other same held =
-    let here : line ≡ first = cc in
-    (subst (λ l. pin_value zero l ≡ not final) here other, subst (λ l. last_value zero l ≡ final) here same, zip_at_pins Held (λ pin. pin_value (suc pin)) (λ pin. last_value (suc pin)) lines (λ pin side at. held (suc pin) side (omega arith) at))
-differ_at_pins Held final pin_value last_value (first ∷ lines) (suc on_path) line e other same held =
-    (held zero first (omega arith) refl, differ_at_pins Held final (λ pin. pin_value (suc pin)) (λ pin. last_value (suc pin)) lines on_path line e other same (λ pin side apart at. held (suc pin) side (omega arith) at))
+  -- the on-path pin's values and those of all other pins, put together
+  pub differ_at_pins : (final : Bool) (pin_value last_value : ℕ → LineId → Bool) (lines : List LineId)
+      (on_path : ℕ) (line : LineId)
+      → slice_get lines on_path ≡ Some line → pin_value on_path line ≡ not final → last_value on_path line ≡ final
+      → ((pin : ℕ) (side : LineId) → pin ≢ on_path → slice_get lines pin ≡ Some side
+      → Held (pin_value pin side) (last_value pin side))
+      → DifferAt Held final on_path (at_pins pin_value lines) (at_pins last_value lines)
+  differ_at_pins final pin_value last_value [] on_path line e other same held = absurd cc
+  differ_at_pins final pin_value last_value (first ∷ lines) zero line e other same held =
+      let here : line ≡ first = cc in (
+        subst (λ l. pin_value zero l ≡ not final) here other,
+        subst (λ l. last_value zero l ≡ final) here same,
+        zip_at_pins (λ pin. pin_value (suc pin)) (λ pin. last_value (suc pin)) lines
+            (λ pin side at. held (suc pin) side (omega arith) at),
+      )
+  differ_at_pins final pin_value last_value (first ∷ lines) (suc on_path) line e other same held = (
+    held zero first (omega arith) refl,
+    differ_at_pins final (λ pin. pin_value (suc pin)) (λ pin. last_value (suc pin)) lines on_path line e other same
+        (λ pin side apart at. held (suc pin) side (omega arith) at),
+  )

@@ -1,5 +1,5 @@
 -- A circuit as all definitions see it (ISCAS .bench: gates by name, flip-flops cut at their data lines).
-use Rattle.std.specs.List.{AllByRecursion, range_with_len}
+use Rattle.std.specs.List.{All, AllByRecursion, range_with_len}
 use Rattle.std.specs.Prelude.{◌^◌, AllPairs, ◌≢◌, ◌≡◌, ℕ, ◌+◌, ◌-◌, ◌<◌, ◌≤◌, ⊤, not, List, [], ◌∷◌, ◌++◌, length, map, filter, slice_get, slice_index_or, Some, ◌==◌}
 use Rattle.pd_base.specs.declared.ids.LineId.{LineId}
 use Rattle.netlist.specs.declared.kind.GateKind.{GateKind}
@@ -50,6 +50,10 @@ kind_at c gate = (gate_at c gate).kind
 -- the lines that the pins of a gate read, by pin
 abbrev pub pins_at : Circuit → ℕ → List LineId
 pins_at c gate = (gate_at c gate).pins
+
+-- these are lines of the circuit
+abbrev pub HasLines : Circuit → List LineId → Type 0
+HasLines c lines = All (λ line. line.0 < line_count c) lines
 
 -- the names of all lines, by line number
 abbrev pub line_names : Circuit → List (List ℕ)

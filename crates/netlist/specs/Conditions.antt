@@ -24,13 +24,15 @@ final_bit Fall = false
 
 -- the transition is launched at the source: its bits differ, and the second is that of the direction
 abbrev pub Launches : Vectors → Direction → ℕ → Type 0
-Launches pair direction source = (bit_of pair.second source ≡ final_bit direction) × (bit_of pair.first source ≡ not (final_bit direction))
+Launches pair direction source =
+    (bit_of pair.second source ≡ final_bit direction) × (bit_of pair.first source ≡ not (final_bit direction))
 
--- What a side line has to do at a gate whose controlling value this is: hold still at the other value where the
--- on-path input ends at the controlling one, and end at the other value where that input does.
+-- What a side line has to do at a gate with this controlling value: a side is steady at the noncontrolling value where the
+-- on-path input ends controlling, and noncontrolling under the second vector where that input ends noncontrolling.
 abbrev pub SettlesBeside : Circuit → Vectors → Bool → Bool → ℕ → Type 0
 SettlesBeside c pair controlling final side =
-    MatchBool (if controlling then final else not final) (IsSteadyAt c pair side (not controlling)) (value c pair.second side ≡ not controlling)
+    MatchBool (if controlling then final else not final)
+    (IsSteadyAt c pair side (not controlling)) (value c pair.second side ≡ not controlling)
 
 -- what a side line has to do at a gate of this kind whose on-path input has this final value, for a robust test
 abbrev pub IsRobustSide : Circuit → Vectors → GateKind → Bool → ℕ → Type 0
@@ -63,7 +65,8 @@ IsSideOf Nonrobust c pair gate final side = IsNonrobustSide c pair gate side
 abbrev pub SidesMeet : Kind → Circuit → Vectors → ℕ → List PinRef → Type 0
 SidesMeet kind c pair line [] = ⊤
 SidesMeet kind c pair line (step ∷ steps) =
-    AllByRecursion (λ side. IsSideOf kind c pair (kind_at c step.gate.0) (value c pair.second line) side.0) (side_lines c step)
+    AllByRecursion (λ side. IsSideOf kind c pair (kind_at c step.gate.0) (value c pair.second line) side.0)
+    (side_lines c step)
     × SidesMeet kind c pair (gate_line c step.gate.0) steps
 
 -- the pair is a test of this kind for a path, or for a prefix, and this transition

@@ -19,20 +19,25 @@ IsWrong c path pair delays time = wave_of c pair delays (end_of c path) time ≢
 
 -- under each delay assignment, whenever the path is late the sample is wrong
 abbrev pub Detects : Circuit → Route → Vectors → Type 0
-Detects c path pair = (delays : Delays) (time : ℤ) → IsLate path delays time → IsWrong c path pair delays time
+Detects c path pair =
+    (delays : Delays) (time : ℤ) → IsLate path delays time → IsWrong c path pair delays time
 
 -- the line that a pin reads has its value under the second vector at this time less the pin's delay
-abbrev pub IsSettledPin : Circuit → Vectors → Delays → ℤ → ℕ → ℕ × LineId → Type 0
-IsSettledPin c pair delays time gate pin =
-    wave_of c pair delays pin.1.0 (time -ℤ pos (delays (record { gate = record { 0 = gate }; pin = pin.0 }))) ≡ value c pair.second pin.1.0
+abbrev pub IsSettledPin : Circuit → Vectors → Delays → ℤ → PinRef → LineId → Type 0
+IsSettledPin c pair delays time pin line =
+    wave_of c pair delays line.0 (time -ℤ pos (delays pin)) ≡ value c pair.second line.0
 
--- each side pin of each step has settled, read back from the time of sampling by the delays behind its gate
+-- each side pin of a step has settled, as the step's gate sees it at this time
+abbrev pub AreSettledSides : Circuit → Vectors → Delays → ℤ → PinRef → Type 0
+AreSettledSides c pair delays time step =
+    (side : ℕ) (line : LineId) → side ≢ step.pin → slice_get (pins_at c step.gate.0) side ≡ Some line
+    → IsSettledPin c pair delays time (record { gate = step.gate; pin = side }) line
+
+-- the sides of each step have settled, read back from the time of sampling by the delays behind the step's gate
 abbrev pub AreSettled : Circuit → Vectors → Delays → ℤ → List PinRef → Type 0
 AreSettled c pair delays time [] = ⊤
 AreSettled c pair delays time (step ∷ steps) =
-    ((pin : ℕ) (line : LineId) → pin ≢ step.pin → slice_get (pins_at c step.gate.0) pin ≡ Some line
-    → IsSettledPin c pair delays (time -ℤ pos (sum_by delays steps)) step.gate.0 (pin, line))
-    × AreSettled c pair delays time steps
+    AreSettledSides c pair delays (time -ℤ pos (sum_by delays steps)) step × AreSettled c pair delays time steps
 
 -- the path's sides have settled at a time
 abbrev pub IsSettled : Circuit → Route → Vectors → Delays → ℤ → Type 0
@@ -40,4 +45,6 @@ IsSettled c path pair delays time = AreSettled c pair delays time path.steps
 
 -- under each delay assignment, whenever the path is late and its sides have settled the sample is wrong
 abbrev pub DetectsSettled : Circuit → Route → Vectors → Type 0
-DetectsSettled c path pair = (delays : Delays) (time : ℤ) → IsLate path delays time → IsSettled c path pair delays time → IsWrong c path pair delays time
+DetectsSettled c path pair =
+    (delays : Delays) (time : ℤ) → IsLate path delays time → IsSettled c path pair delays time
+    → IsWrong c path pair delays time

@@ -35,5 +35,7 @@ IsRising delays (p ∷ q ∷ paths) = IsBefore delays p q × IsRising delays (q 
 pub record AreFirst (c : Circuit) (delays : Delays) (count : ℕ) (paths : List Route) : Type 0 where
   pub are_paths : AllByRecursion (IsPath c) paths
   pub rising : IsRising delays paths
-  pub none_before : (other : Route) → IsPath c other → ¬ Contains paths other → AllByRecursion (λ p. ¬ IsBefore delays other p) paths
-  pub full : (length paths ≡ count) ⊎ ((length paths < count) × ((other : Route) → IsPath c other → Contains paths other))
+  pub none_before : (other : Route) → IsPath c other → ¬ Contains paths other
+      → AllByRecursion (λ p. ¬ IsBefore delays other p) paths
+  pub full : (length paths ≡ count)
+      ⊎ ((length paths < count) × ((other : Route) → IsPath c other → Contains paths other))

@@ -49,11 +49,13 @@ known_gate_value Buff values = only_known values
 -- the bit of a source on which both vectors agree, and else nothing
 abbrev pub agreed_bit : Vectors → ℕ → Option Bool
 agreed_bit pair source =
-    if is_known_as (bit_of pair.first source) (Some (bit_of pair.second source)) then Some (bit_of pair.second source) else None
+    if is_known_as (bit_of pair.first source) (Some (bit_of pair.second source))
+    then Some (bit_of pair.second source) else None
 
 -- the value at which a line is steady under a pair, if it is steady
 abbrev pub steady_value : Circuit → Vectors → ℕ → Option Bool
-steady_value c pair line = value_of c (agreed_bit pair) (λ gate values. known_gate_value (kind_at c gate) values) line
+steady_value c pair line =
+    value_of c (agreed_bit pair) (λ gate values. known_gate_value (kind_at c gate) values) line
 
 -- the line is steady at this bit under the pair
 abbrev pub IsSteadyAt : Circuit → Vectors → ℕ → Bool → Type 0

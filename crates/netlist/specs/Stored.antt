@@ -17,7 +17,8 @@ lists vecs = map (λ v. v.items) vecs
 abbrev pub named_gates : List (List ℕ) → List StoredGate → List Gate
 named_gates [] gates = []
 named_gates (name ∷ names) [] = []
-named_gates (name ∷ names) (gate ∷ gates) = record { name = name; kind = gate.kind; pins = gate.pins } ∷ named_gates names gates
+named_gates (name ∷ names) (gate ∷ gates) =
+    record { name = name; kind = gate.kind; pins = gate.pins } ∷ named_gates names gates
 
 -- the kind and the pins of a gate
 abbrev pub stored_gate : Gate → StoredGate

@@ -33,10 +33,10 @@ abbrev pub wave_under : PinCopy → Circuit → Vectors → ℕ → Wave
 wave_under copy c pair line =
     value_of c (source_wave pair) (λ gate waves time. gate_value (kind_at c gate) (pin_values copy gate 0 waves time)) line
 
--- a pin sees its line's wave later by its delay
-abbrev pub delayed : Delays → PinCopy
-delayed delays pin wave time = wave (time -ℤ pos (delays pin))
+-- the copy that a pin with a delay makes: it sees its line's wave later by the delay
+abbrev pub delay_copy : Delays → PinCopy
+delay_copy delays pin wave time = wave (time -ℤ pos (delays pin))
 
 -- the wave of a line under a delay assignment
 abbrev pub wave_of : Circuit → Vectors → Delays → ℕ → Wave
-wave_of c pair delays line = wave_under (delayed delays) c pair line
+wave_of c pair delays line = wave_under (delay_copy delays) c pair line

@@ -102,7 +102,8 @@ fn levels_of(alloc: Global, count: u32) -> Result<Vec<u32>, OutOfMemory>
 
 // The gates as they are numbered.
 fn order_of(alloc: Global, count: u32) -> Result<Vec<GateId>, OutOfMemory>
-    ensures { IfOk result (λ order. order.items ≡ map (λ gate. record { 0 = gate }) (range_with_len 0 count)) }
+    ensures { IfOk result
+        (λ order. order.items ≡ map (λ gate. record { 0 = gate }) (range_with_len 0 count)) }
 {
     let mut order = Vec::new(alloc);
     for gate in 0..count {

@@ -1,10 +1,11 @@
 // The netlist: a circuit with what every layer above asks of it, laid out for reading. It is made by the modules that
 // build one; here are its fields, what they hold (specs/Stored.antt), and the calls that read them.
-ghost use Rattle.std.specs.Prelude.{◌≡◌, ◌<◌, MatchOption, Contains};
-ghost use Rattle.netlist.specs.Circuit.{IsCircuit, source_count, gate_count, line_count, kind_at, pins_at, line_names, observed_lines};
+ghost use Rattle.std.specs.Prelude.{◌≡◌, ◌<◌, All, MatchOption, Contains};
+ghost use Rattle.netlist.specs.Circuit.{HasLines, IsCircuit, source_count, gate_count, line_count, kind_at, pins_at, line_names, observed_lines};
 ghost use Rattle.netlist.specs.Fanout.{fanout_at, pin_total};
 ghost use Rattle.netlist.specs.Levels.{level, greatest_level, IsRankOrder};
 ghost use Rattle.netlist.specs.Names.{name_at, longest_name};
+ghost use Rattle.netlist.specs.Paths.{IsPinOn};
 
 use crate::GateKind;
 use indexmap::IndexSet;
@@ -103,7 +104,8 @@ impl Netlist {
     /// The lines that the pins of a gate read, in the order of its arguments.
     pub fn pins(&self, gate: GateId) -> &[LineId]
         requires { gate.0 < gate_count self.now }
-        ensures { result.now ≡ pins_at self.now gate.0 }
+        ensures pins { result.now ≡ pins_at self.now gate.0 }
+        ensures in_circuit { HasLines self.now result.now }
     {
         self.gates[gate.0 as usize].pins.as_slice()
     }
@@ -111,7 +113,8 @@ impl Netlist {
     /// The pins that read a line, by gate and then by pin.
     pub fn fanout(&self, line: LineId) -> &[PinRef]
         requires { line.0 < line_count self.now }
-        ensures { result.now ≡ fanout_at self.now line.0 }
+        ensures readers { result.now ≡ fanout_at self.now line.0 }
+        ensures each_reads { All (λ reader. IsPinOn self.now reader line.0) result.now }
     {
         self.fanouts[line.0 as usize].as_slice()
     }
@@ -133,21 +136,25 @@ impl Netlist {
 
     /// The output lines, each once.
     pub fn outputs(&self) -> &[LineId]
-        ensures { result.now ≡ self.now.outputs }
+        ensures outputs { result.now ≡ self.now.outputs }
+        ensures in_circuit { HasLines self.now result.now }
     {
         self.outputs.as_slice()
     }
 
     /// The flip-flops, each as its own line and its data line. Their own lines are the last sources.
     pub fn flops(&self) -> &[(LineId, LineId)]
-        ensures { result.now ≡ self.now.flops }
+        ensures flops { result.now ≡ self.now.flops }
+        ensures sources { All (λ flop. flop.0.0 < source_count self.now) result.now }
+        ensures data_lines { All (λ flop. flop.1.0 < line_count self.now) result.now }
     {
         self.flops.as_slice()
     }
 
     /// The output lines and then the data lines of the flip-flops, each line once, at its first place.
     pub fn observed(&self) -> &[LineId]
-        ensures { result.now ≡ observed_lines self.now }
+        ensures observed { result.now ≡ observed_lines self.now }
+        ensures in_circuit { HasLines self.now result.now }
     {
         self.observed.as_slice()
     }
@@ -162,7 +169,8 @@ impl Netlist {
 
     /// Looks a name up: gives the line that bears it, and None if and only if none does.
     pub fn find(&self, name: &[u8]) -> Option<LineId>
-        ensures { MatchOption result (¬ Contains (line_names self.now) name.now) (λ line. (line.0 < line_count self.now) × (name_at self.now line.0 ≡ name.now)) }
+        ensures { MatchOption result (¬ Contains (line_names self.now) name.now)
+            (λ line. (line.0 < line_count self.now) × (name_at self.now line.0 ≡ name.now)) }
     {
         match self.names.get_index_of(name) {
             Some(line) => Some(LineId(line as u32)),

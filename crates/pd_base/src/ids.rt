@@ -1,6 +1,6 @@
 // The numbers by which a circuit's parts are known. Sources come first among the lines, gates follow.
 
-/// The number of a line: sources have 0 to s - 1, gate g has s + g.
+/// The number of a line. Where there are s sources, they have 0 to s - 1, and gate g has s + g.
 #[derive(Clone, Copy, Debug, Default, PartialEq, Eq, PartialOrd, Ord, Hash)]
 pub struct LineId(pub u32);
 

@@ -4,7 +4,7 @@ ghost use Rattle.pd_base.specs.declared.memory.OutOfMemory.{OutOfMemory};
 
 use std::alloc::{AllocError, AllocFailed};
 
-/// A growth was refused. What the caller held is as it was.
+/// A growth was refused. Each call that answers so says what stands afterwards.
 #[derive(Clone, Copy, Debug, PartialEq, Eq)]
 pub struct OutOfMemory;
 

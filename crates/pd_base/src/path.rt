@@ -23,7 +23,7 @@ impl Model for Path {
 }
 
 impl Path {
-    /// A path with these steps.
+    /// A path with these steps. It fails only where a growth is refused.
     pub fn new(alloc: Global, source: LineId, steps: &[PinRef]) -> Result<Path, OutOfMemory>
         ensures { IfOk result (λ path. path ≡ record { source = source; steps = steps.now }) }
     {

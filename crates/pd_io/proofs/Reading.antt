@@ -1,26 +1,32 @@
 -- A file that is read piece by piece.
 use Rattle.std.proofs.Common.{◌≡◌, inl, ℕ, ◌+◌, ◌<◌, ◌≤◌, List, [], ◌++◌, length, take, drop, Option, Some, Result, Ok, refl, sym, ap, subst, ◌∙◌, append_assoc, length-append, arith}
-use Rattle.std.proofs.lemmas.List.{append-nil, take-append-drop, take-append-le, drop_at, length-take-le}
+use Rattle.std.proofs.lemmas.List.{append-nil, take-append-le, drop_at, length-take-le}
 use Rattle.pd_io.specs.declared.fault.ReadFault.{ReadFault}
 use Rattle.pd_io.specs.Telling.{Tells, IsFrontOf}
-use Rattle.pd_io.specs.Folder.{Folder, Reader, Contents, bytes_at, moved, IsNext, GivesNext}
-use Rattle.pd_io.specs.Whole.{asked_for, AsksFor}
+use Rattle.pd_io.specs.Folder.{Folder, Reader, Contents, bytes_at, reader_after, IsNext, GivesNext}
+use Rattle.pd_io.specs.Whole.{folder_after_asking, AsksFor}
 use Rattle.pd_io.proofs.Tellings.{tells_weaker, tells_still}
+use Rattle.pd_io.proofs.Handing.{cut_at}
+
+-- the new folder is the old one with this name asked
+abbrev pub Asks : List ℕ → Folder → Folder → Type 0
+Asks name old new = new ≡ folder_after_asking old name
 
 -- the name was asked, and these bytes are a front of the file's
-abbrev pub Read : List ℕ → List ℕ → Folder → Folder → Type 0
-Read name bytes old new = (new ≡ asked_for old name) × IsFrontOf bytes (bytes_at old.held name)
+abbrev pub ReadsFront : List ℕ → List ℕ → Folder → Folder → Type 0
+ReadsFront name bytes old new = Asks name old new × IsFrontOf bytes (bytes_at old.held name)
 
 -- the file is open, its reader stands behind these bytes, and they are a front of the file's
 pub record Reading (before now : Option Folder) (reader : Option Reader) (name bytes : List ℕ) : Type 0 where
   pub place : reader ≡ Some (record { name = name; place = length bytes })
-  pub told : Tells before now (Read name bytes)
+  pub told : Tells before now (ReadsFront name bytes)
 
 -- the file was just opened
-pub reading_begun : (before now : Option Folder) (reader : Option Reader) (name : List ℕ) → reader ≡ Some (record { name = name; place = 0 }) → Tells before now (λ old new. new ≡ asked_for old name) → Reading before now reader name []
+pub reading_begun : (before now : Option Folder) (reader : Option Reader) (name : List ℕ)
+    → reader ≡ Some (record { name = name; place = 0 }) → Tells before now (Asks name) → Reading before now reader name []
 reading_begun before now reader name e t = record {
   place = e;
-  told = tells_weaker before now (λ old new. new ≡ asked_for old name) (Read name []) t (λ x y p. (p, (bytes_at x.held name, refl)));
+  told = tells_weaker before now (Asks name) (ReadsFront name []) t (λ x y p. (p, (bytes_at x.held name, refl)));
 }
 
 -- what is left of a text behind its front
@@ -28,56 +34,78 @@ left_of : (content bytes rest : List ℕ) → content ≡ bytes ++ rest → drop
 left_of content bytes rest e = ap (drop (length bytes)) e ∙ drop_at bytes rest (length bytes) refl
 
 -- the front with the next bytes is a front
-next_front : (content bytes buffer : List ℕ) (count : ℕ) → IsFrontOf bytes content → IsNext (drop (length bytes) content) count buffer → IsFrontOf (bytes ++ take count buffer) content
-next_front content bytes buffer count f n =
-    let left : drop (length bytes) content ≡ f.0 = left_of content bytes f.0 f.1 in
-    let piece : take count buffer ≡ take count f.0 = n.bytes ∙ ap (take count) left in (
-      drop count f.0,
-      f.1 ∙ ap (λ r. bytes ++ r) (sym (take-append-drop count f.0)) ∙ sym (append_assoc bytes (take count f.0) (drop count f.0))
-          ∙ ap (λ p. (bytes ++ p) ++ drop count f.0) (sym piece),
+next_front : (content bytes buffer : List ℕ) (count : ℕ) → IsFrontOf bytes content
+    → IsNext (drop (length bytes) content) count buffer → IsFrontOf (bytes ++ take count buffer) content
+next_front content bytes buffer count (rest, split) n =
+    let piece : take count buffer ≡ take count rest = n.bytes ∙ ap (take count) (left_of content bytes rest split) in (
+      drop count rest,
+      split ∙ ap (λ l. bytes ++ l) (cut_at rest (drop count rest) count refl)
+          ∙ sym (append_assoc bytes (take count rest) (drop count rest))
+          ∙ ap (λ p. (bytes ++ p) ++ drop count rest) (sym piece),
     )
 
 -- where nothing comes next the front is the whole
-next_none : (content bytes buffer : List ℕ) → IsFrontOf bytes content → IsNext (drop (length bytes) content) 0 buffer → bytes ≡ content
-next_none content bytes buffer f n =
-    sym (f.1 ∙ ap (λ r. bytes ++ r) (sym (left_of content bytes f.0 f.1) ∙ n.none_at_end refl) ∙ append-nil bytes)
+next_none : (content bytes buffer : List ℕ) → IsFrontOf bytes content → IsNext (drop (length bytes) content) 0 buffer
+    → bytes ≡ content
+next_none content bytes buffer (rest, split) n =
+    sym (split ∙ ap (λ l. bytes ++ l) (sym (left_of content bytes rest split) ∙ n.none_at_end refl) ∙ append-nil bytes)
 
 -- what a read gave, at the place that is known
-given_at : (folder : Folder) (held : Contents) (reader : Option Reader) (name bytes buffer : List ℕ) (count : ℕ) → reader ≡ Some (record { name = name; place = length bytes }) → folder.held ≡ held → GivesNext folder reader count buffer → IsNext (drop (length bytes) (bytes_at held name)) count buffer
+given_at : (folder : Folder) (held : Contents) (reader : Option Reader) (name bytes buffer : List ℕ) (count : ℕ)
+    → reader ≡ Some (record { name = name; place = length bytes }) → folder.held ≡ held → GivesNext folder reader count buffer
+    → IsNext (drop (length bytes) (bytes_at held name)) count buffer
 given_at folder held reader name bytes buffer count e h g =
     let F : Option Reader → Type 0 = λ r. GivesNext folder r count buffer in
     let H : Contents → Type 0 = λ c. IsNext (drop (length bytes) (bytes_at c name)) count buffer in
     subst H h (subst F e g)
 
 -- a front of a buffer is one of its first part
-pub more_bytes : (more bytes buffer rest : List ℕ) (count : ℕ) → more ≡ bytes ++ take count (buffer ++ rest) → count ≤ length buffer → more ≡ bytes ++ take count buffer
+pub more_bytes : (more bytes buffer rest : List ℕ) (count : ℕ) → more ≡ bytes ++ take count (buffer ++ rest)
+    → count ≤ length buffer → more ≡ bytes ++ take count buffer
 more_bytes more bytes buffer rest count e w = e ∙ ap (λ l. bytes ++ l) (take-append-le count buffer rest w)
 
 -- a read gave the next bytes
-pub reading_more : (before now next : Option Folder) (reader after : Option Reader) (name bytes buffer more : List ℕ) (count : ℕ) → Reading before now reader name bytes → count ≤ length buffer → Tells now next (λ old _. GivesNext old reader count buffer) → next ≡ now → after ≡ moved reader (Ok count) → more ≡ bytes ++ take count buffer → Reading before next after name more
+pub reading_more : (before now next : Option Folder) (reader after : Option Reader) (name bytes buffer more : List ℕ) (count : ℕ)
+    → Reading before now reader name bytes → count ≤ length buffer
+    → Tells now next (λ old _. GivesNext old reader count buffer) → next ≡ now → after ≡ reader_after reader (Ok count)
+    → more ≡ bytes ++ take count buffer → Reading before next after name more
 reading_more before now next reader after name bytes buffer more count h w t same m e =
-    let F : List ℕ → Type 0 = λ l. Reading before next after name l in
-    subst F (sym e) record {
-      place = m ∙ ap (λ r. moved r (Ok count)) h.place ∙ ap (λ n. Some (record { name = name; place = n })) (longer bytes buffer count w);
-      told = tells_still before now next (Read name bytes) (Read name (bytes ++ take count buffer)) (λ y. GivesNext y reader count buffer) h.told t same
-          (λ x y p q. (p.0, next_front (bytes_at x.held name) bytes buffer count p.1 (given_at y x.held reader name bytes buffer count h.place (ap (λ f. f.held) p.0) q)));
+    let piece = take count buffer in
+    let longer : length bytes + count ≡ length (bytes ++ piece) =
+    sym (length-append bytes piece ∙ ap (λ n. length bytes + n) (length-take-le count buffer w)) in
+    subst (Reading before next after name) (sym e) record {
+      place = m ∙ ap (λ r. reader_after r (Ok count)) h.place ∙ ap (λ n. Some (record { name = name; place = n })) longer;
+      told = tells_still before now next (ReadsFront name bytes) (ReadsFront name (bytes ++ piece))
+          (λ y. GivesNext y reader count buffer) h.told t same
+          (λ x y (asks, front) given. (
+            asks,
+            next_front (bytes_at x.held name) bytes buffer count front
+                (given_at y x.held reader name bytes buffer count h.place (ap (λ f. f.held) asks) given),
+          ));
     }
-  where
-    longer : (bytes buffer : List ℕ) (count : ℕ) → count ≤ length buffer → length bytes + count ≡ length (bytes ++ take count buffer)
-    longer bytes buffer count w = sym (length-append bytes (take count buffer) ∙ ap (λ n. length bytes + n) (length-take-le count buffer w))
 
 -- a read gave nothing: these are all bytes of the file
-pub reading_end : (before now next : Option Folder) (reader : Option Reader) (name bytes buffer : List ℕ) → Reading before now reader name bytes → Tells now next (λ old _. GivesNext old reader 0 buffer) → next ≡ now → Tells before next (λ old _. bytes ≡ bytes_at old.held name)
+pub reading_end : (before now next : Option Folder) (reader : Option Reader) (name bytes buffer : List ℕ)
+    → Reading before now reader name bytes → Tells now next (λ old _. GivesNext old reader 0 buffer) → next ≡ now
+    → Tells before next (λ old _. bytes ≡ bytes_at old.held name)
 reading_end before now next reader name bytes buffer h t same =
-    tells_still before now next (Read name bytes) (λ old _. bytes ≡ bytes_at old.held name) (λ y. GivesNext y reader 0 buffer) h.told t same
-    (λ x y p q. next_none (bytes_at x.held name) bytes buffer p.1 (given_at y x.held reader name bytes buffer 0 h.place (ap (λ f. f.held) p.0) q))
+    tells_still before now next (ReadsFront name bytes) (λ old _. bytes ≡ bytes_at old.held name)
+    (λ y. GivesNext y reader 0 buffer) h.told t same
+    (λ x y (asks, front) given. next_none (bytes_at x.held name) bytes buffer front
+    (given_at y x.held reader name bytes buffer 0 h.place (ap (λ f. f.held) asks) given))
 
 -- the file is no shorter than what was read
-pub reading_over : (before now : Option Folder) (reader : Option Reader) (name bytes : List ℕ) (limit : ℕ) → Reading before now reader name bytes → limit < length bytes → Tells before now (λ old _. limit < length (bytes_at old.held name))
+pub reading_over : (before now : Option Folder) (reader : Option Reader) (name bytes : List ℕ) (limit : ℕ)
+    → Reading before now reader name bytes → limit < length bytes
+    → Tells before now (λ old _. limit < length (bytes_at old.held name))
 reading_over before now reader name bytes limit h l =
-    tells_weaker before now (Read name bytes) (λ old _. limit < length (bytes_at old.held name)) h.told
-    (λ x y p. let e : length (bytes_at x.held name) ≡ length bytes + length p.1.0 = ap length p.1.1 ∙ length-append bytes p.1.0 in omega arith)
+    tells_weaker before now (ReadsFront name bytes) (λ old _. limit < length (bytes_at old.held name)) h.told
+    (λ x y (_, (rest, split)).
+    let e : length (bytes_at x.held name) ≡ length bytes + length rest = ap length split ∙ length-append bytes rest in
+    omega arith)
 
 -- the name was asked once, whatever came
-pub reading_asks : {T : Type 0} (before now : Option Folder) (reader : Option Reader) (name bytes : List ℕ) (result : Result T ReadFault) → Reading before now reader name bytes → Tells before now (AsksFor result name)
-reading_asks before now reader name bytes result h = tells_weaker before now (Read name bytes) (AsksFor result name) h.told (λ x y p. inl p.0)
+pub reading_asks : {T : Type 0} (before now : Option Folder) (reader : Option Reader) (name bytes : List ℕ)
+    (result : Result T ReadFault) → Reading before now reader name bytes → Tells before now (AsksFor result name)
+reading_asks before now reader name bytes result h =
+    tells_weaker before now (ReadsFront name bytes) (AsksFor result name) h.told (λ x y p. inl p.0)

@@ -2,8 +2,14 @@
 use Rattle.std.proofs.Common.{◌≡◌, Option, None, Some, sym, subst}
 use Rattle.pd_io.specs.Telling.{Tells}
 
+-- what holds between each value and itself is told where nothing changed
+pub tells_same : {A : Type 0} (a : Option A) (P : A → A → Type 0) → ((x : A) → P x x) → Tells a a P
+tells_same None P r = tt
+tells_same (Some x) P r = r x
+
 -- what two calls tell, one after the other
-pub tells_chain : {A : Type 0} (a b c : Option A) (P Q R : A → A → Type 0) → Tells a b P → Tells b c Q → ((x y z : A) → P x y → Q y z → R x z) → Tells a c R
+pub tells_chain : {A : Type 0} (a b c : Option A) (P Q R : A → A → Type 0) → Tells a b P → Tells b c Q
+    → ((x y z : A) → P x y → Q y z → R x z) → Tells a c R
 tells_chain None None None P Q R p q r = p
 tells_chain None None (Some z) P Q R p q r = q
 tells_chain None (Some y) c P Q R p q r = absurd p
@@ -19,14 +25,16 @@ tells_weaker (Some x) None P R p r = p
 tells_weaker (Some x) (Some y) P R p r = r x y p
 
 -- what follows from what is told twice of one state
-tells_at : {A : Type 0} (a b : Option A) (P R : A → A → Type 0) (Q : A → Type 0) → Tells a b P → Tells b b (λ y _. Q y) → ((x y : A) → P x y → Q y → R x y) → Tells a b R
+tells_at : {A : Type 0} (a b : Option A) (P R : A → A → Type 0) (Q : A → Type 0) → Tells a b P → Tells b b (λ y _. Q y)
+    → ((x y : A) → P x y → Q y → R x y) → Tells a b R
 tells_at None None P R Q p q r = p
 tells_at None (Some y) P R Q p q r = p
 tells_at (Some x) None P R Q p q r = p
 tells_at (Some x) (Some y) P R Q p q r = r x y p q
 
 -- what a second call tells that leaves all as it was
-pub tells_still : {A : Type 0} (a b c : Option A) (P R : A → A → Type 0) (Q : A → Type 0) → Tells a b P → Tells b c (λ y _. Q y) → c ≡ b → ((x y : A) → P x y → Q y → R x y) → Tells a c R
+pub tells_still : {A : Type 0} (a b c : Option A) (P R : A → A → Type 0) (Q : A → Type 0) → Tells a b P → Tells b c (λ y _. Q y)
+    → c ≡ b → ((x y : A) → P x y → Q y → R x y) → Tells a c R
 tells_still {A} a b c P R Q p q e r =
     let F : Option A → Type 0 = λ w. Tells b w (λ y _. Q y) in
     let G : Option A → Type 0 = λ w. Tells a w R in

@@ -6,7 +6,7 @@ use Rattle.pd_io.specs.declared.fault.FileFault.{FileFault}
 use Rattle.pd_io.specs.declared.fault.FileFault.TheVariants.{Failed, NoMemory}
 use Rattle.pd_io.specs.Telling.{IsFrontOf}
 
--- what stands under each name, and nothing where the name is absent
+-- what stands under each name: `None` where the name is absent
 abbrev pub Contents : Type 0
 Contents = List ℕ → Option (List ℕ)
 
@@ -32,16 +32,16 @@ pub record Reader : Type 0 where
   pub name : List ℕ
   pub place : ℕ
 
--- the names asked after a `begin_read` of one more: want of memory leaves them
-abbrev pub asked_after : Result ⊤ FileFault → List (List ℕ) → List ℕ → List (List ℕ)
-asked_after (Ok done) asked name = asked ++ name ∷ []
-asked_after (Err Failed) asked name = asked ++ name ∷ []
-asked_after (Err NoMemory) asked name = asked
+-- the names asked so far, after a `begin_read` of one more: want of memory leaves them
+abbrev pub names_after_asking : Result ⊤ FileFault → List (List ℕ) → List ℕ → List (List ℕ)
+names_after_asking (Ok done) asked name = asked ++ name ∷ []
+names_after_asking (Err Failed) asked name = asked ++ name ∷ []
+names_after_asking (Err NoMemory) asked name = asked
 
--- a `read` moves the reader by the bytes that it gave; a fault leaves it
-abbrev pub moved : Option Reader → Result ℕ FileFault → Option Reader
-moved reader (Ok count) = option_map (λ r. record { name = r.name; place = r.place + count }) reader
-moved reader (Err fault) = reader
+-- the reader after a `read`: moved by the bytes that it gave; a fault leaves it
+abbrev pub reader_after : Option Reader → Result ℕ FileFault → Option Reader
+reader_after reader (Ok count) = option_map (λ r. record { name = r.name; place = r.place + count }) reader
+reader_after reader (Err fault) = reader
 
 -- the first count bytes of a buffer are the next ones of these; there are none exactly at the end
 pub record IsNext (left : List ℕ) (count : ℕ) (buffer : List ℕ) : Type 0 where
@@ -54,22 +54,22 @@ abbrev pub GivesNext : Folder → Option Reader → ℕ → List ℕ → Type 0
 GivesNext folder None count buffer = ⊥
 GivesNext folder (Some reader) count buffer = IsNext (drop reader.place (bytes_at folder.held reader.name)) count buffer
 
--- a `begin_write` makes the name hold nothing; a fault leaves the contents
-abbrev pub emptied : Result ⊤ FileFault → Contents → List ℕ → Contents
-emptied (Ok done) held name = put held name []
-emptied (Err fault) held name = held
+-- the contents after a `begin_write`: the name holds nothing; a fault leaves them
+abbrev pub contents_after_begin : Result ⊤ FileFault → Contents → List ℕ → Contents
+contents_after_begin (Ok done) held name = put held name []
+contents_after_begin (Err fault) held name = held
 
 -- the bytes that a `write` took: the first count of them; a fault takes none
-abbrev pub taken_of : Result ℕ FileFault → List ℕ → List ℕ
-taken_of (Ok count) bytes = take count bytes
-taken_of (Err fault) bytes = []
+abbrev pub bytes_taken : Result ℕ FileFault → List ℕ → List ℕ
+bytes_taken (Ok count) bytes = take count bytes
+bytes_taken (Err fault) bytes = []
 
--- a `write` appends what it took to the file that is open for writing
-abbrev pub appended : Contents → Option (List ℕ) → Result ℕ FileFault → List ℕ → Contents
-appended held None result bytes = held
-appended held (Some name) (Ok count) bytes = put held name (bytes_at held name ++ take count bytes)
-appended held (Some name) (Err fault) bytes = held
+-- the contents after a `write`: what it took stands behind the bytes of the file that is open for writing
+abbrev pub contents_after_write : Contents → Option (List ℕ) → Result ℕ FileFault → List ℕ → Contents
+contents_after_write held None result bytes = held
+contents_after_write held (Some name) (Ok count) bytes = put held name (bytes_at held name ++ take count bytes)
+contents_after_write held (Some name) (Err fault) bytes = held
 
--- nothing was written, or the name holds a front of this text and every other name is as before
+-- the contents are as before, or the name holds a front of this text and every other name is as before
 abbrev pub HoldsFront : Contents → Contents → List ℕ → List ℕ → Type 0
 HoldsFront old new name text = (new ≡ old) ⊎ ((front : List ℕ) × IsFrontOf front text × (new ≡ put old name front))

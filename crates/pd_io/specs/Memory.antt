@@ -6,7 +6,7 @@ use Rattle.pd_io.specs.declared.memory.FileCall.{FileCall}
 use Rattle.pd_io.specs.declared.memory.FileCall.TheVariants.{BeginRead, Read, BeginWrite, Write, Finish}
 use Rattle.pd_io.specs.Folder.{Folder, Reader}
 use Rattle.pd_io.specs.Shelf.{folder_of, reader_of, writer_of}
-use Rattle.pd_io.specs.Plan.{Planned, planned, unplanned, fails_next, with_failing}
+use Rattle.pd_io.specs.Plan.{CallPlan, plan_of, empty_plan, fails_next, plan_with}
 
 -- what the files hold, and the names that they were asked
 abbrev pub memory_folder : MemoryFiles → Folder
@@ -30,33 +30,39 @@ memory_write_faults files = files.write_faults.count
 
 -- the plan of each method
 pub record Plans : Type 0 where
-  pub begin_read : Planned
-  pub read : Planned
-  pub begin_write : Planned
-  pub write : Planned
-  pub finish : Planned
+  pub begin_read : CallPlan
+  pub read : CallPlan
+  pub begin_write : CallPlan
+  pub write : CallPlan
+  pub finish : CallPlan
 
 -- no call was made, and none is to fail
 abbrev pub no_plans : Plans
-no_plans = record { begin_read = unplanned; read = unplanned; begin_write = unplanned; write = unplanned; finish = unplanned }
+no_plans = record {
+  begin_read = empty_plan;
+  read = empty_plan;
+  begin_write = empty_plan;
+  write = empty_plan;
+  finish = empty_plan;
+}
 
 -- which calls of the files are to fail
 abbrev pub memory_plans : MemoryFiles → Plans
 memory_plans files = record {
-  begin_read = planned files.begin_reads;
-  read = planned files.reads;
-  begin_write = planned files.begin_writes;
-  write = planned files.writes;
-  finish = planned files.finishes;
+  begin_read = plan_of files.begin_reads;
+  read = plan_of files.reads;
+  begin_write = plan_of files.begin_writes;
+  write = plan_of files.writes;
+  finish = plan_of files.finishes;
 }
 
--- one more call of a method is to fail
+-- the plans by which one more call of a method is to fail, that of this number
 abbrev pub plans_with : Plans → FileCall → ℕ → Plans
-plans_with plans BeginRead nth = record plans { begin_read = with_failing plans.begin_read nth }
-plans_with plans Read nth = record plans { read = with_failing plans.read nth }
-plans_with plans BeginWrite nth = record plans { begin_write = with_failing plans.begin_write nth }
-plans_with plans Write nth = record plans { write = with_failing plans.write nth }
-plans_with plans Finish nth = record plans { finish = with_failing plans.finish nth }
+plans_with plans BeginRead nth = record plans { begin_read = plan_with plans.begin_read nth }
+plans_with plans Read nth = record plans { read = plan_with plans.read nth }
+plans_with plans BeginWrite nth = record plans { begin_write = plan_with plans.begin_write nth }
+plans_with plans Write nth = record plans { write = plan_with plans.write nth }
+plans_with plans Finish nth = record plans { finish = plan_with plans.finish nth }
 
 -- the next `begin_read` of this name fails: it is planned to, or the name is absent
 abbrev pub refuses : MemoryFiles → List ℕ → Bool
@@ -71,5 +77,5 @@ abbrev pub memory_faults : MemorySink → ℕ
 memory_faults sink = sink.faults.count
 
 -- which writes to the sink are to fail
-abbrev pub sink_plan : MemorySink → Planned
-sink_plan sink = planned sink.writes
+abbrev pub sink_plan : MemorySink → CallPlan
+sink_plan sink = plan_of sink.writes

@@ -4,30 +4,30 @@ use Rattle.std.specs.List.{list_any}
 use Rattle.pd_io.specs.declared.plan.Plan.{Plan}
 
 -- how often a method was called, and which of its calls, counted from 1, are to fail
-pub record Planned : Type 0 where
+pub record CallPlan : Type 0 where
   pub calls : ℕ
   pub failing : List ℕ
 
--- what a plan says
-abbrev pub planned : Plan → Planned
-planned plan = record { calls = plan.calls; failing = plan.failing.items }
+-- what a plan says: the calls so far, and those that are to fail
+abbrev pub plan_of : Plan → CallPlan
+plan_of plan = record { calls = plan.calls; failing = plan.failing.items }
 
--- nothing was called, and nothing is to fail
-abbrev pub unplanned : Planned
-unplanned = record { calls = 0; failing = [] }
+-- no call was made, and none is to fail
+abbrev pub empty_plan : CallPlan
+empty_plan = record { calls = 0; failing = [] }
 
 -- the number of the next call; a count stands still at the end of its type
-abbrev pub next_number : Planned → ℕ
+abbrev pub next_number : CallPlan → ℕ
 next_number plan = min (plan.calls + 1) (2 ^ 64 - 1)
 
 -- the next call is to fail
-abbrev pub fails_next : Planned → Bool
+abbrev pub fails_next : CallPlan → Bool
 fails_next plan = list_any (λ nth. nth == next_number plan) plan.failing
 
--- one more call was made
-abbrev pub after_call : Planned → Planned
-after_call plan = record plan { calls = next_number plan }
+-- the plan after one more call
+abbrev pub plan_after_call : CallPlan → CallPlan
+plan_after_call plan = record plan { calls = next_number plan }
 
--- one more call is to fail
-abbrev pub with_failing : Planned → ℕ → Planned
-with_failing plan nth = record plan { failing = plan.failing ++ nth ∷ [] }
+-- the plan by which one more call is to fail, that of this number
+abbrev pub plan_with : CallPlan → ℕ → CallPlan
+plan_with plan nth = record plan { failing = plan.failing ++ nth ∷ [] }

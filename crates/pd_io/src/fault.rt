@@ -10,16 +10,16 @@ use thiserror::Error;
 /// Why a call of a file object or of a sink failed.
 #[derive(Clone, Copy, Debug, PartialEq, Eq)]
 pub enum FileFault {
-    /// The outside failed; its count of such faults rose in this call.
+    /// The outside failed, and its count of such faults rose in this call.
     Failed,
-    /// A growth was refused.
+    /// A growth was refused. No count of faults changed.
     NoMemory,
 }
 
 /// Why a whole file was not read.
 #[derive(Debug, Drop, Error)]
 pub enum ReadFault {
-    /// A call failed; the count of read faults rose.
+    /// A call failed, and the count of read faults rose.
     #[error("reading failed")]
     Failed,
     /// The file holds more bytes than the limit.
@@ -33,7 +33,7 @@ pub enum ReadFault {
 /// Why a whole file was not written.
 #[derive(Debug, Drop, Error)]
 pub enum WriteFault {
-    /// A call failed; the count of write faults rose.
+    /// A call failed, and the count of write faults rose.
     #[error("writing failed")]
     Failed,
     /// A growth was refused.

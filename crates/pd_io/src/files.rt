@@ -3,13 +3,14 @@ ghost use Rattle.std.specs.Prelude.{◌≡◌, ℕ, ◌<◌, ◌≤◌, List, []
 ghost use Rattle.pd_io.specs.declared.fault.FileFault.TheVariants.{Failed};
 ghost use Rattle.pd_io.specs.Counts.{HasCause};
 ghost use Rattle.pd_io.specs.Telling.{Tells};
-ghost use Rattle.pd_io.specs.Folder.{Folder, Reader, asked_after, moved, GivesNext, emptied, appended};
+ghost use Rattle.pd_io.specs.Folder.{Folder, Reader, names_after_asking, reader_after, GivesNext, contents_after_begin, contents_after_write};
 
 use crate::FileFault;
 
-/// Files by name, as a program sees them.
+/// Files by name, as a program sees them: at most one is open for reading, and one for writing. A call that answers
+/// `Failed` raises its count of faults, unless that is 2^64 - 1; one that answers anything else changes no count.
 pub trait Files {
-    /// What the object holds and was asked, where it tells.
+    /// What the object holds and was asked. One that tells nothing of it has `None`, always.
     ghost folder: { Self → Option Folder };
 
     /// The file that is open for reading, and how many of its bytes were taken.
@@ -25,12 +26,13 @@ pub trait Files {
     ghost write_faults: { Self → ℕ };
 
     /// Opens a file for reading, from its start. An absent name is `Failed`, or an empty file. The name is
-    /// noted among those asked, unless memory runs out.
+    /// noted among those asked, unless memory runs out. After a fault any file may be open, or none.
     fn begin_read(&mut self, name: &str) -> Result<(), FileFault>
-        ensures begins { OnOk result (reader self.new ≡ Some (record { name = name.now; place = 0 })) }
+        ensures begins { OnOk result (
+            reader self.new ≡ Some (record { name = name.now; place = 0 })) }
         ensures writer { OnOk result (writer self.new ≡ writer self.old) }
         ensures told { Tells (folder self.old) (folder self.new) (λ old new.
-            new ≡ record { held = old.held; asked = asked_after result old.asked name.now }) }
+            new ≡ record old { asked = names_after_asking result old.asked name.now }) }
         ensures cause { HasCause (read_faults self.old) (read_faults self.new) result Failed }
         ensures write_faults { write_faults self.new ≡ write_faults self.old };
 
@@ -40,7 +42,7 @@ pub trait Files {
         requires open { IsSome (reader self.old) }
         requires room { 0 < length buf.old }
         ensures within { IfOk result (λ count. count ≤ length buf.new) }
-        ensures place { reader self.new ≡ moved (reader self.old) result }
+        ensures place { reader self.new ≡ reader_after (reader self.old) result }
         ensures bytes { IfOk result (λ count. Tells (folder self.old) (folder self.new) (λ old _.
             GivesNext old (reader self.old) count buf.new)) }
         ensures writer { writer self.new ≡ writer self.old }
@@ -48,12 +50,13 @@ pub trait Files {
         ensures cause { HasCause (read_faults self.old) (read_faults self.new) result Failed }
         ensures write_faults { write_faults self.new ≡ write_faults self.old };
 
-    /// Opens a file for writing: its name holds nothing from now on. A fault leaves the names as they were.
+    /// Opens a file for writing: its name holds nothing from now on. A fault leaves the names as they were,
+    /// and after it any file may be open, or none.
     fn begin_write(&mut self, name: &str) -> Result<(), FileFault>
         ensures begins { OnOk result (writer self.new ≡ Some name.now) }
         ensures reader { OnOk result (reader self.new ≡ reader self.old) }
         ensures told { Tells (folder self.old) (folder self.new) (λ old new.
-            new ≡ record { held = emptied result old.held name.now; asked = old.asked }) }
+            new ≡ record old { held = contents_after_begin result old.held name.now }) }
         ensures cause { HasCause (write_faults self.old) (write_faults self.new) result Failed }
         ensures read_faults { read_faults self.new ≡ read_faults self.old };
 
@@ -64,7 +67,9 @@ pub trait Files {
         requires some { 0 < length bytes.now }
         ensures within { IfOk result (λ count. (0 < count) × (count ≤ length bytes.now)) }
         ensures told { Tells (folder self.old) (folder self.new) (λ old new.
-            new ≡ record { held = appended old.held (writer self.old) result bytes.now; asked = old.asked }) }
+            new ≡ record old {
+              held = contents_after_write old.held (writer self.old) result bytes.now;
+            }) }
         ensures writer { writer self.new ≡ writer self.old }
         ensures reader { reader self.new ≡ reader self.old }
         ensures cause { HasCause (write_faults self.old) (write_faults self.new) result Failed }

@@ -1,36 +1,36 @@
 // Files and a sink in memory of which single calls can be planned to fail, for tests.
 ghost use Rattle.std.specs.Prelude.{◌≡◌, ◌↔◌, ◌<◌, ◌≤◌, ◌++◌, false, length, [], Some, None, Err, IsTrue, IsSome, IfOk, OnOk, OnErr, IsErrOf, option_copied};
 ghost use Rattle.pd_io.specs.Counts.{HasCause};
-ghost use Rattle.pd_io.specs.Folder.{empty_folder, asked_after, moved, GivesNext, emptied, appended, taken_of};
-ghost use Rattle.pd_io.specs.Whole.{written};
-ghost use Rattle.pd_io.specs.Plan.{unplanned, fails_next, after_call, with_failing};
+ghost use Rattle.pd_io.specs.Folder.{empty_folder, names_after_asking, reader_after, GivesNext, contents_after_begin, contents_after_write, bytes_taken};
+ghost use Rattle.pd_io.specs.Whole.{folder_with};
+ghost use Rattle.pd_io.specs.Plan.{empty_plan, fails_next, plan_after_call, plan_with};
 ghost use Rattle.pd_io.specs.Memory.{memory_folder, memory_reader, memory_writer, memory_read_faults, memory_write_faults, memory_plans, no_plans, plans_with, refuses, memory_bytes, memory_faults, sink_plan};
 
 use crate::count::FaultCount;
-use crate::named::{MOST, take_front};
+use crate::named::take_front;
 use crate::plan::Plan;
 use crate::shelf::Shelf;
 use crate::{FileFault, Files, Sink};
 use pd_base::OutOfMemory;
 use std::alloc::Global;
 
-/// A method of `Files`.
+/// A method of `Files`, of which calls can be planned to fail.
 #[derive(Clone, Copy, Debug, PartialEq, Eq)]
 pub enum FileCall {
-    /// Opening a file for reading.
+    /// `begin_read`, which opens a file for reading.
     BeginRead,
-    /// Reading the next bytes.
+    /// `read`, which gives the next bytes.
     Read,
-    /// Opening a file for writing.
+    /// `begin_write`, which opens a file for writing.
     BeginWrite,
-    /// Writing the next bytes.
+    /// `write`, which takes the next bytes.
     Write,
-    /// Ending the file that is written.
+    /// `finish`, which ends the writing.
     Finish,
 }
 
 /// Files kept in memory, with calls that were chosen to fail. Opening an absent name for reading fails too. No read
-/// or write moves more than 4,096 bytes. What `Files` says of a fault is all that a failing call changes.
+/// or write moves more than 4,096 bytes. A failing call does what `Files` says of a fault, and nothing else.
 #[derive(Drop)]
 pub struct MemoryFiles {
     shelf: Shelf,
@@ -65,9 +65,10 @@ impl MemoryFiles {
         }
     }
 
-    /// Makes a name hold these bytes. All other names stay.
+    /// Makes a name hold these bytes. All other names stay. Where a growth is refused, all names do.
     pub fn put(&mut self, name: &str, bytes: &[u8]) -> Result<(), OutOfMemory>
-        ensures ok { OnOk result (memory_folder self.new ≡ written (memory_folder self.old) name.now bytes.now) }
+        ensures ok { OnOk result (
+            memory_folder self.new ≡ folder_with (memory_folder self.old) name.now bytes.now) }
         ensures err { OnErr result (memory_folder self.new ≡ memory_folder self.old) }
         ensures reader { memory_reader self.new ≡ memory_reader self.old }
         ensures writer { memory_writer self.new ≡ memory_writer self.old }
@@ -86,9 +87,11 @@ impl MemoryFiles {
         self.shelf.get(name)
     }
 
-    /// Plans that the call of this number fails, counted from 1 over all calls of the method since `new`.
+    /// Plans that the call of this number fails, counted from 1 over all calls of the method since `new`. Where a
+    /// growth is refused, no more calls are to fail than before.
     pub fn fail(&mut self, call: FileCall, nth: u64) -> Result<(), OutOfMemory>
-        ensures ok { OnOk result (memory_plans self.new ≡ plans_with (memory_plans self.old) call nth) }
+        ensures ok { OnOk result (
+            memory_plans self.new ≡ plans_with (memory_plans self.old) call nth) }
         ensures err { OnErr result (memory_plans self.new ≡ memory_plans self.old) }
         ensures folder { memory_folder self.new ≡ memory_folder self.old }
         ensures reader { memory_reader self.new ≡ memory_reader self.old }
@@ -119,21 +122,22 @@ impl Files for MemoryFiles {
     ghost write_faults = { memory_write_faults };
 
     fn begin_read(&mut self, name: &str) -> Result<(), FileFault>
-        ensures begins { OnOk result (memory_reader self.new ≡ Some (record { name = name.now; place = 0 })) }
+        ensures begins { OnOk result (
+            memory_reader self.new ≡ Some (record { name = name.now; place = 0 })) }
         ensures reader { OnErr result (memory_reader self.new ≡ memory_reader self.old) }
         ensures writer { memory_writer self.new ≡ memory_writer self.old }
-        ensures told { memory_folder self.new ≡ record {
-          held = (memory_folder self.old).held;
-          asked = asked_after result (memory_folder self.old).asked name.now;
+        ensures told { memory_folder self.new ≡ record (memory_folder self.old) {
+          asked = names_after_asking result (memory_folder self.old).asked name.now;
         } }
-        ensures cause { HasCause (memory_read_faults self.old) (memory_read_faults self.new) result FileFault.Failed }
+        ensures cause { HasCause
+            (memory_read_faults self.old) (memory_read_faults self.new) result FileFault.Failed }
         ensures write_faults { memory_write_faults self.new ≡ memory_write_faults self.old }
 
         // It fails exactly where that is planned, or the name is absent.
         ensures ok { OnOk result (refuses self.old name.now ≡ false) }
         ensures failed { IsErrOf result FileFault.Failed → IsTrue (refuses self.old name.now) }
         ensures plans { memory_plans self.new ≡ record (memory_plans self.old) {
-          begin_read = after_call (memory_plans self.old).begin_read;
+          begin_read = plan_after_call (memory_plans self.old).begin_read;
         } }
     {
         let planned = self.begin_reads.next();
@@ -150,19 +154,22 @@ impl Files for MemoryFiles {
         requires open { IsSome (memory_reader self.old) }
         requires room { 0 < length buf.old }
         ensures within { IfOk result (λ count. count ≤ length buf.new) }
-        ensures most { IfOk result (λ count. count ≤ MOST) }
-        ensures place { memory_reader self.new ≡ moved (memory_reader self.old) result }
-        ensures bytes { IfOk result (λ count. GivesNext (memory_folder self.old) (memory_reader self.old) count buf.new) }
+        ensures most { IfOk result (λ count. count ≤ 4096) }
+        ensures place { memory_reader self.new ≡ reader_after (memory_reader self.old) result }
+        ensures bytes { IfOk result (λ count.
+            GivesNext (memory_folder self.old) (memory_reader self.old) count buf.new) }
         ensures writer { memory_writer self.new ≡ memory_writer self.old }
         ensures folder { memory_folder self.new ≡ memory_folder self.old }
-        ensures cause { HasCause (memory_read_faults self.old) (memory_read_faults self.new) result FileFault.Failed }
+        ensures cause { HasCause
+            (memory_read_faults self.old) (memory_read_faults self.new) result FileFault.Failed }
         ensures write_faults { memory_write_faults self.new ≡ memory_write_faults self.old }
 
         // It fails exactly where that is planned, and it never answers want of memory.
-        ensures failed { (result ≡ Err FileFault.Failed) ↔ IsTrue (fails_next (memory_plans self.old).read) }
+        ensures failed { (result ≡ Err FileFault.Failed)
+            ↔ IsTrue (fails_next (memory_plans self.old).read) }
         ensures memory { IsErrOf result FileFault.NoMemory → ⊥ }
         ensures plans { memory_plans self.new ≡ record (memory_plans self.old) {
-          read = after_call (memory_plans self.old).read;
+          read = plan_after_call (memory_plans self.old).read;
         } }
     {
         if self.reads.next() {
@@ -176,18 +183,19 @@ impl Files for MemoryFiles {
         ensures begins { OnOk result (memory_writer self.new ≡ Some name.now) }
         ensures stays { OnErr result (memory_writer self.new ≡ memory_writer self.old) }
         ensures reader { memory_reader self.new ≡ memory_reader self.old }
-        ensures told { memory_folder self.new ≡ record {
-          held = emptied result (memory_folder self.old).held name.now;
-          asked = (memory_folder self.old).asked;
+        ensures told { memory_folder self.new ≡ record (memory_folder self.old) {
+          held = contents_after_begin result (memory_folder self.old).held name.now;
         } }
-        ensures cause { HasCause (memory_write_faults self.old) (memory_write_faults self.new) result FileFault.Failed }
+        ensures cause { HasCause
+            (memory_write_faults self.old) (memory_write_faults self.new) result FileFault.Failed }
         ensures read_faults { memory_read_faults self.new ≡ memory_read_faults self.old }
 
         // It fails exactly where that is planned.
         ensures ok { OnOk result (fails_next (memory_plans self.old).begin_write ≡ false) }
-        ensures failed { IsErrOf result FileFault.Failed → IsTrue (fails_next (memory_plans self.old).begin_write) }
+        ensures failed { IsErrOf result FileFault.Failed →
+            IsTrue (fails_next (memory_plans self.old).begin_write) }
         ensures plans { memory_plans self.new ≡ record (memory_plans self.old) {
-          begin_write = after_call (memory_plans self.old).begin_write;
+          begin_write = plan_after_call (memory_plans self.old).begin_write;
         } }
     {
         if self.begin_writes.next() {
@@ -202,21 +210,23 @@ impl Files for MemoryFiles {
         requires open { IsSome (memory_writer self.old) }
         requires some { 0 < length bytes.now }
         ensures within { IfOk result (λ count. (0 < count) × (count ≤ length bytes.now)) }
-        ensures most { IfOk result (λ count. count ≤ MOST) }
-        ensures told { memory_folder self.new ≡ record {
-          held = appended (memory_folder self.old).held (memory_writer self.old) result bytes.now;
-          asked = (memory_folder self.old).asked;
+        ensures most { IfOk result (λ count. count ≤ 4096) }
+        ensures told { memory_folder self.new ≡ record (memory_folder self.old) {
+          held = contents_after_write
+              (memory_folder self.old).held (memory_writer self.old) result bytes.now;
         } }
         ensures writer { memory_writer self.new ≡ memory_writer self.old }
         ensures reader { memory_reader self.new ≡ memory_reader self.old }
-        ensures cause { HasCause (memory_write_faults self.old) (memory_write_faults self.new) result FileFault.Failed }
+        ensures cause { HasCause
+            (memory_write_faults self.old) (memory_write_faults self.new) result FileFault.Failed }
         ensures read_faults { memory_read_faults self.new ≡ memory_read_faults self.old }
 
         // It fails exactly where that is planned.
         ensures ok { OnOk result (fails_next (memory_plans self.old).write ≡ false) }
-        ensures failed { IsErrOf result FileFault.Failed → IsTrue (fails_next (memory_plans self.old).write) }
+        ensures failed { IsErrOf result FileFault.Failed →
+            IsTrue (fails_next (memory_plans self.old).write) }
         ensures plans { memory_plans self.new ≡ record (memory_plans self.old) {
-          write = after_call (memory_plans self.old).write;
+          write = plan_after_call (memory_plans self.old).write;
         } }
     {
         if self.writes.next() {
@@ -231,14 +241,16 @@ impl Files for MemoryFiles {
         ensures writer { memory_writer self.new ≡ None }
         ensures reader { memory_reader self.new ≡ memory_reader self.old }
         ensures folder { memory_folder self.new ≡ memory_folder self.old }
-        ensures cause { HasCause (memory_write_faults self.old) (memory_write_faults self.new) result FileFault.Failed }
+        ensures cause { HasCause
+            (memory_write_faults self.old) (memory_write_faults self.new) result FileFault.Failed }
         ensures read_faults { memory_read_faults self.new ≡ memory_read_faults self.old }
 
         // It fails exactly where that is planned, and it never answers want of memory.
-        ensures failed { (result ≡ Err FileFault.Failed) ↔ IsTrue (fails_next (memory_plans self.old).finish) }
+        ensures failed { (result ≡ Err FileFault.Failed)
+            ↔ IsTrue (fails_next (memory_plans self.old).finish) }
         ensures memory { IsErrOf result FileFault.NoMemory → ⊥ }
         ensures plans { memory_plans self.new ≡ record (memory_plans self.old) {
-          finish = after_call (memory_plans self.old).finish;
+          finish = plan_after_call (memory_plans self.old).finish;
         } }
     {
         self.shelf.finish();
@@ -262,7 +274,7 @@ impl MemorySink {
     /// A sink that took nothing, of which no write is to fail.
     pub fn new(alloc: Global) -> MemorySink
         ensures bytes { memory_bytes result ≡ [] }
-        ensures plan { sink_plan result ≡ unplanned }
+        ensures plan { sink_plan result ≡ empty_plan }
         ensures faults { memory_faults result ≡ 0 }
     {
         MemorySink {
@@ -279,9 +291,10 @@ impl MemorySink {
         self.bytes.as_slice()
     }
 
-    /// Plans that the write of this number fails, counted from 1 over all writes since `new`.
+    /// Plans that the write of this number fails, counted from 1 over all writes since `new`. Where a growth is
+    /// refused, no more writes are to fail than before.
     pub fn fail(&mut self, nth: u64) -> Result<(), OutOfMemory>
-        ensures ok { OnOk result (sink_plan self.new ≡ with_failing (sink_plan self.old) nth) }
+        ensures ok { OnOk result (sink_plan self.new ≡ plan_with (sink_plan self.old) nth) }
         ensures err { OnErr result (sink_plan self.new ≡ sink_plan self.old) }
         ensures bytes { memory_bytes self.new ≡ memory_bytes self.old }
         ensures faults { memory_faults self.new ≡ memory_faults self.old }
@@ -299,14 +312,17 @@ impl Sink for MemorySink {
     fn write(&mut self, bytes: &[u8]) -> Result<usize, FileFault>
         requires { 0 < length bytes.now }
         ensures within { IfOk result (λ count. (0 < count) × (count ≤ length bytes.now)) }
-        ensures most { IfOk result (λ count. count ≤ MOST) }
-        ensures told { memory_bytes self.new ≡ memory_bytes self.old ++ taken_of result bytes.now }
-        ensures cause { HasCause (memory_faults self.old) (memory_faults self.new) result FileFault.Failed }
+        ensures most { IfOk result (λ count. count ≤ 4096) }
+        ensures told { memory_bytes self.new
+            ≡ memory_bytes self.old ++ bytes_taken result bytes.now }
+        ensures cause { HasCause
+            (memory_faults self.old) (memory_faults self.new) result FileFault.Failed }
 
         // It fails exactly where that is planned.
         ensures ok { OnOk result (fails_next (sink_plan self.old) ≡ false) }
-        ensures failed { IsErrOf result FileFault.Failed → IsTrue (fails_next (sink_plan self.old)) }
-        ensures plan { sink_plan self.new ≡ after_call (sink_plan self.old) }
+        ensures failed { IsErrOf result FileFault.Failed →
+            IsTrue (fails_next (sink_plan self.old)) }
+        ensures plan { sink_plan self.new ≡ plan_after_call (sink_plan self.old) }
     {
         if self.writes.next() {
             self.faults.rise();

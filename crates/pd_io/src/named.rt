@@ -1,12 +1,12 @@
 // A list of named files in memory, of which the first with a name counts. Over it stands `Shelf`.
 ghost use Rattle.std.specs.Prelude.{◌≡◌, ◌+◌, ◌^◌, ◌<◌, ◌≤◌, List, [], ◌++◌, length, take, drop, Some, None, position, IfOk, OnOk, OnErr, option_copied, vec_len};
 ghost use Rattle.pd_io.specs.Folder.{bytes_at, put, IsNext};
-ghost use Rattle.pd_io.specs.Shelf.{has_name, held_of};
+ghost use Rattle.pd_io.specs.Shelf.{has_name, contents_of};
 
 use std::alloc::{AllocError, Global};
 
 /// The most bytes that a read gives or a write takes.
-pub(crate) const MOST: usize = 4096;
+pub(crate) const MOST_AT_ONCE: usize = 4096;
 
 /// A name, and the bytes under it.
 #[derive(Drop)]
@@ -24,7 +24,7 @@ fn place_of(files: &[NamedFile], name: &str) -> Option<usize>
 
 /// The bytes under a name.
 pub(crate) fn bytes_of<'a>(files: &'a [NamedFile], name: &str) -> Option<&'a [u8]>
-    ensures { option_copied result ≡ held_of files.now name.now }
+    ensures { option_copied result ≡ contents_of files.now name.now }
 {
     match place_of(files, name) {
         Some(at) => Some(files[at].bytes.as_slice()),
@@ -34,7 +34,7 @@ pub(crate) fn bytes_of<'a>(files: &'a [NamedFile], name: &str) -> Option<&'a [u8
 
 /// The bytes under a name that stand behind this place. An absent name has none.
 pub(crate) fn left_of<'a>(files: &'a [NamedFile], name: &str, place: usize) -> &'a [u8]
-    ensures left { result.now ≡ drop place (bytes_at (held_of files.now) name.now) }
+    ensures left { result.now ≡ drop place (bytes_at (contents_of files.now) name.now) }
     ensures fits { place + length result.now < 2 ^ 64 }
 {
     match bytes_of(files, name) {
@@ -43,15 +43,16 @@ pub(crate) fn left_of<'a>(files: &'a [NamedFile], name: &str, place: usize) -> &
     }
 }
 
-/// Makes a name hold these bytes.
+/// Makes a name hold these bytes. Where a growth is refused, all names hold what they held.
 pub(crate) fn store(
     files: &mut Vec<NamedFile>,
     alloc: Global,
     name: &str,
     bytes: Vec<u8>,
 ) -> Result<(), AllocError>
-    ensures ok { OnOk result (held_of files.new.items ≡ put (held_of files.old.items) name.now bytes.items) }
-    ensures err { OnErr result (held_of files.new.items ≡ held_of files.old.items) }
+    ensures ok { OnOk result (
+        contents_of files.new.items ≡ put (contents_of files.old.items) name.now bytes.items) }
+    ensures err { OnErr result (contents_of files.new.items ≡ contents_of files.old.items) }
 {
     match place_of(files.as_slice(), name) {
         Some(at) => files[at].bytes = bytes,
@@ -63,7 +64,7 @@ pub(crate) fn store(
     Ok(())
 }
 
-/// Appends a front of these bytes to those under a name, and answers how many.
+/// Appends the first of these bytes to those under a name, at most 4,096 and at least one, and answers how many.
 pub(crate) fn append(
     files: &mut Vec<NamedFile>,
     alloc: Global,
@@ -72,10 +73,11 @@ pub(crate) fn append(
 ) -> Result<usize, AllocError>
     requires { 0 < length bytes.now }
     ensures within { IfOk result (λ count. (0 < count) × (count ≤ length bytes.now)) }
-    ensures most { IfOk result (λ count. count ≤ MOST) }
-    ensures ok { IfOk result (λ count. held_of files.new.items
-        ≡ put (held_of files.old.items) name.now (bytes_at (held_of files.old.items) name.now ++ take count bytes.now)) }
-    ensures err { OnErr result (held_of files.new.items ≡ held_of files.old.items) }
+    ensures most { IfOk result (λ count. count ≤ MOST_AT_ONCE) }
+    ensures ok { IfOk result (λ count.
+        contents_of files.new.items ≡ put (contents_of files.old.items) name.now
+        (bytes_at (contents_of files.old.items) name.now ++ take count bytes.now)) }
+    ensures err { OnErr result (contents_of files.new.items ≡ contents_of files.old.items) }
 {
     match place_of(files.as_slice(), name) {
         Some(at) => take_front(&mut files[at].bytes, bytes),
@@ -92,11 +94,11 @@ pub(crate) fn append(
 pub(crate) fn take_front(taken: &mut Vec<u8>, bytes: &[u8]) -> Result<usize, AllocError>
     requires { 0 < length bytes.now }
     ensures within { IfOk result (λ count. (0 < count) × (count ≤ length bytes.now)) }
-    ensures most { IfOk result (λ count. count ≤ MOST) }
+    ensures most { IfOk result (λ count. count ≤ MOST_AT_ONCE) }
     ensures ok { IfOk result (λ count. taken.new.items ≡ taken.old.items ++ take count bytes.now) }
     ensures err { OnErr result (taken.new.items ≡ taken.old.items) }
 {
-    let count = bytes.len().min(MOST);
+    let count = bytes.len().min(MOST_AT_ONCE);
     taken.extend_from_slice(&bytes[..count])?;
     Ok(count)
 }
@@ -105,10 +107,10 @@ pub(crate) fn take_front(taken: &mut Vec<u8>, bytes: &[u8]) -> Result<usize, All
 pub(crate) fn copy_front(buf: &mut [u8], bytes: &[u8]) -> usize
     requires { 0 < length buf.old }
     ensures within { result ≤ length buf.new }
-    ensures most { result ≤ MOST }
+    ensures most { result ≤ MOST_AT_ONCE }
     ensures next { IsNext bytes.now result buf.new }
 {
-    let count = bytes.len().min(buf.len()).min(MOST);
+    let count = bytes.len().min(buf.len()).min(MOST_AT_ONCE);
     buf[..count].copy_from_slice(&bytes[..count]);
     count
 }

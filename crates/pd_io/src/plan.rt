@@ -1,6 +1,6 @@
 // Which calls of one method are to fail. `MemoryFiles` has a plan for each method, `MemorySink` one for its writes.
 ghost use Rattle.std.specs.Prelude.{◌≡◌, OnOk, OnErr};
-ghost use Rattle.pd_io.specs.Plan.{planned, unplanned, fails_next, after_call, with_failing};
+ghost use Rattle.pd_io.specs.Plan.{plan_of, empty_plan, fails_next, plan_after_call, plan_with};
 
 use std::alloc::{AllocError, Global};
 
@@ -14,7 +14,7 @@ pub(crate) struct Plan {
 impl Plan {
     /// No call was made, and none is to fail.
     pub(crate) fn new(alloc: Global) -> Plan
-        ensures { planned result ≡ unplanned }
+        ensures { plan_of result ≡ empty_plan }
     {
         Plan {
             calls: 0,
@@ -22,10 +22,10 @@ impl Plan {
         }
     }
 
-    /// Plans that this call is to fail.
+    /// Plans that the call of this number is to fail. Where a growth is refused, the plan is as it was.
     pub(crate) fn fail(&mut self, nth: u64) -> Result<(), AllocError>
-        ensures ok { OnOk result (planned self.new ≡ with_failing (planned self.old) nth) }
-        ensures err { OnErr result (planned self.new ≡ planned self.old) }
+        ensures ok { OnOk result (plan_of self.new ≡ plan_with (plan_of self.old) nth) }
+        ensures err { OnErr result (plan_of self.new ≡ plan_of self.old) }
     {
         self.failing.push(nth)?;
         Ok(())
@@ -33,8 +33,8 @@ impl Plan {
 
     /// Counts one more call, and says whether it is to fail.
     pub(crate) fn next(&mut self) -> bool
-        ensures fails { result ≡ fails_next (planned self.old) }
-        ensures counted { planned self.new ≡ after_call (planned self.old) }
+        ensures fails { result ≡ fails_next (plan_of self.old) }
+        ensures counted { plan_of self.new ≡ plan_after_call (plan_of self.old) }
     {
         self.calls = self.calls.saturating_add(1);
         self.failing.as_slice().contains(&self.calls)

@@ -1,11 +1,11 @@
 // Files kept in memory by name, with one open for reading and one for writing: what the two kinds of file
 // objects in memory share. Over it stand `SteadyFiles` and `MemoryFiles`.
 ghost use Rattle.std.specs.Prelude.{◌≡◌, ◌<◌, ◌≤◌, ◌++◌, length, take, [], Some, None, Ok, IsSome, IfOk, OnOk, OnErr, option_copied};
-ghost use Rattle.pd_io.specs.Folder.{empty_folder, put, moved, GivesNext, appended};
-ghost use Rattle.pd_io.specs.Whole.{asked_for, written};
+ghost use Rattle.pd_io.specs.Folder.{empty_folder, put, reader_after, GivesNext, contents_after_write};
+ghost use Rattle.pd_io.specs.Whole.{folder_after_asking, folder_with};
 ghost use Rattle.pd_io.specs.Shelf.{folder_of, reader_of, writer_of};
 
-use crate::named::{MOST, NamedFile, append, bytes_of, copy_front, left_of, store};
+use crate::named::{MOST_AT_ONCE, NamedFile, append, bytes_of, copy_front, left_of, store};
 use std::alloc::{AllocError, Global};
 
 /// A file that is open for reading, and how many of its bytes were taken.
@@ -43,7 +43,8 @@ impl Shelf {
 
     /// Makes a name hold these bytes.
     pub(crate) fn put(&mut self, name: &str, bytes: &[u8]) -> Result<(), AllocError>
-        ensures ok { OnOk result (folder_of self.new ≡ written (folder_of self.old) name.now bytes.now) }
+        ensures ok { OnOk result (
+            folder_of self.new ≡ folder_with (folder_of self.old) name.now bytes.now) }
         ensures err { OnErr result (folder_of self.new ≡ folder_of self.old) }
         ensures reader { reader_of self.new ≡ reader_of self.old }
         ensures writer { writer_of self.new ≡ writer_of self.old }
@@ -61,7 +62,8 @@ impl Shelf {
 
     /// Notes a name among those asked.
     pub(crate) fn note(&mut self, name: &str) -> Result<(), AllocError>
-        ensures ok { OnOk result (folder_of self.new ≡ asked_for (folder_of self.old) name.now) }
+        ensures ok { OnOk result (
+            folder_of self.new ≡ folder_after_asking (folder_of self.old) name.now) }
         ensures err { OnErr result (folder_of self.new ≡ folder_of self.old) }
         ensures reader { reader_of self.new ≡ reader_of self.old }
         ensures writer { writer_of self.new ≡ writer_of self.old }
@@ -73,9 +75,11 @@ impl Shelf {
 
     /// Notes a name among those asked, and opens its file for reading.
     pub(crate) fn begin_read(&mut self, name: &str) -> Result<(), AllocError>
-        ensures ok { OnOk result (folder_of self.new ≡ asked_for (folder_of self.old) name.now) }
+        ensures ok { OnOk result (
+            folder_of self.new ≡ folder_after_asking (folder_of self.old) name.now) }
         ensures err { OnErr result (folder_of self.new ≡ folder_of self.old) }
-        ensures begins { OnOk result (reader_of self.new ≡ Some (record { name = name.now; place = 0 })) }
+        ensures begins { OnOk result (
+            reader_of self.new ≡ Some (record { name = name.now; place = 0 })) }
         ensures stays { OnErr result (reader_of self.new ≡ reader_of self.old) }
         ensures writer { writer_of self.new ≡ writer_of self.old }
     {
@@ -93,8 +97,8 @@ impl Shelf {
         requires open { IsSome (reader_of self.old) }
         requires room { 0 < length buf.old }
         ensures within { result ≤ length buf.new }
-        ensures most { result ≤ MOST }
-        ensures place { reader_of self.new ≡ moved (reader_of self.old) (Ok result) }
+        ensures most { result ≤ MOST_AT_ONCE }
+        ensures place { reader_of self.new ≡ reader_after (reader_of self.old) (Ok result) }
         ensures bytes { GivesNext (folder_of self.old) (reader_of self.old) result buf.new }
         ensures folder { folder_of self.new ≡ folder_of self.old }
         ensures writer { writer_of self.new ≡ writer_of self.old }
@@ -112,7 +116,8 @@ impl Shelf {
 
     /// Opens a file for writing: its name holds nothing from now on.
     pub(crate) fn begin_write(&mut self, name: &str) -> Result<(), AllocError>
-        ensures ok { OnOk result (folder_of self.new ≡ written (folder_of self.old) name.now []) }
+        ensures ok { OnOk result (
+            folder_of self.new ≡ folder_with (folder_of self.old) name.now []) }
         ensures err { OnErr result (folder_of self.new ≡ folder_of self.old) }
         ensures begins { OnOk result (writer_of self.new ≡ Some name.now) }
         ensures stays { OnErr result (writer_of self.new ≡ writer_of self.old) }
@@ -129,9 +134,10 @@ impl Shelf {
         requires open { IsSome (writer_of self.old) }
         requires some { 0 < length bytes.now }
         ensures within { IfOk result (λ count. (0 < count) × (count ≤ length bytes.now)) }
-        ensures most { IfOk result (λ count. count ≤ MOST) }
+        ensures most { IfOk result (λ count. count ≤ MOST_AT_ONCE) }
         ensures ok { IfOk result (λ count. folder_of self.new ≡ record (folder_of self.old) {
-          held = appended (folder_of self.old).held (writer_of self.old) (Ok count) bytes.now;
+          held = contents_after_write
+              (folder_of self.old).held (writer_of self.old) (Ok count) bytes.now;
         }) }
         ensures err { OnErr result (folder_of self.new ≡ folder_of self.old) }
         ensures writer { writer_of self.new ≡ writer_of self.old }

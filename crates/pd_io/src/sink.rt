@@ -3,14 +3,15 @@ ghost use Rattle.std.specs.Prelude.{◌≡◌, ℕ, ◌-◌, ◌^◌, ◌<◌, �
 ghost use Rattle.pd_io.specs.declared.fault.FileFault.TheVariants.{Failed};
 ghost use Rattle.pd_io.specs.Counts.{HasCause};
 ghost use Rattle.pd_io.specs.Telling.{Tells};
-ghost use Rattle.pd_io.specs.Folder.{taken_of};
-ghost use Rattle.pd_io.specs.Whole.{TookFront};
+ghost use Rattle.pd_io.specs.Folder.{bytes_taken};
+ghost use Rattle.pd_io.specs.Whole.{TookPart};
 
 use crate::FileFault;
 
-/// A place that bytes go to, in order.
+/// A place that bytes go to, in order. A write that answers `Failed` raises the count of faults, unless that is
+/// 2^64 - 1; one that answers anything else leaves it.
 pub trait Sink {
-    /// The bytes taken so far, where the object tells.
+    /// The bytes taken so far. A sink that tells nothing of them has `None`, always.
     ghost taken: { Self → Option (List ℕ) };
 
     /// How often a write failed, at most 2^64 - 1.
@@ -20,15 +21,19 @@ pub trait Sink {
     fn write(&mut self, bytes: &[u8]) -> Result<usize, FileFault>
         requires { 0 < length bytes.now }
         ensures within { IfOk result (λ count. (0 < count) × (count ≤ length bytes.now)) }
-        ensures told { Tells (taken self.old) (taken self.new) (λ old new. new ≡ old ++ taken_of result bytes.now) }
+        ensures told { Tells (taken self.old) (taken self.new) (λ old new.
+            new ≡ old ++ bytes_taken result bytes.now) }
         ensures cause { HasCause (faults self.old) (faults self.new) result Failed };
 }
 
-/// Hands all bytes to a sink. After a fault it took a front of them.
+/// Hands all bytes to a sink. After a fault it took a front of them, and not all. `Failed` comes where a write failed, and
+/// `NoMemory` where a growth was refused.
 pub fn write_all<S: Sink>(sink: &mut S, bytes: &[u8]) -> Result<(), FileFault>
-    ensures ok { OnOk result (Tells (S.taken sink.old) (S.taken sink.new) (λ old new. new ≡ old ++ bytes.now)) }
-    ensures err { OnErr result (Tells (S.taken sink.old) (S.taken sink.new) (TookFront bytes.now)) }
-    ensures cause { OnErr result (HasCause (S.faults sink.old) (S.faults sink.new) result FileFault.Failed) }
+    ensures ok { OnOk result (Tells (S.taken sink.old) (S.taken sink.new) (λ old new.
+        new ≡ old ++ bytes.now)) }
+    ensures err { OnErr result (Tells (S.taken sink.old) (S.taken sink.new) (TookPart bytes.now)) }
+    ensures cause { OnErr result (
+        HasCause (S.faults sink.old) (S.faults sink.new) result FileFault.Failed) }
     ensures calm { OnOk result (S.faults sink.new ≡ S.faults sink.old) }
     ensures never_falls { S.faults sink.old ≤ S.faults sink.new }
     ensures counted { 0 < length bytes.now → S.faults sink.new ≤ 2 ^ 64 - 1 }

@@ -168,7 +168,7 @@ pub struct StdSink<W: Write> {
 }
 
 impl<W: Write> StdSink<W> {
-    /// A sink over a stream.
+    /// A sink over a stream, with no fault yet.
     pub fn new(stream: W) -> StdSink<W>
         ensures taken { ⟦<StdSink<W> as Sink>⟧.taken result ≡ None }
         ensures faults { ⟦<StdSink<W> as Sink>⟧.faults result ≡ 0 }

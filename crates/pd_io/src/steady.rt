@@ -1,7 +1,7 @@
-// Files and a sink in memory that never fail: only want of memory is ever answered. Their counts of faults stay 0.
-ghost use Rattle.std.specs.Prelude.{◌≡◌, [], Some, None, OnOk, OnErr, option_copied};
-ghost use Rattle.pd_io.specs.Folder.{empty_folder};
-ghost use Rattle.pd_io.specs.Whole.{written};
+// Files and a sink in memory whose calls succeed unless memory runs out. Their counts of faults stay 0.
+ghost use Rattle.std.specs.Prelude.{◌≡◌, ◌<◌, ◌≤◌, ◌++◌, length, [], Some, None, Err, IsSome, IsOk, IfOk, OnOk, OnErr, option_copied};
+ghost use Rattle.pd_io.specs.Folder.{empty_folder, reader_after, GivesNext, contents_after_write, bytes_taken};
+ghost use Rattle.pd_io.specs.Whole.{folder_with};
 ghost use Rattle.pd_io.specs.Steady.{steady_folder, steady_reader, steady_writer, steady_bytes};
 
 use crate::named::take_front;
@@ -10,7 +10,8 @@ use crate::{FileFault, Files, Sink};
 use pd_base::OutOfMemory;
 use std::alloc::Global;
 
-/// Files kept in memory, where reading an absent name finds no bytes. No read or write moves more than 4,096 bytes.
+/// Files kept in memory, where an absent name reads as an empty file. No call answers `Failed`; `read` and `finish`
+/// never fail at all, and the others only where a growth is refused. No read or write moves more than 4,096 bytes.
 #[derive(Drop)]
 pub struct SteadyFiles {
     shelf: Shelf,
@@ -28,9 +29,10 @@ impl SteadyFiles {
         }
     }
 
-    /// Makes a name hold these bytes. All other names stay.
+    /// Makes a name hold these bytes. All other names stay. Where a growth is refused, all names do.
     pub fn put(&mut self, name: &str, bytes: &[u8]) -> Result<(), OutOfMemory>
-        ensures ok { OnOk result (steady_folder self.new ≡ written (steady_folder self.old) name.now bytes.now) }
+        ensures ok { OnOk result (
+            steady_folder self.new ≡ folder_with (steady_folder self.old) name.now bytes.now) }
         ensures err { OnErr result (steady_folder self.new ≡ steady_folder self.old) }
         ensures reader { steady_reader self.new ≡ steady_reader self.old }
         ensures writer { steady_writer self.new ≡ steady_writer self.old }
@@ -63,7 +65,20 @@ impl Files for SteadyFiles {
         Ok(())
     }
 
-    fn read(&mut self, buf: &mut [u8]) -> Result<usize, FileFault> {
+    fn read(&mut self, buf: &mut [u8]) -> Result<usize, FileFault>
+        requires open { IsSome (steady_reader self.old) }
+        requires room { 0 < length buf.old }
+        ensures within { IfOk result (λ count. count ≤ length buf.new) }
+        ensures most { IfOk result (λ count. count ≤ 4096) }
+        ensures place { steady_reader self.new ≡ reader_after (steady_reader self.old) result }
+        ensures bytes { IfOk result (λ count.
+            GivesNext (steady_folder self.old) (steady_reader self.old) count buf.new) }
+        ensures writer { steady_writer self.new ≡ steady_writer self.old }
+        ensures folder { steady_folder self.new ≡ steady_folder self.old }
+
+        // It never fails, nor answers want of memory.
+        ensures ok { IsOk result }
+    {
         Ok(self.shelf.read(buf))
     }
 
@@ -72,17 +87,38 @@ impl Files for SteadyFiles {
         Ok(())
     }
 
-    fn write(&mut self, bytes: &[u8]) -> Result<usize, FileFault> {
+    fn write(&mut self, bytes: &[u8]) -> Result<usize, FileFault>
+        requires open { IsSome (steady_writer self.old) }
+        requires some { 0 < length bytes.now }
+        ensures within { IfOk result (λ count. (0 < count) × (count ≤ length bytes.now)) }
+        ensures most { IfOk result (λ count. count ≤ 4096) }
+        ensures told { steady_folder self.new ≡ record (steady_folder self.old) {
+          held = contents_after_write
+              (steady_folder self.old).held (steady_writer self.old) result bytes.now;
+        } }
+        ensures writer { steady_writer self.new ≡ steady_writer self.old }
+        ensures reader { steady_reader self.new ≡ steady_reader self.old }
+        ensures memory { OnErr result (result ≡ Err FileFault.NoMemory) }
+    {
         Ok(self.shelf.write(bytes)?)
     }
 
-    fn finish(&mut self) -> Result<(), FileFault> {
+    fn finish(&mut self) -> Result<(), FileFault>
+        requires open { IsSome (steady_writer self.old) }
+        ensures writer { steady_writer self.new ≡ None }
+        ensures reader { steady_reader self.new ≡ steady_reader self.old }
+        ensures folder { steady_folder self.new ≡ steady_folder self.old }
+
+        // It never fails, nor answers want of memory.
+        ensures ok { IsOk result }
+    {
         self.shelf.finish();
         Ok(())
     }
 }
 
-/// A sink that keeps its bytes in memory, and takes no more than 4,096 of them in one write.
+/// A sink that keeps its bytes in memory, and takes no more than 4,096 of them in one write. A write fails only where a
+/// growth is refused, and then takes none.
 #[derive(Drop)]
 pub struct SteadySink {
     bytes: Vec<u8>,
@@ -111,7 +147,14 @@ impl Sink for SteadySink {
 
     ghost faults = { λ _. 0 };
 
-    fn write(&mut self, bytes: &[u8]) -> Result<usize, FileFault> {
+    fn write(&mut self, bytes: &[u8]) -> Result<usize, FileFault>
+        requires { 0 < length bytes.now }
+        ensures within { IfOk result (λ count. (0 < count) × (count ≤ length bytes.now)) }
+        ensures most { IfOk result (λ count. count ≤ 4096) }
+        ensures told { steady_bytes self.new
+            ≡ steady_bytes self.old ++ bytes_taken result bytes.now }
+        ensures memory { OnErr result (result ≡ Err FileFault.NoMemory) }
+    {
         Ok(take_front(&mut self.bytes, bytes)?)
     }
 }

@@ -3,7 +3,7 @@ ghost use Rattle.std.specs.Prelude.{◌≡◌, ◌+◌, ◌<◌, ◌≤◌, leng
 ghost use Rattle.pd_io.specs.Counts.{HasCause};
 ghost use Rattle.pd_io.specs.Telling.{Tells};
 ghost use Rattle.pd_io.specs.Folder.{bytes_at};
-ghost use Rattle.pd_io.specs.Whole.{AsksFor, written, HoldsPart};
+ghost use Rattle.pd_io.specs.Whole.{AsksFor, folder_with, HoldsPart};
 
 use crate::{Files, ReadFault, WriteFault};
 use std::alloc::Global;
@@ -13,6 +13,7 @@ const PIECE: usize = 4096;
 
 /// Reads a whole file of at most `limit` bytes. A longer one is `TooLong`, after `limit + 1` of its bytes
 /// were taken. `Failed` comes where a call of the object failed, and `NoMemory` where a growth was refused.
+/// The name is asked once, unless memory runs out, and no name's bytes change.
 pub fn read_whole<F: Files>(
     alloc: Global,
     files: &mut F,
@@ -30,14 +31,17 @@ pub fn read_whole<F: Files>(
     ensures writer { OnOk result (F.writer files.new ≡ F.writer files.old) }
 
     // TooLong: the file holds more, and limit + 1 of its bytes were taken.
-    ensures too_long { IsErrOf result ReadFault.TooLong → Tells (F.folder files.old) (F.folder files.new) (λ old _.
+    ensures too_long { IsErrOf result ReadFault.TooLong →
+        Tells (F.folder files.old) (F.folder files.new) (λ old _.
         limit < length (bytes_at old.held name.now)) }
     ensures too_long_place { IsErrOf result ReadFault.TooLong →
         F.reader files.new ≡ Some (record { name = name.now; place = limit + 1 }) }
-    ensures too_long_writer { IsErrOf result ReadFault.TooLong → F.writer files.new ≡ F.writer files.old }
+    ensures too_long_writer { IsErrOf result ReadFault.TooLong →
+        F.writer files.new ≡ F.writer files.old }
 
     // Failed: a fault was counted.
-    ensures cause { HasCause (F.read_faults files.old) (F.read_faults files.new) result ReadFault.Failed }
+    ensures cause { HasCause
+        (F.read_faults files.old) (F.read_faults files.new) result ReadFault.Failed }
 
     ensures told { Tells (F.folder files.old) (F.folder files.new) (AsksFor result name.now) }
     ensures write_faults { F.write_faults files.new ≡ F.write_faults files.old }
@@ -58,13 +62,16 @@ pub fn read_whole<F: Files>(
 
 /// Stores the bytes under the name. One file is begun, every write is offered all that was not yet taken, and then
 /// the file is finished. A fault on the way leaves the name untouched, or leaves a front of the bytes under it.
+/// `Failed` comes where a call of the object failed, and `NoMemory` where a growth was refused.
 pub fn write_whole<F: Files>(files: &mut F, name: &str, bytes: &[u8]) -> Result<(), WriteFault>
     ensures ok { OnOk result (Tells (F.folder files.old) (F.folder files.new) (λ old new.
-        new ≡ written old name.now bytes.now)) }
+        new ≡ folder_with old name.now bytes.now)) }
     ensures writer { OnOk result (F.writer files.new ≡ None) }
     ensures reader { OnOk result (F.reader files.new ≡ F.reader files.old) }
-    ensures err { OnErr result (Tells (F.folder files.old) (F.folder files.new) (HoldsPart name.now bytes.now)) }
-    ensures cause { HasCause (F.write_faults files.old) (F.write_faults files.new) result WriteFault.Failed }
+    ensures err { OnErr result (
+        Tells (F.folder files.old) (F.folder files.new) (HoldsPart name.now bytes.now)) }
+    ensures cause { HasCause
+        (F.write_faults files.old) (F.write_faults files.new) result WriteFault.Failed }
     ensures read_faults { F.read_faults files.new ≡ F.read_faults files.old }
 {
     files.begin_write(name)?;

@@ -4,49 +4,52 @@ use Rattle.std.specs.List.{AllByRecursion}
 use Rattle.std.proofs.lemmas.List.{append-nil, length-append}
 use Rattle.netlist.specs.declared.kind.GateKind.{GateKind}
 use Rattle.netlist.specs.Circuit.{Circuit}
-use Rattle.netlist.specs.Chain.{IsChain, IsShortName, chain_circuit, chain_names}
-use Rattle.pd_tool.specs.ChainText.{IsNet, gate_lines, kind_text, last_name, most_gates}
-use Rattle.pd_tool.specs.ChainPieces.{AreLines, IsChainGate, IsChainKind, gate_line, head_text}
-use Rattle.pd_tool.proofs.ChainReading.{gate_line_parts, same_line, same_head}
+use Rattle.netlist.specs.Chain.{IsChain, IsChainKind, IsShortName, chain_circuit, chain_names}
+use Rattle.pd_tool.specs.ChainText.{IsNet, gate_lines, gate_text, head_text, kind_text, last_name}
+use Rattle.pd_tool.specs.ChainPieces.{AreLines, IsChainGate}
+use Rattle.pd_tool.proofs.ChainReading.{gate_text_parts, same_line, same_head}
 
 -- a gate's kind and name
 abbrev pub ChainGate : Type 0
 ChainGate = GateKind × List ℕ
 
+-- one more inverter or buffer
 pub each_push : (gates : List ChainGate) (gate : ChainGate) → AllByRecursion IsChainGate gates → IsChainGate gate → AllByRecursion IsChainGate (gates ++ gate ∷ [])
 each_push [] gate each is = (is, tt)
 each_push (first ∷ gates) gate each is = (each.0, each_push gates gate each.1 is)
 
+-- with one gate more the last name is that gate's
 pub last_name-push : (source : List ℕ) (gates : List ChainGate) (gate : ChainGate) → last_name source (gates ++ gate ∷ []) ≡ gate.1
 last_name-push source [] gate = refl
 last_name-push source (first ∷ gates) gate = last_name-push first.1 gates gate
 
 -- one gate more: its line reads the last name so far
 pub gate_lines-push : (source : List ℕ) (gates : List ChainGate) (gate : ChainGate) (rest : List ℕ)
-    → gate_lines source (gates ++ gate ∷ []) ++ rest ≡ gate_lines source gates ++ (gate_line (last_name source gates) gate ++ rest)
-gate_lines-push source [] gate rest = ap (λ text. text ++ rest) (append-nil (gate_line source gate))
+    → gate_lines source (gates ++ gate ∷ []) ++ rest ≡ gate_lines source gates ++ (gate_text (last_name source gates) gate ++ rest)
+gate_lines-push source [] gate rest = ap (λ text. text ++ rest) (append-nil (gate_text source gate))
 gate_lines-push source (first ∷ gates) gate rest =
-    append_assoc (gate_line source first) (gate_lines first.1 (gates ++ gate ∷ [])) rest
-    ∙ ap (λ text. gate_line source first ++ text) (gate_lines-push first.1 gates gate rest)
-    ∙ sym (append_assoc (gate_line source first) (gate_lines first.1 gates) (gate_line (last_name first.1 gates) gate ++ rest))
+    append_assoc (gate_text source first) (gate_lines first.1 (gates ++ gate ∷ [])) rest
+    ∙ ap (λ text. gate_text source first ++ text) (gate_lines-push first.1 gates gate rest)
+    ∙ sym (append_assoc (gate_text source first) (gate_lines first.1 gates) (gate_text (last_name first.1 gates) gate ++ rest))
 
+-- a text with a byte in its middle is not empty
 begins : (name : List ℕ) (byte : ℕ) (bytes rest : List ℕ) → name ++ byte ∷ bytes ++ rest ≡ [] → ⊥
 begins [] byte bytes rest e = cc
 begins (first ∷ name) byte bytes rest e = cc
 
 -- a line has a byte
-line_begins : (before : List ℕ) (gate : ChainGate) (rest : List ℕ) → gate_line before gate ++ rest ≡ [] → ⊥
+line_begins : (before : List ℕ) (gate : ChainGate) (rest : List ℕ) → gate_text before gate ++ rest ≡ [] → ⊥
 line_begins before gate rest e =
-    begins gate.1 32 (61 ∷ 32 ∷ []) (kind_text gate.0 ++ codes "(" ++ (before ++ (codes ")\n" ++ rest))) (sym (gate_line_parts before gate rest) ∙ e)
+    begins gate.1 32 (61 ∷ 32 ∷ []) (kind_text gate.0 ++ codes "(" ++ (before ++ (codes ")\n" ++ rest))) (sym (gate_text_parts before gate rest) ∙ e)
 
 -- gates whose lines begin the lines of others begin those others, and what is left are the lines of the rest
 pub gates_front : (source : List ℕ) (gates all : List ChainGate) (rest : List ℕ) → AllByRecursion IsChainGate gates → AllByRecursion IsChainGate all → gate_lines source gates ++ rest ≡ gate_lines source all
     → (more : List ChainGate) × (all ≡ gates ++ more) × (rest ≡ gate_lines (last_name source gates) more) × AllByRecursion IsChainGate more
 gates_front source [] all rest each each_all e = (all, refl, e, each_all)
 gates_front source (gate ∷ gates) [] rest each each_all e =
-    absurd (line_begins source gate (gate_lines gate.1 gates ++ rest) (sym (append_assoc (gate_line source gate) (gate_lines gate.1 gates) rest) ∙ e))
+    absurd (line_begins source gate (gate_lines gate.1 gates ++ rest) (sym (append_assoc (gate_text source gate) (gate_lines gate.1 gates) rest) ∙ e))
 gates_front source (gate ∷ gates) (other ∷ all) rest each each_all e =
-    let known = same_line source gate other (gate_lines gate.1 gates ++ rest) (gate_lines other.1 all) each.0 each_all.0 (sym (append_assoc (gate_line source gate) (gate_lines gate.1 gates) rest) ∙ e) in
+    let known = same_line source gate other (gate_lines gate.1 gates ++ rest) (gate_lines other.1 all) each.0 each_all.0 (sym (append_assoc (gate_text source gate) (gate_lines gate.1 gates) rest) ∙ e) in
     let same : gate_lines gate.1 gates ++ rest ≡ gate_lines gate.1 all = known.1 ∙ ap (λ (g : ChainGate). gate_lines g.1 all) (sym known.0) in
     let later = gates_front gate.1 gates all rest each.1 each_all.1 same in
     let first : other ≡ gate = sym known.0 in
@@ -56,7 +59,7 @@ gates_front source (gate ∷ gates) (other ∷ all) rest each each_all e =
 -- what was read of the lines: gates, of which the last is named so, with this rest
 pub record IsRead (source lines : List ℕ) (gates : List ChainGate) (before rest : List ℕ) : Type 0 where
   pub each : AllByRecursion IsChainGate gates
-  pub built : length gates ≤ most_gates
+  pub short : length gates ≤ 32
   pub front : lines ≡ gate_lines source gates ++ rest
   pub named : before ≡ last_name source gates
 
@@ -67,28 +70,31 @@ rest_of source last lines gates all before rest is are =
     let found = gates_front source gates all rest is.each are.each (sym is.front ∙ are.spelled) in
     (found.0, found.1, found.2 ∙ ap (λ name. gate_lines name found.0) (sym is.named), found.3)
 
-too_many_more : (before rest : List ℕ) (gates all more : List ChainGate) → rest ≢ [] → most_gates ≤ length gates → length all ≤ most_gates → all ≡ gates ++ more → rest ≡ gate_lines before more → ⊥
+-- a line that is left spells one gate more than a chain may have
+too_many_more : (before rest : List ℕ) (gates all more : List ChainGate) → rest ≢ [] → 32 ≤ length gates → length all ≤ 32 → all ≡ gates ++ more → rest ≡ gate_lines before more → ⊥
 too_many_more before rest gates all [] left full few e lines = left lines
 too_many_more before rest gates all (gate ∷ more) left full few e lines = omega (arith, length-append gates (gate ∷ more), ap length e)
 
--- where a line is left and the built length is reached, there are too many lines
-pub too_many : (source last lines : List ℕ) (gates all : List ChainGate) (before rest : List ℕ) → IsRead source lines gates before rest → rest ≢ [] → most_gates ≤ length gates → ¬ AreLines source last lines all
+-- where a line is left and a chain may have no more gates, there are too many lines
+pub too_many : (source last lines : List ℕ) (gates all : List ChainGate) (before rest : List ℕ) → IsRead source lines gates before rest → rest ≢ [] → 32 ≤ length gates → ¬ AreLines source last lines all
 too_many source last lines gates all before rest is left full are =
     let found = rest_of source last lines gates all before rest is are in
-    too_many_more before rest gates all found.0 left full are.built found.1 found.2
+    too_many_more before rest gates all found.0 left full are.short found.1 found.2
 
-no_line_more : (before rest : List ℕ) (more : List ChainGate) → rest ≢ [] → ((gate : ChainGate) (later : List ℕ) → IsChainGate gate → rest ≢ gate_line before gate ++ later)
+-- bytes that begin with no gate's line are lines of no gates
+no_line_more : (before rest : List ℕ) (more : List ChainGate) → rest ≢ [] → ((gate : ChainGate) (later : List ℕ) → IsChainGate gate → rest ≢ gate_text before gate ++ later)
     → AllByRecursion IsChainGate more → rest ≡ gate_lines before more → ⊥
 no_line_more before rest [] left none each lines = left lines
 no_line_more before rest (gate ∷ more) left none each lines = none gate (gate_lines gate.1 more) each.0 lines
 
 -- where bytes are left that begin with no gate's line, they are no lines of gates
 pub no_line : (source last lines : List ℕ) (gates all : List ChainGate) (before rest : List ℕ) → IsRead source lines gates before rest → rest ≢ []
-    → ((gate : ChainGate) (later : List ℕ) → IsChainGate gate → rest ≢ gate_line before gate ++ later) → ¬ AreLines source last lines all
+    → ((gate : ChainGate) (later : List ℕ) → IsChainGate gate → rest ≢ gate_text before gate ++ later) → ¬ AreLines source last lines all
 no_line source last lines gates all before rest is left none are =
     let found = rest_of source last lines gates all before rest is are in
     no_line_more before rest found.0 left none found.3 found.2
 
+-- where no bytes are left, no gates are
 no_more : (before : List ℕ) (more : List ChainGate) → [] ≡ gate_lines before more → more ≡ []
 no_more before [] e = refl
 no_more before (gate ∷ more) e = absurd (line_begins before gate (gate_lines gate.1 more) (sym e))
@@ -102,14 +108,14 @@ all_read source last lines gates all before rest is end are =
 -- the gates of lines are known
 pub same_lines : (source last lines : List ℕ) (gates all : List ChainGate) → AreLines source last lines gates → AreLines source last lines all → all ≡ gates
 same_lines source last lines gates all is are =
-    let read : IsRead source lines gates last [] = record { each = is.each; built = is.built; front = is.spelled ∙ sym (append-nil (gate_lines source gates)); named = is.last_is } in
+    let read : IsRead source lines gates last [] = record { each = is.each; short = is.short; front = is.spelled ∙ sym (append-nil (gate_lines source gates)); named = is.last_is } in
     all_read source last lines gates all last [] read refl are
 
 -- the lines end with the last name
 pub are_read : (source last lines : List ℕ) (gates : List ChainGate) (before rest : List ℕ) → IsRead source lines gates before rest → rest ≡ [] → before ≡ last → AreLines source last lines gates
 are_read source last lines gates before rest is end same = record {
   each = is.each;
-  built = is.built;
+  short = is.short;
   spelled = is.front ∙ ap (λ r. gate_lines source gates ++ r) end ∙ append-nil (gate_lines source gates);
   last_is = sym same ∙ is.named;
 }
@@ -120,34 +126,38 @@ other_last source last lines gates all before rest is end other are =
     other (is.named ∙ ap (last_name source) (sym (all_read source last lines gates all before rest is end are)) ∙ sym are.last_is)
 
 -- one line more was read
-pub read_more : (source lines : List ℕ) (gates : List ChainGate) (before rest : List ℕ) (gate : ChainGate) (later : List ℕ) → IsRead source lines gates before rest → length gates ≢ most_gates → IsChainGate gate
-    → rest ≡ gate_line before gate ++ later → IsRead source lines (gates ++ gate ∷ []) gate.1 later
+pub read_more : (source lines : List ℕ) (gates : List ChainGate) (before rest : List ℕ) (gate : ChainGate) (later : List ℕ) → IsRead source lines gates before rest → length gates ≢ 32 → IsChainGate gate
+    → rest ≡ gate_text before gate ++ later → IsRead source lines (gates ++ gate ∷ []) gate.1 later
 read_more source lines gates before rest gate later is room gate_is e = record {
   each = each_push gates gate is.each gate_is;
-  built = omega (arith, is.built, length-append gates (gate ∷ []));
-  front = is.front ∙ ap (λ r. gate_lines source gates ++ r) (e ∙ ap (λ name. gate_line name gate ++ later) is.named) ∙ sym (gate_lines-push source gates gate later);
+  short = omega (arith, is.short, length-append gates (gate ∷ []));
+  front = is.front ∙ ap (λ r. gate_lines source gates ++ r) (e ∙ ap (λ name. gate_text name gate ++ later) is.named) ∙ sym (gate_lines-push source gates gate later);
   named = sym (last_name-push source gates gate);
 }
 
 -- and fewer bytes are left
-pub line_shorter : (before rest : List ℕ) (gate : ChainGate) (later : List ℕ) → rest ≡ gate_line before gate ++ later → length later < length rest
+pub line_shorter : (before rest : List ℕ) (gate : ChainGate) (later : List ℕ) → rest ≡ gate_text before gate ++ later → length later < length rest
 line_shorter before rest gate later e =
-    let first = length-append (gate_line before gate) later in
+    let first = length-append (gate_text before gate) later in
     let text = length-append (gate.1 ++ codes " = " ++ kind_text gate.0 ++ codes "(" ++ before) (codes ")\n") in
     omega (arith, first, text, ap length e)
 
+-- gates with short names and a chain's kinds are each a chain's gate
 gates_each : (gates : List ChainGate) → AllByRecursion IsShortName (map (λ gate. gate.1) gates) → AllByRecursion (λ gate. IsChainKind gate.0) gates → AllByRecursion IsChainGate gates
 gates_each [] names kinds = tt
 gates_each (gate ∷ gates) names kinds = ((kinds.0, names.0), gates_each gates names.1 kinds.1)
 
+-- the gates of a chain have short names
 each_named : (gates : List ChainGate) → AllByRecursion IsChainGate gates → AllByRecursion IsShortName (map (λ gate. gate.1) gates)
 each_named [] each = tt
 each_named (gate ∷ gates) each = (each.0.1, each_named gates each.1)
 
+-- and are inverters and buffers
 each_kind : (gates : List ChainGate) → AllByRecursion IsChainGate gates → AllByRecursion (λ gate. IsChainKind gate.0) gates
 each_kind [] each = tt
 each_kind (gate ∷ gates) each = (each.0.0, each_kind gates each.1)
 
+-- the last name is short where all are
 pub last_is_short : (source : List ℕ) (gates : List ChainGate) → IsShortName source → AllByRecursion IsShortName (map (λ gate. gate.1) gates) → IsShortName (last_name source gates)
 last_is_short source [] short names = short
 last_is_short source (gate ∷ gates) short names = last_is_short gate.1 gates names.0 names.1
@@ -158,7 +168,7 @@ lines_are_chain source last lines gates short are distinct = record {
   names = (short, each_named gates are.each);
   distinct = distinct;
   kinds = each_kind gates are.each;
-  short = omega (arith, are.built);
+  short = are.short;
 }
 
 -- the text of a chain has a head
@@ -174,7 +184,7 @@ net_lines bytes source last lines c short last_short e net =
       from,
       record {
         each = gates_each net.gates net.chain.names.1 net.chain.kinds;
-        built = net.built;
+        short = net.chain.short;
         spelled = same.2 ∙ ap (λ name. gate_lines name net.gates) (sym from);
         last_is = same.1 ∙ ap (λ name. last_name name net.gates) (sym from);
       },
@@ -197,7 +207,6 @@ lines_are_net bytes source last lines gates c short e are distinct circuit = rec
   source = source;
   gates = gates;
   chain = lines_are_chain source last lines gates short are distinct;
-  built = are.built;
   spelled = e ∙ ap (λ text. head_text source last ++ text) are.spelled ∙ ap (λ name. head_text source name ++ gate_lines source gates) are.last_is;
   circuit = circuit;
 }

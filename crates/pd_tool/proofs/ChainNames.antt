@@ -15,10 +15,12 @@ AreOther name gates = All (λ (gate : ChainGate). gate.1 ≢ name) gates
 abbrev pub IsNewName : List ℕ → List ℕ → List ChainGate → Type 0
 IsNewName name source gates = All (λ (other : List ℕ). other ≢ name) (chain_names source gates)
 
+-- one more gate has not the name
 pub other_more : (name : List ℕ) (gates : List ChainGate) (i : ℕ) (gate : ChainGate) → i < length gates → gate ≡ get_or gates i gate → AreOther name (take i gates) → gate.1 ≢ name → AreOther name (take (i + 1) gates)
 other_more name gates i gate within is others other =
     All-more (λ (gate : ChainGate). gate.1 ≢ name) gates i gate within others (λ same. other (ap (λ (g : ChainGate). g.1) is ∙ same))
 
+-- a name that a gate has is not new
 pub known_name : (name source : List ℕ) (gates : List ChainGate) (i : ℕ) (gate : ChainGate) → i < length gates → gate ≡ get_or gates i gate → gate.1 ≡ name → ¬ IsNewName name source gates
 known_name name source gates i gate within is same new =
     let at : get_or (map (λ (g : ChainGate). g.1) gates) i name ≡ (get_or gates i gate).1 = get_or-map (λ (g : ChainGate). g.1) gates i gate name within in
@@ -31,6 +33,7 @@ new_name name source gates i all others other =
     All-cons (λ (other : List ℕ). other ≢ name) source (map (λ (g : ChainGate). g.1) gates) other
     (All-map (λ (other : List ℕ). other ≢ name) (λ (g : ChainGate). g.1) gates (subst Others (take_all i gates all) others))
 
+-- the source has not a new name
 pub new_source : (name source : List ℕ) (gates : List ChainGate) → IsNewName name source gates → source ≢ name
 new_source name source gates new = All-head (λ (other : List ℕ). other ≢ name) source (map (λ (g : ChainGate). g.1) gates) new
 
@@ -48,6 +51,7 @@ names_split source gates i gate within is =
     let parts : gates ≡ take i gates ++ gate ∷ drop (i + 1) gates = sym (take-append-drop i gates) ∙ ap (λ rest. take i gates ++ rest) next in
     ap (chain_names source) parts ∙ ap (λ names. source ∷ names) (map-append (λ (g : ChainGate). g.1) (take i gates) (gate ∷ drop (i + 1) gates))
 
+-- among distinct names each differs from those before it
 differs_from_later : (names : List (List ℕ)) (name : List ℕ) (later : List (List ℕ)) → AllPairs (λ a b. a ≢ b) (names ++ name ∷ later) → All (λ (other : List ℕ). other ≢ name) names
 differs_from_later names name later pairs k d within same =
     let left : get_or (names ++ name ∷ later) k d ≡ get_or names k d = get_or_append_left names (name ∷ later) d k within in
@@ -68,6 +72,7 @@ distinct_more source gates i gate within is pairs new =
     let Distinct : List (List ℕ) → Type 0 = AllPairs (λ a b. a ≢ b) in
     subst Distinct (sym (names_more source gates i gate within is)) (all_pairs_push (λ a b. a ≢ b) (chain_names source (take i gates)) gate.1 pairs new)
 
+-- so it is of all names once no gate is left
 pub distinct_all : (source : List ℕ) (gates : List ChainGate) (i : ℕ) → length gates ≤ i → AllPairs (λ a b. a ≢ b) (chain_names source (take i gates)) → AllPairs (λ a b. a ≢ b) (chain_names source gates)
 distinct_all source gates i all pairs =
     let Distinct : List ChainGate → Type 0 = λ some. AllPairs (λ a b. a ≢ b) (chain_names source some) in

@@ -53,9 +53,11 @@ length-steps_through gate (suc count) =
     ∙ ap (λ n. 1 + n) (length-steps_through (gate + 1) count) ∙ (omega arith)
 
 module _ (c : Circuit) (turn : ReadsInTurn c) where
+  -- the gate's own line is the next one
   pub next_line : (gate : ℕ) → gate_line c gate ≡ gate + 1
   next_line gate = omega (arith, turn.one_source)
 
+  -- steps through gates in turn connect
   connects : (gate count : ℕ) → gate + count ≤ gate_count c → Connects c gate (steps_through gate count)
   connects gate zero within = tt
   connects gate (suc count) within =
@@ -64,6 +66,7 @@ module _ (c : Circuit) (turn : ReadsInTurn c) where
         subst (λ line. Connects c line (steps_through (gate + 1) count)) (sym (next_line gate)) (connects (gate + 1) count (omega arith)),
       )
 
+  -- and lead so many lines on
   line_after-steps_through : (gate count : ℕ) → line_after c gate (steps_through gate count) ≡ gate + count
   line_after-steps_through gate zero = sym (add-zero gate)
   line_after-steps_through gate (suc count) =
@@ -88,6 +91,7 @@ module _ (c : Circuit) (turn : ReadsInTurn c) where
       ap₂ (λ s rest. s ∷ rest) here
       (only_steps steps (line + 1) count (omega arith) (subst (λ l. Connects c l steps) next connected.1) (ap (λ l. line_after c l steps) (sym next) ∙ ends))
 
+  -- the way through every gate ends at the last line
   end_of-chain_route : end_of c (chain_route (gate_count c)) ≡ gate_count c
   end_of-chain_route = line_after-steps_through 0 (gate_count c) ∙ (omega arith)
 

@@ -1,39 +1,31 @@
 -- A text is read as a chain in one way only: a name ends where its letters and digits do, and so each piece is known
--- from the bytes that it begins. And no chain of the built form is long.
-use Rattle.std.proofs.Common.{◌≡◌, ◌≢◌, inl, inr, Bool, true, false, not, ℕ, ◌≤◌, List, [], ◌∷◌, ◌++◌, length, take, drop, codes, refl, sym, ap, subst, ◌∙◌, arith, append_assoc}
+-- from the bytes that it begins.
+use Rattle.std.proofs.Common.{◌≡◌, ◌≢◌, inl, inr, true, false, not, ℕ, ◌≤◌, List, [], ◌∷◌, ◌++◌, length, take, drop, codes, refl, sym, ap, subst, ◌∙◌, arith, append_assoc}
 use Rattle.std.specs.Prelude.{nat_eq}
 use Rattle.std.specs.List.{All, AllByRecursion}
 use Rattle.std.specs.Cmp.Lexicographic.{pointwise}
+use Rattle.std.proofs.lemmas.Bool.{false≢true, false_from_ne_true, not-false, not-true, not_from_false}
 use Rattle.std.proofs.lemmas.Slice.Eq.{bytes_eq-Decides}
 use Rattle.std.proofs.lemmas.List.{append_cancel_left, length-take-le, take-append-drop}
 use Rattle.std.proofs.lemmas.List.Elements.{recursion_from_All}
 use Rattle.netlist.specs.declared.kind.GateKind.{GateKind}
 use Rattle.netlist.specs.declared.kind.GateKind.TheVariants.{Not, Buff}
-use Rattle.netlist.specs.Chain.{IsLetterOrDigit, IsShortName}
-use Rattle.pd_tool.specs.ChainText.{kind_text}
-use Rattle.pd_tool.specs.ChainPieces.{EndsName, IsChainGate, IsChainKind, IsMark, gate_line, head_text}
+use Rattle.netlist.specs.Chain.{IsChainKind, IsLetterOrDigit, IsShortName}
+use Rattle.pd_tool.specs.ChainText.{gate_text, head_text, kind_text}
+use Rattle.pd_tool.specs.ChainPieces.{EndsName, IsChainGate, IsMark}
 
-not_true : (b : Bool) → true ≡ not b → b ≡ true → ⊥
-not_true true e h = cc
-not_true false e h = cc
-
-not_false : (b : Bool) → false ≡ not b → b ≡ true
-not_false true e = refl
-not_false false e = cc
-
-not-true : (b : Bool) → (b ≡ true → ⊥) → b ≡ false
-not-true true h = absurd (h refl)
-not-true false h = refl
-
--- what `!=` tells of two texts
+-- texts of which `!=` says that they differ do
 pub differ : (xs ys : List ℕ) → true ≡ not (pointwise nat_eq xs ys) → xs ≢ ys
-differ xs ys e same = not_true (pointwise nat_eq xs ys) e ((bytes_eq-Decides xs ys).1 same)
+differ xs ys e same = false≢true (sym (not-true (pointwise nat_eq xs ys) (sym e)) ∙ (bytes_eq-Decides xs ys).1 same)
 
+-- texts of which it says that they do not are equal
 pub agree : (xs ys : List ℕ) → false ≡ not (pointwise nat_eq xs ys) → xs ≡ ys
-agree xs ys e = (bytes_eq-Decides xs ys).0 (not_false (pointwise nat_eq xs ys) e)
+agree xs ys e = (bytes_eq-Decides xs ys).0 (not-false (pointwise nat_eq xs ys) (sym e))
 
+-- texts that differ are told apart by it
 pub not_same : (xs ys : List ℕ) → xs ≢ ys → not (pointwise nat_eq xs ys) ≡ true
-not_same xs ys other = ap not (not-true (pointwise nat_eq xs ys) (λ same. other ((bytes_eq-Decides xs ys).0 same)))
+not_same xs ys other =
+    not_from_false (pointwise nat_eq xs ys) (false_from_ne_true (pointwise nat_eq xs ys) (λ same. other ((bytes_eq-Decides xs ys).0 same)))
 
 -- two splits at the end of the letters and digits are one
 pub same_name : (n m r s : List ℕ) → AllByRecursion IsLetterOrDigit n → AllByRecursion IsLetterOrDigit m → EndsName r → EndsName s → n ++ r ≡ m ++ s → (n ≡ m) × (r ≡ s)
@@ -51,10 +43,11 @@ same_name (b ∷ n) (c ∷ m) r s all_n all_m ends_r ends_s e =
     let first : b ≡ c = cc in
     (cc, known.1)
 
--- the marks of the form begin with a blank or a closing bracket
+-- a name ends before a blank
 pub space_ends : ¬ IsLetterOrDigit 32
 space_ends h = elim h [ inl d ↦ omega arith | inr l ↦ elim l [ inl u ↦ omega arith | inr v ↦ omega arith ] ]
 
+-- and before a closing bracket
 pub bracket_ends : ¬ IsLetterOrDigit 41
 bracket_ends h = elim h [ inl d ↦ omega arith | inr l ↦ elim l [ inl u ↦ omega arith | inr v ↦ omega arith ] ]
 
@@ -71,9 +64,9 @@ same_marked n m mark r s is short_n short_m e =
     (known.0, append_cancel_left mark r s known.1)
 
 -- the pieces of a gate's line, from the left
-pub gate_line_parts : (before : List ℕ) (gate : GateKind × List ℕ) (rest : List ℕ)
-    → gate_line before gate ++ rest ≡ gate.1 ++ codes " = " ++ (kind_text gate.0 ++ codes "(" ++ (before ++ (codes ")\n" ++ rest)))
-gate_line_parts before gate rest =
+pub gate_text_parts : (before : List ℕ) (gate : GateKind × List ℕ) (rest : List ℕ)
+    → gate_text before gate ++ rest ≡ gate.1 ++ codes " = " ++ (kind_text gate.0 ++ codes "(" ++ (before ++ (codes ")\n" ++ rest)))
+gate_text_parts before gate rest =
     let name = gate.1 in
     let kind = kind_text gate.0 in
     simp append_assoc
@@ -83,9 +76,11 @@ pub head_parts : (source last rest : List ℕ)
     → head_text source last ++ rest ≡ codes "INPUT(" ++ (source ++ codes ")\nOUTPUT(" ++ (last ++ codes ")\n" ++ rest))
 head_parts source last rest = simp append_assoc
 
+-- N and B, with which the two kinds begin, are not one byte
 apart : (r s : List ℕ) → 78 ∷ r ≡ 66 ∷ s → ⊥
 apart r s e = cc
 
+-- the kinds in an equation of bytes, replaced by what they are
 at_kinds : (k l k_here l_here : GateKind) (r s : List ℕ) → k ≡ k_here → l ≡ l_here → kind_text k ++ codes "(" ++ r ≡ kind_text l ++ codes "(" ++ s
     → kind_text k_here ++ codes "(" ++ r ≡ kind_text l_here ++ codes "(" ++ s
 at_kinds k l k_here l_here r s k_is l_is e = ap (λ kind. kind_text kind ++ codes "(" ++ r) (sym k_is) ∙ e ∙ ap (λ kind. kind_text kind ++ codes "(" ++ s) l_is
@@ -115,10 +110,10 @@ marked_found bytes mark front back rest n front_is back_is within some few lette
     ((omega arith, omega arith, each), split ∙ ap (λ r. front ++ r) e ∙ sym (append_assoc front mark rest))
 
 -- what follows the name on a gate's line
-pub after_name : (before name rest more : List ℕ) (gate : GateKind × List ℕ) → IsShortName name → IsChainGate gate → name ++ codes " = " ++ rest ≡ gate_line before gate ++ more
+pub after_name : (before name rest more : List ℕ) (gate : GateKind × List ℕ) → IsShortName name → IsChainGate gate → name ++ codes " = " ++ rest ≡ gate_text before gate ++ more
     → (name ≡ gate.1) × (rest ≡ kind_text gate.0 ++ codes "(" ++ (before ++ (codes ")\n" ++ more)))
 after_name before name rest more gate short is e =
-    same_marked name gate.1 (codes " = ") rest (kind_text gate.0 ++ codes "(" ++ (before ++ (codes ")\n" ++ more))) space_ends short is.1 (e ∙ gate_line_parts before gate more)
+    same_marked name gate.1 (codes " = ") rest (kind_text gate.0 ++ codes "(" ++ (before ++ (codes ")\n" ++ more))) space_ends short is.1 (e ∙ gate_text_parts before gate more)
 
 -- what follows the bracket on a gate's line
 pub after_kind : (before rest more : List ℕ) (kind : GateKind) (gate : GateKind × List ℕ) → IsChainKind kind → IsChainGate gate
@@ -126,10 +121,10 @@ pub after_kind : (before rest more : List ℕ) (kind : GateKind) (gate : GateKin
 after_kind before rest more kind gate kind_is is e = same_kind kind gate.0 rest (before ++ (codes ")\n" ++ more)) kind_is is.0 e
 
 -- a gate and what follows its line are known from the bytes
-pub same_line : (before : List ℕ) (gate other : GateKind × List ℕ) (rest more : List ℕ) → IsChainGate gate → IsChainGate other → gate_line before gate ++ rest ≡ gate_line before other ++ more
+pub same_line : (before : List ℕ) (gate other : GateKind × List ℕ) (rest more : List ℕ) → IsChainGate gate → IsChainGate other → gate_text before gate ++ rest ≡ gate_text before other ++ more
     → (gate ≡ other) × (rest ≡ more)
 same_line before gate other rest more is other_is e =
-    let named = after_name before gate.1 (kind_text gate.0 ++ codes "(" ++ (before ++ (codes ")\n" ++ rest))) more other is.1 other_is (sym (gate_line_parts before gate rest) ∙ e) in
+    let named = after_name before gate.1 (kind_text gate.0 ++ codes "(" ++ (before ++ (codes ")\n" ++ rest))) more other is.1 other_is (sym (gate_text_parts before gate rest) ∙ e) in
     let kept = after_kind before (before ++ (codes ")\n" ++ rest)) more gate.0 other is.0 other_is named.1 in
     let names : gate.1 ≡ other.1 = named.0 in
     let kinds : gate.0 ≡ other.0 = kept.0 in

@@ -13,17 +13,21 @@ use Rattle.pd_tool.specs.ChainRun.{IsChainCircuit, chain_route}
 use Rattle.pd_tool.specs.ChainText.{unit_delays}
 use Rattle.pd_tool.specs.RobustRun.{IsRobustTest, HaveTests, AreRobust, IsRobustRun}
 use Rattle.pd_tool.specs.Summary.{verdicts_of}
+use Rattle.pd_tool.specs.Words.{default_paths}
 use Rattle.pd_tool.proofs.ChainPath.{chain_reads_in_turn, chain_route_is_first, length-steps_through}
 
 module _ (c : Circuit) (listed : ListedPath) (is_route : listed.path ≡ chain_route (gate_count c)) where
-  first_listed : IsChainCircuit c → AreFirst c unit_delays 100 (listed.path ∷ [])
+  -- the path that is listed is the first
+  first_listed : IsChainCircuit c → AreFirst c unit_delays default_paths (listed.path ∷ [])
   first_listed chain =
-      subst (λ path. AreFirst c unit_delays 100 (path ∷ [])) (sym is_route)
-      (chain_route_is_first c (chain_reads_in_turn c chain) unit_delays 100 (lit< tt))
+      subst (λ path. AreFirst c unit_delays default_paths (path ∷ [])) (sym is_route)
+      (chain_route_is_first c (chain_reads_in_turn c chain) unit_delays default_paths (lit< tt))
 
+  -- its length is that under unit delays
   length_listed : listed.length ≡ gate_count c → listed.length ≡ length_of unit_delays listed.path
   length_listed long = long ∙ sym (length-steps_through 0 (gate_count c)) ∙ ap (length_of unit_delays) (sym is_route)
 
+  -- its two tests are those of its two faults
   tests_listed : (rise fall : Test) → IsRobustTest c 1 (chain_route (gate_count c)) Rise rise → IsRobustTest c 1 (chain_route (gate_count c)) Fall fall → HaveTests c 1 (listed ∷ []) (rise ∷ fall ∷ [])
   tests_listed rise fall rises falls = (
     subst (λ path. IsRobustTest c 1 path Rise rise) (sym is_route) rises,
@@ -34,9 +38,9 @@ module _ (c : Circuit) (listed : ListedPath) (is_route : listed.path ≡ chain_r
   -- the parts of the run are those of the chain's one path
   pub chain_run_is_robust : IsChainCircuit c → listed.length ≡ gate_count c → listed.rise ≡ Robust 1 → listed.fall ≡ Robust 2
       → (rise fall : Test) → IsRobustTest c 1 (chain_route (gate_count c)) Rise rise → IsRobustTest c 1 (chain_route (gate_count c)) Fall fall
-      → (run : Run) → run.paths ≡ listed ∷ [] → run.tests ≡ rise ∷ fall ∷ [] → run.proofs ≡ [] → IsRobustRun c unit_delays 100 run
+      → (run : Run) → run.paths ≡ listed ∷ [] → run.tests ≡ rise ∷ fall ∷ [] → run.proofs ≡ [] → IsRobustRun c unit_delays default_paths run
   chain_run_is_robust chain long rising falling rise fall rises falls run paths tests proofs = record {
-    first = subst (λ paths. AreFirst c unit_delays 100 (map (λ (l : ListedPath). l.path) paths)) (sym paths) (first_listed chain);
+    first = subst (λ paths. AreFirst c unit_delays default_paths (map (λ (l : ListedPath). l.path) paths)) (sym paths) (first_listed chain);
     lengths = subst (AllByRecursion (λ (l : ListedPath). l.length ≡ length_of unit_delays l.path)) (sym paths) (length_listed long, tt);
     verdicts = subst (λ paths. AreRobust 1 (verdicts_of paths)) (sym paths) (rising, (falling, tt));
     tests = subst (λ paths. HaveTests c 1 paths run.tests) (sym paths) (subst (HaveTests c 1 (listed ∷ [])) (sym tests) (tests_listed rise fall rises falls));

@@ -43,6 +43,7 @@ chain_meets c turn dir pair first second = (
   chain_sides_meet c turn kind.Robust pair 0 (gate_count c) (omega arith),
 )
 
+-- a test of these parts is a robust test of the chain's path
 pub chain_test_is_robust : (c : Circuit) → IsChainCircuit c → (dir : Direction) (test : Test) → test.path ≡ 1 → test.dir ≡ dir → test.kind ≡ kind.Robust
     → test.pair.first ≡ not (final_bit dir) ∷ [] → test.pair.second ≡ final_bit dir ∷ [] → test.expected ≡ value c (final_bit dir ∷ []) (gate_count c) ∷ []
     → IsRobustTest c 1 (chain_route (gate_count c)) dir test

@@ -8,11 +8,12 @@ pub mod ChainTests
 pub mod Completeness
 pub mod GenEndings
 pub mod LineNames
-pub mod ObservedLines
+pub mod ObservedNames
 pub mod Pieces
 pub mod PlainTexts
 pub mod ReportWriting
 pub mod RunTexts
+pub mod Silence
 pub mod Unread
 pub mod Unwritten
 pub mod VerdictCounts

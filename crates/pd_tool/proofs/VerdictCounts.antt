@@ -6,13 +6,15 @@ use Rattle.refutation_check.specs.declared.run.ListedPath.{ListedPath}
 use Rattle.refutation_check.specs.declared.run.Verdict.{Verdict}
 use Rattle.refutation_check.specs.declared.run.Verdict.TheVariants.{Robust, Nonrobust, Untestable, Aborted}
 use Rattle.pd_tool.specs.declared.texts.summary.Counts.{Counts}
-use Rattle.pd_tool.specs.Counts.{AreCountsOf, counts_sum, counts_with}
+use Rattle.pd_tool.specs.VerdictCounts.{AreCountsOf, counts_sum, counts_with}
 use Rattle.pd_tool.specs.Summary.{verdicts_of}
 
+-- the verdicts of one path more
 pub verdicts_of_push : (paths : List ListedPath) (listed : ListedPath) → verdicts_of (paths ++ listed ∷ []) ≡ (verdicts_of paths ++ listed.rise ∷ []) ++ listed.fall ∷ []
 verdicts_of_push [] listed = refl
 verdicts_of_push (first ∷ paths) listed = ap (λ (verdicts : List Verdict). first.rise ∷ first.fall ∷ verdicts) (verdicts_of_push paths listed)
 
+-- how many are counted with one item more
 count_by_push : {X : Type 0} (p : X → Bool) (xs : List X) (y : X) → count_by p (xs ++ y ∷ []) ≡ count_by p xs + cond (p y) 1 0
 count_by_push p xs y = sum_by_push (λ x. cond (p x) 1 0) xs y
 
@@ -44,6 +46,7 @@ AreCountsOf_push counts verdicts (Aborted robust nonrobust) are = record {
   aborted = rw count_by_push (ap (λ n. n + 1) are.aborted);
 }
 
+-- one more verdict raises the sum of the counts by one
 pub counts_sum-counts_with : (counts : Counts) (verdict : Verdict) → counts_sum (counts_with counts verdict) ≡ counts_sum counts + 1
 counts_sum-counts_with counts (Robust test) = omega arith
 counts_sum-counts_with counts (Nonrobust test proof) = omega arith

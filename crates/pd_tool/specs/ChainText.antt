@@ -1,15 +1,10 @@
 -- The form of the inputs that is built today: a chain, spelled in one way, and unit delays (this project's own).
-use Rattle.std.specs.Prelude.{◌≡◌, ℕ, ◌≤◌, List, [], ◌∷◌, ◌++◌, length, codes}
+use Rattle.std.specs.Prelude.{◌≡◌, ℕ, List, [], ◌∷◌, ◌++◌, codes}
 use Rattle.netlist.specs.declared.kind.GateKind.{GateKind}
 use Rattle.netlist.specs.declared.kind.GateKind.TheVariants.{And, Nand, Or, Nor, Xor, Xnor, Not, Buff}
 use Rattle.netlist.specs.Circuit.{Circuit}
 use Rattle.netlist.specs.Chain.{IsChain, chain_circuit}
 use Rattle.netlist.specs.Waves.{Delays}
-use Rattle.pd_tool.specs.declared.chain_reader.TheConstants.{MOST_GATES}
-
--- how many gates a chain may have so far
-abbrev pub most_gates : ℕ
-most_gates = MOST_GATES
 
 -- how a kind of gate is spelled in a netlist
 abbrev pub kind_text : GateKind → List ℕ
@@ -22,11 +17,18 @@ kind_text Xnor = codes "XNOR"
 kind_text Not = codes "NOT"
 kind_text Buff = codes "BUFF"
 
+-- the two lines of the source and of the output
+abbrev pub head_text : List ℕ → List ℕ → List ℕ
+head_text source last = codes "INPUT(" ++ source ++ codes ")\nOUTPUT(" ++ last ++ codes ")\n"
+
+-- the line of a gate that reads the line of this name
+abbrev pub gate_text : List ℕ → GateKind × List ℕ → List ℕ
+gate_text before gate = gate.1 ++ codes " = " ++ kind_text gate.0 ++ codes "(" ++ before ++ codes ")\n"
+
 -- a line for each gate, of which the first reads the line of this name and each later one the gate before
 abbrev pub gate_lines : List ℕ → List (GateKind × List ℕ) → List ℕ
 gate_lines before [] = []
-gate_lines before (gate ∷ gates) =
-    gate.1 ++ codes " = " ++ kind_text gate.0 ++ codes "(" ++ before ++ codes ")\n" ++ gate_lines gate.1 gates
+gate_lines before (gate ∷ gates) = gate_text before gate ++ gate_lines gate.1 gates
 
 -- the name of the last line
 abbrev pub last_name : List ℕ → List (GateKind × List ℕ) → List ℕ
@@ -35,15 +37,13 @@ last_name before (gate ∷ gates) = last_name gate.1 gates
 
 -- the one spelling of a chain
 abbrev pub chain_text : List ℕ → List (GateKind × List ℕ) → List ℕ
-chain_text source gates =
-    codes "INPUT(" ++ source ++ codes ")\nOUTPUT(" ++ last_name source gates ++ codes ")\n" ++ gate_lines source gates
+chain_text source gates = head_text source (last_name source gates) ++ gate_lines source gates
 
--- the bytes spell a chain of the built length, and the circuit is its circuit
+-- the bytes spell a chain, and the circuit is its circuit
 pub record IsNet (bytes : List ℕ) (c : Circuit) : Type 0 where
   pub source : List ℕ
   pub gates : List (GateKind × List ℕ)
   pub chain : IsChain source gates
-  pub built : length gates ≤ most_gates
   pub spelled : bytes ≡ chain_text source gates
   pub circuit : c ≡ chain_circuit source gates
 

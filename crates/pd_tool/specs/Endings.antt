@@ -25,7 +25,13 @@ pub record Seen : Type 0 where
 -- the view of one moment, made of its five parts
 abbrev pub seen : Option Folder → ℕ → ℕ → Option (List ℕ) → ℕ → Seen
 seen folder read_faults write_faults out out_faults =
-    record { folder = folder; read_faults = read_faults; write_faults = write_faults; out = out; out_faults = out_faults }
+    record {
+      folder = folder;
+      read_faults = read_faults;
+      write_faults = write_faults;
+      out = out;
+      out_faults = out_faults;
+    }
 
 -- the call asks for `gen`, and this holds of its request
 abbrev pub AsksForGen : Result Command WordsFault → (GenRequest → Type 0) → Type 0
@@ -37,9 +43,13 @@ abbrev pub names_to_read : Result Command WordsFault → List (List ℕ)
 names_to_read (Ok (gen request)) = input_names request
 names_to_read (Err fault) = []
 
+-- more names were asked, and nothing else happened
+abbrev pub AsksOnly : List (List ℕ) → Folder → Folder → Type 0
+AsksOnly names before after = after ≡ record { held = before.held; asked = before.asked ++ names }
+
 -- no file was begun and out took nothing; these names were asked
 pub record IsUntouched (asked : List (List ℕ)) (old new : Seen) : Type 0 where
-  pub files : Tells old.folder new.folder (λ before after. after ≡ record { held = before.held; asked = before.asked ++ asked })
+  pub files : Tells old.folder new.folder (AsksOnly asked)
   pub out : Tells old.out new.out (λ before after. after ≡ before)
 
 -- the place of an output in the order of writing
@@ -49,14 +59,17 @@ place_of Report = 1
 place_of Proofs = 2
 place_of Out = 3
 
--- one and the same run has come to the files and to out so far, up to this place
+-- The texts of one run were written up to this place: the files before it are whole, the one there was not begun or
+-- holds a front of its text, those behind it are as before, and out took nothing before all files were whole.
 pub record StandsAt (place : ℕ) (request : GenRequest) (old new : Seen) : Type 0 where
   pub work : GenWork request old.folder
   pub files : Tells old.folder new.folder (λ before after.
-      FilesStandAt place (due_files request work.circuit work.run) before.held after.held × (after.asked ≡ before.asked ++ input_names request))
-  pub out : Tells old.out new.out (OutStandsAt place (due_files request work.circuit work.run) (summary_text work.run))
+      FilesStandAt place (due_files request work.circuit work.run) before.held after.held
+      × (after.asked ≡ before.asked ++ input_names request))
+  pub out : Tells old.out new.out
+      (OutStandsAt place (due_files request work.circuit work.run) (summary_text work.run))
 
--- no count of faults rose
+-- each count of faults is the number that it was
 pub record IsStill (old new : Seen) : Type 0 where
   pub read : new.read_faults ≡ old.read_faults
   pub write : new.write_faults ≡ old.write_faults
@@ -67,7 +80,10 @@ pub record IsStill (old new : Seen) : Type 0 where
 pub record IsWritten (request : GenRequest) (old new : Seen) : Type 0 where
   pub work : GenWork request old.folder
   pub files : Tells old.folder new.folder (λ before after.
-      after ≡ record { held = put_all before.held (due_files request work.circuit work.run); asked = before.asked ++ input_names request })
+      after ≡ record {
+        held = put_all before.held (due_files request work.circuit work.run);
+        asked = before.asked ++ input_names request;
+      })
   pub out : Tells old.out new.out (λ before after. after ≡ before ++ summary_text work.run)
   pub still : IsStill old new
 
@@ -76,29 +92,53 @@ abbrev pub IsDone : Result Command WordsFault → Seen → Seen → Type 0
 IsDone (Ok (gen request)) old new = IsWritten request old new
 IsDone (Err fault) old new = ⊥
 
--- the count of the object to which this output goes rose
-abbrev pub WriteRose : Output → Seen → Seen → Type 0
-WriteRose Tests old new = Rose old.write_faults new.write_faults
-WriteRose Report old new = Rose old.write_faults new.write_faults
-WriteRose Proofs old new = Rose old.write_faults new.write_faults
-WriteRose Out old new = Rose old.out_faults new.out_faults
+-- a fault of reading was counted, and no other
+pub record HasReadFault (old new : Seen) : Type 0 where
+  pub rose : Rose old.read_faults new.read_faults
+  pub write : new.write_faults ≡ old.write_faults
+  pub out : new.out_faults ≡ old.out_faults
+
+-- a fault of writing files was counted, and no other
+pub record HasFileFault (old new : Seen) : Type 0 where
+  pub rose : Rose old.write_faults new.write_faults
+  pub read : new.read_faults ≡ old.read_faults
+  pub out : new.out_faults ≡ old.out_faults
+
+-- a fault of out was counted, and no other
+pub record HasOutFault (old new : Seen) : Type 0 where
+  pub rose : Rose old.out_faults new.out_faults
+  pub read : new.read_faults ≡ old.read_faults
+  pub write : new.write_faults ≡ old.write_faults
+
+-- a fault of the object to which this output goes was counted, and no other
+abbrev pub HasWriteFault : Output → Seen → Seen → Type 0
+HasWriteFault Tests old new = HasFileFault old new
+HasWriteFault Report old new = HasFileFault old new
+HasWriteFault Proofs old new = HasFileFault old new
+HasWriteFault Out old new = HasOutFault old new
 
 -- The cause of each ending, and what stands after it.
 abbrev pub IsEnding : Result Command WordsFault → Ending → Seen → Seen → Type 0
 -- the work of the command was done
 IsEnding command Done old new = IsDone command old new
 -- the words are refused so
-IsEnding command (Words fault) old new = (command ≡ Err fault) × IsUntouched [] old new
--- a count of read faults rose, and this is the input that was read last
+IsEnding command (Words fault) old new =
+    (command ≡ Err fault) × IsUntouched [] old new × IsStill old new
+-- a read fault was counted, and this is the input that was read last
 IsEnding command (ReadFault input) old new =
-    AsksForGen command (λ request. Rose old.read_faults new.read_faults × IsUntouched (names_up_to input request) old new)
--- a count of write faults rose where this output was due
+    AsksForGen command (λ request.
+    HasReadFault old new × IsUntouched (names_up_to input request) old new)
+-- a write fault was counted where this output was due
 IsEnding command (WriteFault output) old new =
-    AsksForGen command (λ request. WriteRose output old new × StandsAt (place_of output) request old new)
+    AsksForGen command (λ request.
+    HasWriteFault output old new × StandsAt (place_of output) request old new)
 -- memory ran out somewhere
 IsEnding command NoMemory old new =
-    ((asked : List (List ℕ)) × IsFrontOf asked (names_to_read command) × IsUntouched asked old new)
-    ⊎ AsksForGen command (λ request. (place : ℕ) × StandsAt place request old new)
--- both inputs were read, and this one is the first without the built form
+    IsStill old new
+    × (((asked : List (List ℕ)) × IsFrontOf asked (names_to_read command) × IsUntouched asked old new)
+    ⊎ AsksForGen command (λ request. (place : ℕ) × StandsAt place request old new))
+-- both inputs were asked for and none failed, and this one is the first without the built form
 IsEnding command (NotBuilt input) old new =
-    AsksForGen command (λ request. IsUntouched (input_names request) old new × OfTold old.folder (λ told. IsNotBuilt input request told.held))
+    AsksForGen command (λ request.
+    IsUntouched (input_names request) old new × IsStill old new
+    × OfTold old.folder (λ told. IsNotBuilt input request told.held))

@@ -49,4 +49,5 @@ due_files request c run =
 abbrev pub IsNotBuilt : Input → GenRequest → Contents → Type 0
 IsNotBuilt Net request held = (c : Circuit) → ¬ IsNet (bytes_at held request.net) c
 IsNotBuilt Delays request held =
-    ((c : Circuit) × IsNet (bytes_at held request.net) c) × (¬ (bytes_at held request.delays ≡ unit_delays_text))
+    ((c : Circuit) × IsNet (bytes_at held request.net) c)
+    × (¬ (bytes_at held request.delays ≡ unit_delays_text))

@@ -12,7 +12,8 @@ use Rattle.pd_tool.specs.Endings.{Seen, IsEnding}
 use Rattle.pd_tool.specs.Lines.{IsReported}
 
 -- there is an ending whose cause holds, which left the files and out so, and which was reported so
-pub record Ends (command : Result Command WordsFault) (status : Status) (old new : Seen) (old_err new_err : Option (List ℕ)) (old_faults new_faults : ℕ) : Type 0 where
+pub record Ends (command : Result Command WordsFault) (status : Status) (old new : Seen)
+    (old_err new_err : Option (List ℕ)) (old_faults new_faults : ℕ) : Type 0 where
   pub ending : Ending
   pub cause : IsEnding command ending old new
   pub reported : IsReported ending status old_err new_err old_faults new_faults
@@ -27,9 +28,10 @@ abbrev pub HasBuiltInputs : Result Command WordsFault → Option Folder → Type
 HasBuiltInputs (Err fault) folder = ⊥
 HasBuiltInputs (Ok (gen request)) None = ⊥
 HasBuiltInputs (Ok (gen request)) (Some told) =
-    ((c : Circuit) × IsNet (bytes_at told.held request.net) c) × (bytes_at told.held request.delays ≡ unit_delays_text)
+    ((c : Circuit) × IsNet (bytes_at told.held request.net) c)
+    × (bytes_at told.held request.delays ≡ unit_delays_text)
 
--- no count of faults of the files or of out rose
+-- no count of faults of the files or of out rose, where one at the end of its type counts as risen
 pub record IsCalm (old new : Seen) : Type 0 where
   pub read : Rose old.read_faults new.read_faults → ⊥
   pub write : Rose old.write_faults new.write_faults → ⊥

@@ -1,7 +1,6 @@
 pub mod ChainPieces
 pub mod ChainRun
 pub mod ChainText
-pub mod Counts
 pub mod Endings
 pub mod Generation
 pub mod Headline
@@ -17,4 +16,5 @@ pub mod Standing
 pub mod Summary
 pub mod TestsText
 pub mod Tokens
+pub mod VerdictCounts
 pub mod Words

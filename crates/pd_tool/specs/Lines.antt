@@ -1,7 +1,10 @@
 -- The line on err for each ending, and how an ending is reported (this project's own).
-use Rattle.std.specs.Prelude.{◌≡◌, ◌⊎◌, ℕ, List, [], ◌++◌, Option, codes, decimal}
+use Rattle.std.specs.Prelude.{◌≡◌, ◌⊎◌, ℕ, List, [], ◌++◌, Option, map, codes, decimal}
+use Rattle.std.specs.List.{concat}
+use denote.Ref.{Bor}
 use Rattle.pd_io.specs.Counts.{Rose}
-use Rattle.pd_io.specs.Telling.{Tells, IsFrontOf}
+use Rattle.pd_io.specs.Telling.{Tells}
+use Rattle.pd_io.specs.Whole.{TookPart}
 use Rattle.pd_tool.specs.declared.ending.Ending.{Ending}
 use Rattle.pd_tool.specs.declared.ending.Ending.TheVariants.{Done, Words, ReadFault, WriteFault, NoMemory, NotBuilt}
 use Rattle.pd_tool.specs.declared.ending.Input.{Input}
@@ -12,7 +15,11 @@ use Rattle.pd_tool.specs.declared.words.WordsFault.{WordsFault}
 use Rattle.pd_tool.specs.declared.words.WordsFault.TheVariants.{Command, OptionAt, EmptyAt, Count, SameAt}
 use Rattle.pd_tool.specs.declared.status.Status.{Status}
 use Rattle.pd_tool.specs.declared.status.Status.TheVariants as exit
-use Rattle.pd_tool.specs.Tokens.{line, spaced}
+use Rattle.pd_tool.specs.Tokens.{line, after_space}
+
+-- the text of these pieces, one behind another
+abbrev pub pieces_text : List (Bor (List ℕ)) → List ℕ
+pieces_text pieces = concat (map (λ piece. piece.now) pieces)
 
 -- the word for an input in the line on err
 abbrev pub input_word : Input → List ℕ
@@ -32,7 +39,7 @@ words_reason Command = codes "command"
 words_reason (OptionAt place) = codes "option at " ++ decimal place
 words_reason (EmptyAt place) = codes "empty at " ++ decimal place
 words_reason Count = codes "count"
-words_reason (SameAt first second) = codes "same at " ++ decimal first ++ spaced (decimal second)
+words_reason (SameAt first second) = codes "same at " ++ decimal first ++ after_space (decimal second)
 
 -- the line on err for an ending; `Done` has none
 abbrev pub line_of : Ending → List ℕ
@@ -61,11 +68,10 @@ number_of exit.WriteFault = 6
 number_of exit.NoMemory = 7
 number_of exit.NotBuilt = 9
 
--- The status is that of the ending, and its line stands on err, whole unless a fault of err was counted; or err had no
--- memory, the status says so, and a front of the line stands there.
+-- The status is that of the ending, and its line stands on err: all of it, and no fault of err was counted, or a part, and
+-- one was. Or err had no memory, the status says so, and a part of the line stands there.
 abbrev pub IsReported : Ending → Status → Option (List ℕ) → Option (List ℕ) → ℕ → ℕ → Type 0
 IsReported ending status old new old_faults new_faults =
-    ((status ≡ status_of ending)
-    × Tells old new (λ before after. (after ≡ before ++ line_of ending)
-    ⊎ (Rose old_faults new_faults × ((front : List ℕ) × IsFrontOf front (line_of ending) × (after ≡ before ++ front)))))
-    ⊎ ((status ≡ exit.NoMemory) × Tells old new (λ before after. (front : List ℕ) × IsFrontOf front (line_of ending) × (after ≡ before ++ front)))
+    ((status ≡ status_of ending) × (new_faults ≡ old_faults) × Tells old new (λ before after. after ≡ before ++ line_of ending))
+    ⊎ ((status ≡ status_of ending) × Rose old_faults new_faults × Tells old new (TookPart (line_of ending)))
+    ⊎ ((status ≡ exit.NoMemory) × (new_faults ≡ old_faults) × Tells old new (TookPart (line_of ending)))

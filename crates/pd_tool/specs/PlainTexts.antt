@@ -4,10 +4,19 @@ use Rattle.pd_base.specs.declared.ids.PinRef.{PinRef}
 use Rattle.pd_base.specs.Route.{Route}
 use Rattle.netlist.specs.Circuit.{Circuit, gate_count, line_count, line_names}
 use Rattle.refutation_check.specs.declared.run.ListedPath.{ListedPath}
+use Rattle.pd_tool.specs.Tokens.{comma, line_feed}
+
+-- the byte of a double quote
+abbrev pub double_quote : ℕ
+double_quote = 34
+
+-- the byte CR
+abbrev pub carriage_return : ℕ
+carriage_return = 13
 
 -- not a comma, a double quote, CR or LF
 abbrev pub IsPlainByte : ℕ → Type 0
-IsPlainByte byte = (byte ≢ 44) × (byte ≢ 34) × (byte ≢ 13) × (byte ≢ 10)
+IsPlainByte byte = (byte ≢ comma) × (byte ≢ double_quote) × (byte ≢ carriage_return) × (byte ≢ line_feed)
 
 -- a text that calls for no quotes
 abbrev pub IsPlain : List ℕ → Type 0

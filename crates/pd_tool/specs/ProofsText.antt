@@ -3,7 +3,7 @@ use Rattle.std.specs.Prelude.{ℕ, ◌+◌, List, [], ◌∷◌, ◌++◌, Bool,
 use Rattle.refutation_check.specs.declared.run.Proof.{Proof}
 use Rattle.refutation_check.specs.declared.tree.Node.{Node}
 use Rattle.refutation_check.specs.declared.tree.Node.TheVariants.{Closed, Waiting, Value, Steadiness}
-use Rattle.pd_tool.specs.Tokens.{spaced, line, direction_word, kind_word}
+use Rattle.pd_tool.specs.Tokens.{after_space, line, direction_word, kind_word}
 
 -- a closed leaf X, an open one O, a split on a source's final value V, or on its steadiness H
 abbrev pub node_text : Node → List ℕ
@@ -19,8 +19,10 @@ claim_word false = codes "refutes"
 
 -- a proof: its number, what it claims, kind, transition, path, how many steps, and the tree
 abbrev pub proof_line : ℕ → Proof → List ℕ
-proof_line number proof = line (decimal number ++ spaced (claim_word proof.spent) ++ spaced (kind_word proof.kind) ++ spaced (direction_word proof.dir)
-    ++ spaced (decimal proof.path) ++ spaced (decimal proof.steps) ++ flat_map (λ node. spaced (node_text node)) proof.tree)
+proof_line number proof = line (decimal number
+    ++ after_space (claim_word proof.spent) ++ after_space (kind_word proof.kind) ++ after_space (direction_word proof.dir)
+    ++ after_space (decimal proof.path) ++ after_space (decimal proof.steps)
+    ++ flat_map (λ node. after_space (node_text node)) proof.tree)
 
 -- the lines of the proofs, numbered on from this number
 abbrev pub proof_lines : ℕ → List Proof → List ℕ

@@ -35,9 +35,12 @@ optional_number (Some number) = decimal number
 
 -- the fields that an outcome stands for
 abbrev pub outcome_texts : Outcome → List (List ℕ)
-outcome_texts outcome = outcome.word.now ∷ optional_number outcome.test ∷ optional_number outcome.robust_proof ∷ optional_number outcome.nonrobust_proof ∷ []
+outcome_texts outcome =
+    outcome.word.now ∷ optional_number outcome.test ∷ optional_number outcome.robust_proof
+    ∷ optional_number outcome.nonrobust_proof ∷ []
 
 -- the fields of a path's row for a transition
 abbrev pub fault_texts : RowStart → Direction → Verdict → List (List ℕ)
 fault_texts start direction verdict =
-    decimal start.number ∷ direction_word direction ∷ decimal start.length ∷ start.source.now ∷ start.steps.now ∷ verdict_fields verdict
+    decimal start.number ∷ direction_word direction ∷ decimal start.length ∷ start.source.now
+    ∷ start.steps.now ∷ verdict_fields verdict

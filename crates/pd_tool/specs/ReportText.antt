@@ -1,14 +1,15 @@
 -- The text of the report: a header, then two lines per listed path, of fields joined by commas (this project's own format).
-use Rattle.std.specs.Prelude.{ℕ, ◌+◌, List, [], ◌∷◌, ◌++◌, map, flat_map, codes, decimal, slice_index_or}
+use Rattle.std.specs.Prelude.{ℕ, ◌+◌, List, [], ◌∷◌, ◌++◌, map, flat_map, codes, decimal}
 use Rattle.std.specs.List.{join_with_byte}
 use Rattle.pd_base.specs.declared.fault.Direction.{Direction}
 use Rattle.pd_base.specs.declared.fault.Direction.TheVariants.{Rise, Fall}
 use Rattle.pd_base.specs.declared.ids.PinRef.{PinRef}
-use Rattle.netlist.specs.Circuit.{Circuit, line_names, gate_at}
+use Rattle.netlist.specs.Circuit.{Circuit, gate_at}
+use Rattle.netlist.specs.Names.{name_at}
 use Rattle.refutation_check.specs.declared.run.Verdict.{Verdict}
 use Rattle.refutation_check.specs.declared.run.Verdict.TheVariants.{Robust, Nonrobust, Untestable, Aborted}
 use Rattle.refutation_check.specs.declared.run.ListedPath.{ListedPath}
-use Rattle.pd_tool.specs.Tokens.{line, direction_word}
+use Rattle.pd_tool.specs.Tokens.{space, comma, line, direction_word}
 
 -- what stands where there is nothing to say
 abbrev pub nothing : List ℕ
@@ -16,12 +17,12 @@ nothing = codes "-"
 
 -- a step: the gate's name, a colon, the pin's number
 abbrev pub step_text : Circuit → PinRef → List ℕ
-step_text c step = (gate_at c step.gate.0).name ++ 58 ∷ decimal step.pin
+step_text c step = (gate_at c step.gate.0).name ++ codes ":" ++ decimal step.pin
 
 -- the steps with single spaces between
 abbrev pub steps_text : Circuit → List PinRef → List ℕ
 steps_text c [] = nothing
-steps_text c (step ∷ steps) = join_with_byte 32 (map (step_text c) (step ∷ steps))
+steps_text c (step ∷ steps) = join_with_byte space (map (step_text c) (step ∷ steps))
 
 -- a verdict's word, then its test, its robust proof and its nonrobust proof
 abbrev pub verdict_fields : Verdict → List (List ℕ)
@@ -33,7 +34,7 @@ verdict_fields (Aborted robust nonrobust) = codes "aborted" ∷ nothing ∷ deci
 -- the fields of one line: path number, transition, length, source, steps, and the verdict's
 abbrev pub fault_fields : Circuit → ℕ → ListedPath → Direction → Verdict → List (List ℕ)
 fault_fields c number listed direction verdict =
-    decimal number ∷ direction_word direction ∷ decimal listed.length ∷ slice_index_or (line_names c) listed.path.source.0 []
+    decimal number ∷ direction_word direction ∷ decimal listed.length ∷ name_at c listed.path.source.0
     ∷ steps_text c listed.path.steps ∷ verdict_fields verdict
 
 -- the names of the columns, on the first line
@@ -53,7 +54,7 @@ report_rows c number (listed ∷ paths) = path_rows c number listed ++ report_ro
 
 -- fields joined by commas, ended by LF
 abbrev pub row_line : List (List ℕ) → List ℕ
-row_line fields = line (join_with_byte 44 fields)
+row_line fields = line (join_with_byte comma fields)
 
 -- the whole file
 abbrev pub report_text : Circuit → List ListedPath → List ℕ

@@ -1,7 +1,7 @@
 -- The words and the request of a call, as contracts see them (this project's own).
 use Rattle.std.specs.Prelude.{ℕ, List, map}
 use Rattle.pd_tool.specs.declared.words.Request.{Request}
-use Rattle.pd_tool.specs.Words.{GenRequest}
+use Rattle.pd_tool.specs.Words.{GenRequest, default_budget, default_paths}
 use denote.Ref.{Bor}
 
 -- the bytes of each word
@@ -16,6 +16,6 @@ request_of request = record {
   tests = request.tests.now;
   report = request.report.now;
   proofs = request.proofs.now;
-  paths = 100;
-  budget = 1000;
+  paths = default_paths;
+  budget = default_budget;
 }

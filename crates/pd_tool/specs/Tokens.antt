@@ -1,17 +1,37 @@
 -- Words and numbers of which the texts of the three files are made (this project's own formats).
-use Rattle.std.specs.Prelude.{ℕ, Bool, cond, List, [], ◌∷◌, ◌++◌, map, codes}
+use Rattle.std.specs.Prelude.{ℕ, Bool, if◌then◌else◌, List, [], ◌∷◌, ◌++◌, map, codes}
 use Rattle.pd_base.specs.declared.fault.Direction.{Direction}
 use Rattle.pd_base.specs.declared.fault.Direction.TheVariants.{Rise, Fall}
 use Rattle.pd_base.specs.declared.fault.Kind.{Kind}
 use Rattle.pd_base.specs.declared.fault.Kind.TheVariants.{Robust, Nonrobust}
 
+-- the byte of a space
+abbrev pub space : ℕ
+space = 32
+
+-- the byte of a comma
+abbrev pub comma : ℕ
+comma = 44
+
+-- the byte LF
+abbrev pub line_feed : ℕ
+line_feed = 10
+
+-- the byte of the digit 0
+abbrev pub digit_zero : ℕ
+digit_zero = 48
+
+-- the byte of the digit 1
+abbrev pub digit_one : ℕ
+digit_one = 49
+
 -- a text with a space before it
-abbrev pub spaced : List ℕ → List ℕ
-spaced text = 32 ∷ text
+abbrev pub after_space : List ℕ → List ℕ
+after_space text = space ∷ text
 
 -- a line, ended by LF
 abbrev pub line : List ℕ → List ℕ
-line text = text ++ 10 ∷ []
+line text = text ++ line_feed ∷ []
 
 -- the word for a transition
 abbrev pub direction_word : Direction → List ℕ
@@ -25,7 +45,7 @@ kind_word Nonrobust = codes "nonrobust"
 
 -- the digit of a bit
 abbrev pub digit : Bool → ℕ
-digit bit = cond bit 49 48
+digit bit = if bit then digit_one else digit_zero
 
 -- one digit per bit
 abbrev pub digits : List Bool → List ℕ

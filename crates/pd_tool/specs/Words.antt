@@ -15,6 +15,14 @@ pub record GenRequest : Type 0 where
   pub paths : ℕ
   pub budget : ℕ
 
+-- how many paths are asked for where no word says otherwise
+abbrev pub default_paths : ℕ
+default_paths = 100
+
+-- and how many splits each search may make
+abbrev pub default_budget : ℕ
+default_budget = 1000
+
 -- what is asked for
 pub data Command : Type 0 where
   gen : GenRequest → Command
@@ -24,10 +32,14 @@ abbrev pub is_empty : List ℕ → Bool
 is_empty [] = true
 is_empty (byte ∷ bytes) = false
 
+-- the byte of a hyphen
+abbrev pub hyphen : ℕ
+hyphen = 45
+
 -- the first byte is a hyphen
 abbrev pub is_option : List ℕ → Bool
 is_option [] = false
-is_option (byte ∷ bytes) = byte == 45
+is_option (byte ∷ bytes) = byte == hyphen
 
 -- The first word that cannot stand where it does, from this place on, where so many names are still wanted; or that some
 -- are missing. The command stands at place 1.
@@ -50,9 +62,17 @@ first_same place [] = None
 first_same place (name ∷ names) =
     fault_or (option_map (λ later. SameAt place later) (position_from (pointwise nat_eq name) (place + 1) names)) (first_same (place + 1) names)
 
+-- how many files `gen` names
+abbrev pub name_count : ℕ
+name_count = 5
+
+-- the place of the first name; the command stands at place 1
+abbrev pub first_place : ℕ
+first_place = 2
+
 -- why the words behind `gen` are refused, if they are
 abbrev pub names_fault : List (List ℕ) → Option WordsFault
-names_fault names = fault_or (first_fault 2 5 names) (first_same 2 names)
+names_fault names = fault_or (first_fault first_place name_count names) (first_same first_place names)
 
 -- the call of `gen` with these five names
 abbrev pub gen_request : List (List ℕ) → GenRequest
@@ -62,8 +82,8 @@ gen_request names = record {
   tests = slice_index_or names 2 [];
   report = slice_index_or names 3 [];
   proofs = slice_index_or names 4 [];
-  paths = 100;
-  budget = 1000;
+  paths = default_paths;
+  budget = default_budget;
 }
 
 -- the fault if there is one, and else the command

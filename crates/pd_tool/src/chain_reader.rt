@@ -4,15 +4,15 @@
 ghost use Rattle.std.specs.Prelude.{◌≡◌, ◌≢◌, ℕ, ◌<◌, ◌≤◌, ◌↔◌, List, ◌++◌, length, map, take, drop, codes, IsTrue, IfOk, IfSome, IfNone, MatchOption, AllPairs};
 ghost use Rattle.std.specs.List.{All, AllByRecursion};
 ghost use Rattle.netlist.specs.Circuit.{Circuit};
-ghost use Rattle.netlist.specs.Chain.{IsChain, IsLetterOrDigit, IsShortName, chain_names};
-ghost use Rattle.pd_tool.specs.ChainText.{IsNet, kind_text, unit_delays_text};
-ghost use Rattle.pd_tool.specs.ChainPieces.{AreLines, EndsName, IsChainGate, IsChainKind, IsMark, gate_line, head_text};
+ghost use Rattle.netlist.specs.Chain.{IsChain, IsChainKind, IsLetterOrDigit, IsShortName, chain_names};
+ghost use Rattle.pd_tool.specs.ChainText.{IsNet, gate_text, head_text, kind_text, unit_delays_text};
+ghost use Rattle.pd_tool.specs.ChainPieces.{AreLines, EndsName, IsChainGate, IsMark};
 
 use netlist::{GateKind, Netlist, chain};
 use pd_base::{Items, OutOfMemory};
 use std::alloc::Global;
 
-/// The greatest number of gates in a chain that is read today. All is proved for any value up to 32.
+/// The greatest number of gates in a chain.
 pub const MOST_GATES: usize = 32;
 
 /// How many letters and digits a name may have.
@@ -20,22 +20,22 @@ const LONGEST_NAME: usize = 16;
 
 const UNIT_DELAYS: &[u8] = b"gate,pin,delay\n";
 
-/// The netlist of the chain that the bytes spell, or None exactly where they spell no chain of at most `MOST_GATES`
-/// gates. `OutOfMemory` comes where a growth was refused.
+/// The netlist of the chain that the bytes spell, or None exactly where they spell none. `OutOfMemory` comes where
+/// a growth was refused.
 pub fn read_chain(alloc: Global, bytes: &[u8]) -> Result<Option<Netlist>, OutOfMemory>
     ensures found { IfOk result (λ found. IfSome found (λ net. IsNet bytes.now net)) }
     ensures none { IfOk result (λ found. IfNone found ((c : Circuit) → ¬ IsNet bytes.now c)) }
 {
-    let Some((source, last, lines)) = head(bytes) else {
+    let Some(head) = head_of(bytes) else {
         return Ok(None);
     };
-    let Some(gates) = gates_of(alloc, source, last, lines)? else {
+    let Some(gates) = gates_of(alloc, head.source, head.last, head.lines)? else {
         return Ok(None);
     };
-    if !are_distinct(source, gates.as_slice()) {
+    if !are_distinct(head.source, gates.as_slice()) {
         return Ok(None);
     }
-    Ok(Some(chain(alloc, source, gates.as_slice())?))
+    Ok(Some(chain(alloc, head.source, gates.as_slice())?))
 }
 
 /// Whether the bytes are the delay file that leaves every delay at one unit.
@@ -45,16 +45,30 @@ pub fn is_unit_delays(bytes: &[u8]) -> bool
     bytes == UNIT_DELAYS
 }
 
-// The names of the source and of the output, and what follows their two lines.
-fn head(bytes: &[u8]) -> Option<(&[u8], &[u8], &[u8])>
+// The names of the source and of the output, and the lines behind their two.
+#[derive(Clone, Copy)]
+struct Head<'a> {
+    source: &'a [u8],
+    last: &'a [u8],
+    lines: &'a [u8],
+}
+
+// What the first two lines name, and what follows them.
+fn head_of(bytes: &[u8]) -> Option<Head>
     ensures { MatchOption result
-        ((source last rest : List ℕ) → IsShortName source → IsShortName last → bytes.now ≢ head_text source last ++ rest)
-        (λ found. IsShortName found.0.now × IsShortName found.1.now × (bytes.now ≡ head_text found.0.now found.1.now ++ found.2.now)) }
+        ((source last rest : List ℕ) → IsShortName source → IsShortName last
+        → bytes.now ≢ head_text source last ++ rest)
+        (λ head. IsShortName head.source.now × IsShortName head.last.now
+        × (bytes.now ≡ head_text head.source.now head.last.now ++ head.lines.now)) }
 {
     let rest = after(bytes, b"INPUT(")?;
     let (source, rest) = name_then(rest, b")\nOUTPUT(")?;
-    let (last, rest) = name_then(rest, b")\n")?;
-    Some((source, last, rest))
+    let (last, lines) = name_then(rest, b")\n")?;
+    Some(Head {
+        source,
+        last,
+        lines,
+    })
 }
 
 // The gates that the lines spell, from the source to the last name, if there are not too many.
@@ -64,8 +78,10 @@ fn gates_of(
     last: &[u8],
     lines: &[u8],
 ) -> Result<Option<Vec<(GateKind, Items<u8>)>>, OutOfMemory>
-    ensures found { IfOk result (λ found. IfSome found (λ gates. AreLines source.now last.now lines.now gates.items)) }
-    ensures none { IfOk result (λ found. IfNone found ((gates : List (GateKind × List ℕ)) → ¬ AreLines source.now last.now lines.now gates)) }
+    ensures found { IfOk result (λ found. IfSome found (λ gates.
+        AreLines source.now last.now lines.now gates.items)) }
+    ensures none { IfOk result (λ found. IfNone found (
+        (gates : List (GateKind × List ℕ)) → ¬ AreLines source.now last.now lines.now gates)) }
 {
     let mut gates = Vec::new(alloc);
     let mut before = source;
@@ -74,12 +90,12 @@ fn gates_of(
         if gates.len() == MOST_GATES {
             return Ok(None);
         }
-        let Some((kind, name, later)) = gate_at(before, rest) else {
+        let Some(line) = gate_at(before, rest) else {
             return Ok(None);
         };
-        gates.push((kind, Items::new(Vec::from_slice(alloc, name)?)))?;
-        before = name;
-        rest = later;
+        gates.push((line.kind, Items::new(Vec::from_slice(alloc, line.name)?)))?;
+        before = line.name;
+        rest = line.rest;
     }
     if before != last {
         return Ok(None);
@@ -87,24 +103,36 @@ fn gates_of(
     Ok(Some(gates))
 }
 
-// The kind and the name of the gate on the first line, which reads the line of this name, and what follows it.
-fn gate_at<'a>(before: &[u8], bytes: &'a [u8]) -> Option<(GateKind, &'a [u8], &'a [u8])>
+// The kind and the name of the gate on a line, and what follows that line.
+#[derive(Clone, Copy)]
+struct GateLine<'a> {
+    kind: GateKind,
+    name: &'a [u8],
+    rest: &'a [u8],
+}
+
+// The first line, where its gate reads the line of this name.
+fn gate_at<'a>(before: &[u8], bytes: &'a [u8]) -> Option<GateLine<'a>>
     ensures { MatchOption result
-        ((gate : GateKind × List ℕ) (rest : List ℕ) → IsChainGate gate → bytes.now ≢ gate_line before.now gate ++ rest)
-        (λ found. IsChainGate (found.0, found.1.now) × (bytes.now ≡ gate_line before.now (found.0, found.1.now) ++ found.2.now)) }
+        ((gate : GateKind × List ℕ) (rest : List ℕ) → IsChainGate gate
+        → bytes.now ≢ gate_text before.now gate ++ rest)
+        (λ line. IsChainGate (line.kind, line.name.now)
+        × (bytes.now ≡ gate_text before.now (line.kind, line.name.now) ++ line.rest.now)) }
 {
     let (name, rest) = name_then(bytes, b" = ")?;
     let (kind, rest) = kind_at(rest)?;
     let rest = after(rest, before)?;
     let rest = after(rest, b")\n")?;
-    Some((kind, name, rest))
+    Some(GateLine { kind, name, rest })
 }
 
 // The kind of a gate, with the bracket that opens its argument, and what follows it.
 fn kind_at(bytes: &[u8]) -> Option<(GateKind, &[u8])>
     ensures { MatchOption result
-        ((kind : GateKind) (rest : List ℕ) → IsChainKind kind → bytes.now ≢ kind_text kind ++ codes "(" ++ rest)
-        (λ found. IsChainKind found.0 × (bytes.now ≡ kind_text found.0 ++ codes "(" ++ found.1.now)) }
+        ((kind : GateKind) (rest : List ℕ) → IsChainKind kind
+        → bytes.now ≢ kind_text kind ++ codes "(" ++ rest)
+        (λ found. IsChainKind found.0
+        × (bytes.now ≡ kind_text found.0 ++ codes "(" ++ found.1.now)) }
 {
     if let Some(rest) = after(bytes, b"NOT(") {
         return Some((GateKind::Not, rest));
@@ -118,7 +146,8 @@ fn name_then<'a>(bytes: &'a [u8], mark: &[u8]) -> Option<(&'a [u8], &'a [u8])>
     requires { IsMark mark.now }
     ensures { MatchOption result
         ((name rest : List ℕ) → IsShortName name → bytes.now ≢ name ++ mark.now ++ rest)
-        (λ found. IsShortName found.0.now × (bytes.now ≡ found.0.now ++ mark.now ++ found.1.now)) }
+        (λ found. IsShortName found.0.now
+        × (bytes.now ≡ found.0.now ++ mark.now ++ found.1.now)) }
 {
     let length = name_length(bytes);
     if length == 0 || length > LONGEST_NAME {

@@ -7,6 +7,7 @@ ghost use Rattle.netlist.specs.Values.{gate_value, value};
 ghost use Rattle.pd_tool.specs.ChainRun.{IsChainCircuit, chain_route};
 ghost use Rattle.pd_tool.specs.ChainText.{unit_delays};
 ghost use Rattle.pd_tool.specs.RobustRun.{IsRobustRun, IsRobustTest};
+ghost use Rattle.pd_tool.specs.Words.{default_paths};
 
 use netlist::{GateKind, Netlist};
 use pd_base::{Direction, GateId, Items, Kind, LineId, OutOfMemory, Pair, Path, PinRef, Test};
@@ -16,7 +17,7 @@ use std::alloc::Global;
 /// The run of a chain under unit delays: the one path, and its two robust tests, the rising one first.
 pub fn chain_run(alloc: Global, net: &Netlist) -> Result<Run, OutOfMemory>
     requires chain { IsChainCircuit net.now }
-    ensures robust { IfOk result (λ run. IsRobustRun net.now unit_delays 100 run) }
+    ensures robust { IfOk result (λ run. IsRobustRun net.now unit_delays default_paths run) }
 {
     let mut paths = Vec::new(alloc);
     paths.push(ListedPath {
@@ -52,17 +53,18 @@ fn chain_path(alloc: Global, net: &Netlist) -> Result<Path, OutOfMemory>
 // The robust test of the path for a transition.
 fn chain_test(alloc: Global, net: &Netlist, dir: Direction) -> Result<Test, OutOfMemory>
     requires { IsChainCircuit net.now }
-    ensures { IfOk result (λ test. IsRobustTest net.now 1 (chain_route (gate_count net.now)) dir test) }
+    ensures { IfOk result (λ test.
+        IsRobustTest net.now 1 (chain_route (gate_count net.now)) dir test) }
 {
-    let last = bit_after(dir);
-    let expected = last_value(net, last);
+    let second = bit_after(dir);
+    let expected = last_value(net, second);
     Ok(Test {
         path: 1,
         dir,
         kind: Kind::Robust,
         pair: Pair::new(
-            Vec::from_slice(alloc, &[!last])?,
-            Vec::from_slice(alloc, &[last])?,
+            Vec::from_slice(alloc, &[!second])?,
+            Vec::from_slice(alloc, &[second])?,
         ),
         expected: Items::new(Vec::from_slice(alloc, &[expected])?),
     })
@@ -99,6 +101,3 @@ fn value_behind(kind: GateKind, bit: bool) -> bool
         GateKind::Nand | GateKind::Nor | GateKind::Xnor | GateKind::Not => !bit,
     }
 }
-
-#[cfg(test)]
-mod tests;

@@ -21,8 +21,10 @@ pub fn generate<F: Files, O: Sink>(
     out: &mut O,
 ) -> Ending
     ensures ending { IsEnding (Ok (gen (request_of request.now))) result
-        (seen (F.folder files.old) (F.read_faults files.old) (F.write_faults files.old) (O.taken out.old) (O.faults out.old))
-        (seen (F.folder files.new) (F.read_faults files.new) (F.write_faults files.new) (O.taken out.new) (O.faults out.new)) }
+        (seen (F.folder files.old) (F.read_faults files.old) (F.write_faults files.old)
+        (O.taken out.old) (O.faults out.old))
+        (seen (F.folder files.new) (F.read_faults files.new) (F.write_faults files.new)
+        (O.taken out.new) (O.faults out.new)) }
     ensures closed { result ≡ Done → F.writer files.new ≡ None }
 {
     match try_generate(alloc, request, files, out) {
@@ -39,13 +41,17 @@ fn try_generate<F: Files, O: Sink>(
     out: &mut O,
 ) -> Result<(), Ending>
     ensures done { OnOk result (IsEnding (Ok (gen (request_of request.now))) Done
-        (seen (F.folder files.old) (F.read_faults files.old) (F.write_faults files.old) (O.taken out.old) (O.faults out.old))
-        (seen (F.folder files.new) (F.read_faults files.new) (F.write_faults files.new) (O.taken out.new) (O.faults out.new))) }
+        (seen (F.folder files.old) (F.read_faults files.old) (F.write_faults files.old)
+        (O.taken out.old) (O.faults out.old))
+        (seen (F.folder files.new) (F.read_faults files.new) (F.write_faults files.new)
+        (O.taken out.new) (O.faults out.new))) }
     ensures closed { OnOk result (F.writer files.new ≡ None) }
     ensures not_done { IfErr result (λ ending. ending ≢ Done) }
     ensures ended { IfErr result (λ ending. IsEnding (Ok (gen (request_of request.now))) ending
-        (seen (F.folder files.old) (F.read_faults files.old) (F.write_faults files.old) (O.taken out.old) (O.faults out.old))
-        (seen (F.folder files.new) (F.read_faults files.new) (F.write_faults files.new) (O.taken out.new) (O.faults out.new))) }
+        (seen (F.folder files.old) (F.read_faults files.old) (F.write_faults files.old)
+        (O.taken out.old) (O.faults out.old))
+        (seen (F.folder files.new) (F.read_faults files.new) (F.write_faults files.new)
+        (O.taken out.new) (O.faults out.new))) }
 {
     let inputs = read_inputs(alloc, request, files)?;
     let texts = make_texts(alloc, &inputs)?;

@@ -3,15 +3,16 @@ ghost use Rattle.std.specs.Prelude.{◌≡◌, ◌≤◌, [], ◌∷◌, IfOk, I
 ghost use Rattle.pd_io.specs.Folder.{bytes_at};
 ghost use Rattle.pd_io.specs.Telling.{Tells};
 ghost use Rattle.pd_tool.specs.Requests.{request_of};
-ghost use Rattle.pd_tool.specs.Stages.{AreRead, AreUnread, AsksOnly, IsReadAs, IsUnread};
+ghost use Rattle.pd_tool.specs.Endings.{AsksOnly};
+ghost use Rattle.pd_tool.specs.Stages.{AreRead, AreUnread, IsReadAs, IsUnread};
 
 use crate::ending::{Ending, Input};
 use crate::words::Request;
 use pd_io::{Files, ReadFault, read_whole};
 use std::alloc::Global;
 
-/// How many bytes an input may have, so far.
-const LIMIT: usize = 4096;
+/// How many bytes an input may have. A longer one does not have the form that is built today.
+pub const LIMIT: usize = 4096;
 
 /// The bytes of both inputs, or nothing where one is over the limit.
 #[derive(Debug, Drop)]
@@ -28,9 +29,11 @@ pub fn read_inputs<F: Files>(
     request: &Request,
     files: &mut F,
 ) -> Result<Inputs, Ending>
-    ensures read { IfOk result (λ inputs. Tells (F.folder files.old) (F.folder files.new) (AreRead (request_of request.now) inputs)) }
+    ensures read { IfOk result (λ inputs.
+        Tells (F.folder files.old) (F.folder files.new) (AreRead (request_of request.now) inputs)) }
     ensures unread { IfErr result (λ ending. AreUnread (request_of request.now) ending
-        (F.folder files.old) (F.folder files.new) (F.read_faults files.old) (F.read_faults files.new)) }
+        (F.folder files.old) (F.folder files.new)
+        (F.read_faults files.old) (F.read_faults files.new)) }
     ensures calm { OnOk result (F.read_faults files.new ≡ F.read_faults files.old) }
     ensures write_faults { F.write_faults files.new ≡ F.write_faults files.old }
 {
@@ -46,10 +49,13 @@ fn read_input<F: Files>(
     name: &str,
     input: Input,
 ) -> Result<Option<Vec<u8>>, Ending>
-    ensures asked { IfOk result (λ read. Tells (F.folder files.old) (F.folder files.new) (AsksOnly (name.now ∷ []))) }
-    ensures read { IfOk result (λ read. Tells (F.folder files.old) (F.folder files.new) (λ before _. IsReadAs read (bytes_at before.held name.now))) }
+    ensures asked { OnOk result
+        (Tells (F.folder files.old) (F.folder files.new) (AsksOnly (name.now ∷ []))) }
+    ensures read { IfOk result (λ read. Tells (F.folder files.old) (F.folder files.new) (λ before _.
+        IsReadAs read (bytes_at before.held name.now))) }
     ensures unread { IfErr result (λ ending. IsUnread input name.now ending
-        (F.folder files.old) (F.folder files.new) (F.read_faults files.old) (F.read_faults files.new)) }
+        (F.folder files.old) (F.folder files.new)
+        (F.read_faults files.old) (F.read_faults files.new)) }
     ensures calm { OnOk result (F.read_faults files.new ≡ F.read_faults files.old) }
     ensures never_falls { F.read_faults files.old ≤ F.read_faults files.new }
     ensures write_faults { F.write_faults files.new ≡ F.write_faults files.old }

@@ -29,28 +29,39 @@ pub fn run<F: Files, O: Sink, E: Sink>(
 ) -> Status
     // Status 0: the files hold the texts of one run, which lists the first paths, each with its robust tests.
     ensures done { result ≡ Status.Done → IsDone (command_of (texts words.now))
-        (seen (F.folder files.old) (F.read_faults files.old) (F.write_faults files.old) (O.taken out.old) (O.faults out.old))
-        (seen (F.folder files.new) (F.read_faults files.new) (F.write_faults files.new) (O.taken out.new) (O.faults out.new)) }
+        (seen (F.folder files.old) (F.read_faults files.old) (F.write_faults files.old)
+        (O.taken out.old) (O.faults out.old))
+        (seen (F.folder files.new) (F.read_faults files.new) (F.write_faults files.new)
+        (O.taken out.new) (O.faults out.new)) }
     ensures closed { result ≡ Status.Done → F.writer files.new ≡ None }
-    ensures silent { result ≡ Status.Done → Tells (E.taken err.old) (E.taken err.new) (λ before after. after ≡ before) }
+    ensures quiet { result ≡ Status.Done → E.faults err.new ≡ E.faults err.old }
+    ensures silent { result ≡ Status.Done
+        → Tells (E.taken err.old) (E.taken err.new) (λ before after. after ≡ before) }
 
     // Each status has its cause, what stands in the files and on out after it, and its line on err.
     ensures ended { Ends (command_of (texts words.now)) result
-        (seen (F.folder files.old) (F.read_faults files.old) (F.write_faults files.old) (O.taken out.old) (O.faults out.old))
-        (seen (F.folder files.new) (F.read_faults files.new) (F.write_faults files.new) (O.taken out.new) (O.faults out.new))
+        (seen (F.folder files.old) (F.read_faults files.old) (F.write_faults files.old)
+        (O.taken out.old) (O.faults out.old))
+        (seen (F.folder files.new) (F.read_faults files.new) (F.write_faults files.new)
+        (O.taken out.new) (O.faults out.new))
         (E.taken err.old) (E.taken err.new) (E.faults err.old) (E.faults err.new) }
 
-    // Refused words are refused.
-    ensures refused { AreRefused (command_of (texts words.now)) → (result ≡ Status.Words) ⊎ (result ≡ Status.NoMemory) }
+    // Refused words lead to status 2, or 7 for want of memory.
+    ensures refused { AreRefused (command_of (texts words.now))
+        → (result ≡ Status.Words) ⊎ (result ≡ Status.NoMemory) }
 
     // An input that is refused for its form does not have it, as far as the files tell.
-    ensures not_built { result ≡ Status.NotBuilt → AsksForGen (command_of (texts words.now)) (λ request.
-        OfTold (F.folder files.old) (λ told. (input : Input) × IsNotBuilt input request told.held)) }
+    ensures not_built { result ≡ Status.NotBuilt
+        → AsksForGen (command_of (texts words.now)) (λ request. OfTold (F.folder files.old) (λ told.
+        (input : Input) × IsNotBuilt input request told.held)) }
 
     // Where nothing fails, inputs of the built form lead to status 0.
     ensures complete { HasBuiltInputs (command_of (texts words.now)) (F.folder files.old)
-        → IsCalm (seen (F.folder files.old) (F.read_faults files.old) (F.write_faults files.old) (O.taken out.old) (O.faults out.old))
-        (seen (F.folder files.new) (F.read_faults files.new) (F.write_faults files.new) (O.taken out.new) (O.faults out.new))
+        → IsCalm
+        (seen (F.folder files.old) (F.read_faults files.old) (F.write_faults files.old)
+        (O.taken out.old) (O.faults out.old))
+        (seen (F.folder files.new) (F.read_faults files.new) (F.write_faults files.new)
+        (O.taken out.new) (O.faults out.new))
         → (result ≡ Status.Done) ⊎ (result ≡ Status.NoMemory) }
 {
     let ending = perform(alloc, words, files, out);
@@ -60,8 +71,10 @@ pub fn run<F: Files, O: Sink, E: Sink>(
 // Does the work of the command, and tells how it ended.
 fn perform<F: Files, O: Sink>(alloc: Global, words: &[&str], files: &mut F, out: &mut O) -> Ending
     ensures ending { IsEnding (command_of (texts words.now)) result
-        (seen (F.folder files.old) (F.read_faults files.old) (F.write_faults files.old) (O.taken out.old) (O.faults out.old))
-        (seen (F.folder files.new) (F.read_faults files.new) (F.write_faults files.new) (O.taken out.new) (O.faults out.new)) }
+        (seen (F.folder files.old) (F.read_faults files.old) (F.write_faults files.old)
+        (O.taken out.old) (O.faults out.old))
+        (seen (F.folder files.new) (F.read_faults files.new) (F.write_faults files.new)
+        (O.taken out.new) (O.faults out.new)) }
     ensures closed { result ≡ Ending.Done → F.writer files.new ≡ None }
 {
     match read_words(words) {

@@ -1,10 +1,9 @@
 // Telling how a call ended: its line on err, in pieces that need no memory, and its status.
-ghost use Rattle.std.specs.Prelude.{◌≡◌, ◌≤◌, ◌++◌, map, OnOk, OnErr, IsErrOf};
-ghost use Rattle.std.specs.List.{concat};
+ghost use Rattle.std.specs.Prelude.{◌≡◌, ◌≤◌, ◌++◌, OnOk, OnErr, IsOk, IsErrOf};
 ghost use Rattle.pd_io.specs.Counts.{Rose};
 ghost use Rattle.pd_io.specs.Telling.{Tells};
-ghost use Rattle.pd_io.specs.Whole.{TookFront};
-ghost use Rattle.pd_tool.specs.Lines.{IsReported, input_word, line_of, output_word, status_of};
+ghost use Rattle.pd_io.specs.Whole.{TookPart};
+ghost use Rattle.pd_tool.specs.Lines.{IsReported, input_word, line_of, output_word, pieces_text, status_of};
 
 use crate::ending::{Ending, Input, Output};
 use crate::status::Status;
@@ -14,7 +13,9 @@ use pd_io::{FileFault, Sink, write_all};
 
 /// Writes the ending's line on err, and gives its status: a failing err changes it only where it has no memory.
 pub fn tell<E: Sink>(ending: &Ending, err: &mut E) -> Status
-    ensures { IsReported ending.now result (E.taken err.old) (E.taken err.new) (E.faults err.old) (E.faults err.new) }
+    ensures reported { IsReported ending.now result
+        (E.taken err.old) (E.taken err.new) (E.faults err.old) (E.faults err.new) }
+    ensures quiet { ending.now ≡ Ending.Done → E.faults err.new ≡ E.faults err.old }
 {
     match write_line(ending, err) {
         Err(FileFault::NoMemory) => Status::NoMemory,
@@ -22,6 +23,7 @@ pub fn tell<E: Sink>(ending: &Ending, err: &mut E) -> Status
     }
 }
 
+// The status that an ending comes to.
 fn status(ending: &Ending) -> Status
     ensures { result ≡ status_of ending.now }
 {
@@ -37,9 +39,14 @@ fn status(ending: &Ending) -> Status
 
 // Writes the whole line, or a front of it.
 fn write_line<E: Sink>(ending: &Ending, err: &mut E) -> Result<(), FileFault>
-    ensures ok { OnOk result (Tells (E.taken err.old) (E.taken err.new) (λ old new. new ≡ old ++ line_of ending.now)) }
-    ensures part { OnErr result (Tells (E.taken err.old) (E.taken err.new) (TookFront (line_of ending.now))) }
+    ensures ok { OnOk result (Tells (E.taken err.old) (E.taken err.new)
+        (λ old new. new ≡ old ++ line_of ending.now)) }
+    ensures part { OnErr result (Tells (E.taken err.old) (E.taken err.new)
+        (TookPart (line_of ending.now))) }
     ensures cause { IsErrOf result FileFault.Failed → Rose (E.faults err.old) (E.faults err.new) }
+    ensures memory { IsErrOf result FileFault.NoMemory → E.faults err.new ≡ E.faults err.old }
+    ensures calm { OnOk result (E.faults err.new ≡ E.faults err.old) }
+    ensures done { ending.now ≡ Ending.Done → IsOk result }
 {
     match ending {
         Ending::Done => Ok(()),
@@ -54,10 +61,15 @@ fn write_line<E: Sink>(ending: &Ending, err: &mut E) -> Result<(), FileFault>
     }
 }
 
+// Writes the line that says why the words were refused, or a front of it.
 fn write_words_line<E: Sink>(fault: &WordsFault, err: &mut E) -> Result<(), FileFault>
-    ensures ok { OnOk result (Tells (E.taken err.old) (E.taken err.new) (λ old new. new ≡ old ++ line_of (Ending.Words fault.now))) }
-    ensures part { OnErr result (Tells (E.taken err.old) (E.taken err.new) (TookFront (line_of (Ending.Words fault.now)))) }
+    ensures ok { OnOk result (Tells (E.taken err.old) (E.taken err.new)
+        (λ old new. new ≡ old ++ line_of (Ending.Words fault.now))) }
+    ensures part { OnErr result (Tells (E.taken err.old) (E.taken err.new)
+        (TookPart (line_of (Ending.Words fault.now)))) }
     ensures cause { IsErrOf result FileFault.Failed → Rose (E.faults err.old) (E.faults err.new) }
+    ensures memory { IsErrOf result FileFault.NoMemory → E.faults err.new ≡ E.faults err.old }
+    ensures calm { OnOk result (E.faults err.new ≡ E.faults err.old) }
 {
     let mut first = Buffer::new();
     let mut second = Buffer::new();
@@ -84,6 +96,7 @@ fn write_words_line<E: Sink>(fault: &WordsFault, err: &mut E) -> Result<(), File
     }
 }
 
+// The word for an input.
 fn input_name(input: &Input) -> &'static [u8]
     ensures { result.now ≡ input_word input.now }
 {
@@ -93,6 +106,7 @@ fn input_name(input: &Input) -> &'static [u8]
     }
 }
 
+// The word for an output.
 fn output_name(output: &Output) -> &'static [u8]
     ensures { result.now ≡ output_word output.now }
 {
@@ -105,11 +119,15 @@ fn output_name(output: &Output) -> &'static [u8]
 }
 
 // Writes one piece after another, up to the first fault.
-#[tactic(auto, using(crate::proofs::Pieces::piece_more, crate::proofs::Pieces::pieces_all, crate::proofs::Pieces::piece_part))]
+#[tactic(auto, using(crate::proofs::Pieces::pieces_all))]
 fn write_pieces<E: Sink>(err: &mut E, pieces: &[&[u8]]) -> Result<(), FileFault>
-    ensures ok { OnOk result (Tells (E.taken err.old) (E.taken err.new) (λ old new. new ≡ old ++ concat (map (λ piece. piece.now) pieces.now))) }
-    ensures part { OnErr result (Tells (E.taken err.old) (E.taken err.new) (TookFront (concat (map (λ piece. piece.now) pieces.now)))) }
+    ensures ok { OnOk result (Tells (E.taken err.old) (E.taken err.new)
+        (λ old new. new ≡ old ++ pieces_text pieces.now)) }
+    ensures part { OnErr result (Tells (E.taken err.old) (E.taken err.new)
+        (TookPart (pieces_text pieces.now))) }
     ensures cause { IsErrOf result FileFault.Failed → Rose (E.faults err.old) (E.faults err.new) }
+    ensures memory { IsErrOf result FileFault.NoMemory → E.faults err.new ≡ E.faults err.old }
+    ensures calm { OnOk result (E.faults err.new ≡ E.faults err.old) }
 {
     let mut rest = pieces;
     while let [piece, more @ ..] = rest {

@@ -2,7 +2,7 @@
 ghost use Rattle.std.specs.Prelude.{◌≡◌, ◌+◌, ◌<◌, ◌^◌, Ok, Err, length, nat_eq, IfNone, MatchResult};
 ghost use Rattle.std.specs.List.{position_from};
 ghost use Rattle.std.specs.Cmp.Lexicographic.{pointwise};
-ghost use Rattle.pd_tool.specs.Words.{command_of, gen_request, names_fault, first_fault, first_same, gen};
+ghost use Rattle.pd_tool.specs.Words.{command_of, first_fault, first_place, first_same, gen, gen_request, name_count, names_fault};
 ghost use Rattle.pd_tool.specs.Requests.{request_of, texts};
 
 /// What is wrong with the words. A place is a word's number; the command stands at 1.
@@ -61,7 +61,7 @@ pub fn read_words<'a>(words: &[&'a str]) -> Result<Request<'a>, WordsFault>
 
 // The request with these names, each in the place of its role.
 fn request_for<'a>(names: &[&'a str]) -> Request<'a>
-    requires { length names.now ≡ 5 }
+    requires { length names.now ≡ name_count }
     ensures { request_of result ≡ gen_request (texts names.now) }
 {
     Request {
@@ -76,15 +76,15 @@ fn request_for<'a>(names: &[&'a str]) -> Request<'a>
 // Why the words behind `gen` are refused, if they are.
 fn names_fault(names: &[&str]) -> Option<WordsFault>
     ensures fault { result ≡ names_fault (texts names.now) }
-    ensures count { IfNone result (length names.now ≡ 5) }
+    ensures count { IfNone result (length names.now ≡ name_count) }
 {
     fault_among(names).or_else(|| same_among(names))
 }
 
 // The first name that cannot stand where it does, or that some are missing.
 fn fault_among(names: &[&str]) -> Option<WordsFault>
-    ensures first { result ≡ first_fault 2 5 (texts names.now) }
-    ensures count { IfNone result (length names.now ≡ 5) }
+    ensures first { result ≡ first_fault first_place name_count (texts names.now) }
+    ensures count { IfNone result (length names.now ≡ name_count) }
 {
     for (index, name) in names.iter().enumerate() {
         if let [b'-', ..] = name.as_bytes() {
@@ -106,7 +106,7 @@ fn fault_among(names: &[&str]) -> Option<WordsFault>
 
 // The first two equal names.
 fn same_among(names: &[&str]) -> Option<WordsFault>
-    ensures { result ≡ first_same 2 (texts names.now) }
+    ensures { result ≡ first_same first_place (texts names.now) }
 {
     let mut place = FIRST_NAME;
     let mut rest = names;

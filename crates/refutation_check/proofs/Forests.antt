@@ -1,6 +1,5 @@
 -- Trees one behind another, as a walk over their nodes counts them.
-use Rattle.std.proofs.Common.{◌≡◌, ℕ, zero, suc, ◌+◌, ◌-◌, Bool, true, false, cond, List, [], ◌∷◌, ◌++◌, length, refl, sym, ap, ◌∙◌, append_assoc, arith}
-use Rattle.std.proofs.Common.{◌<◌, ◌≤◌, drop, get_or}
+use Rattle.std.proofs.Common.{◌≡◌, ℕ, zero, suc, ◌+◌, ◌-◌, ◌<◌, ◌≤◌, Bool, true, false, cond, List, [], ◌∷◌, ◌++◌, length, drop, get_or, refl, sym, ap, ◌∙◌, append_assoc, arith}
 use Rattle.std.specs.Prelude.{IsTrue, nat_eq}
 use Rattle.std.proofs.Math.ListN.{drop_of_length-le}
 use Rattle.std.proofs.lemmas.List.{append-nil, length-drop}
@@ -21,7 +20,8 @@ fills (suc places) (Value source ∷ nodes) = fills (suc (suc places)) nodes
 fills (suc places) (Steadiness source ∷ nodes) = fills (suc (suc places)) nodes
 
 -- a tree fills one place
-pub fills-preorder : (cases : Cases) (places : ℕ) (more : List Node) → fills (suc places) (preorder cases ++ more) ≡ fills places more
+pub fills-preorder : (cases : Cases) (places : ℕ) (more : List Node)
+    → fills (suc places) (preorder cases ++ more) ≡ fills places more
 fills-preorder closed places more = refl
 fills-preorder waiting places more = refl
 fills-preorder (by_value source first second) places more =
@@ -37,21 +37,25 @@ pub record Forest (count : ℕ) (nodes : List Node) : Type 0 where
   pub counted : length trees ≡ count
   pub spelled : nodes ≡ flat_map preorder trees
 
+-- a split in front of its two halves makes one tree of the first two
 first_two : (make : Cases → Cases → Cases) (node : Node) (count : ℕ) (nodes : List Node)
     → ((a b : Cases) → preorder (make a b) ≡ node ∷ (preorder a ++ preorder b))
     → Forest (suc (suc count)) nodes → Forest (suc count) (node ∷ nodes)
 first_two make node count nodes shape f = by f.trees f.counted f.spelled
   where
-    by : (trees : List Cases) → length trees ≡ suc (suc count) → nodes ≡ flat_map preorder trees → Forest (suc count) (node ∷ nodes)
+    by : (trees : List Cases) → length trees ≡ suc (suc count) → nodes ≡ flat_map preorder trees
+        → Forest (suc count) (node ∷ nodes)
     by [] e spelled = absurd (omega arith)
     by (a ∷ []) e spelled = absurd (omega arith)
     by (a ∷ b ∷ trees) e spelled = record {
       trees = make a b ∷ trees;
       counted = omega arith;
-      spelled = ap (λ (ns : List Node). node ∷ ns) (spelled ∙ sym (append_assoc (preorder a) (preorder b) (flat_map preorder trees)))
+      spelled = ap (λ (ns : List Node). node ∷ ns)
+          (spelled ∙ sym (append_assoc (preorder a) (preorder b) (flat_map preorder trees)))
           ∙ ap (λ (ns : List Node). ns ++ flat_map preorder trees) (sym (shape a b));
     }
 
+-- a leaf in front is one tree more
 leaf_first : (leaf : Cases) (node : Node) (count : ℕ) (nodes : List Node) → preorder leaf ≡ node ∷ []
     → Forest count nodes → Forest (suc count) (node ∷ nodes)
 leaf_first leaf node count nodes shape f = record {
@@ -77,7 +81,7 @@ pub fills_tree : (nodes : List Node) → IsTree nodes → fills 1 nodes ≡ true
 fills_tree nodes tree =
     ap (fills 1) (tree.1 ∙ sym (append-nil (preorder tree.0))) ∙ fills-preorder tree.0 0 []
 
--- and nothing else does
+-- what fills one place is one whole tree
 pub tree_of_fills : (nodes : List Node) → fills 1 nodes ≡ true → IsTree nodes
 tree_of_fills nodes h = let f = forest_of_fills 1 nodes h in by f.trees f.counted f.spelled
   where
@@ -87,18 +91,21 @@ tree_of_fills nodes h = let f = forest_of_fills 1 nodes h in by f.trees f.counte
     by (t ∷ u ∷ trees) e spelled = absurd (omega arith)
 
 -- one more node goes on to the places behind it
-pub fills-more : (places : ℕ) (node : Node) (nodes : List Node) → fills (suc places) (node ∷ nodes) ≡ fills (cond (is_split node) (suc (suc places)) places) nodes
+pub fills-more : (places : ℕ) (node : Node) (nodes : List Node)
+    → fills (suc places) (node ∷ nodes) ≡ fills (cond (is_split node) (suc (suc places)) places) nodes
 fills-more places Closed nodes = refl
 fills-more places Waiting nodes = refl
 fills-more places (Value source) nodes = refl
 fills-more places (Steadiness source) nodes = refl
 
--- one step of the walk
+-- one step of the walk: what is left fills the next count of places just where it filled the one before
 pub fills-step : (nodes : List Node) (i places next : ℕ) (d : Node) → i < length nodes → 0 < places
-    → next ≡ cond (is_split (get_or nodes i d)) (places + 1) (places - 1) → fills next (drop (suc i) nodes) ≡ fills places (drop i nodes)
+    → next ≡ cond (is_split (get_or nodes i d)) (places + 1) (places - 1)
+    → fills next (drop (suc i) nodes) ≡ fills places (drop i nodes)
 fills-step [] i places next d h some e = absurd (omega arith)
 fills-step (node ∷ nodes) i zero next d h some e = absurd (omega arith)
-fills-step (node ∷ nodes) zero (suc places) next d h some e = ap (λ (k : ℕ). fills k nodes) (e ∙ counted (is_split node)) ∙ sym (fills-more places node nodes)
+fills-step (node ∷ nodes) zero (suc places) next d h some e =
+    ap (λ (k : ℕ). fills k nodes) (e ∙ counted (is_split node)) ∙ sym (fills-more places node nodes)
   where
     counted : (b : Bool) → cond b (suc places + 1) (suc places - 1) ≡ cond b (suc (suc places)) places
     counted true = omega arith
@@ -111,11 +118,15 @@ pub whole_at_end : (nodes : List Node) (i places : ℕ) → length nodes ≤ i �
     → (IsTrue (nat_eq places 0) → IsTree nodes) × (IsTree nodes → IsTrue (nat_eq places 0))
 whole_at_end nodes i places past e = by places (ap (fills places) (sym (drop_of_length-le nodes past)) ∙ e)
   where
-    by : (places : ℕ) → fills places [] ≡ fills 1 nodes → (IsTrue (nat_eq places 0) → IsTree nodes) × (IsTree nodes → IsTrue (nat_eq places 0))
+    by : (places : ℕ) → fills places [] ≡ fills 1 nodes
+        → (IsTrue (nat_eq places 0) → IsTree nodes) × (IsTree nodes → IsTrue (nat_eq places 0))
     by zero e = (λ _. tree_of_fills nodes (sym e), λ _. refl)
-    by (suc places) e = (λ h. let none : suc places ≡ 0 = grind arith in absurd (omega arith), λ tree. absurd (false≢true (e ∙ fills_tree nodes tree)))
+    by (suc places) e = (
+      λ h. let none : suc places ≡ 0 = grind arith in absurd (omega arith),
+      λ tree. absurd (false≢true (e ∙ fills_tree nodes tree)),
+    )
 
--- a node where no place is open
+-- a node where no place is open: the nodes are not one tree
 pub no_place : (nodes : List Node) (i : ℕ) → i < length nodes → fills 0 (drop i nodes) ≡ fills 1 nodes → IsTree nodes → ⊥
 no_place nodes i h e tree = by (drop i nodes) (omega (arith, length-drop i nodes)) (e ∙ fills_tree nodes tree)
   where
@@ -124,6 +135,7 @@ no_place nodes i h e tree = by (drop i nodes) (omega (arith, length-drop i nodes
     by (node ∷ rest) h e = cc
 
 -- there are at most as many open places as nodes so far and one
-pub few_more : (b : Bool) (places next i : ℕ) → next ≡ cond b (places + 1) (places - 1) → places ≤ i + 1 → next ≤ i + 1 + 1
+pub few_more : (b : Bool) (places next i : ℕ) → next ≡ cond b (places + 1) (places - 1) → places ≤ i + 1
+    → next ≤ i + 1 + 1
 few_more true places next i e h = omega arith
 few_more false places next i e h = omega arith

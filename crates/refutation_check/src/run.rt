@@ -2,20 +2,36 @@
 use crate::Tree;
 use pd_base::{Direction, Items, Kind, Path, Test};
 
-/// What was found for one path and one direction. Tests and proofs are named by their numbers, from 1.
+/// What was found for one path and one direction. Tests and proofs are named by their numbers in the run, from 1.
 #[derive(Clone, Copy, Debug, PartialEq, Eq)]
 pub enum Verdict {
-    /// A robust test.
-    Robust { test: u32 },
-    /// A nonrobust test, and its robust proof.
-    Nonrobust { test: u32, proof: u32 },
-    /// A refutation that excludes every pair of vectors.
-    Untestable { proof: u32 },
-    /// The budget was spent: the robust proof and the nonrobust one.
-    Aborted { robust: u32, nonrobust: u32 },
+    /// A robust test was found.
+    Robust {
+        /// The number of that test.
+        test: u32,
+    },
+    /// A test was found that is nonrobust only.
+    Nonrobust {
+        /// The number of that test.
+        test: u32,
+        /// The number of the proof that no robust test was found: a refutation, or a spent budget.
+        proof: u32,
+    },
+    /// No pair of vectors meets even the nonrobust conditions.
+    Untestable {
+        /// The number of the proof that refutes them.
+        proof: u32,
+    },
+    /// The budget was spent before a nonrobust test was found.
+    Aborted {
+        /// The number of the proof that no robust test was found: a refutation, or a spent budget.
+        robust: u32,
+        /// The number of the proof that the search for a nonrobust test spent its budget.
+        nonrobust: u32,
+    },
 }
 
-/// A path in the list, with one verdict per direction.
+/// A path of the list, with one verdict per direction.
 #[derive(Debug, Drop)]
 pub struct ListedPath {
     /// The path.
@@ -28,10 +44,10 @@ pub struct ListedPath {
     pub fall: Verdict,
 }
 
-/// A tree of cases for a prefix of a listed path.
+/// A tree of cases for a prefix of a listed path: a refutation, or a record of how a budget was spent.
 #[derive(Debug, Drop)]
 pub struct Proof {
-    /// The tree shows that the budget was spent, and no refutation.
+    /// Whether the tree shows that the budget was spent. Otherwise it is a refutation.
     pub spent: bool,
     /// The conditions that the tree speaks of.
     pub kind: Kind,
@@ -39,13 +55,14 @@ pub struct Proof {
     pub dir: Direction,
     /// The number of the listed path, from 1.
     pub path: u32,
-    /// How many of its steps the prefix has.
+    /// How many steps of that path the prefix has, counted from the source.
     pub steps: u32,
     /// The cases.
     pub tree: Tree,
 }
 
-/// The listed paths, the tests and the proofs, each numbered from 1 in the order of its list.
+/// The listed paths, the tests and the proofs, each numbered from 1 in the order of its list. The type binds none
+/// of them to another: what they promise is said by the call that makes the run.
 #[derive(Debug, Drop)]
 pub struct Run {
     /// The paths, the longest first.

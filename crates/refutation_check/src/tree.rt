@@ -17,7 +17,7 @@ pub enum Node {
     Steadiness(u32),
 }
 
-/// One whole tree of case splits.
+/// One whole tree of case splits, of fewer than 2^31 nodes.
 #[derive(Debug, Drop)]
 pub struct Tree {
     nodes: Vec<Node>,
@@ -94,6 +94,7 @@ fn places_after(places: u32, node: &Node) -> u32
     }
 }
 
+// How many of the nodes are splits.
 fn count_splits(nodes: &[Node]) -> u32
     requires { length nodes.now < 2 ^ 31 }
     ensures { result ≡ split_count nodes.now }

@@ -1,8 +1,12 @@
 // Whole calls over files and sinks in memory, against what a person worked out from the formats.
+use crate::ending::Ending;
 use crate::run::run;
-use crate::status::Status;
-use pd_io::{FileCall, MemoryFiles, MemorySink, SteadyFiles, SteadySink};
+use crate::status::Status::{self, Done, NotBuilt, ReadFault, WriteFault};
+use crate::telling::tell;
+use pd_io::FileCall::{self, BeginRead, BeginWrite, Finish, Read, Write};
+use pd_io::{MemoryFiles, MemorySink, StdFiles, SteadyFiles, SteadySink, read_whole, write_whole};
 use std::alloc::Global;
+use std::fs;
 use std::process::Abort;
 use std::test::Fail;
 
@@ -49,7 +53,8 @@ fn assert_holds(rt: &impl Abort, files: &MemoryFiles, name: &str, text: &str, ro
     assert_eq!(rt; files.get(name), Some(text.as_bytes()), "{name} at {row}");
 }
 
-// A call over files and sinks of which single calls may be planned to fail.
+// A call over files and sinks of which single calls may be planned to fail. The tests call `run` by way of this function,
+// which promises nothing, so that what they assert is not proved over again under the contract of `run`.
 fn run_in_memory(
     alloc: Global,
     words: &[&str],
@@ -60,7 +65,7 @@ fn run_in_memory(
     run(alloc, words, files, out, err)
 }
 
-// A call over files and sinks that never fail.
+// A call over files and sinks that never fail, for the same reason.
 fn run_steadily(
     alloc: Global,
     files: &mut SteadyFiles,
@@ -100,8 +105,8 @@ fn assert_refused(rt: &impl Abort, alloc: Global, words: &[&str], line: &str) ->
     for name in ["a", "b", "c", "d", "e"] {
         files.put(name, OLD.as_bytes())?;
     }
-    files.fail(FileCall::BeginRead, 1)?;
-    files.fail(FileCall::BeginWrite, 1)?;
+    files.fail(BeginRead, 1)?;
+    files.fail(BeginWrite, 1)?;
     let mut out = MemorySink::new(alloc);
     out.fail(1)?;
     let mut err = MemorySink::new(alloc);
@@ -155,7 +160,7 @@ fn assert_written(rt: &impl Abort, alloc: Global, row: &Written) -> Result<(), F
     let mut out = MemorySink::new(alloc);
     let mut err = MemorySink::new(alloc);
     let status = run_in_memory(alloc, &WORDS, &mut files, &mut out, &mut err);
-    assert_eq!(rt; status, Status::Done, "{}", row.net);
+    assert_eq!(rt; status, Done, "{}", row.net);
     assert!(rt; err.bytes().is_empty(), "{}", row.net);
     assert_eq!(rt; out.bytes(), SUMMARY.as_bytes(), "{}", row.net);
     assert_holds(rt, &files, "net", row.net, row.net);
@@ -234,7 +239,7 @@ fn assert_written_steadily(rt: &impl Abort, alloc: Global, row: &Written) -> Res
     let mut out = SteadySink::new(alloc);
     let mut err = SteadySink::new(alloc);
     let status = run_steadily(alloc, &mut files, &mut out, &mut err);
-    assert_eq!(rt; status, Status::Done);
+    assert_eq!(rt; status, Done);
     assert!(rt; err.bytes().is_empty());
     assert_eq!(rt; out.bytes(), SUMMARY.as_bytes());
     assert_eq!(rt; files.get("net"), Some(row.net.as_bytes()));
@@ -249,6 +254,53 @@ fn assert_written_steadily(rt: &impl Abort, alloc: Global, row: &Written) -> Res
 #[test]
 fn a_run_over_steady_files_is_written_down(rt: HostRuntime) -> Result<(), Fail> {
     assert_written_steadily(&rt, rt.alloc(), &CHAIN)
+}
+
+// The words of a call over real files.
+const REAL: [&str; 6] = [
+    "gen",
+    "/tmp/pdfgen_real_run.bench",
+    "/tmp/pdfgen_real_run.csv",
+    "/tmp/pdfgen_real_run.tests",
+    "/tmp/pdfgen_real_run.report",
+    "/tmp/pdfgen_real_run.proofs",
+];
+
+fn run_over_real_files(rt: &HostRuntime, out: &mut MemorySink, err: &mut MemorySink) -> Status {
+    run(
+        rt.alloc(),
+        &REAL,
+        &mut StdFiles::new(rt.alloc(), rt),
+        out,
+        err,
+    )
+}
+
+#[test]
+fn a_run_over_real_files_is_written_down(rt: HostRuntime) -> Result<(), Fail> {
+    let [_, net, delays, tests, report, proofs] = REAL;
+    let mut files = StdFiles::new(rt.alloc(), &rt);
+    write_whole(&mut files, net, CHAIN_NET.as_bytes())?;
+    write_whole(&mut files, delays, DELAYS.as_bytes())?;
+    let mut out = MemorySink::new(rt.alloc());
+    let mut err = MemorySink::new(rt.alloc());
+    let status = run_over_real_files(&rt, &mut out, &mut err);
+    assert_eq!(rt; status, Done);
+    assert!(rt; err.bytes().is_empty());
+    assert_eq!(rt; out.bytes(), SUMMARY.as_bytes());
+    let held = [
+        (net, CHAIN_NET),
+        (delays, DELAYS),
+        (tests, CHAIN_TESTS),
+        (report, CHAIN_REPORT),
+        (proofs, PROOFS),
+    ];
+    for (name, text) in held {
+        let bytes = read_whole(rt.alloc(), &mut files, name, 4096)?;
+        assert_eq!(rt; bytes.as_slice(), text.as_bytes(), "{name}");
+        fs::remove_file(&rt, name)?;
+    }
+    Ok(())
 }
 
 // A netlist and delays of which one has not the built form, and the line on err.
@@ -313,12 +365,12 @@ fn assert_not_built(
     files.put("net", net)?;
     files.put("delays", delays)?;
     files.put("tests", OLD.as_bytes())?;
-    files.fail(FileCall::BeginWrite, 1)?;
+    files.fail(BeginWrite, 1)?;
     let mut out = MemorySink::new(alloc);
     out.fail(1)?;
     let mut err = MemorySink::new(alloc);
     let status = run_in_memory(alloc, &WORDS, &mut files, &mut out, &mut err);
-    assert_eq!(rt; status, Status::NotBuilt, "{line}");
+    assert_eq!(rt; status, NotBuilt, "{line}");
     assert_eq!(rt; err.bytes(), line.as_bytes());
     assert!(rt; out.bytes().is_empty(), "{line}");
     assert_eq!(rt; files.get("net"), Some(net));
@@ -345,7 +397,7 @@ fn an_absent_steady_netlist_is_not_built(rt: HostRuntime) -> Result<(), Fail> {
     let mut out = SteadySink::new(rt.alloc());
     let mut err = SteadySink::new(rt.alloc());
     let status = run_steadily(rt.alloc(), &mut files, &mut out, &mut err);
-    assert_eq!(rt; status, Status::NotBuilt);
+    assert_eq!(rt; status, NotBuilt);
     assert_eq!(rt; err.bytes(), b"not built: NET\n".as_slice());
     assert!(rt; out.bytes().is_empty());
     for name in ["net", "tests", "report", "proofs"] {
@@ -381,11 +433,11 @@ fn inputs_at_a_limit_are_built(rt: HostRuntime) -> Result<(), Fail> {
         "INPUT(abcdefghijklmnop)\nOUTPUT(abcdefghijklmnop)\n",
         "INPUT(a)\nOUTPUT(abcdefghijklmnop)\nabcdefghijklmnop = NOT(a)\n",
     ] {
-        assert_status(&rt, rt.alloc(), net.as_bytes(), Status::Done)?;
+        assert_status(&rt, rt.alloc(), net.as_bytes(), Done)?;
     }
     for gates in [1usize, 31, 32] {
         let net = inverters(rt.alloc(), gates)?;
-        assert_status(&rt, rt.alloc(), net.as_bytes(), Status::Done)?;
+        assert_status(&rt, rt.alloc(), net.as_bytes(), Done)?;
     }
     for gates in [33usize, 34] {
         let net = inverters(rt.alloc(), gates)?;
@@ -412,237 +464,113 @@ fn files_of_the_limit_and_over_it_are_not_built(rt: HostRuntime) -> Result<(), F
     Ok(())
 }
 
-// A call of the files that fails, and what stands after it.
-struct Faulty {
-    call: FileCall,
-    nth: u64,
-    status: Status,
-    line: &'static str,
-    tests: &'static str,
-    report: &'static str,
-    proofs: &'static str,
-    out: &'static str,
+// The length of a netlist, the read that fails, and the line on err: it takes one read more to find the end of 4,096 bytes,
+// and none more to find that 4,097 are too many.
+const LIMITS: [(usize, u64, &str); 3] = [
+    (4096, 2, "read fault NET\n"),
+    (4096, 3, "read fault DELAYS\n"),
+    (4097, 3, "read fault DELAYS\n"),
+];
+
+#[test]
+fn an_input_is_read_up_to_its_limit(rt: HostRuntime) -> Result<(), Fail> {
+    for (len, nth, line) in LIMITS {
+        let net = vec![in rt.alloc(); b'a'; len]?;
+        let mut files = MemoryFiles::new(rt.alloc());
+        files.put("net", net.as_slice())?;
+        files.put("delays", DELAYS.as_bytes())?;
+        files.fail(Read, nth)?;
+        let mut out = MemorySink::new(rt.alloc());
+        let mut err = MemorySink::new(rt.alloc());
+        let status = run_in_memory(rt.alloc(), &WORDS, &mut files, &mut out, &mut err);
+        assert_eq!(rt; status, ReadFault, "{len} {nth}");
+        assert_eq!(rt; err.bytes(), line.as_bytes(), "{len} {nth}");
+    }
+    Ok(())
 }
 
+// What stands after a call: the three files in order, and what out took.
+type Stands = [&'static str; 4];
+
+const UNTOUCHED: Stands = [OLD, OLD, OLD, ""];
+
+const TESTS_BEGUN: Stands = ["", OLD, OLD, ""];
+
+const TESTS_WHOLE: Stands = [WIRE_TESTS, OLD, OLD, ""];
+
+const REPORT_BEGUN: Stands = [WIRE_TESTS, "", OLD, ""];
+
+const REPORT_WHOLE: Stands = [WIRE_TESTS, WIRE_REPORT, OLD, ""];
+
+const PROOFS_BEGUN: Stands = [WIRE_TESTS, WIRE_REPORT, "", ""];
+
+const PROOFS_WHOLE: Stands = [WIRE_TESTS, WIRE_REPORT, PROOFS, ""];
+
+const ALL_DONE: Stands = [WIRE_TESTS, WIRE_REPORT, PROOFS, SUMMARY];
+
+// A method of the files, which of its calls fails, the status, the line on err, and what stands.
+type Faulty = (FileCall, u64, Status, &'static str, Stands);
+
 const FAULTY: [Faulty; 20] = [
-    Faulty {
-        call: FileCall::BeginRead,
-        nth: 1,
-        status: Status::ReadFault,
-        line: "read fault NET\n",
-        tests: OLD,
-        report: OLD,
-        proofs: OLD,
-        out: "",
-    },
-    Faulty {
-        call: FileCall::BeginRead,
-        nth: 2,
-        status: Status::ReadFault,
-        line: "read fault DELAYS\n",
-        tests: OLD,
-        report: OLD,
-        proofs: OLD,
-        out: "",
-    },
-    Faulty {
-        call: FileCall::BeginRead,
-        nth: 3,
-        status: Status::Done,
-        line: "",
-        tests: WIRE_TESTS,
-        report: WIRE_REPORT,
-        proofs: PROOFS,
-        out: SUMMARY,
-    },
-    Faulty {
-        call: FileCall::Read,
-        nth: 1,
-        status: Status::ReadFault,
-        line: "read fault NET\n",
-        tests: OLD,
-        report: OLD,
-        proofs: OLD,
-        out: "",
-    },
-    Faulty {
-        call: FileCall::Read,
-        nth: 2,
-        status: Status::ReadFault,
-        line: "read fault NET\n",
-        tests: OLD,
-        report: OLD,
-        proofs: OLD,
-        out: "",
-    },
-    Faulty {
-        call: FileCall::Read,
-        nth: 3,
-        status: Status::ReadFault,
-        line: "read fault DELAYS\n",
-        tests: OLD,
-        report: OLD,
-        proofs: OLD,
-        out: "",
-    },
-    Faulty {
-        call: FileCall::Read,
-        nth: 4,
-        status: Status::ReadFault,
-        line: "read fault DELAYS\n",
-        tests: OLD,
-        report: OLD,
-        proofs: OLD,
-        out: "",
-    },
-    Faulty {
-        call: FileCall::Read,
-        nth: 5,
-        status: Status::Done,
-        line: "",
-        tests: WIRE_TESTS,
-        report: WIRE_REPORT,
-        proofs: PROOFS,
-        out: SUMMARY,
-    },
-    Faulty {
-        call: FileCall::BeginWrite,
-        nth: 1,
-        status: Status::WriteFault,
-        line: "write fault TESTS\n",
-        tests: OLD,
-        report: OLD,
-        proofs: OLD,
-        out: "",
-    },
-    Faulty {
-        call: FileCall::BeginWrite,
-        nth: 2,
-        status: Status::WriteFault,
-        line: "write fault REPORT\n",
-        tests: WIRE_TESTS,
-        report: OLD,
-        proofs: OLD,
-        out: "",
-    },
-    Faulty {
-        call: FileCall::BeginWrite,
-        nth: 3,
-        status: Status::WriteFault,
-        line: "write fault PROOFS\n",
-        tests: WIRE_TESTS,
-        report: WIRE_REPORT,
-        proofs: OLD,
-        out: "",
-    },
-    Faulty {
-        call: FileCall::BeginWrite,
-        nth: 4,
-        status: Status::Done,
-        line: "",
-        tests: WIRE_TESTS,
-        report: WIRE_REPORT,
-        proofs: PROOFS,
-        out: SUMMARY,
-    },
-    Faulty {
-        call: FileCall::Write,
-        nth: 1,
-        status: Status::WriteFault,
-        line: "write fault TESTS\n",
-        tests: "",
-        report: OLD,
-        proofs: OLD,
-        out: "",
-    },
-    Faulty {
-        call: FileCall::Write,
-        nth: 2,
-        status: Status::WriteFault,
-        line: "write fault REPORT\n",
-        tests: WIRE_TESTS,
-        report: "",
-        proofs: OLD,
-        out: "",
-    },
-    Faulty {
-        call: FileCall::Write,
-        nth: 3,
-        status: Status::WriteFault,
-        line: "write fault PROOFS\n",
-        tests: WIRE_TESTS,
-        report: WIRE_REPORT,
-        proofs: "",
-        out: "",
-    },
-    Faulty {
-        call: FileCall::Write,
-        nth: 4,
-        status: Status::Done,
-        line: "",
-        tests: WIRE_TESTS,
-        report: WIRE_REPORT,
-        proofs: PROOFS,
-        out: SUMMARY,
-    },
-    Faulty {
-        call: FileCall::Finish,
-        nth: 1,
-        status: Status::WriteFault,
-        line: "write fault TESTS\n",
-        tests: WIRE_TESTS,
-        report: OLD,
-        proofs: OLD,
-        out: "",
-    },
-    Faulty {
-        call: FileCall::Finish,
-        nth: 2,
-        status: Status::WriteFault,
-        line: "write fault REPORT\n",
-        tests: WIRE_TESTS,
-        report: WIRE_REPORT,
-        proofs: OLD,
-        out: "",
-    },
-    Faulty {
-        call: FileCall::Finish,
-        nth: 3,
-        status: Status::WriteFault,
-        line: "write fault PROOFS\n",
-        tests: WIRE_TESTS,
-        report: WIRE_REPORT,
-        proofs: PROOFS,
-        out: "",
-    },
-    Faulty {
-        call: FileCall::Finish,
-        nth: 4,
-        status: Status::Done,
-        line: "",
-        tests: WIRE_TESTS,
-        report: WIRE_REPORT,
-        proofs: PROOFS,
-        out: SUMMARY,
-    },
+    (BeginRead, 1, ReadFault, "read fault NET\n", UNTOUCHED),
+    (BeginRead, 2, ReadFault, "read fault DELAYS\n", UNTOUCHED),
+    (BeginRead, 3, Done, "", ALL_DONE),
+    (Read, 1, ReadFault, "read fault NET\n", UNTOUCHED),
+    (Read, 2, ReadFault, "read fault NET\n", UNTOUCHED),
+    (Read, 3, ReadFault, "read fault DELAYS\n", UNTOUCHED),
+    (Read, 4, ReadFault, "read fault DELAYS\n", UNTOUCHED),
+    (Read, 5, Done, "", ALL_DONE),
+    (BeginWrite, 1, WriteFault, "write fault TESTS\n", UNTOUCHED),
+    (
+        BeginWrite,
+        2,
+        WriteFault,
+        "write fault REPORT\n",
+        TESTS_WHOLE,
+    ),
+    (
+        BeginWrite,
+        3,
+        WriteFault,
+        "write fault PROOFS\n",
+        REPORT_WHOLE,
+    ),
+    (BeginWrite, 4, Done, "", ALL_DONE),
+    (Write, 1, WriteFault, "write fault TESTS\n", TESTS_BEGUN),
+    (Write, 2, WriteFault, "write fault REPORT\n", REPORT_BEGUN),
+    (Write, 3, WriteFault, "write fault PROOFS\n", PROOFS_BEGUN),
+    (Write, 4, Done, "", ALL_DONE),
+    (Finish, 1, WriteFault, "write fault TESTS\n", TESTS_WHOLE),
+    (Finish, 2, WriteFault, "write fault REPORT\n", REPORT_WHOLE),
+    (Finish, 3, WriteFault, "write fault PROOFS\n", PROOFS_WHOLE),
+    (Finish, 4, Done, "", ALL_DONE),
 ];
 
 fn assert_faulty(rt: &impl Abort, alloc: Global, row: &Faulty) -> Result<(), Fail> {
-    let Faulty { call, nth, .. } = row;
+    let (call, nth, status, line, [tests, report, proofs, taken]) = *row;
     let mut files = files_of(alloc, WIRE_NET, DELAYS)?;
-    files.fail(row.call, row.nth)?;
+    files.fail(call, nth)?;
     let mut out = MemorySink::new(alloc);
     let mut err = MemorySink::new(alloc);
-    let status = run_in_memory(alloc, &WORDS, &mut files, &mut out, &mut err);
-    assert_eq!(rt; status, row.status, "{call:?} {nth}");
-    assert_eq!(rt; err.bytes(), row.line.as_bytes(), "{call:?} {nth}");
-    assert_eq!(rt; out.bytes(), row.out.as_bytes(), "{call:?} {nth}");
-    assert_holds(rt, &files, "net", WIRE_NET, row.line);
-    assert_holds(rt, &files, "delays", DELAYS, row.line);
-    assert_holds(rt, &files, "tests", row.tests, row.line);
-    assert_holds(rt, &files, "report", row.report, row.line);
-    assert_holds(rt, &files, "proofs", row.proofs, row.line);
-    assert_holds(rt, &files, "other", OLD, row.line);
+    let found = run_in_memory(alloc, &WORDS, &mut files, &mut out, &mut err);
+    assert_eq!(rt; found, status, "{call:?} {nth}");
+    assert_eq!(rt; err.bytes(), line.as_bytes(), "{call:?} {nth}");
+    assert_eq!(rt; out.bytes(), taken.as_bytes(), "{call:?} {nth}");
+    let held = [
+        ("net", WIRE_NET),
+        ("delays", DELAYS),
+        ("tests", tests),
+        ("report", report),
+        ("proofs", proofs),
+        ("other", OLD),
+    ];
+    for (name, text) in held {
+        assert_eq!(rt;
+            files.get(name),
+            Some(text.as_bytes()),
+            "{name} at {call:?} {nth}"
+        );
+    }
     Ok(())
 }
 
@@ -667,7 +595,7 @@ fn assert_absent(
     let mut out = MemorySink::new(alloc);
     let mut err = MemorySink::new(alloc);
     let status = run_in_memory(alloc, &WORDS, &mut files, &mut out, &mut err);
-    assert_eq!(rt; status, Status::ReadFault);
+    assert_eq!(rt; status, ReadFault);
     assert_eq!(rt; err.bytes(), line.as_bytes());
     assert!(rt; out.bytes().is_empty());
     assert_holds(rt, &files, held, text, line);
@@ -711,41 +639,124 @@ fn assert_out_fails(
 
 #[test]
 fn a_failing_out_is_a_write_fault(rt: HostRuntime) -> Result<(), Fail> {
-    assert_out_fails(
-        &rt,
-        rt.alloc(),
-        1,
-        "write fault out\n",
-        Status::WriteFault,
-        "",
-    )?;
-    assert_out_fails(&rt, rt.alloc(), 2, "", Status::Done, SUMMARY)
+    assert_out_fails(&rt, rt.alloc(), 1, "write fault out\n", WriteFault, "")?;
+    assert_out_fails(&rt, rt.alloc(), 2, "", Done, SUMMARY)
 }
 
-// Where a write to err fails, a front of the line stands there and the status stays. Gives how much of the line stands.
-fn err_after_fault(rt: &impl Abort, alloc: Global, nth: u64) -> Result<usize, Fail> {
-    let mut files = MemoryFiles::new(alloc);
+// The words, the netlist, which write of the files fails (0 for none) and which one of err, the status, what err took, and
+// what else stands.
+type Unheard = (
+    &'static str,
+    &'static str,
+    u64,
+    u64,
+    Status,
+    &'static str,
+    Stands,
+);
+
+const ALL_WORDS: &str = "gen net delays tests report proofs";
+
+const NO_NET: &str = "gen absent delays tests report proofs";
+
+const UNHEARD: [Unheard; 14] = [
+    (ALL_WORDS, WIRE_NET, 0, 1, Done, "", ALL_DONE),
+    (NO_NET, WIRE_NET, 0, 1, ReadFault, "", UNTOUCHED),
+    (NO_NET, WIRE_NET, 0, 2, ReadFault, "read fault ", UNTOUCHED),
+    (
+        NO_NET,
+        WIRE_NET,
+        0,
+        3,
+        ReadFault,
+        "read fault NET",
+        UNTOUCHED,
+    ),
+    (
+        NO_NET,
+        WIRE_NET,
+        0,
+        4,
+        ReadFault,
+        "read fault NET\n",
+        UNTOUCHED,
+    ),
+    ("gen", WIRE_NET, 0, 1, Status::Words, "", UNTOUCHED),
+    (
+        "gen -x",
+        WIRE_NET,
+        0,
+        2,
+        Status::Words,
+        "words: option at ",
+        UNTOUCHED,
+    ),
+    (
+        "gen -x",
+        WIRE_NET,
+        0,
+        3,
+        Status::Words,
+        "words: option at 2",
+        UNTOUCHED,
+    ),
+    (ALL_WORDS, WIRE_NET, 1, 1, WriteFault, "", TESTS_BEGUN),
+    (
+        ALL_WORDS,
+        WIRE_NET,
+        2,
+        2,
+        WriteFault,
+        "write fault ",
+        REPORT_BEGUN,
+    ),
+    (
+        ALL_WORDS,
+        WIRE_NET,
+        3,
+        3,
+        WriteFault,
+        "write fault PROOFS",
+        PROOFS_BEGUN,
+    ),
+    (ALL_WORDS, "", 0, 1, NotBuilt, "", UNTOUCHED),
+    (ALL_WORDS, "", 0, 2, NotBuilt, "not built: ", UNTOUCHED),
+    (ALL_WORDS, "", 0, 3, NotBuilt, "not built: NET", UNTOUCHED),
+];
+
+fn assert_unheard(rt: &impl Abort, alloc: Global, row: &Unheard) -> Result<(), Fail> {
+    let (words, net, failing_write, nth, status, heard, [tests, report, proofs, taken]) = *row;
+    let words: Vec<&str> = words.split(' ').collect(alloc)?;
+    let mut files = files_of(alloc, net, DELAYS)?;
+    files.fail(Write, failing_write)?;
     let mut out = MemorySink::new(alloc);
     let mut err = MemorySink::new(alloc);
     err.fail(nth)?;
-    let status = run_in_memory(alloc, &WORDS, &mut files, &mut out, &mut err);
-    assert_eq!(rt; status, Status::ReadFault, "{nth}");
-    assert!(rt;
-        b"read fault NET\n".as_slice().starts_with(err.bytes()),
-        "{nth}"
-    );
-    Ok(err.bytes().len())
+    let found = run_in_memory(alloc, words.as_slice(), &mut files, &mut out, &mut err);
+    assert_eq!(rt; found, status, "{heard} {nth}");
+    assert_eq!(rt; err.bytes(), heard.as_bytes(), "{heard} {nth}");
+    assert_eq!(rt; out.bytes(), taken.as_bytes(), "{heard} {nth}");
+    assert_holds(rt, &files, "net", net, heard);
+    assert_holds(rt, &files, "tests", tests, heard);
+    assert_holds(rt, &files, "report", report, heard);
+    assert_holds(rt, &files, "proofs", proofs, heard);
+    assert_holds(rt, &files, "other", OLD, heard);
+    Ok(())
+}
+
+// Writing stops at the first fault of err, and nothing else changes.
+#[test]
+fn a_failing_err_leaves_the_status(rt: HostRuntime) -> Result<(), Fail> {
+    for row in &UNHEARD {
+        assert_unheard(&rt, rt.alloc(), row)?;
+    }
+    Ok(())
 }
 
 #[test]
-fn a_failing_err_leaves_the_status(rt: HostRuntime) -> Result<(), Fail> {
-    assert_eq!(rt; err_after_fault(&rt, rt.alloc(), 1)?, 0);
-    let mut last = 0;
-    for nth in 2..20u64 {
-        let stands = err_after_fault(&rt, rt.alloc(), nth)?;
-        assert!(rt; last <= stands, "{nth}");
-        last = stands;
-    }
-    assert_eq!(rt; last, "read fault NET\n".len());
+fn want_of_memory_has_its_line(rt: HostRuntime) -> Result<(), Fail> {
+    let mut err = MemorySink::new(rt.alloc());
+    assert_eq!(rt; tell(&Ending::NoMemory, &mut err), Status::NoMemory);
+    assert_eq!(rt; err.bytes(), b"want of memory\n".as_slice());
     Ok(())
 }

@@ -1,7 +1,7 @@
 // The proofs file.
 ghost use Rattle.std.specs.Prelude.{◌≡◌, ◌++◌, IfOk, OnOk, decimal, flat_map};
 ghost use Rattle.pd_tool.specs.ProofsText.{claim_word, node_text, proof_line, proofs_text};
-ghost use Rattle.pd_tool.specs.Tokens.{spaced};
+ghost use Rattle.pd_tool.specs.Tokens.{after_space};
 
 use crate::texts::pieces::{direction_word, kind_word, push_spaced, push_spaced_number};
 use pd_base::{OutOfMemory, push_decimal};
@@ -43,7 +43,8 @@ fn claim_word(spent: bool) -> &'static [u8]
 
 // Appends the nodes of a tree, each behind a space.
 fn push_tree(out: &mut Vec<u8>, nodes: &[Node]) -> Result<(), OutOfMemory>
-    ensures { OnOk result (out.new.items ≡ out.old.items ++ flat_map (λ node. spaced (node_text node)) nodes.now) }
+    ensures { OnOk result (out.new.items
+        ≡ out.old.items ++ flat_map (λ node. after_space (node_text node)) nodes.now) }
 {
     for node in nodes {
         push_node(out, node)?;
@@ -51,8 +52,9 @@ fn push_tree(out: &mut Vec<u8>, nodes: &[Node]) -> Result<(), OutOfMemory>
     Ok(())
 }
 
+// Appends a space and a node.
 fn push_node(out: &mut Vec<u8>, node: &Node) -> Result<(), OutOfMemory>
-    ensures { OnOk result (out.new.items ≡ out.old.items ++ spaced (node_text node.now)) }
+    ensures { OnOk result (out.new.items ≡ out.old.items ++ after_space (node_text node.now)) }
 {
     match node {
         Node::Closed => push_spaced(out, b"X"),
@@ -64,7 +66,8 @@ fn push_node(out: &mut Vec<u8>, node: &Node) -> Result<(), OutOfMemory>
 
 // Appends a space, the letter of a split, and the number of its source.
 fn push_split(out: &mut Vec<u8>, letter: &[u8], source: u32) -> Result<(), OutOfMemory>
-    ensures { OnOk result (out.new.items ≡ out.old.items ++ spaced (letter.now ++ decimal source)) }
+    ensures { OnOk result
+        (out.new.items ≡ out.old.items ++ after_space (letter.now ++ decimal source)) }
 {
     push_spaced(out, letter)?;
     push_decimal(out, u64::from(source))

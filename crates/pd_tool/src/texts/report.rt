@@ -34,6 +34,7 @@ pub(crate) fn report_text(
     }
 }
 
+// Writes the row of the columns' names.
 fn write_header(rows: &mut Writer<Vec<u8>>) -> Result<(), OutOfMemory>
     requires { IsBetweenRows rows.old }
     ensures ready { OnOk result (IsBetweenRows rows.new) }
@@ -67,7 +68,8 @@ fn write_path(
     requires names { HasPlainNames net.now }
     requires path { IsNameable net.now listed.now.path }
     ensures ready { OnOk result (IsBetweenRows rows.new) }
-    ensures text { OnOk result (rows_text rows.new ≡ rows_text rows.old ++ flat_map row_line (path_rows net.now number listed.now)) }
+    ensures text { OnOk result (rows_text rows.new
+        ≡ rows_text rows.old ++ flat_map row_line (path_rows net.now number listed.now)) }
 {
     let steps = steps_text(alloc, net, listed.path.steps())?;
     let start = RowStart {
@@ -92,7 +94,8 @@ fn write_fault(
     requires source { IsPlain start.now.source.now }
     requires steps { IsPlain start.now.steps.now }
     ensures ready { OnOk result (IsBetweenRows rows.new) }
-    ensures text { OnOk result (rows_text rows.new ≡ rows_text rows.old ++ row_line (fault_texts start.now direction verdict)) }
+    ensures text { OnOk result (rows_text rows.new
+        ≡ rows_text rows.old ++ row_line (fault_texts start.now direction verdict)) }
 {
     let row = fault_row(alloc, start, direction, verdict)?;
     write_row(rows, &row)
@@ -104,7 +107,8 @@ fn write_row(rows: &mut Writer<Vec<u8>>, row: &ByteRecord) -> Result<(), OutOfMe
     requires several { 2 ≤ length (fields_of row.now) }
     requires plain { IsPlainRow row.now }
     ensures ready { OnOk result (IsBetweenRows rows.new) }
-    ensures text { OnOk result (rows_text rows.new ≡ rows_text rows.old ++ row_line (fields_of row.now)) }
+    ensures text { OnOk result
+        (rows_text rows.new ≡ rows_text rows.old ++ row_line (fields_of row.now)) }
 {
     match rows.write_byte_record(row) {
         Ok(()) => Ok(()),

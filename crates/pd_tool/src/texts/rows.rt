@@ -65,6 +65,7 @@ fn push_verdict(row: &mut ByteRecord, verdict: Verdict) -> Result<(), OutOfMemor
     push_optional_number(row, outcome.nonrobust_proof)
 }
 
+// What a row says of this verdict.
 fn outcome_of(verdict: Verdict) -> Outcome
     ensures texts { outcome_texts result ≡ verdict_fields verdict }
     ensures plain { IsPlain result.word.now }
@@ -101,7 +102,8 @@ fn outcome_of(verdict: Verdict) -> Outcome
 fn push_optional_number(row: &mut ByteRecord, number: Option<u32>) -> Result<(), OutOfMemory>
     requires { IsPlainRow row.old }
     ensures plain { OnOk result (IsPlainRow row.new) }
-    ensures fields { OnOk result (fields_of row.new ≡ fields_of row.old ++ optional_number number ∷ []) }
+    ensures fields { OnOk result
+        (fields_of row.new ≡ fields_of row.old ++ optional_number number ∷ []) }
 {
     match number {
         Some(number) => push_number(row, u64::from(number)),
@@ -109,6 +111,7 @@ fn push_optional_number(row: &mut ByteRecord, number: Option<u32>) -> Result<(),
     }
 }
 
+// Appends a number.
 fn push_number(row: &mut ByteRecord, number: u64) -> Result<(), OutOfMemory>
     requires { IsPlainRow row.old }
     ensures plain { OnOk result (IsPlainRow row.new) }

@@ -3,7 +3,7 @@ ghost use Rattle.std.specs.Prelude.{◌≡◌, ◌++◌, ◌<◌, IfOk, OnOk, fl
 ghost use Rattle.netlist.specs.Circuit.{gate_count};
 ghost use Rattle.pd_tool.specs.PlainTexts.{HasItsGates, HasPlainNames, IsPlain};
 ghost use Rattle.pd_tool.specs.ReportText.{step_text, steps_text};
-ghost use Rattle.pd_tool.specs.Tokens.{spaced};
+ghost use Rattle.pd_tool.specs.Tokens.{after_space};
 
 use netlist::Netlist;
 use pd_base::{LineId, OutOfMemory, PinRef, push_decimal};
@@ -36,7 +36,8 @@ fn push_more_steps(out: &mut Vec<u8>, net: &Netlist, steps: &[PinRef]) -> Result
     requires names { HasPlainNames net.now }
     requires gates { HasItsGates net.now steps.now }
     requires plain { IsPlain out.old.items }
-    ensures text { OnOk result (out.new.items ≡ out.old.items ++ flat_map (λ step. spaced (step_text net.now step)) steps.now) }
+    ensures text { OnOk result (out.new.items
+        ≡ out.old.items ++ flat_map (λ step. after_space (step_text net.now step)) steps.now) }
     ensures plain { OnOk result (IsPlain out.new.items) }
 {
     for step in steps {

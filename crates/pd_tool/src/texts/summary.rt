@@ -1,7 +1,7 @@
 // The line of counts that a run ends with.
 ghost use Rattle.std.specs.Prelude.{◌≡◌, ◌+◌, ◌-◌, ◌++◌, ◌^◌, ◌<◌, IfOk, OnOk, decimal};
 ghost use Rattle.pd_tool.specs.Summary.{summary_text, verdicts_of};
-ghost use Rattle.pd_tool.specs.Counts.{AreCountsOf, counts_sum, counts_with};
+ghost use Rattle.pd_tool.specs.VerdictCounts.{AreCountsOf, counts_sum, counts_with};
 
 use pd_base::{OutOfMemory, push_decimal};
 use refutation_check::{ListedPath, Run, Verdict};

@@ -1,22 +1,15 @@
-// Each text once, against lines that were written by hand.
-ghost use Rattle.std.specs.Prelude.{◌≡◌, ◌<◌, ◌^◌, [], ◌∷◌, IfOk, length, vec_len};
+// What the runs of today do not show of the texts, against lines that were written by hand.
+ghost use Rattle.std.specs.Prelude.{◌≡◌, ◌<◌, ◌^◌, [], ◌∷◌, IfOk, length};
 ghost use Rattle.netlist.specs.Chain.{chain_circuit};
 ghost use Rattle.pd_tool.specs.PlainTexts.{AreNameable, HasPlainNames};
 
-use crate::texts::{proofs_text, report_text, summary_text, tests_text};
+use crate::texts::{proofs_text, report_text, summary_text};
 use netlist::{GateKind, Netlist, chain};
-use pd_base::{Direction, GateId, Items, Kind, LineId, OutOfMemory, Pair, Path, PinRef, Test};
+use pd_base::{Direction, GateId, Items, Kind, LineId, OutOfMemory, Path, PinRef};
 use refutation_check::{ListedPath, Node, Proof, Run, Tree, Verdict};
 use std::alloc::Global;
 use std::process::Abort;
 use std::test::Fail;
-
-// One source `a` that is also the output.
-fn one_source(alloc: Global) -> Result<Netlist, OutOfMemory>
-    ensures { IfOk result (λ net. net ≡ chain_circuit (97 ∷ []) []) }
-{
-    chain(alloc, b"a", &[])
-}
 
 // A source `a` and an inverter `n` that is the output.
 fn one_inverter(alloc: Global) -> Result<Netlist, OutOfMemory>
@@ -26,37 +19,7 @@ fn one_inverter(alloc: Global) -> Result<Netlist, OutOfMemory>
     chain(alloc, b"a", &gates)
 }
 
-fn bits(alloc: Global, bit: bool) -> Result<Vec<bool>, OutOfMemory>
-    ensures { IfOk result (λ bits. vec_len bits ≡ 1) }
-{
-    Ok(Vec::from_slice(alloc, &[bit])?)
-}
-
-fn test_of(alloc: Global, dir: Direction, first: bool, second: bool) -> Result<Test, OutOfMemory> {
-    Ok(Test {
-        path: 1,
-        dir,
-        kind: Kind::Robust,
-        pair: Pair::new(bits(alloc, first)?, bits(alloc, second)?),
-        expected: Items::new(bits(alloc, second)?),
-    })
-}
-
-#[test]
-fn two_tests_of_one_source(rt: HostRuntime) -> Result<(), Fail> {
-    let net = one_source(rt.alloc())?;
-    let tests = [
-        test_of(rt.alloc(), Direction::Rise, false, true)?,
-        test_of(rt.alloc(), Direction::Fall, true, false)?,
-    ];
-    let text = tests_text(rt.alloc(), &net, &tests)?;
-    assert_eq!(rt;
-        text.as_slice(),
-        b"pdfgen tests 1\nsources a\nobserved a\n1 1 rise robust 0 1 1\n2 1 fall robust 1 0 0\n".as_slice()
-    );
-    Ok(())
-}
-
+// The tree of these nodes, which are one whole tree.
 fn tree_of(rt: &impl Abort, alloc: Global, nodes: &[Node]) -> Result<Tree, OutOfMemory>
     requires { length nodes.now < 2 ^ 31 }
 {
@@ -64,7 +27,7 @@ fn tree_of(rt: &impl Abort, alloc: Global, nodes: &[Node]) -> Result<Tree, OutOf
 }
 
 #[test]
-fn two_proofs(rt: HostRuntime) -> Result<(), Fail> {
+fn proofs_are_numbered_and_trees_stand_in_preorder(rt: HostRuntime) -> Result<(), Fail> {
     let splits = [
         Node::Value(1),
         Node::Waiting,
@@ -102,25 +65,7 @@ const HEADER: &[u8] =
     b"path,direction,length,source,steps,verdict,test,robust_proof,nonrobust_proof\n";
 
 #[test]
-fn the_report_of_one_source(rt: HostRuntime) -> Result<(), Fail> {
-    let net = one_source(rt.alloc())?;
-    let paths = [ListedPath {
-        path: Path::new(rt.alloc(), LineId(0), &[])?,
-        length: 0,
-        rise: Verdict::Robust { test: 1 },
-        fall: Verdict::Robust { test: 2 },
-    }];
-    let text = report_text(rt.alloc(), &net, &paths)?;
-    assert!(rt; text.as_slice().starts_with(HEADER));
-    assert_eq!(rt;
-        &text.as_slice()[HEADER.len()..],
-        b"1,rise,0,a,-,robust,1,-,-\n1,fall,0,a,-,robust,2,-,-\n".as_slice()
-    );
-    Ok(())
-}
-
-#[test]
-fn the_report_of_one_inverter(rt: HostRuntime) -> Result<(), Fail> {
+fn each_verdict_has_its_fields_in_the_report(rt: HostRuntime) -> Result<(), Fail> {
     let net = one_inverter(rt.alloc())?;
     let step = PinRef {
         gate: GateId(0),
@@ -152,6 +97,7 @@ fn the_report_of_one_inverter(rt: HostRuntime) -> Result<(), Fail> {
     Ok(())
 }
 
+// A run that lists these paths, with no tests and no proofs.
 fn run_of(alloc: Global, paths: Vec<ListedPath>) -> Run
     ensures { result.paths ≡ paths.items }
 {
@@ -163,13 +109,18 @@ fn run_of(alloc: Global, paths: Vec<ListedPath>) -> Run
 }
 
 #[test]
-fn the_counts_of_two_runs(rt: HostRuntime) -> Result<(), Fail> {
+fn the_summary_of_an_empty_run_counts_nothing(rt: HostRuntime) -> Result<(), Fail> {
     let none = run_of(rt.alloc(), Vec::new(rt.alloc()));
     let text = summary_text(rt.alloc(), &none)?;
     assert_eq!(rt;
         text.as_slice(),
         b"paths 0 robust 0 nonrobust 0 untestable 0 aborted 0\n".as_slice()
     );
+    Ok(())
+}
+
+#[test]
+fn the_summary_counts_the_verdicts_of_both_transitions(rt: HostRuntime) -> Result<(), Fail> {
     let mut paths = Vec::new(rt.alloc());
     paths.push(listed(
         rt.alloc(),
@@ -190,6 +141,7 @@ fn the_counts_of_two_runs(rt: HostRuntime) -> Result<(), Fail> {
     Ok(())
 }
 
+// A path of no steps with these verdicts.
 fn listed(alloc: Global, rise: Verdict, fall: Verdict) -> Result<ListedPath, OutOfMemory> {
     Ok(ListedPath {
         path: Path::new(alloc, LineId(0), &[])?,

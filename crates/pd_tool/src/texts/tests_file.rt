@@ -1,7 +1,7 @@
 // The tests file.
 ghost use Rattle.std.specs.Prelude.{◌≡◌, ◌++◌, IfOk, OnOk, codes, decimal};
 ghost use Rattle.pd_tool.specs.TestsText.{names_line, observed_names, test_line, tests_text};
-ghost use Rattle.pd_tool.specs.Tokens.{digits, spaced};
+ghost use Rattle.pd_tool.specs.Tokens.{digits, after_space};
 
 use crate::texts::pieces::{direction_word, kind_word, push_spaced, push_spaced_number};
 use netlist::Netlist;
@@ -28,7 +28,8 @@ pub(crate) fn tests_text(
 
 // Appends the line that names the sources. Where memory is refused, a part of it may have been written; so too below.
 fn push_sources(out: &mut Vec<u8>, net: &Netlist) -> Result<(), OutOfMemory>
-    ensures { OnOk result (out.new.items ≡ out.old.items ++ names_line (codes "sources") net.now.sources) }
+    ensures { OnOk result
+        (out.new.items ≡ out.old.items ++ names_line (codes "sources") net.now.sources) }
 {
     out.extend_from_slice(b"sources")?;
     for source in 0..net.sources() {
@@ -40,10 +41,10 @@ fn push_sources(out: &mut Vec<u8>, net: &Netlist) -> Result<(), OutOfMemory>
 
 // Appends the line that names the observed lines.
 fn push_observed(out: &mut Vec<u8>, net: &Netlist) -> Result<(), OutOfMemory>
-    ensures { OnOk result (out.new.items ≡ out.old.items ++ names_line (codes "observed") (observed_names net.now)) }
+    ensures { OnOk result (out.new.items
+        ≡ out.old.items ++ names_line (codes "observed") (observed_names net.now)) }
 {
     out.extend_from_slice(b"observed")?;
-    let _circuit = net.lines();
     for line in net.observed() {
         push_spaced(out, net.name(*line))?;
     }
@@ -68,7 +69,7 @@ fn push_test_line(out: &mut Vec<u8>, number: u64, test: &Test) -> Result<(), Out
 
 // Appends a space and a digit for each bit.
 fn push_spaced_digits(out: &mut Vec<u8>, bits: &[bool]) -> Result<(), OutOfMemory>
-    ensures { OnOk result (out.new.items ≡ out.old.items ++ spaced (digits bits.now)) }
+    ensures { OnOk result (out.new.items ≡ out.old.items ++ after_space (digits bits.now)) }
 {
     out.push(b' ')?;
     for bit in bits {

@@ -4,4 +4,5 @@ use Rattle.netlist.proofs.chains.levels_of.Goals as goal
 
 pub loop-level-preserved : goal.loop-level-preserved
 loop-level-preserved c =
-    c.in_ok-push.ensures.items ∙ ap (λ l. l ++ c.loop-level.level ∷ []) c.loop-level.invariant ∙ sym (range_more c.loop-level.level)
+    c.in_ok-push.ensures.items ∙ ap (λ l. l ++ c.loop-level.level ∷ []) c.loop-level.invariant
+    ∙ sym (range_more c.loop-level.level)

@@ -5,7 +5,8 @@ use Rattle.pd_io.proofs.sink.write_all.Goals as goal
 
 pub loop-rest-preserved : goal.loop-rest-preserved
 loop-rest-preserved g c = record {
-  handed = handed_more _ _ _ _ _ _ _ c.loop-rest.invariant.handed c.in_ok-count.ensures.told (take_rest c.loop-rest.rest.now c.in_ok-count.count);
+  handed = handed_more _ _ _ _ _ _ _ c.loop-rest.invariant.handed c.in_ok-count.ensures.told
+      (take_rest c.loop-rest.rest.now c.in_ok-count.count);
   calm = c.in_ok-count.ensures.cause.calm ∙ c.loop-rest.invariant.calm;
   counted = λ _. omega arith;
 }

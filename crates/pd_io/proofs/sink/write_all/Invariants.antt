@@ -2,6 +2,7 @@ use Rattle.std.proofs.Common.{◌≡◌, ◌-◌, ◌^◌, ◌<◌, ◌≤◌, l
 use Rattle.pd_io.proofs.Handing.{Handed}
 use Rattle.pd_io.proofs.sink.write_all.Given as goal
 
+-- a front of the bytes went to the sink, and no fault came
 abbrev pub invariant-loop-rest : goal.invariant-loop-rest
 invariant-loop-rest g l = record {
   handed : Handed (g.S.Sink.taken l.fn.sink) (g.S.Sink.taken l.sink) l.bytes l.rest;
@@ -9,5 +10,6 @@ invariant-loop-rest g l = record {
   counted : length l.rest < length l.bytes → g.S.Sink.faults l.sink ≤ 2 ^ 64 - 1;
 }
 
+-- fewer bytes are left each time
 abbrev pub decreases-loop-rest : goal.decreases-loop-rest
 decreases-loop-rest g l = length l.rest

@@ -1,14 +1,16 @@
-use Rattle.std.proofs.Common.{◌≡◌, ◌≤◌, ◌++◌, List, ℕ, length, sym, ap, subst, ◌∙◌, refl, take, drop, arith, length-append}
+use Rattle.std.proofs.Common.{◌≡◌, ◌≤◌, ◌++◌, ℕ, length, sym, ap, subst, ◌∙◌, refl, take, drop, arith, length-append}
 use Rattle.std.proofs.lemmas.List.{length-drop, length-take, length-take-le}
 use Rattle.pd_io.proofs.Reading.{Reading, more_bytes, reading_begun, reading_more}
 use Rattle.pd_io.proofs.whole.read_whole.Goals as goal
 
 pub loop-buffer-init : goal.loop-buffer-init
 loop-buffer-init g c =
-    let files = g.F.Files in
-    let F : List ℕ → Type 0 = λ l. Reading (files.folder c.args.files.now) (files.folder c.begin_read.new.self) (files.reader c.begin_read.new.self) c.args.name.now l in
+    let F = g.F.Files in
+    let opened = c.begin_read.new.self in
+    let begun = reading_begun _ _ _ _ c.in_ok-begin_read.ensures.begins c.in_ok-begin_read.ensures.told in
     record {
-      reading = subst F (sym c.new-bytes.ensures.items) (reading_begun _ _ _ _ c.in_ok-begin_read.ensures.begins c.in_ok-begin_read.ensures.told);
+      reading = subst (Reading (F.folder c.args.files.now) (F.folder opened) (F.reader opened) c.args.name.now)
+          (sym c.new-bytes.ensures.items) begun;
       within = omega arith;
       buffer = refl;
       writer = c.in_ok-begin_read.ensures.writer;
@@ -21,14 +23,17 @@ pub loop-buffer-preserved : goal.loop-buffer-preserved
 loop-buffer-preserved g c =
     let count = c.in_ok-count.count in
     let buffer = c.read.new.buf in
+    let piece = take count buffer in
+    let bytes = c.loop-buffer.bytes.items in
     let rest = drop c.min-room.result c.loop-buffer.buffer in
     let fits : count ≤ length buffer = c.in_ok-count.ensures.within in
-    let more : c.extend_from_slice.new.self.items ≡ c.loop-buffer.bytes.items ++ take count buffer =
-    more_bytes c.extend_from_slice.new.self.items c.loop-buffer.bytes.items buffer rest count c.in_ok-extend_from_slice.ensures.items fits in
+    let more : c.extend_from_slice.new.self.items ≡ bytes ++ piece =
+    more_bytes _ bytes buffer rest count c.in_ok-extend_from_slice.ensures.items fits in
     let size : length buffer ≡ c.min-room.result = omega (arith, c.read.auto.buf, length-take {A = ℕ}) in
     record {
-      reading = reading_more _ _ _ _ _ _ _ buffer _ _ c.loop-buffer.invariant.reading fits c.in_ok-count.ensures.bytes c.read.ensures.folder c.in_ok-count.ensures.place more;
-      within = omega (arith, ap length more, length-append c.loop-buffer.bytes.items (take count buffer), length-take-le count buffer fits, size);
+      reading = reading_more _ _ _ _ _ _ _ buffer _ _ c.loop-buffer.invariant.reading fits c.in_ok-count.ensures.bytes
+          c.read.ensures.folder c.in_ok-count.ensures.place more;
+      within = omega (arith, ap length more, length-append bytes piece, length-take-le count buffer fits, size);
       buffer = length-append buffer rest ∙ omega (arith, size, length-drop c.min-room.result c.loop-buffer.buffer);
       writer = c.read.ensures.writer ∙ c.loop-buffer.invariant.writer;
       calm = c.in_ok-count.ensures.cause.calm ∙ c.loop-buffer.invariant.calm;

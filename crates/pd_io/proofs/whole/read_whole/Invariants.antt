@@ -2,6 +2,7 @@ use Rattle.std.proofs.Common.{◌≡◌, ◌+◌, ◌-◌, ◌^◌, ◌≤◌, l
 use Rattle.pd_io.proofs.Reading.{Reading}
 use Rattle.pd_io.proofs.whole.read_whole.Given as goal
 
+-- the bytes so far are a front of the file's, at most one over the limit, and no fault came
 abbrev pub invariant-loop-buffer : goal.invariant-loop-buffer
 invariant-loop-buffer g l =
     let files = g.F.Files in
@@ -15,5 +16,6 @@ invariant-loop-buffer g l =
       write_faults : files.write_faults l.files ≡ files.write_faults l.fn.files;
     }
 
+-- fewer bytes are wanted each time
 abbrev pub decreases-loop-buffer : goal.decreases-loop-buffer
 decreases-loop-buffer g l = l.limit + 1 - vec_len l.bytes

@@ -2,6 +2,7 @@ use Rattle.std.proofs.Common.{◌≡◌, ◌-◌, ◌^◌, ◌≤◌, length}
 use Rattle.pd_io.proofs.Writing.{Writing}
 use Rattle.pd_io.proofs.whole.write_whole.Given as goal
 
+-- the name holds a front of the bytes, and no fault came
 abbrev pub invariant-loop-rest : goal.invariant-loop-rest
 invariant-loop-rest g l =
     let files = g.F.Files in
@@ -13,5 +14,6 @@ invariant-loop-rest g l =
       read_faults : files.read_faults l.files ≡ files.read_faults l.fn.files;
     }
 
+-- fewer bytes are left each time
 abbrev pub decreases-loop-rest : goal.decreases-loop-rest
 decreases-loop-rest g l = length l.rest

@@ -17,10 +17,10 @@ returns-in_default-clause-none c =
 
 pub loop-rest-preserved : goal.loop-rest-preserved
 loop-rest-preserved c =
-    let gate : ChainGate = (c.in-Some.kind, c.in-Some.name.now) in
-    let stored : c.new.result ≡ c.in-Some.name.now = c.new.ensures ∙ c.in_ok-from_slice.ensures.items in
-    let pushed : c.push.new.self.items ≡ c.loop-rest.gates.items ++ gate ∷ [] = c.in_ok-push.ensures.items ∙ ap (λ (name : List ℕ). c.loop-rest.gates.items ++ (c.in-Some.kind, name) ∷ []) stored in
-    rw pushed (read_more c.args.source.now c.args.lines.now c.loop-rest.gates.items c.loop-rest.before.now c.loop-rest.rest.now gate c.in-Some.later.now c.loop-rest.invariant (omega arith) c.in-Some.ensures.0 c.in-Some.ensures.1)
+    let gate : ChainGate = (c.in-Some.line.kind, c.in-Some.line.name.now) in
+    let stored : c.new.result ≡ c.in-Some.line.name.now = c.new.ensures ∙ c.in_ok-from_slice.ensures.items in
+    let pushed : c.push.new.self.items ≡ c.loop-rest.gates.items ++ gate ∷ [] = c.in_ok-push.ensures.items ∙ ap (λ (name : List ℕ). c.loop-rest.gates.items ++ (c.in-Some.line.kind, name) ∷ []) stored in
+    rw pushed (read_more c.args.source.now c.args.lines.now c.loop-rest.gates.items c.loop-rest.before.now c.loop-rest.rest.now gate c.in-Some.line.rest.now c.loop-rest.invariant (omega arith) c.in-Some.ensures.0 c.in-Some.ensures.1)
 
 pub returns-then-ne-clause-none : goal.returns-then-ne-clause-none
 returns-then-ne-clause-none c =

@@ -8,8 +8,8 @@ pub returns : goal.returns
 returns c =
     let net = c.args.net.now in
     chain_test_is_robust net c.requires c.args.dir _ refl refl refl
-    (c.new.ensures.first ∙ c.in_ok-from_slice.ensures.items ∙ ap (λ bit. not bit ∷ []) c.bit_after-last.ensures)
-    (c.new.ensures.second ∙ c.in_ok-from_slice-2.ensures.items ∙ ap (λ bit. bit ∷ []) c.bit_after-last.ensures)
+    (c.new.ensures.first ∙ c.in_ok-from_slice.ensures.items ∙ ap (λ bit. not bit ∷ []) c.bit_after-second.ensures)
+    (c.new.ensures.second ∙ c.in_ok-from_slice-2.ensures.items ∙ ap (λ bit. bit ∷ []) c.bit_after-second.ensures)
     (c.new-2.ensures ∙ c.in_ok-from_slice-3.ensures.items
     ∙ ap (λ bit. bit ∷ []) c.last_value-expected.ensures
-    ∙ ap (λ bit. value net (bit ∷ []) (gate_count net) ∷ []) c.bit_after-last.ensures)
+    ∙ ap (λ bit. value net (bit ∷ []) (gate_count net) ∷ []) c.bit_after-second.ensures)

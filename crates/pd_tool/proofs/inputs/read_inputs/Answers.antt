@@ -9,5 +9,7 @@ returns-in_err-net-clause-unread g c =
 
 pub returns-in_err-delays-clause-unread : goal.returns-in_err-delays-clause-unread
 returns-in_err-delays-clause-unread g c =
-    let p = err_from_is_err_and c.from_residual-in_err-delays.result c.from_residual-in_err-delays.ensures.1 in
-    rw (p.1, p.2) (second_unread _ _ _ _ _ _ _ _ c.in_ok-net.ensures.asked c.read_input.ensures.never_falls c.in_err-delays.ensures.unread)
+    let residual = c.from_residual-in_err-delays in
+    let p = err_from_is_err_and residual.result residual.ensures.1 in
+    rw (p.1, p.2) (second_unread _ _ _ _ _ _ _ _ c.in_ok-net.ensures.asked c.in_ok-net.ensures.calm
+    c.in_err-delays.ensures.unread)

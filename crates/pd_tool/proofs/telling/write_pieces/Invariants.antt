@@ -1,13 +1,13 @@
-use Rattle.std.proofs.Common.{◌≡◌, ◌≤◌, length, map}
-use Rattle.std.specs.List.{concat}
+use Rattle.std.proofs.Common.{◌≡◌, length}
 use Rattle.pd_io.proofs.Handing.{Handed}
+use Rattle.pd_tool.specs.Lines.{pieces_text}
 use Rattle.pd_tool.proofs.telling.write_pieces.Given as goal
 
--- the pieces so far went to err
+-- the pieces so far went to err, and no fault was counted
 abbrev pub invariant-loop-rest : goal.invariant-loop-rest
 invariant-loop-rest g l = record {
-  handed : Handed (g.E.Sink.taken l.initial.err) (g.E.Sink.taken l.err) (concat (map (λ piece. piece.now) l.pieces)) (concat (map (λ piece. piece.now) l.rest));
-  later : g.E.Sink.faults l.initial.err ≤ g.E.Sink.faults l.err;
+  handed : Handed (g.E.Sink.taken l.initial.err) (g.E.Sink.taken l.err) (pieces_text l.pieces) (pieces_text l.rest);
+  still : g.E.Sink.faults l.err ≡ g.E.Sink.faults l.initial.err;
 }
 
 abbrev pub decreases-loop-rest : goal.decreases-loop-rest

@@ -5,14 +5,20 @@ use Rattle.refutation_check.proofs.tree.is_one_tree.Goals as goal
 
 pub returns-then-places-eq0 : goal.returns-then-places-eq0
 returns-then-places-eq0 c =
+    let nodes = c.args.nodes.now in
+    let i = c.loop-node.node-index in
     let none : c.loop-node.places ≡ 0 = omega arith in
-    (λ h. absurd (false≢true h), λ tree. absurd (no_place c.args.nodes.now c.loop-node.node-index (omega arith) (ap (λ (k : ℕ). fills k (drop c.loop-node.node-index c.args.nodes.now)) (sym none) ∙ c.loop-node.invariant.rest) tree))
+    let rest : fills 0 (drop i nodes) ≡ fills 1 nodes =
+    ap (λ (places : ℕ). fills places (drop i nodes)) (sym none) ∙ c.loop-node.invariant.rest in
+    (λ h. absurd (false≢true h), λ tree. absurd (no_place nodes i (omega arith) rest tree))
 
 pub loop-node-preserved : goal.loop-node-preserved
 loop-node-preserved c = record {
-  rest = rw add-one (fills-step c.args.nodes.now c.loop-node.node-index c.loop-node.places _ _ (omega arith) (omega arith) c.places_after-places.ensures) ∙ c.loop-node.invariant.rest;
+  rest = rw add-one (fills-step c.args.nodes.now c.loop-node.node-index c.loop-node.places _ _ (omega arith) (omega arith)
+      c.places_after-places.ensures) ∙ c.loop-node.invariant.rest;
   few = few_more _ _ _ _ c.places_after-places.ensures c.loop-node.invariant.few;
 }
 
 pub returns : goal.returns
-returns c = whole_at_end c.args.nodes.now c.loop-node.node-index c.loop-node.places (omega arith) c.loop-node.invariant.rest
+returns c =
+    whole_at_end c.args.nodes.now c.loop-node.node-index c.loop-node.places (omega arith) c.loop-node.invariant.rest

@@ -3,6 +3,7 @@ use Rattle.pd_tool.specs.ReportRows.{IsBetweenRows, rows_text}
 use Rattle.pd_tool.specs.ReportText.{report_rows, report_text, row_line}
 use Rattle.pd_tool.proofs.texts.report.report_text.Given as goal
 
+-- with the rows of the paths that are left, the report is whole
 abbrev pub invariant-loop-index : goal.invariant-loop-index
 invariant-loop-index l = record {
   ready : IsBetweenRows l.rows;

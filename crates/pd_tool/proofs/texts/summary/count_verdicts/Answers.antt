@@ -1,5 +1,5 @@
 use Rattle.std.proofs.Common.{arith}
-use Rattle.pd_tool.specs.Counts.{counts_with}
+use Rattle.pd_tool.specs.VerdictCounts.{counts_with}
 use Rattle.pd_tool.proofs.VerdictCounts.{path_counted, counts_sum-counts_with}
 use Rattle.pd_tool.proofs.texts.summary.count_verdicts.Goals as goal
 

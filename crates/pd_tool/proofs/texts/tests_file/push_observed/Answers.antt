@@ -1,12 +1,9 @@
 use Rattle.std.proofs.Common.{arith}
 use Rattle.std.proofs.lemmas.Grind.{common_steps}
-use Rattle.pd_tool.proofs.ObservedLines.{observed_in_range, observed_names_more}
+use Rattle.pd_tool.proofs.ObservedNames.{observed_names_more}
 use Rattle.pd_tool.proofs.texts.tests_file.push_observed.Goals as goal
-
-pub name-requires : goal.name-requires
-name-requires c = observed_in_range c.args.net.now c.observed-line-items.result.now c.loop-line.line-index _ c.lines-circuit.ensures.circuit c.observed-line-items.ensures c.loop-line-test.true
 
 pub loop-line-preserved : goal.loop-line-preserved
 loop-line-preserved c =
-    let more = observed_names_more c.args.net.now c.observed-line-items.result.now c.loop-line.line-index (record { 0 = 0 }) c.observed-line-items.ensures c.loop-line-test.true in
+    let more = observed_names_more c.args.net.now c.observed-line-items.result.now c.loop-line.line-index (record { 0 = 0 }) c.observed-line-items.ensures.observed c.loop-line-test.true in
     grind (arith, common_steps, more)

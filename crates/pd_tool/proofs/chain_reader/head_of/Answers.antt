@@ -1,6 +1,6 @@
 use Rattle.std.proofs.Common.{◌∙◌, sym}
 use Rattle.pd_tool.proofs.ChainReading.{after_source}
-use Rattle.pd_tool.proofs.chain_reader.head.Goals as goal
+use Rattle.pd_tool.proofs.chain_reader.head_of.Goals as goal
 
 pub returns-in_err-last : goal.returns-in_err-last
 returns-in_err-last c = rw c.from_residual-in_err-last.ensures (λ source last rest source_short last_short e.
