@@ -1,7 +1,7 @@
 // Chains of inverters and buffers: the smallest netlists, and the only ones that the program's reader makes today, by
 // `chain`. Each list of a netlist is made by a function of its own; that they fit together is shown in
 // proofs/ChainStored.antt.
-ghost use Rattle.std.specs.Prelude.{◌≡◌, ◌≢◌, ◌+◌, ◌<◌, ◌≤◌, ◌^◌, List, [], ◌∷◌, ◌++◌, map, length, AllPairs, IfOk};
+ghost use Rattle.std.specs.Prelude.{◌≡◌, ◌≢◌, ◌+◌, ◌<◌, ◌≤◌, [], ◌∷◌, ◌++◌, map, length, AllPairs, IfOk};
 ghost use Rattle.std.specs.List.{range_with_len, AllByRecursion};
 ghost use Rattle.netlist.specs.Chain.{IsChain, IsShortName, chain_circuit, chain_gates, chain_names};
 ghost use Rattle.netlist.specs.Greatest.{greatest};

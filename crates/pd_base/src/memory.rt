@@ -1,5 +1,4 @@
 // Want of memory, the one refusal of a call that only builds a value.
-ghost use Rattle.std.specs.Prelude.{◌≡◌};
 ghost use Rattle.pd_base.specs.declared.memory.OutOfMemory.{OutOfMemory};
 
 use std::alloc::{AllocError, AllocFailed};

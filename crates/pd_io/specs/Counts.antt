@@ -5,7 +5,7 @@ use Rattle.std.specs.Prelude.{◌≡◌, ℕ, ◌-◌, ◌^◌, ◌<◌, ◌≤�
 abbrev pub Rose : ℕ → ℕ → Type 0
 Rose old new = new < 2 ^ 64 - 1 → old < new
 
--- the count of a kind of fault in a call that may answer this fault of that kind
+-- what a call that may answer this fault does to the count of such faults
 pub record HasCause {T E : Type 0} (old new : ℕ) (result : Result T E) (fault : E) : Type 0 where
   pub never_falls : old ≤ new
   pub within : new ≤ 2 ^ 64 - 1

@@ -3,7 +3,6 @@ use Rattle.std.specs.Prelude.{◌≡◌, ◌≢◌, ◌⊎◌, ℕ, List, [], �
 use Rattle.pd_io.specs.declared.fault.ReadFault.{ReadFault}
 use Rattle.pd_io.specs.declared.fault.ReadFault.TheVariants.{NoMemory}
 use Rattle.pd_io.specs.Folder.{Folder, put, HoldsFront}
-use Rattle.pd_io.specs.Telling.{IsFrontOf}
 
 -- the folder with one more name asked; no name's bytes change
 abbrev pub folder_after_asking : Folder → List ℕ → Folder

@@ -1,5 +1,5 @@
 // Files by name: one file open for reading, one for writing. What real folders hold is told by no object.
-ghost use Rattle.std.specs.Prelude.{◌≡◌, ℕ, ◌<◌, ◌≤◌, List, [], length, Option, Some, None, IsSome, IfOk, OnOk};
+ghost use Rattle.std.specs.Prelude.{◌≡◌, ℕ, ◌<◌, ◌≤◌, List, length, Option, Some, None, IsSome, IfOk, OnOk};
 ghost use Rattle.pd_io.specs.declared.fault.FileFault.TheVariants.{Failed};
 ghost use Rattle.pd_io.specs.Counts.{HasCause};
 ghost use Rattle.pd_io.specs.Telling.{Tells};

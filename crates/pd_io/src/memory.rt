@@ -133,7 +133,7 @@ impl Files for MemoryFiles {
             (memory_read_faults self.old) (memory_read_faults self.new) result FileFault.Failed }
         ensures write_faults { memory_write_faults self.new ≡ memory_write_faults self.old }
 
-        // It fails exactly where that is planned, or the name is absent.
+        // It is `Ok` only where no fault is planned and the name is there, and `Failed` only where one is, or it is absent.
         ensures ok { OnOk result (refuses self.old name.now ≡ false) }
         ensures failed { IsErrOf result FileFault.Failed → IsTrue (refuses self.old name.now) }
         ensures plans { memory_plans self.new ≡ record (memory_plans self.old) {
@@ -190,7 +190,7 @@ impl Files for MemoryFiles {
             (memory_write_faults self.old) (memory_write_faults self.new) result FileFault.Failed }
         ensures read_faults { memory_read_faults self.new ≡ memory_read_faults self.old }
 
-        // It fails exactly where that is planned.
+        // It is `Ok` only where no fault is planned, and `Failed` only where one is.
         ensures ok { OnOk result (fails_next (memory_plans self.old).begin_write ≡ false) }
         ensures failed { IsErrOf result FileFault.Failed →
             IsTrue (fails_next (memory_plans self.old).begin_write) }
@@ -221,7 +221,7 @@ impl Files for MemoryFiles {
             (memory_write_faults self.old) (memory_write_faults self.new) result FileFault.Failed }
         ensures read_faults { memory_read_faults self.new ≡ memory_read_faults self.old }
 
-        // It fails exactly where that is planned.
+        // It is `Ok` only where no fault is planned, and `Failed` only where one is.
         ensures ok { OnOk result (fails_next (memory_plans self.old).write ≡ false) }
         ensures failed { IsErrOf result FileFault.Failed →
             IsTrue (fails_next (memory_plans self.old).write) }
@@ -318,7 +318,7 @@ impl Sink for MemorySink {
         ensures cause { HasCause
             (memory_faults self.old) (memory_faults self.new) result FileFault.Failed }
 
-        // It fails exactly where that is planned.
+        // It is `Ok` only where no fault is planned, and `Failed` only where one is.
         ensures ok { OnOk result (fails_next (sink_plan self.old) ≡ false) }
         ensures failed { IsErrOf result FileFault.Failed →
             IsTrue (fails_next (sink_plan self.old)) }

@@ -1,5 +1,5 @@
 // A list of named files in memory, of which the first with a name counts. Over it stands `Shelf`.
-ghost use Rattle.std.specs.Prelude.{◌≡◌, ◌+◌, ◌^◌, ◌<◌, ◌≤◌, List, [], ◌++◌, length, take, drop, Some, None, position, IfOk, OnOk, OnErr, option_copied, vec_len};
+ghost use Rattle.std.specs.Prelude.{◌≡◌, ◌+◌, ◌^◌, ◌<◌, ◌≤◌, [], ◌++◌, length, take, drop, Some, None, position, IfOk, OnOk, OnErr, option_copied};
 ghost use Rattle.pd_io.specs.Folder.{bytes_at, put, IsNext};
 ghost use Rattle.pd_io.specs.Shelf.{has_name, contents_of};
 

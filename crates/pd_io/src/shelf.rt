@@ -1,6 +1,6 @@
 // Files kept in memory by name, with one open for reading and one for writing: what the two kinds of file
 // objects in memory share. Over it stand `SteadyFiles` and `MemoryFiles`.
-ghost use Rattle.std.specs.Prelude.{◌≡◌, ◌<◌, ◌≤◌, ◌++◌, length, take, [], Some, None, Ok, IsSome, IfOk, OnOk, OnErr, option_copied};
+ghost use Rattle.std.specs.Prelude.{◌≡◌, ◌<◌, ◌≤◌, length, [], Some, None, Ok, IsSome, IfOk, OnOk, OnErr, option_copied};
 ghost use Rattle.pd_io.specs.Folder.{empty_folder, put, reader_after, GivesNext, contents_after_write};
 ghost use Rattle.pd_io.specs.Whole.{folder_after_asking, folder_with};
 ghost use Rattle.pd_io.specs.Shelf.{folder_of, reader_of, writer_of};

@@ -76,7 +76,7 @@ impl Files for SteadyFiles {
         ensures writer { steady_writer self.new ≡ steady_writer self.old }
         ensures folder { steady_folder self.new ≡ steady_folder self.old }
 
-        // It never fails, nor answers want of memory.
+        // It always succeeds.
         ensures ok { IsOk result }
     {
         Ok(self.shelf.read(buf))
@@ -109,7 +109,7 @@ impl Files for SteadyFiles {
         ensures reader { steady_reader self.new ≡ steady_reader self.old }
         ensures folder { steady_folder self.new ≡ steady_folder self.old }
 
-        // It never fails, nor answers want of memory.
+        // It always succeeds.
         ensures ok { IsOk result }
     {
         self.shelf.finish();

@@ -5,10 +5,10 @@ use Rattle.std.proofs.lemmas.List.{length-append}
 use Rattle.netlist.specs.declared.kind.GateKind.{GateKind}
 use Rattle.netlist.specs.declared.kind.GateKind.TheVariants.{And, Nand, Or, Nor, Xor, Xnor, Not, Buff}
 use Rattle.netlist.specs.Circuit.{Circuit}
-use Rattle.netlist.specs.Chain.{IsShortName}
+use Rattle.netlist.specs.Chain.{ChainGate, IsShortName}
 use Rattle.pd_tool.specs.declared.inputs.TheConstants.{LIMIT}
 use Rattle.pd_tool.specs.ChainText.{IsNet, gate_lines, gate_text, head_text, kind_text, last_name, unit_delays_text}
-use Rattle.pd_tool.proofs.ChainLines.{ChainGate, last_is_short}
+use Rattle.pd_tool.proofs.ChainLines.{last_is_short}
 use Rattle.pd_tool.proofs.ChainReading.{gate_text_parts, head_parts}
 
 -- a kind's word has at most 4 bytes

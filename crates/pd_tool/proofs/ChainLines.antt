@@ -2,16 +2,11 @@
 use Rattle.std.proofs.Common.{◌≡◌, ◌≢◌, ℕ, ◌<◌, ◌≤◌, List, [], ◌∷◌, ◌++◌, length, map, codes, refl, sym, ap, subst, ◌∙◌, arith, append_assoc, AllPairs}
 use Rattle.std.specs.List.{AllByRecursion}
 use Rattle.std.proofs.lemmas.List.{append-nil, length-append}
-use Rattle.netlist.specs.declared.kind.GateKind.{GateKind}
 use Rattle.netlist.specs.Circuit.{Circuit}
-use Rattle.netlist.specs.Chain.{IsChain, IsChainKind, IsShortName, chain_circuit, chain_names}
+use Rattle.netlist.specs.Chain.{ChainGate, IsChain, IsChainKind, IsShortName, chain_circuit, chain_names}
 use Rattle.pd_tool.specs.ChainText.{IsNet, gate_lines, gate_text, head_text, kind_text, last_name}
 use Rattle.pd_tool.specs.ChainPieces.{AreLines, IsChainGate}
 use Rattle.pd_tool.proofs.ChainReading.{gate_text_parts, same_line, same_head}
-
--- a gate's kind and name
-abbrev pub ChainGate : Type 0
-ChainGate = GateKind × List ℕ
 
 -- one more inverter or buffer
 pub each_push : (gates : List ChainGate) (gate : ChainGate) → AllByRecursion IsChainGate gates → IsChainGate gate → AllByRecursion IsChainGate (gates ++ gate ∷ [])

@@ -4,8 +4,7 @@ use Rattle.std.specs.List.{All}
 use Rattle.std.proofs.lemmas.List.{drop_more, take_more, take_all, take-append-drop, map-append, length-append, length-map, get_or-map, get_or_append_left, get_or_at}
 use Rattle.std.proofs.lemmas.List.Elements.{All-cons, All-head, All-tail, All-map, All-more}
 use Rattle.std.proofs.lemmas.List.Quantifiers.{all_pairs_push}
-use Rattle.netlist.specs.Chain.{chain_names}
-use Rattle.pd_tool.proofs.ChainLines.{ChainGate}
+use Rattle.netlist.specs.Chain.{ChainGate, chain_names}
 
 -- no gate among the first ones has the name
 abbrev pub AreOther : List ℕ → List ChainGate → Type 0

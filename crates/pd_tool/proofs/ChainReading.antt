@@ -10,7 +10,7 @@ use Rattle.std.proofs.lemmas.List.{append_cancel_left, length-take-le, take-appe
 use Rattle.std.proofs.lemmas.List.Elements.{recursion_from_All}
 use Rattle.netlist.specs.declared.kind.GateKind.{GateKind}
 use Rattle.netlist.specs.declared.kind.GateKind.TheVariants.{Not, Buff}
-use Rattle.netlist.specs.Chain.{IsChainKind, IsLetterOrDigit, IsShortName}
+use Rattle.netlist.specs.Chain.{ChainGate, IsChainKind, IsLetterOrDigit, IsShortName}
 use Rattle.pd_tool.specs.ChainText.{gate_text, head_text, kind_text}
 use Rattle.pd_tool.specs.ChainPieces.{EndsName, IsChainGate, IsMark}
 
@@ -64,7 +64,7 @@ same_marked n m mark r s is short_n short_m e =
     (known.0, append_cancel_left mark r s known.1)
 
 -- the pieces of a gate's line, from the left
-pub gate_text_parts : (before : List ℕ) (gate : GateKind × List ℕ) (rest : List ℕ)
+pub gate_text_parts : (before : List ℕ) (gate : ChainGate) (rest : List ℕ)
     → gate_text before gate ++ rest ≡ gate.1 ++ codes " = " ++ (kind_text gate.0 ++ codes "(" ++ (before ++ (codes ")\n" ++ rest)))
 gate_text_parts before gate rest =
     let name = gate.1 in
@@ -110,18 +110,18 @@ marked_found bytes mark front back rest n front_is back_is within some few lette
     ((omega arith, omega arith, each), split ∙ ap (λ r. front ++ r) e ∙ sym (append_assoc front mark rest))
 
 -- what follows the name on a gate's line
-pub after_name : (before name rest more : List ℕ) (gate : GateKind × List ℕ) → IsShortName name → IsChainGate gate → name ++ codes " = " ++ rest ≡ gate_text before gate ++ more
+pub after_name : (before name rest more : List ℕ) (gate : ChainGate) → IsShortName name → IsChainGate gate → name ++ codes " = " ++ rest ≡ gate_text before gate ++ more
     → (name ≡ gate.1) × (rest ≡ kind_text gate.0 ++ codes "(" ++ (before ++ (codes ")\n" ++ more)))
 after_name before name rest more gate short is e =
     same_marked name gate.1 (codes " = ") rest (kind_text gate.0 ++ codes "(" ++ (before ++ (codes ")\n" ++ more))) space_ends short is.1 (e ∙ gate_text_parts before gate more)
 
 -- what follows the bracket on a gate's line
-pub after_kind : (before rest more : List ℕ) (kind : GateKind) (gate : GateKind × List ℕ) → IsChainKind kind → IsChainGate gate
+pub after_kind : (before rest more : List ℕ) (kind : GateKind) (gate : ChainGate) → IsChainKind kind → IsChainGate gate
     → kind_text kind ++ codes "(" ++ rest ≡ kind_text gate.0 ++ codes "(" ++ (before ++ (codes ")\n" ++ more)) → (kind ≡ gate.0) × (rest ≡ before ++ (codes ")\n" ++ more))
 after_kind before rest more kind gate kind_is is e = same_kind kind gate.0 rest (before ++ (codes ")\n" ++ more)) kind_is is.0 e
 
 -- a gate and what follows its line are known from the bytes
-pub same_line : (before : List ℕ) (gate other : GateKind × List ℕ) (rest more : List ℕ) → IsChainGate gate → IsChainGate other → gate_text before gate ++ rest ≡ gate_text before other ++ more
+pub same_line : (before : List ℕ) (gate other : ChainGate) (rest more : List ℕ) → IsChainGate gate → IsChainGate other → gate_text before gate ++ rest ≡ gate_text before other ++ more
     → (gate ≡ other) × (rest ≡ more)
 same_line before gate other rest more is other_is e =
     let named = after_name before gate.1 (kind_text gate.0 ++ codes "(" ++ (before ++ (codes ")\n" ++ rest))) more other is.1 other_is (sym (gate_text_parts before gate rest) ∙ e) in

@@ -1,12 +1,11 @@
 -- What is read piece by piece of the one spelling of a chain, and where a name in it ends (this project's own).
 use Rattle.std.specs.Prelude.{◌≡◌, ⊤, ℕ, ◌≤◌, List, [], ◌∷◌, length}
 use Rattle.std.specs.List.{AllByRecursion}
-use Rattle.netlist.specs.declared.kind.GateKind.{GateKind}
-use Rattle.netlist.specs.Chain.{IsChainKind, IsLetterOrDigit, IsShortName}
+use Rattle.netlist.specs.Chain.{ChainGate, IsChainKind, IsLetterOrDigit, IsShortName}
 use Rattle.pd_tool.specs.ChainText.{gate_lines, last_name}
 
 -- an inverter or a buffer with a short name
-abbrev pub IsChainGate : GateKind × List ℕ → Type 0
+abbrev pub IsChainGate : ChainGate → Type 0
 IsChainGate gate = IsChainKind gate.0 × IsShortName gate.1
 
 -- a name that is followed by these bytes ends before them
@@ -20,7 +19,7 @@ IsMark [] = ⊥
 IsMark (byte ∷ bytes) = ¬ IsLetterOrDigit byte
 
 -- the lines spell gates, at most 32, each of which reads the one before, from the source to the last name
-pub record AreLines (source last lines : List ℕ) (gates : List (GateKind × List ℕ)) : Type 0 where
+pub record AreLines (source last lines : List ℕ) (gates : List ChainGate) : Type 0 where
   pub each : AllByRecursion IsChainGate gates
   pub short : length gates ≤ 32
   pub spelled : lines ≡ gate_lines source gates

@@ -3,14 +3,13 @@ use Rattle.std.specs.Prelude.{◌≡◌, ℕ, List, map}
 use Rattle.std.specs.List.{range_with_len}
 use Rattle.pd_base.specs.declared.ids.PinRef.{PinRef}
 use Rattle.pd_base.specs.Route.{Route}
-use Rattle.netlist.specs.declared.kind.GateKind.{GateKind}
 use Rattle.netlist.specs.Circuit.{Circuit}
-use Rattle.netlist.specs.Chain.{IsChain, chain_circuit}
+use Rattle.netlist.specs.Chain.{ChainGate, IsChain, chain_circuit}
 
 -- the circuit is that of a chain
 pub record IsChainCircuit (c : Circuit) : Type 0 where
   pub source : List ℕ
-  pub gates : List (GateKind × List ℕ)
+  pub gates : List ChainGate
   pub chain : IsChain source gates
   pub circuit : c ≡ chain_circuit source gates
 

@@ -3,7 +3,7 @@ use Rattle.std.specs.Prelude.{◌≡◌, ℕ, List, [], ◌∷◌, ◌++◌, cod
 use Rattle.netlist.specs.declared.kind.GateKind.{GateKind}
 use Rattle.netlist.specs.declared.kind.GateKind.TheVariants.{And, Nand, Or, Nor, Xor, Xnor, Not, Buff}
 use Rattle.netlist.specs.Circuit.{Circuit}
-use Rattle.netlist.specs.Chain.{IsChain, chain_circuit}
+use Rattle.netlist.specs.Chain.{ChainGate, IsChain, chain_circuit}
 use Rattle.netlist.specs.Waves.{Delays}
 
 -- how a kind of gate is spelled in a netlist
@@ -22,27 +22,27 @@ abbrev pub head_text : List ℕ → List ℕ → List ℕ
 head_text source last = codes "INPUT(" ++ source ++ codes ")\nOUTPUT(" ++ last ++ codes ")\n"
 
 -- the line of a gate that reads the line of this name
-abbrev pub gate_text : List ℕ → GateKind × List ℕ → List ℕ
+abbrev pub gate_text : List ℕ → ChainGate → List ℕ
 gate_text before gate = gate.1 ++ codes " = " ++ kind_text gate.0 ++ codes "(" ++ before ++ codes ")\n"
 
 -- a line for each gate, of which the first reads the line of this name and each later one the gate before
-abbrev pub gate_lines : List ℕ → List (GateKind × List ℕ) → List ℕ
+abbrev pub gate_lines : List ℕ → List ChainGate → List ℕ
 gate_lines before [] = []
 gate_lines before (gate ∷ gates) = gate_text before gate ++ gate_lines gate.1 gates
 
 -- the name of the last line
-abbrev pub last_name : List ℕ → List (GateKind × List ℕ) → List ℕ
+abbrev pub last_name : List ℕ → List ChainGate → List ℕ
 last_name before [] = before
 last_name before (gate ∷ gates) = last_name gate.1 gates
 
 -- the one spelling of a chain
-abbrev pub chain_text : List ℕ → List (GateKind × List ℕ) → List ℕ
+abbrev pub chain_text : List ℕ → List ChainGate → List ℕ
 chain_text source gates = head_text source (last_name source gates) ++ gate_lines source gates
 
 -- the bytes spell a chain, and the circuit is its circuit
 pub record IsNet (bytes : List ℕ) (c : Circuit) : Type 0 where
   pub source : List ℕ
-  pub gates : List (GateKind × List ℕ)
+  pub gates : List ChainGate
   pub chain : IsChain source gates
   pub spelled : bytes ≡ chain_text source gates
   pub circuit : c ≡ chain_circuit source gates

@@ -59,8 +59,9 @@ place_of Report = 1
 place_of Proofs = 2
 place_of Out = 3
 
--- The texts of one run were written up to this place: the files before it are whole, the one there was not begun or
--- holds a front of its text, those behind it are as before, and out took nothing before all files were whole.
+-- Both inputs were asked for, and the texts of one run were written up to this place: the files before it are whole, the
+-- one there was not begun or holds a front of its text, those behind it are as before, and out took nothing before all
+-- files were whole.
 pub record StandsAt (place : ℕ) (request : GenRequest) (old new : Seen) : Type 0 where
   pub work : GenWork request old.folder
   pub files : Tells old.folder new.folder (λ before after.
@@ -132,7 +133,7 @@ IsEnding command (ReadFault input) old new =
 IsEnding command (WriteFault output) old new =
     AsksForGen command (λ request.
     HasWriteFault output old new × StandsAt (place_of output) request old new)
--- memory ran out somewhere
+-- want of memory, at no place that is told
 IsEnding command NoMemory old new =
     IsStill old new
     × (((asked : List (List ℕ)) × IsFrontOf asked (names_to_read command) × IsUntouched asked old new)

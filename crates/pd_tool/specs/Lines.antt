@@ -68,8 +68,9 @@ number_of exit.WriteFault = 6
 number_of exit.NoMemory = 7
 number_of exit.NotBuilt = 9
 
--- The status is that of the ending, and its line stands on err: all of it, and no fault of err was counted, or a part, and
--- one was. Or err had no memory, the status says so, and a part of the line stands there.
+-- The status is that of the ending, and its line stands on err: all of it, and err's count of faults is as it was; or a
+-- part, not all, and the count rose. Or a part stands, not all, the count is as it was, and the status is that of want of
+-- memory.
 abbrev pub IsReported : Ending → Status → Option (List ℕ) → Option (List ℕ) → ℕ → ℕ → Type 0
 IsReported ending status old new old_faults new_faults =
     ((status ≡ status_of ending) × (new_faults ≡ old_faults) × Tells old new (λ before after. after ≡ before ++ line_of ending))

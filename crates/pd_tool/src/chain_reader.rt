@@ -1,10 +1,10 @@
 // Reads the inputs in the form that is built today: a netlist that spells a chain, and a delay file that leaves every
 // delay at one unit. What spells a chain is defined in specs/ChainText.antt, its pieces in specs/ChainPieces.antt; that a
 // text is read in one way only is shown in proofs/ChainReading.antt and proofs/ChainLines.antt.
-ghost use Rattle.std.specs.Prelude.{◌≡◌, ◌≢◌, ℕ, ◌<◌, ◌≤◌, ◌↔◌, List, ◌++◌, length, map, take, drop, codes, IsTrue, IfOk, IfSome, IfNone, MatchOption, AllPairs};
-ghost use Rattle.std.specs.List.{All, AllByRecursion};
+ghost use Rattle.std.specs.Prelude.{◌≡◌, ◌≢◌, ℕ, ◌<◌, ◌≤◌, ◌↔◌, List, ◌++◌, length, take, drop, codes, IsTrue, IfOk, IfSome, IfNone, MatchOption, AllPairs};
+ghost use Rattle.std.specs.List.{All};
 ghost use Rattle.netlist.specs.Circuit.{Circuit};
-ghost use Rattle.netlist.specs.Chain.{IsChain, IsChainKind, IsLetterOrDigit, IsShortName, chain_names};
+ghost use Rattle.netlist.specs.Chain.{ChainGate, IsChainKind, IsLetterOrDigit, IsShortName, chain_names};
 ghost use Rattle.pd_tool.specs.ChainText.{IsNet, gate_text, head_text, kind_text, unit_delays_text};
 ghost use Rattle.pd_tool.specs.ChainPieces.{AreLines, EndsName, IsChainGate, IsMark};
 
@@ -18,6 +18,7 @@ pub const MOST_GATES: usize = 32;
 /// How many letters and digits a name may have.
 const LONGEST_NAME: usize = 16;
 
+// The delay file that leaves every delay at one unit.
 const UNIT_DELAYS: &[u8] = b"gate,pin,delay\n";
 
 /// The netlist of the chain that the bytes spell, or None exactly where they spell none. `OutOfMemory` comes where
@@ -81,7 +82,7 @@ fn gates_of(
     ensures found { IfOk result (λ found. IfSome found (λ gates.
         AreLines source.now last.now lines.now gates.items)) }
     ensures none { IfOk result (λ found. IfNone found (
-        (gates : List (GateKind × List ℕ)) → ¬ AreLines source.now last.now lines.now gates)) }
+        (gates : List ChainGate) → ¬ AreLines source.now last.now lines.now gates)) }
 {
     let mut gates = Vec::new(alloc);
     let mut before = source;
@@ -114,7 +115,7 @@ struct GateLine<'a> {
 // The first line, where its gate reads the line of this name.
 fn gate_at<'a>(before: &[u8], bytes: &'a [u8]) -> Option<GateLine<'a>>
     ensures { MatchOption result
-        ((gate : GateKind × List ℕ) (rest : List ℕ) → IsChainGate gate
+        ((gate : ChainGate) (rest : List ℕ) → IsChainGate gate
         → bytes.now ≢ gate_text before.now gate ++ rest)
         (λ line. IsChainGate (line.kind, line.name.now)
         × (bytes.now ≡ gate_text before.now (line.kind, line.name.now) ++ line.rest.now)) }
@@ -171,7 +172,7 @@ fn name_length(bytes: &[u8]) -> usize
     bytes.len()
 }
 
-// What follows these bytes, where the others begin with them.
+// What follows this front, where the bytes begin with it.
 fn after<'a>(bytes: &'a [u8], front: &[u8]) -> Option<&'a [u8]>
     ensures { MatchOption result
         ((rest : List ℕ) → bytes.now ≢ front.now ++ rest)

@@ -14,7 +14,7 @@ use std::alloc::Global;
 /// How many bytes an input may have. A longer one does not have the form that is built today.
 pub const LIMIT: usize = 4096;
 
-/// The bytes of both inputs, or nothing where one is over the limit.
+/// The bytes of each input, or `None` where it is over the limit.
 #[derive(Debug, Drop)]
 pub struct Inputs {
     /// The netlist.

@@ -1,5 +1,5 @@
 // Telling how a call ended: its line on err, in pieces that need no memory, and its status.
-ghost use Rattle.std.specs.Prelude.{◌≡◌, ◌≤◌, ◌++◌, OnOk, OnErr, IsOk, IsErrOf};
+ghost use Rattle.std.specs.Prelude.{◌≡◌, ◌++◌, OnOk, OnErr, IsOk, IsErrOf};
 ghost use Rattle.pd_io.specs.Counts.{Rose};
 ghost use Rattle.pd_io.specs.Telling.{Tells};
 ghost use Rattle.pd_io.specs.Whole.{TookPart};

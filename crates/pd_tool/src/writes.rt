@@ -11,7 +11,8 @@ use crate::words::Request;
 use crate::works::Texts;
 use pd_io::{FileFault, Files, Sink, WriteFault, write_all, write_whole};
 
-/// Writes the three files in their order. After a fault those before it are whole, and those behind it were not begun.
+/// Writes the three files in their order. After a fault the files before the one where it came are whole, that one is as
+/// it was or holds a front of its text, and those behind it are as they were.
 pub fn write_files<F: Files>(request: &Request, texts: &Texts, files: &mut F) -> Result<(), Ending>
     ensures whole { OnOk result (Tells (F.folder files.old) (F.folder files.new)
         (AreWhole (due_of (request_of request.now) texts.now))) }

@@ -1,5 +1,5 @@
 // Trees of case splits, kept as their nodes in preorder, so that no depth of a tree costs stack.
-ghost use Rattle.std.specs.Prelude.{◌≡◌, ℕ, ◌+◌, ◌-◌, if◌then◌else◌, ◌<◌, ◌^◌, length, vec_len, drop, count_by, IfSome, IfNone, IsTrue, ◌↔◌};
+ghost use Rattle.std.specs.Prelude.{◌≡◌, ◌+◌, ◌-◌, if◌then◌else◌, ◌<◌, ◌^◌, length, vec_len, IfSome, IfNone, IsTrue, ◌↔◌};
 ghost use Rattle.refutation_check.specs.Trees.{IsTree, split_count, is_split};
 
 use std::marker::Model;

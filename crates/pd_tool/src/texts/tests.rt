@@ -1,7 +1,6 @@
 // What the runs of today do not show of the texts, against lines that were written by hand.
 ghost use Rattle.std.specs.Prelude.{◌≡◌, ◌<◌, ◌^◌, [], ◌∷◌, IfOk, length};
 ghost use Rattle.netlist.specs.Chain.{chain_circuit};
-ghost use Rattle.pd_tool.specs.PlainTexts.{AreNameable, HasPlainNames};
 
 use crate::texts::{proofs_text, report_text, summary_text};
 use netlist::{GateKind, Netlist, chain};

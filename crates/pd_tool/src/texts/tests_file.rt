@@ -1,5 +1,5 @@
 // The tests file.
-ghost use Rattle.std.specs.Prelude.{◌≡◌, ◌++◌, IfOk, OnOk, codes, decimal};
+ghost use Rattle.std.specs.Prelude.{◌≡◌, ◌++◌, IfOk, OnOk, codes};
 ghost use Rattle.pd_tool.specs.TestsText.{names_line, observed_names, test_line, tests_text};
 ghost use Rattle.pd_tool.specs.Tokens.{digits, after_space};
 

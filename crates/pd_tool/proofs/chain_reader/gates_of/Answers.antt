@@ -2,7 +2,8 @@ use Rattle.std.proofs.Common.{◌≡◌, ◌≢◌, ◌∙◌, ℕ, List, [], �
 use Rattle.std.proofs.lemmas.Bool.{eqb-true, eqb-false}
 use Rattle.std.proofs.lemmas.List.{nil_from_length}
 use Rattle.pd_tool.proofs.ChainReading.{differ, agree}
-use Rattle.pd_tool.proofs.ChainLines.{ChainGate, too_many, no_line, read_more, are_read, other_last}
+use Rattle.netlist.specs.Chain.{ChainGate}
+use Rattle.pd_tool.proofs.ChainLines.{too_many, no_line, read_more, are_read, other_last}
 use Rattle.pd_tool.proofs.chain_reader.gates_of.Goals as goal
 
 pub returns-then-len-eq-MOST_GATES-clause-none : goal.returns-then-len-eq-MOST_GATES-clause-none

@@ -1,8 +1,8 @@
 use Rattle.std.proofs.Common.{◌≡◌, ◌≢◌, ◌∙◌, List, ap, refl, subst, sym, AllPairs}
 use Rattle.std.proofs.lemmas.Bool.{false≢true}
-use Rattle.netlist.specs.Chain.{IsChain, chain_circuit, chain_names}
+use Rattle.netlist.specs.Chain.{ChainGate, IsChain, chain_circuit, chain_names}
 use Rattle.pd_tool.specs.ChainText.{gate_lines, last_name}
-use Rattle.pd_tool.proofs.ChainLines.{ChainGate, lines_are_chain, lines_are_net, net_distinct, net_head, net_lines}
+use Rattle.pd_tool.proofs.ChainLines.{lines_are_chain, lines_are_net, net_distinct, net_head, net_lines}
 use Rattle.pd_tool.proofs.chain_reader.read_chain.Goals as goal
 
 pub returns-in_default-clause-none : goal.returns-in_default-clause-none
