@@ -9,7 +9,7 @@ use Rattle.netlist.specs.declared.netlist.StoredGate.{StoredGate}
 use Rattle.netlist.specs.Chain.{ChainGate, IsShortName, chain_gates, chain_names}
 use Rattle.netlist.specs.Greatest.{greatest}
 use Rattle.netlist.specs.Stored.{lists, stored_gate}
-use Rattle.netlist.proofs.ChainCircuit.{line_id}
+use Rattle.netlist.proofs.ChainGates.{line_id}
 
 -- numbers from 0, one more
 pub range_more : (n : ℕ) → range_with_len 0 (n + 1) ≡ range_with_len 0 n ++ n ∷ []

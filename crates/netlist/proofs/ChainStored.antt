@@ -1,13 +1,16 @@
 -- A netlist with the lists of a chain stands for that chain, and stores what a netlist has to.
-use Rattle.std.proofs.Common.{◌≡◌, ℕ, ◌+◌, List, [], ◌∷◌, ◌++◌, length, map, take, drop, refl, sym, ap, subst, ◌∙◌}
+use Rattle.std.proofs.Common.{◌≡◌, ℕ, ◌+◌, List, [], ◌∷◌, length, map, take, drop, refl, sym, ap, subst, ◌∙◌}
 use Rattle.std.specs.List.{range_with_len}
 use Rattle.netlist.specs.declared.netlist.Netlist.TheInside.{Inside}
 use Rattle.netlist.specs.Chain.{ChainGate, IsChain, chain_gates, chain_circuit, chain_names}
 use Rattle.netlist.specs.Greatest.{greatest}
 use Rattle.netlist.specs.Levels.{IsRankOrder}
 use Rattle.netlist.specs.Stored.{IsStored, circuit_of, lists, named_gates, stored_gate}
-use Rattle.netlist.proofs.ChainCircuit.{line_id, chain_IsCircuit, chain_line_names}
-use Rattle.netlist.proofs.ChainLists.{gate_id, only_pin, chain_fanouts, chain_levels, chain_greatest_level, chain_order, chain_pin_total}
+use Rattle.netlist.specs.Pins.{AreFanouts}
+use Rattle.netlist.proofs.ChainGates.{line_id, chain_line_names}
+use Rattle.netlist.proofs.ChainLists.{gate_id, chain_levels, chain_greatest_level, chain_order, chain_pin_total}
+use Rattle.netlist.proofs.ChainFanouts.{chain_fanouts, chain_AreFanouts}
+use Rattle.netlist.proofs.ChainCircuit.{chain_IsCircuit}
 
 -- the fields are those of a chain
 pub record StoresChain (source : List ℕ) (links : List ChainGate) (n : Inside) : Type 0 where
@@ -17,7 +20,7 @@ pub record StoresChain (source : List ℕ) (links : List ChainGate) (n : Inside)
   pub outputs : n.outputs.items ≡ line_id (length links) ∷ []
   pub flops : n.flops.items ≡ []
   pub observed : n.observed.items ≡ line_id (length links) ∷ []
-  pub fanouts : lists n.fanouts.items ≡ map (λ gate. only_pin gate ∷ []) (range_with_len 0 (length links)) ++ [] ∷ []
+  pub fanouts : lists n.fanouts.items ≡ chain_fanouts (length links)
   pub levels : n.levels.items ≡ range_with_len 0 (length links + 1)
   pub order : n.order.items ≡ map gate_id (range_with_len 0 (length links))
   pub pins : n.pin_total ≡ length links
@@ -55,7 +58,7 @@ module _ (source : List ℕ) (gates : List ChainGate) (n : Inside) (stores : Sto
     outputs = stores.outputs;
     flops = stores.flops;
     observed = stores.observed;
-    fanouts = stores.fanouts ∙ chain_fanouts source gates;
+    fanouts = subst (AreFanouts (chain_circuit source gates)) (sym stores.fanouts) (chain_AreFanouts source gates);
     levels = stores.levels ∙ chain_levels source gates;
     order = subst (IsRankOrder (chain_circuit source gates)) (sym stores.order) (chain_order source gates);
     pins = stores.pins ∙ sym (chain_pin_total 0 gates);

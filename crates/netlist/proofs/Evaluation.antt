@@ -1,44 +1,34 @@
 -- The one evaluator computes: at a source the base, at a gate the step on the values of its pins' lines. With it the
--- induction over the lines of a circuit without loops, and the two inductions for a relation between two evaluations.
-use Rattle.std.proofs.Common.{◌≡◌, ⊎_elim, subst, ℕ, zero, suc, ◌-◌, ◌<◌, ◌≤◌, Bool, true, false, List, [], ◌∷◌, map, length, slice_get, Some, nat_lt, if◌then◌else◌, refl, sym, ap, ap₂, subst₂, ◌∙◌, arith, lt-ltb, le-ltb}
-use Rattle.std.specs.List.{AllByRecursion, AllZip}
+-- induction over the lines of a circuit without loops. That relations between two evaluations go along lines too is shown
+-- above, in path_laws.
+use Rattle.std.proofs.Common.{◌≡◌, ⊎_elim, subst, ℕ, zero, suc, ◌-◌, ◌<◌, ◌≤◌, List, [], ◌∷◌, map, length, get_or, slice_get, Some, nat_lt, refl, sym, ap, ap₂, ◌∙◌, arith, lt-ltb, le-ltb}
+use Rattle.std.specs.List.{All}
+use Rattle.std.proofs.lemmas.List.Elements.{All-head, All-tail}
+use Rattle.std.proofs.lemmas.Option.{slice_get-get_or, get_or_from_slice_get, slice_get_within}
 use Rattle.std.proofs.lemmas.Bool.{cases_lt, cond-true, cond-false}
-use Rattle.std.proofs.lemmas.List.Elements.{All-from_recursion, All-weaker, recursion_from_All}
 use Rattle.pd_base.specs.declared.ids.LineId.{LineId}
-use Rattle.netlist.specs.Circuit.{Circuit, source_count, gate_count, line_count, gate_line, pins_at, ReadsGate, ReadsOn, IsLoopFree, ReadsLines}
+use Rattle.netlist.specs.Circuit.{Circuit, source_count, gate_count, line_count, gate_line, pins_at}
+use Rattle.netlist.specs.Lawful.{ReadsGate, ReadsOn, IsLoopFree, ReadsLines}
 use Rattle.netlist.specs.Evaluation.{value_within, value_of}
 
 -- no chain of reads goes back from the gate through so many gates
 abbrev pub IsShallow : Circuit → ℕ → ℕ → Type 0
 IsShallow c gates gate = ¬ ((more : List ℕ) × (length more ≡ gates) × ReadsOn c (gate ∷ more))
 
-module _ {X : Type 0} (P : X → Type 0) where
+module _ {X : Type 0} (P : X → Type 0) (xs : List X) where
   -- what holds at each place of a list holds of each element
-  pub all_from_places : (xs : List X) → ((i : ℕ) (x : X) → slice_get xs i ≡ Some x → P x) → AllByRecursion P xs
-  all_from_places [] at = tt
-  all_from_places (x ∷ xs) at = (at zero x refl, all_from_places xs (λ i y. at (suc i) y))
+  pub all_from_places : ((i : ℕ) (x : X) → slice_get xs i ≡ Some x → P x) → All P xs
+  all_from_places at i d within = at i (get_or xs i d) (slice_get-get_or xs i d within)
 
   -- what holds of each element holds at each place
-  pub all_at_place : (xs : List X) (i : ℕ) (x : X) → AllByRecursion P xs → slice_get xs i ≡ Some x → P x
-  all_at_place [] i x all e = absurd cc
-  all_at_place (y ∷ xs) zero x all e = let same : y ≡ x = cc in subst P same all.0
-  all_at_place (y ∷ xs) (suc i) x all e = all_at_place xs i x all.1 e
-
--- what follows from a fact on an element holds of all where the fact does
-pub all_weaker : {X : Type 0} (P Q : X → Type 0) → ((x : X) → P x → Q x) → (xs : List X)
-    → AllByRecursion P xs → AllByRecursion Q xs
-all_weaker P Q step xs all = recursion_from_All Q xs (All-weaker P Q step xs (All-from_recursion P xs all))
+  pub all_at_place : (i : ℕ) (x : X) → All P xs → slice_get xs i ≡ Some x → P x
+  all_at_place i x all e = subst P (get_or_from_slice_get xs i x x e) (all i x (slice_get_within xs i x e))
 
 -- two functions that agree at each element map the list to the same list
-pub map_agree : {X Y : Type 0} (f g : X → Y) (xs : List X) → AllByRecursion (λ x. f x ≡ g x) xs → map f xs ≡ map g xs
+pub map_agree : {X Y : Type 0} (f g : X → Y) (xs : List X) → All (λ x. f x ≡ g x) xs → map f xs ≡ map g xs
 map_agree f g [] agree = refl
-map_agree f g (x ∷ xs) agree = ap₂ (λ y ys. y ∷ ys) agree.0 (map_agree f g xs agree.1)
-
--- two functions whose values stand in a relation at each element map the list to lists that do, place by place
-pub all_zip-map : {X Y Z : Type 0} (R : Y → Z → Type 0) (f : X → Y) (g : X → Z) (xs : List X)
-    → AllByRecursion (λ x. R (f x) (g x)) xs → AllZip R (map f xs) (map g xs)
-all_zip-map R f g [] all = tt
-all_zip-map R f g (x ∷ xs) all = (all.0, all_zip-map R f g xs all.1)
+map_agree f g (x ∷ xs) agree =
+    ap₂ (λ y ys. y ∷ ys) (All-head (λ x. f x ≡ g x) x xs agree) (map_agree f g xs (All-tail (λ x. f x ≡ g x) x xs agree))
 
 module _ (c : Circuit) where
   -- what a gate reads is shallow by one gate less than the gate
@@ -67,7 +57,7 @@ module _ (c : Circuit) (reads : ReadsLines c) (P : ℕ → Type 0)
     (sources : (line : ℕ) → line < source_count c → P line) where
   -- what holds of the sources and of gates shallow by one gate less holds of the lines of a shallow gate's pins
   holds_at_pins : (gates gate : ℕ) → ((next : ℕ) → next < gate_count c → IsShallow c gates next → P (gate_line c next))
-      → gate < gate_count c → IsShallow c (suc gates) gate → AllByRecursion (λ pin. P pin.0) (pins_at c gate)
+      → gate < gate_count c → IsShallow c (suc gates) gate → All (λ pin. P pin.0) (pins_at c gate)
   holds_at_pins gates gate below within shallow = all_from_places (λ pin. P pin.0) (pins_at c gate) at_pin
     where
       at_gate : (i : ℕ) (pin : LineId) → slice_get (pins_at c gate) i ≡ Some pin → source_count c ≤ pin.0 → P pin.0
@@ -80,7 +70,7 @@ module _ (c : Circuit) (reads : ReadsLines c) (P : ℕ → Type 0)
       at_pin : (i : ℕ) (pin : LineId) → slice_get (pins_at c gate) i ≡ Some pin → P pin.0
       at_pin i pin e = ⊎_elim (sources pin.0) (at_gate i pin e) (cases_lt pin.0 (source_count c))
 
-  module _ (step : (gate : ℕ) → gate < gate_count c → AllByRecursion (λ pin. P pin.0) (pins_at c gate)
+  module _ (step : (gate : ℕ) → gate < gate_count c → All (λ pin. P pin.0) (pins_at c gate)
       → P (gate_line c gate)) where
     -- the induction below, over the number of gates by which a gate is shallow
     shallow_induction : (gates gate : ℕ) → gate < gate_count c → IsShallow c gates gate → P (gate_line c gate)
@@ -154,50 +144,3 @@ module _ {V : Type 0} (c : Circuit) (base : ℕ → V) (step : ℕ → List V �
             let shallow = subst (λ count. IsShallow c count gate) all (loop_free gate within) in
             within_gate gates gate
             ∙ ap (step gate) (found_at_pins gates gate (found_at_gate gates) within shallow)
-
-module _ {V W : Type 0} (c : Circuit)
-    (base : ℕ → V) (step : ℕ → List V → V) (other_base : ℕ → W) (other_step : ℕ → List W → W) where
-  -- values that stand in a relation at the sources, and at each gate where they do at its pins, do at every line
-  pub values_related : ReadsLines c → IsLoopFree c → (R : ℕ → V → W → Type 0)
-      → ((line : ℕ) → line < source_count c → R line (base line) (other_base line))
-      → ((gate : ℕ) (value : ℕ → V) (other : ℕ → W) → gate < gate_count c
-      → AllByRecursion (λ pin. R pin.0 (value pin.0) (other pin.0)) (pins_at c gate)
-      → R (gate_line c gate) (step gate (map (λ pin. value pin.0) (pins_at c gate)))
-      (other_step gate (map (λ pin. other pin.0) (pins_at c gate))))
-      → (line : ℕ) → line < line_count c → R line (value_of c base step line) (value_of c other_base other_step line)
-  values_related reads loop_free R sources gates =
-      let value = value_of c base step in
-      let other = value_of c other_base other_step in
-      line_induction c reads (λ line. R line (value line) (other line))
-      (λ line source. subst₂ (R line) (sym (value_at_source c base step line source))
-      (sym (value_at_source c other_base other_step line source)) (sources line source))
-      (λ gate within pins. subst₂ (R (gate_line c gate)) (sym (value_at_gate c base step reads loop_free gate within))
-      (sym (value_at_gate c other_base other_step reads loop_free gate within)) (gates gate value other within pins))
-      loop_free
-
--- two choices by one test stand in a relation where both their sides do
-either_way : {V W : Type 0} (R : V → W → Type 0) (test : Bool) (x x' : V) (y y' : W) → R x y → R x' y'
-    → R (if test then x else x') (if test then y else y')
-either_way R true x x' y y' first second = first
-either_way R false x x' y y' first second = second
-
-module _ {V W : Type 0} (c : Circuit) (R : V → W → Type 0)
-    (base : ℕ → V) (step : ℕ → List V → V) (other_base : ℕ → W) (other_step : ℕ → List W → W)
-    (bases : (line : ℕ) → R (base line) (other_base line))
-    (steps : (gate : ℕ) (values : List V) (others : List W) → AllZip R values others
-    → R (step gate values) (other_step gate others)) where
-  -- the relation below, however far one looks back
-  within_related : (gates line : ℕ)
-      → R (value_within c base step gates line) (value_within c other_base other_step gates line)
-  within_related zero line = bases line
-  within_related (suc gates) line =
-      let gate = line - source_count c in
-      let value = λ (pin : LineId). value_within c base step gates pin.0 in
-      let other = λ (pin : LineId). value_within c other_base other_step gates pin.0 in
-      either_way R (nat_lt line (source_count c)) _ _ _ _ (bases line)
-      (steps gate _ _ (all_zip-map R value other (pins_at c gate)
-      (all_from_places (λ pin. R (value pin) (other pin)) (pins_at c gate) (λ i pin e. within_related gates pin.0))))
-
-  -- values whose bases stand in a relation, and whose steps keep it, stand in it at every number, whatever the circuit is
-  pub values_related_anywhere : (line : ℕ) → R (value_of c base step line) (value_of c other_base other_step line)
-  values_related_anywhere line = within_related (gate_count c) line

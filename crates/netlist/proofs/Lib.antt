@@ -1,20 +1,15 @@
 pub mod ChainCircuit
-pub mod ChainLists
-pub mod ChainSteps
-pub mod ChainStored
+mod ChainFanouts
+pub mod ChainGates
+mod ChainLists
+mod ChainSteps
+mod ChainStored
 pub mod CircuitLines
 pub mod Evaluation
-pub mod GateValues
-pub mod Inserting
-pub mod Looking
-pub mod NonrobustPath
-pub mod OnPathPin
-pub mod PathSteps
-pub mod PinCopies
-pub mod PinPlaces
-pub mod Prefixes
-pub mod Readers
-pub mod RobustPath
-pub mod Steadiness
-pub mod StoredLists
-pub mod ThreeValues
+mod Inserting
+mod Looking
+mod RankOrder
+mod RawStatements
+mod Results
+mod Spans
+mod StoredLists

@@ -1,5 +1,5 @@
 -- What a netlist's fields store of its circuit, and what is read out of the lists that it stores by line number.
-use Rattle.std.proofs.Common.{◌≡◌, ℕ, ◌<◌, List, length, get_or, map, sym, ap, subst, ◌∙◌, arith}
+use Rattle.std.proofs.Common.{◌≡◌, ℕ, ◌<◌, List, [], length, get_or, map, sym, ap, subst, ◌∙◌, arith}
 use Rattle.std.proofs.lemmas.List.{length-map, get_or-map}
 use Rattle.std.proofs.lemmas.List.FromFn.{length-map-range_with_len, get_or-map-range_with_len}
 use Rattle.std.specs.List.{range_with_len}
@@ -22,14 +22,11 @@ module _ {X : Type 0} (f : ℕ → X) (n : ℕ) (xs : List X) (same : xs ≡ map
   by_line-at line d within =
       ap (λ l. get_or l line d) same ∙ get_or-map-range_with_len f 0 n line line d within (omega arith)
 
-module _ {X : Type 0} (f : ℕ → List X) (n : ℕ) (vecs : List (Vec X))
-    (same : lists vecs ≡ map f (range_with_len 0 n)) where
-  -- the same for a vector for each line
-  pub vecs_by_line-length : length vecs ≡ n
-  vecs_by_line-length = sym (length-map vecs (λ v. v.items)) ∙ by_line-length f n (lists vecs) same
+module _ {X : Type 0} (vecs : List (Vec X)) where
+  -- there are as many lists as vectors
+  pub lists-length : length (lists vecs) ≡ length vecs
+  lists-length = length-map vecs (λ v. v.items)
 
-  pub vecs_by_line-at : (line : ℕ) (v : Vec X) → line < n → v ≡ get_or vecs line v → v.items ≡ f line
-  vecs_by_line-at line v within at =
-      let long : line < length vecs = omega (arith, vecs_by_line-length) in
-      ap (λ w. w.items) at ∙ sym (get_or-map (λ w. w.items) vecs line v v.items long)
-      ∙ by_line-at f n (lists vecs) same line v.items within
+  -- the list of a vector that stands at a place
+  pub lists-at : (at : ℕ) (v : Vec X) → at < length vecs → v ≡ get_or vecs at v → get_or (lists vecs) at [] ≡ v.items
+  lists-at at v within is = get_or-map (λ w. w.items) vecs at v [] within ∙ ap (λ w. w.items) (sym is)

@@ -1,8 +1,7 @@
 -- When a pair of vectors is a test for a path. Robust conditions of AND, NAND, OR, NOR, NOT and BUFF: Lin and Reddy 1987;
 -- those of XOR and XNOR are this project's own.
-use Rattle.std.specs.Prelude.{◌≡◌, ⊤, ℕ, Bool, true, false, not, List, [], ◌∷◌, IsSome, if◌then◌else◌}
-use Rattle.std.specs.Bool.{MatchBool}
-use Rattle.std.specs.List.{AllByRecursion}
+use Rattle.std.specs.Prelude.{◌≡◌, ⊤, ℕ, Bool, true, false, not, List, [], ◌∷◌, IsTrue}
+use Rattle.pd_base.specs.declared.ids.LineId.{LineId}
 use Rattle.pd_base.specs.declared.ids.PinRef.{PinRef}
 use Rattle.pd_base.specs.declared.fault.Direction.{Direction}
 use Rattle.pd_base.specs.declared.fault.Direction.TheVariants.{Rise, Fall}
@@ -14,8 +13,60 @@ use Rattle.netlist.specs.declared.kind.GateKind.{GateKind}
 use Rattle.netlist.specs.declared.kind.GateKind.TheVariants.{And, Nand, Or, Nor, Xor, Xnor, Not, Buff}
 use Rattle.netlist.specs.Circuit.{Circuit, kind_at, gate_line}
 use Rattle.netlist.specs.Values.{value, bit_of}
-use Rattle.netlist.specs.Steadiness.{steady_value, IsSteadyAt}
-use Rattle.netlist.specs.Paths.{side_lines}
+use Rattle.netlist.specs.Steadiness.{is_steady}
+use Rattle.netlist.specs.Paths.{IsSide}
+
+-- What a test asks of a side pin: nothing; this value under the second vector; to be steady at this value; to be steady at
+-- either value.
+pub data SideCondition : Type 0 where
+  Free : SideCondition
+  EndsAt : Bool → SideCondition
+  SteadyAt : Bool → SideCondition
+  AnySteady : SideCondition
+
+-- The table of conditions: what a test of this kind asks of each side pin of a gate, where the on-path input has this value
+-- under the second vector. The controlling value of AND and NAND is 0, that of OR and NOR is 1.
+abbrev pub side_condition : Kind → GateKind → Bool → SideCondition
+side_condition Robust And false = SteadyAt true
+side_condition Robust And true = EndsAt true
+side_condition Robust Nand false = SteadyAt true
+side_condition Robust Nand true = EndsAt true
+side_condition Robust Or true = SteadyAt false
+side_condition Robust Or false = EndsAt false
+side_condition Robust Nor true = SteadyAt false
+side_condition Robust Nor false = EndsAt false
+side_condition Robust Xor on_path = AnySteady
+side_condition Robust Xnor on_path = AnySteady
+side_condition Robust Not on_path = Free
+side_condition Robust Buff on_path = Free
+side_condition Nonrobust And on_path = EndsAt true
+side_condition Nonrobust Nand on_path = EndsAt true
+side_condition Nonrobust Or on_path = EndsAt false
+side_condition Nonrobust Nor on_path = EndsAt false
+side_condition Nonrobust Xor on_path = Free
+side_condition Nonrobust Xnor on_path = Free
+side_condition Nonrobust Not on_path = Free
+side_condition Nonrobust Buff on_path = Free
+
+-- the condition allows a side pin whose line has this value under the second vector, and is or is not steady
+abbrev pub Allows : SideCondition → Bool → Bool → Type 0
+Allows Free final steady = ⊤
+Allows (EndsAt bit) final steady = final ≡ bit
+Allows (SteadyAt bit) final steady = (final ≡ bit) × IsTrue steady
+Allows AnySteady final steady = IsTrue steady
+
+-- each side pin of the step is allowed by the table, where this line is the on-path input
+abbrev pub SidesAllowed : Kind → Circuit → Vectors → ℕ → PinRef → Type 0
+SidesAllowed kind c pair line step =
+    (pin : ℕ) (side : LineId) → IsSide c step pin side
+    → Allows (side_condition kind (kind_at c step.gate.0) (value c pair.second line))
+    (value c pair.second side.0) (is_steady c pair side.0)
+
+-- the side pins of all steps are, the first step's on-path input being this line
+abbrev pub SidesMeet : Kind → Circuit → Vectors → ℕ → List PinRef → Type 0
+SidesMeet kind c pair line [] = ⊤
+SidesMeet kind c pair line (step ∷ steps) =
+    SidesAllowed kind c pair line step × SidesMeet kind c pair (gate_line c step.gate.0) steps
 
 -- the value that a source has after its transition
 abbrev pub final_bit : Direction → Bool
@@ -23,52 +74,11 @@ final_bit Rise = true
 final_bit Fall = false
 
 -- the transition is launched at the source: its bits differ, and the second is that of the direction
-abbrev pub Launches : Vectors → Direction → ℕ → Type 0
-Launches pair direction source =
-    (bit_of pair.second source ≡ final_bit direction) × (bit_of pair.first source ≡ not (final_bit direction))
-
--- What a side line has to do at a gate with this controlling value: a side is steady at the noncontrolling value where the
--- on-path input ends controlling, and noncontrolling under the second vector where that input ends noncontrolling.
-abbrev pub SettlesBeside : Circuit → Vectors → Bool → Bool → ℕ → Type 0
-SettlesBeside c pair controlling final side =
-    MatchBool (if controlling then final else not final)
-    (IsSteadyAt c pair side (not controlling)) (value c pair.second side ≡ not controlling)
-
--- what a side line has to do at a gate of this kind whose on-path input has this final value, for a robust test
-abbrev pub IsRobustSide : Circuit → Vectors → GateKind → Bool → ℕ → Type 0
-IsRobustSide c pair And final side = SettlesBeside c pair false final side
-IsRobustSide c pair Nand final side = SettlesBeside c pair false final side
-IsRobustSide c pair Or final side = SettlesBeside c pair true final side
-IsRobustSide c pair Nor final side = SettlesBeside c pair true final side
-IsRobustSide c pair Xor final side = IsSome (steady_value c pair side)
-IsRobustSide c pair Xnor final side = IsSome (steady_value c pair side)
-IsRobustSide c pair Not final side = ⊤
-IsRobustSide c pair Buff final side = ⊤
-
--- the same for a nonrobust test: noncontrolling under the second vector, and nothing at XOR and XNOR
-abbrev pub IsNonrobustSide : Circuit → Vectors → GateKind → ℕ → Type 0
-IsNonrobustSide c pair And side = value c pair.second side ≡ true
-IsNonrobustSide c pair Nand side = value c pair.second side ≡ true
-IsNonrobustSide c pair Or side = value c pair.second side ≡ false
-IsNonrobustSide c pair Nor side = value c pair.second side ≡ false
-IsNonrobustSide c pair Xor side = ⊤
-IsNonrobustSide c pair Xnor side = ⊤
-IsNonrobustSide c pair Not side = ⊤
-IsNonrobustSide c pair Buff side = ⊤
-
--- the condition of a kind on one side line
-abbrev pub IsSideOf : Kind → Circuit → Vectors → GateKind → Bool → ℕ → Type 0
-IsSideOf Robust c pair gate final side = IsRobustSide c pair gate final side
-IsSideOf Nonrobust c pair gate final side = IsNonrobustSide c pair gate side
-
--- all sides of each step meet the condition, the first step's on-path input being this line
-abbrev pub SidesMeet : Kind → Circuit → Vectors → ℕ → List PinRef → Type 0
-SidesMeet kind c pair line [] = ⊤
-SidesMeet kind c pair line (step ∷ steps) =
-    AllByRecursion (λ side. IsSideOf kind c pair (kind_at c step.gate.0) (value c pair.second line) side.0)
-    (side_lines c step)
-    × SidesMeet kind c pair (gate_line c step.gate.0) steps
+pub record Launches (pair : Vectors) (direction : Direction) (source : ℕ) : Type 0 where
+  pub first : bit_of pair.first source ≡ not (final_bit direction)
+  pub second : bit_of pair.second source ≡ final_bit direction
 
 -- the pair is a test of this kind for a path, or for a prefix, and this transition
-abbrev pub Meets : Kind → Circuit → Route → Direction → Vectors → Type 0
-Meets kind c path direction pair = Launches pair direction path.source.0 × SidesMeet kind c pair path.source.0 path.steps
+pub record Meets (kind : Kind) (c : Circuit) (path : Route) (direction : Direction) (pair : Vectors) : Type 0 where
+  pub launches : Launches pair direction path.source.0
+  pub sides : SidesMeet kind c pair path.source.0 path.steps

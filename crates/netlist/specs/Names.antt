@@ -1,7 +1,25 @@
--- Names of lines, by number (ISCAS .bench: lines are known by name).
-use Rattle.std.specs.Prelude.{ℕ, List, [], map, length, slice_index_or}
+-- Names of lines (ISCAS .bench: lines are known by name).
+use Rattle.std.specs.Prelude.{◌≢◌, ℕ, ◌<◌, ◌≤◌, List, [], map, length, slice_index_or, All}
+use Rattle.netlist.specs.declared.limits.TheConstants.{MOST_NAME_BYTES}
 use Rattle.netlist.specs.Circuit.{Circuit, line_names}
 use Rattle.netlist.specs.Greatest.{greatest}
+
+-- a byte that a name may have: a printable one of ASCII but the space and those with a meaning of their own
+pub record IsNameByte (byte : ℕ) : Type 0 where
+  pub above_space : 32 < byte
+  pub below_delete : byte < 127
+  pub no_quote : byte ≢ 34
+  pub no_hash : byte ≢ 35
+  pub no_open : byte ≢ 40
+  pub no_close : byte ≢ 41
+  pub no_comma : byte ≢ 44
+  pub no_equals : byte ≢ 61
+
+-- a name: 1 to 255 such bytes
+pub record IsName (name : List ℕ) : Type 0 where
+  pub some_byte : 1 ≤ length name
+  pub few_bytes : length name ≤ MOST_NAME_BYTES
+  pub bytes : All IsNameByte name
 
 -- the name of a line
 abbrev pub name_at : Circuit → ℕ → List ℕ

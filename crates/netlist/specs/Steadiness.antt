@@ -1,4 +1,5 @@
--- Which lines stand still under a pair of vectors, whatever the delays are (hazard analysis with three values).
+-- Which lines have one value at all times under a pair of vectors, whatever the delays are (hazard analysis with three
+-- values).
 use Rattle.std.specs.Prelude.{◌≡◌, ℕ, Bool, true, false, not, cond, List, [], ◌∷◌, map, Option, Some, None, option_map, is_some, if◌then◌else◌, unwrap_or}
 use Rattle.std.specs.List.{list_all, list_any}
 use Rattle.pd_base.specs.Pair.{Vectors}
@@ -60,3 +61,7 @@ steady_value c pair line =
 -- the line is steady at this bit under the pair
 abbrev pub IsSteadyAt : Circuit → Vectors → ℕ → Bool → Type 0
 IsSteadyAt c pair line bit = steady_value c pair line ≡ Some bit
+
+-- whether the line is steady under the pair, at either value
+abbrev pub is_steady : Circuit → Vectors → ℕ → Bool
+is_steady c pair line = is_some (steady_value c pair line)

@@ -1,13 +1,13 @@
 -- What a netlist stores, and the circuit that this stands for (this project's own).
 use Rattle.std.specs.Prelude.{◌≡◌, ℕ, List, [], ◌∷◌, map, take, drop}
-use Rattle.std.specs.List.{range_with_len}
 use Rattle.std.specs.Global.{Vec}
 use Rattle.netlist.specs.declared.netlist.StoredGate.{StoredGate}
 use Rattle.netlist.specs.declared.netlist.Netlist.TheInside.{Inside}
-use Rattle.netlist.specs.Circuit.{Circuit, Gate, IsCircuit, source_count, line_count, line_names, observed_lines}
-use Rattle.netlist.specs.Fanout.{fanout_at, pin_total}
-use Rattle.netlist.specs.Levels.{line_levels, greatest_level, IsRankOrder}
+use Rattle.netlist.specs.Circuit.{Circuit, Gate, source_count, line_names, observed_lines}
 use Rattle.netlist.specs.Names.{longest_name}
+use Rattle.netlist.specs.Pins.{AreFanouts, pin_total}
+use Rattle.netlist.specs.Levels.{line_levels, greatest_level, IsRankOrder}
+use Rattle.netlist.specs.Lawful.{IsCircuit}
 
 -- the lists in some vectors
 abbrev pub lists : {X : Type 0} → List (Vec X) → List (List X)
@@ -42,7 +42,7 @@ pub record IsStored (c : Circuit) (n : Inside) : Type 0 where
   pub outputs : n.outputs.items ≡ c.outputs
   pub flops : n.flops.items ≡ c.flops
   pub observed : n.observed.items ≡ observed_lines c
-  pub fanouts : lists n.fanouts.items ≡ map (fanout_at c) (range_with_len 0 (line_count c))
+  pub fanouts : AreFanouts c (lists n.fanouts.items)
   pub levels : n.levels.items ≡ line_levels c
   pub order : IsRankOrder c n.order.items
   pub pins : n.pin_total ≡ pin_total c

@@ -4,10 +4,15 @@
 
 mod chains;
 mod kind;
+mod limits;
+mod name_list;
 mod netlist;
-#[cfg(test)]
-mod tests;
+mod raw_net;
 
 pub use chains::chain;
 pub use kind::GateKind;
+pub use limits::{
+    MOST_FAN_IN, MOST_LEVELS, MOST_LINES, MOST_NAME_BYTES, MOST_PINS, MOST_STATEMENTS,
+};
 pub use netlist::Netlist;
+pub use raw_net::{RawNet, RawStmt};

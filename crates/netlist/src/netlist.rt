@@ -1,11 +1,11 @@
 // The netlist: a circuit with what every layer above asks of it, laid out for reading. It is made by the modules that
 // build one; here are its fields, what they hold (specs/Stored.antt), and the calls that read them.
-ghost use Rattle.std.specs.Prelude.{◌≡◌, ◌<◌, All, MatchOption, Contains};
-ghost use Rattle.netlist.specs.Circuit.{HasLines, IsCircuit, source_count, gate_count, line_count, kind_at, pins_at, line_names, observed_lines};
-ghost use Rattle.netlist.specs.Fanout.{fanout_at, pin_total};
-ghost use Rattle.netlist.specs.Levels.{level, greatest_level, IsRankOrder};
+ghost use Rattle.std.specs.Prelude.{◌≡◌, ◌≢◌, ◌<◌, All, AllPairs, MatchOption, Contains};
+ghost use Rattle.netlist.specs.Circuit.{HasLines, source_count, gate_count, line_count, kind_at, pins_at, line_names, observed_lines};
+ghost use Rattle.netlist.specs.Lawful.{IsCircuit};
+ghost use Rattle.netlist.specs.Levels.{level, greatest_level, IsRankOrder, ReadsEarlier};
 ghost use Rattle.netlist.specs.Names.{name_at, longest_name};
-ghost use Rattle.netlist.specs.Paths.{IsPinOn};
+ghost use Rattle.netlist.specs.Pins.{IsFanout, pin_total};
 
 use crate::GateKind;
 use indexmap::IndexSet;
@@ -113,15 +113,15 @@ impl Netlist {
     /// The pins that read a line, by gate and then by pin.
     pub fn fanout(&self, line: LineId) -> &[PinRef]
         requires { line.0 < line_count self.now }
-        ensures readers { result.now ≡ fanout_at self.now line.0 }
-        ensures each_reads { All (λ reader. IsPinOn self.now reader line.0) result.now }
+        ensures { IsFanout self.now line.0 result.now }
     {
         self.fanouts[line.0 as usize].as_slice()
     }
 
-    /// All gates in rank order: by level, then by line number.
+    /// All gates in rank order: by level, then by line number. So each gate stands behind those whose lines it reads.
     pub fn order(&self) -> &[GateId]
-        ensures { IsRankOrder self.now result.now }
+        ensures rank { IsRankOrder self.now result.now }
+        ensures reads { ReadsEarlier self.now result.now }
     {
         self.order.as_slice()
     }
@@ -138,6 +138,7 @@ impl Netlist {
     pub fn outputs(&self) -> &[LineId]
         ensures outputs { result.now ≡ self.now.outputs }
         ensures in_circuit { HasLines self.now result.now }
+        ensures once { AllPairs (λ a b. a ≢ b) result.now }
     {
         self.outputs.as_slice()
     }
@@ -155,6 +156,7 @@ impl Netlist {
     pub fn observed(&self) -> &[LineId]
         ensures observed { result.now ≡ observed_lines self.now }
         ensures in_circuit { HasLines self.now result.now }
+        ensures once { AllPairs (λ a b. a ≢ b) result.now }
     {
         self.observed.as_slice()
     }

@@ -1,5 +1,5 @@
 //! Plain values that every crate speaks of: numbers of lines and gates, paths, vector pairs, tests.
-//! Stands on the kit alone. The layers above use the contracts of `Path`, `Pair`, `Items` and `push_decimal`.
+//! Stands on the kit alone. The layers above use the contracts of `Path`, `Pair`, `Items`, `Steps` and `push_decimal`.
 #![tactic(auto)]
 
 mod decimal;
@@ -9,6 +9,7 @@ mod items;
 mod memory;
 mod pair;
 mod path;
+mod steps;
 mod test;
 
 pub use decimal::push_decimal;
@@ -18,4 +19,5 @@ pub use items::Items;
 pub use memory::OutOfMemory;
 pub use pair::Pair;
 pub use path::Path;
+pub use steps::Steps;
 pub use test::Test;

@@ -1,5 +1,5 @@
 use Rattle.std.proofs.Common.{[], ◌∷◌}
-use Rattle.netlist.proofs.ChainLists.{only_pin}
+use Rattle.netlist.proofs.ChainFanouts.{only_pin}
 use Rattle.netlist.proofs.ChainSteps.{vecs_by_line-push}
 use Rattle.netlist.proofs.chains.fanouts_of.Goals as goal
 

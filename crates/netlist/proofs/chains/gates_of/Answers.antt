@@ -1,6 +1,6 @@
 use Rattle.std.proofs.Common.{◌≡◌, ◌∙◌, [], ◌∷◌}
 use Rattle.netlist.specs.declared.netlist.StoredGate.{StoredGate}
-use Rattle.netlist.proofs.ChainCircuit.{line_id}
+use Rattle.netlist.proofs.ChainGates.{line_id}
 use Rattle.netlist.proofs.ChainSteps.{chain_gates-more}
 use Rattle.netlist.proofs.chains.gates_of.Goals as goal
 

@@ -1,25 +1,20 @@
-use Rattle.std.proofs.Common.{subst, sym, ◌∙◌, ◌≡◌, arith}
-use Rattle.std.specs.List.{All}
-use Rattle.netlist.specs.Fanout.{fanout_at}
-use Rattle.netlist.specs.Paths.{IsPinOn}
-use Rattle.netlist.proofs.Readers.{fanout_reads}
-use Rattle.netlist.proofs.StoredLists.{stored_of, vecs_by_line-length, vecs_by_line-at}
+use Rattle.std.proofs.Common.{◌<◌, length, subst, sym, ◌∙◌, arith}
+use Rattle.netlist.specs.Pins.{IsFanout}
+use Rattle.netlist.proofs.StoredLists.{stored_of, lists-length, lists-at}
 use Rattle.netlist.proofs.netlist.Netlist.fanout.Goals as goal
 
+-- there is a fan-out for each line
 pub index-requires : goal.index-requires
 index-requires c =
     let stored = stored_of c.self.invariant c.self.view_is in
-    omega (arith, vecs_by_line-length _ _ _ stored.fanouts)
+    omega (arith, stored.fanouts.one_each, lists-length c.self.inside.fanouts.items)
 
-pub returns-clause-readers : goal.returns-clause-readers
-returns-clause-readers c =
+-- the vector that is given has the fan-out of the line
+pub returns : goal.returns
+returns c =
     let stored = stored_of c.self.invariant c.self.view_is in
-    c.as_slice.ensures.value ∙ vecs_by_line-at _ _ _ stored.fanouts _ _ c.requires c.index.ensures
-
-pub returns-clause-each_reads : goal.returns-clause-each_reads
-returns-clause-each_reads c =
-    let stored = stored_of c.self.invariant c.self.view_is in
-    let is : c.as_slice.result.now ≡ fanout_at c.args.self.now c.args.line.0 =
-    c.as_slice.ensures.value ∙ vecs_by_line-at _ _ _ stored.fanouts _ _ c.requires c.index.ensures in
-    subst (All (λ reader. IsPinOn c.args.self.now reader c.args.line.0)) (sym is)
-    (fanout_reads c.args.self.now c.args.line.0)
+    let vecs = c.self.inside.fanouts.items in
+    let within : c.args.line.0 < length vecs = omega (arith, stored.fanouts.one_each, lists-length vecs) in
+    subst (IsFanout c.args.self.now c.args.line.0)
+    (lists-at vecs c.args.line.0 _ within c.index.ensures ∙ sym c.as_slice.ensures.value)
+    (stored.fanouts.each c.args.line.0 c.requires)

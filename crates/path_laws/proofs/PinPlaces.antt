@@ -1,12 +1,11 @@
 -- A gate's pin values as one list, each made of the pin's number and line, and what is known of the pins place by place:
 -- the on-path pin, and the side pins, which are all others. OnPathPin.antt says what a gate makes of such lists.
-use Rattle.std.proofs.Common.{◌≡◌, ◌≢◌, ℕ, zero, suc, ◌+◌, ℤ, Bool, not, List, [], ◌∷◌, map, length, slice_get, remove, Some, refl, sym, ap, ap₂, ◌∙◌, subst, zero-add, add-zero, arith}
-use Rattle.std.specs.List.{AllByRecursion, AllZip}
+use Rattle.std.proofs.Common.{◌≡◌, ◌≢◌, ℕ, zero, suc, ◌+◌, ℤ, Bool, not, List, [], ◌∷◌, map, length, slice_get, Some, refl, sym, ap, ap₂, ◌∙◌, subst, zero-add, add-zero, arith}
+use Rattle.std.specs.List.{AllZip}
 use Rattle.pd_base.specs.declared.ids.LineId.{LineId}
 use Rattle.pd_base.specs.declared.ids.PinRef.{PinRef}
 use Rattle.netlist.specs.Waves.{Wave, PinCopy, pin_values}
-use Rattle.netlist.proofs.Evaluation.{all_at_place}
-use Rattle.netlist.proofs.OnPathPin.{DifferAt}
+use Rattle.path_laws.proofs.OnPathPin.{DifferAt}
 
 -- the values at a gate's pins, each of its number and its line
 abbrev pub at_pins : (ℕ → LineId → Bool) → List LineId → List Bool
@@ -54,16 +53,6 @@ module _ (copy : PinCopy) (gate : ℕ) (wave : ℕ → Wave) (time : ℤ) where
   pin_values-is_at_pins lines =
       pin_values_from 0 (copy_value copy gate wave time) lines
       (λ pin line. ap (λ k. copy_value copy gate wave time k line) (sym (zero-add pin)))
-
--- what holds of all side lines holds of the line of each pin other than the on-path one
-pub beside_at : (P : LineId → Type 0) (lines : List LineId) (on_path pin : ℕ) (line : LineId)
-    → AllByRecursion P (remove lines on_path) → pin ≢ on_path → slice_get lines pin ≡ Some line → P line
-beside_at P [] on_path pin line all other e = absurd cc
-beside_at P (first ∷ lines) zero zero line all other e = absurd (other refl)
-beside_at P (first ∷ lines) zero (suc pin) line all other e = all_at_place P lines pin line all e
-beside_at P (first ∷ lines) (suc on_path) zero line all other e = let same : first ≡ line = cc in subst P same all.0
-beside_at P (first ∷ lines) (suc on_path) (suc pin) line all other e =
-    beside_at P lines on_path pin line all.1 (λ same. other (ap suc same)) e
 
 module _ (Held : Bool → Bool → Type 0) where
   -- two values of each pin that are held make two lists that are held, place by place

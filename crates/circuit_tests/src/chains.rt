@@ -2,7 +2,7 @@
 ghost use Rattle.std.specs.Prelude.{◌≡◌, [], ◌∷◌, IfOk};
 ghost use Rattle.netlist.specs.Chain.{chain_circuit};
 
-use crate::{GateKind, Netlist, chain};
+use netlist::{GateKind, Netlist, chain};
 use pd_base::{GateId, Items, LineId, OutOfMemory, PinRef};
 use std::alloc::Global;
 use std::test::Fail;

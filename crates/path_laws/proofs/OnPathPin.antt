@@ -1,32 +1,29 @@
 -- A gate changes with its on-path pin where its other pins are held as a test asks: lists of pin values that differ at that
 -- one pin, and the gate's function of them. RobustPath.antt and NonrobustPath.antt take it along a path.
-use Rattle.std.proofs.Common.{◌≡◌, ℕ, zero, suc, Bool, true, false, not, List, [], ◌∷◌, length, if◌then◌else◌, MatchBool, cond, refl, sym, ap, ap₂, ◌∙◌, arith}
+use Rattle.std.proofs.Common.{◌≡◌, ℕ, zero, suc, Bool, true, false, not, List, [], ◌∷◌, length, cond, refl, sym, ap, ap₂, ◌∙◌, arith}
 use Rattle.std.specs.Bool.{⊤}
 use Rattle.std.specs.List.{AllZip}
 use Rattle.std.proofs.Math.Bool.{not-not}
 use Rattle.std.proofs.lemmas.Bool.{and_left, and_right, and_from, or_left, or_right, or_from}
+use Rattle.pd_base.specs.declared.fault.Kind.TheVariants.{Robust}
 use Rattle.netlist.specs.declared.kind.GateKind.{GateKind}
 use Rattle.netlist.specs.declared.kind.GateKind.TheVariants.{And, Nand, Or, Nor, Xor, Xnor, Not, Buff}
-use Rattle.netlist.specs.Circuit.{IsFanIn}
+use Rattle.netlist.specs.Lawful.{IsFanIn}
 use Rattle.netlist.specs.Values.{all_true, any_true, parity, only_value, gate_value}
+use Rattle.netlist.specs.Conditions.{SideCondition, side_condition}
+use Rattle.netlist.specs.Conditions.SideCondition.{Free, EndsAt, SteadyAt, AnySteady}
 
--- One of two values of a side pin, and its final value, at a gate with this controlling value: where the on-path pin ends
--- controlling both are noncontrolling, and where it ends noncontrolling the final one is.
-abbrev pub HeldBeside : Bool → Bool → Bool → Bool → Type 0
-HeldBeside controlling final side last =
-    MatchBool (if controlling then final else not final)
-    ((side ≡ not controlling) × (last ≡ not controlling)) (last ≡ not controlling)
+-- One of two values of a side pin, and its final value, are held where this is asked: a value that is asked for is the final
+-- one, and a steady side has it as the other value too.
+abbrev pub Held : SideCondition → Bool → Bool → Type 0
+Held Free side last = ⊤
+Held (EndsAt bit) side last = last ≡ bit
+Held (SteadyAt bit) side last = (side ≡ bit) × (last ≡ bit)
+Held AnySteady side last = side ≡ last
 
--- the same at a gate of this kind: at XOR and XNOR the two values are one
+-- they are held at a gate of this kind as a robust test asks, where the on-path input has this final value
 abbrev pub IsHeld : GateKind → Bool → Bool → Bool → Type 0
-IsHeld And final side last = HeldBeside false final side last
-IsHeld Nand final side last = HeldBeside false final side last
-IsHeld Or final side last = HeldBeside true final side last
-IsHeld Nor final side last = HeldBeside true final side last
-IsHeld Xor final side last = side ≡ last
-IsHeld Xnor final side last = side ≡ last
-IsHeld Not final side last = ⊤
-IsHeld Buff final side last = ⊤
+IsHeld kind final side last = Held (side_condition Robust kind final) side last
 
 -- Two lists of a gate's pin values: at one pin the second has the final value and the first the other, and all other
 -- pins are held.
@@ -161,23 +158,31 @@ only_differs Held final (suc pin) (value ∷ other ∷ values) (last ∷ another
 opposite : (bit x y : Bool) → x ≡ not bit → y ≡ bit → x ≡ not y
 opposite bit x y other same = other ∙ ap not (sym same)
 
--- a conjunction changes with its on-path pin where the other pins are held
-and_differs : (final : Bool) (pin : ℕ) (values lasts : List Bool)
-    → DifferAt (HeldBeside false final) final pin values lasts → all_true values ≡ not (all_true lasts)
-and_differs true pin values lasts differ =
+-- a conjunction changes with its on-path pin, which rises
+and_up : (pin : ℕ) (values lasts : List Bool) → DifferAt (Held (EndsAt true)) true pin values lasts
+    → all_true values ≡ not (all_true lasts)
+and_up pin values lasts differ =
     let both = and_rises pin values lasts differ in
     opposite true (all_true values) (all_true lasts) both.0 both.1
-and_differs false pin values lasts differ =
+
+-- or falls
+and_down : (pin : ℕ) (values lasts : List Bool) → DifferAt (Held (SteadyAt true)) false pin values lasts
+    → all_true values ≡ not (all_true lasts)
+and_down pin values lasts differ =
     let both = and_falls pin values lasts differ in
     opposite false (all_true values) (all_true lasts) both.0 both.1
 
--- a disjunction changes with its on-path pin where the other pins are held
-or_differs : (final : Bool) (pin : ℕ) (values lasts : List Bool)
-    → DifferAt (HeldBeside true final) final pin values lasts → any_true values ≡ not (any_true lasts)
-or_differs true pin values lasts differ =
+-- a disjunction changes with its on-path pin, which rises
+or_up : (pin : ℕ) (values lasts : List Bool) → DifferAt (Held (SteadyAt false)) true pin values lasts
+    → any_true values ≡ not (any_true lasts)
+or_up pin values lasts differ =
     let both = or_rises pin values lasts differ in
     opposite true (any_true values) (any_true lasts) both.0 both.1
-or_differs false pin values lasts differ =
+
+-- or falls
+or_down : (pin : ℕ) (values lasts : List Bool) → DifferAt (Held (EndsAt false)) false pin values lasts
+    → any_true values ≡ not (any_true lasts)
+or_down pin values lasts differ =
     let both = or_falls pin values lasts differ in
     opposite false (any_true values) (any_true lasts) both.0 both.1
 
@@ -185,10 +190,14 @@ or_differs false pin values lasts differ =
 pub gate_differs : (kind : GateKind) (final : Bool) (pin : ℕ) (values lasts : List Bool)
     → IsFanIn kind (length lasts) → DifferAt (IsHeld kind final) final pin values lasts
     → gate_value kind values ≡ not (gate_value kind lasts)
-gate_differs And final pin values lasts fan_in differ = and_differs final pin values lasts differ
-gate_differs Nand final pin values lasts fan_in differ = ap not (and_differs final pin values lasts differ)
-gate_differs Or final pin values lasts fan_in differ = or_differs final pin values lasts differ
-gate_differs Nor final pin values lasts fan_in differ = ap not (or_differs final pin values lasts differ)
+gate_differs And true pin values lasts fan_in differ = and_up pin values lasts differ
+gate_differs And false pin values lasts fan_in differ = and_down pin values lasts differ
+gate_differs Nand true pin values lasts fan_in differ = ap not (and_up pin values lasts differ)
+gate_differs Nand false pin values lasts fan_in differ = ap not (and_down pin values lasts differ)
+gate_differs Or true pin values lasts fan_in differ = or_up pin values lasts differ
+gate_differs Or false pin values lasts fan_in differ = or_down pin values lasts differ
+gate_differs Nor true pin values lasts fan_in differ = ap not (or_up pin values lasts differ)
+gate_differs Nor false pin values lasts fan_in differ = ap not (or_down pin values lasts differ)
 gate_differs Xor final pin values lasts fan_in differ = parity_differs final pin values lasts differ
 gate_differs Xnor final pin values lasts fan_in differ = ap not (parity_differs final pin values lasts differ)
 gate_differs Not final pin values lasts fan_in differ =

@@ -8,9 +8,9 @@ use Rattle.netlist.specs.Circuit.{Circuit, kind_at}
 use Rattle.netlist.specs.Values.{bit_of, gate_value, value}
 use Rattle.netlist.specs.Steadiness.{is_known_as, known_gate_value, agreed_bit, steady_value, IsSteadyAt}
 use Rattle.netlist.specs.Waves.{Delays, Wave, PinCopy, source_wave, pin_values, wave_under, wave_of, delay_copy}
-use Rattle.netlist.proofs.Evaluation.{values_related_anywhere}
-use Rattle.netlist.proofs.PinCopies.{KeepsConstants, delay_copy-keeps_constants}
-use Rattle.netlist.proofs.ThreeValues.{Agrees, agrees_at, agrees_gate}
+use Rattle.path_laws.proofs.RelatedValues.{values_related_anywhere}
+use Rattle.path_laws.proofs.PinCopies.{KeepsConstants, delay_copy-keeps_constants}
+use Rattle.path_laws.proofs.ThreeValues.{Agrees, agrees_at, agrees_gate}
 
 -- at every time a known value is the wave's
 abbrev IsConstant : Option Bool → Wave → Type 0

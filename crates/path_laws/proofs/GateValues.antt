@@ -1,11 +1,12 @@
 -- In a circuit without loops a gate's value under a vector, and its wave, are its function of the values at its pins.
 use Rattle.std.proofs.Common.{◌≡◌, ℕ, ◌<◌, ℤ, Bool, List, ap, ◌∙◌}
 use Rattle.pd_base.specs.Pair.{Vectors}
-use Rattle.netlist.specs.Circuit.{Circuit, IsCircuit, source_count, gate_count, gate_line, kind_at, pins_at}
+use Rattle.netlist.specs.Circuit.{Circuit, source_count, gate_count, gate_line, kind_at, pins_at}
+use Rattle.netlist.specs.Lawful.{IsCircuit}
 use Rattle.netlist.specs.Values.{bit_of, gate_value, value}
 use Rattle.netlist.specs.Waves.{Wave, PinCopy, source_wave, pin_values, wave_under}
 use Rattle.netlist.proofs.Evaluation.{value_at_source, value_at_gate}
-use Rattle.netlist.proofs.PinPlaces.{at_pins, copy_value, map-is_at_pins, pin_values-is_at_pins}
+use Rattle.path_laws.proofs.PinPlaces.{at_pins, copy_value, map-is_at_pins, pin_values-is_at_pins}
 
 -- a source's value is its bit
 pub value_of_source : (c : Circuit) (vector : List Bool) (line : ℕ) → line < source_count c
