@@ -54,7 +54,7 @@ none_in_front : (xs ys : List ℕ) → xs ++ ys ≡ [] → xs ≡ []
 none_in_front [] ys e = refl
 none_in_front (x ∷ xs) ys e = cc
 
--- a fault came in the middle of a piece
+-- a write failed in the middle of a piece
 pub handed_front : (before now next : Option (List ℕ)) (bytes piece rest : List ℕ) → Handed before now bytes (piece ++ rest)
     → Tells now next (TookPart piece) → Tells before next (TookPart bytes)
 handed_front before now next bytes piece rest h t =
@@ -68,7 +68,7 @@ handed_front before now next bytes piece rest h t =
       took ∙ ap (λ l. l ++ front) p ∙ append_assoc x h.done front,
     ))
 
--- a fault came before all went, and no more went
+-- a write failed before all went, and no more went
 pub handed_part : (before now next : Option (List ℕ)) (bytes rest : List ℕ) → Handed before now bytes rest → rest ≢ []
     → Tells now next (Appends []) → Tells before next (TookPart bytes)
 handed_part before now next bytes rest h left t =

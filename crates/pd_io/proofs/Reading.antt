@@ -1,11 +1,12 @@
 -- A file that is read piece by piece.
-use Rattle.std.proofs.Common.{◌≡◌, inl, ℕ, ◌+◌, ◌<◌, ◌≤◌, List, [], ◌++◌, length, take, drop, Option, Some, Result, Ok, refl, sym, ap, subst, ◌∙◌, append_assoc, length-append, arith}
+use Rattle.std.proofs.Common.{◌≡◌, ℕ, ◌+◌, ◌<◌, ◌≤◌, List, [], ◌++◌, length, take, drop, Option, Some, Result, Ok, refl, sym, ap, subst, ◌∙◌, append_assoc, length-append, arith}
 use Rattle.std.proofs.lemmas.List.{append-nil, take-append-le, drop_at, length-take-le}
 use Rattle.pd_io.specs.declared.fault.ReadFault.{ReadFault}
 use Rattle.pd_io.specs.Telling.{Tells, IsFrontOf}
 use Rattle.pd_io.specs.Folder.{Folder, Reader, Contents, bytes_at, reader_after, IsNext, GivesNext}
 use Rattle.pd_io.specs.Whole.{folder_after_asking, AsksFor}
-use Rattle.pd_io.proofs.Tellings.{tells_weaker, tells_still}
+use Rattle.pd_io.specs.Whole.AsksFor.{asked}
+use Rattle.pd_io.proofs.Tellings.{tells_weaker, tells_unchanged}
 use Rattle.pd_io.proofs.Handing.{cut_at}
 
 -- the new folder is the old one with this name asked
@@ -64,48 +65,44 @@ pub more_bytes : (more bytes buffer rest : List ℕ) (count : ℕ) → more ≡ 
     → count ≤ length buffer → more ≡ bytes ++ take count buffer
 more_bytes more bytes buffer rest count e w = e ∙ ap (λ l. bytes ++ l) (take-append-le count buffer rest w)
 
--- a read gave the next bytes
-pub reading_more : (before now next : Option Folder) (reader after : Option Reader) (name bytes buffer more : List ℕ) (count : ℕ)
-    → Reading before now reader name bytes → count ≤ length buffer
-    → Tells now next (λ old _. GivesNext old reader count buffer) → next ≡ now → after ≡ reader_after reader (Ok count)
-    → more ≡ bytes ++ take count buffer → Reading before next after name more
-reading_more before now next reader after name bytes buffer more count h w t same m e =
-    let piece = take count buffer in
-    let longer : length bytes + count ≡ length (bytes ++ piece) =
-    sym (length-append bytes piece ∙ ap (λ n. length bytes + n) (length-take-le count buffer w)) in
-    subst (Reading before next after name) (sym e) record {
-      place = m ∙ ap (λ r. reader_after r (Ok count)) h.place ∙ ap (λ n. Some (record { name = name; place = n })) longer;
-      told = tells_still before now next (ReadsFront name bytes) (ReadsFront name (bytes ++ piece))
-          (λ y. GivesNext y reader count buffer) h.told t same
-          (λ x y (asks, front) given. (
-            asks,
-            next_front (bytes_at x.held name) bytes buffer count front
-                (given_at y x.held reader name bytes buffer count h.place (ap (λ f. f.held) asks) given),
-          ));
-    }
+-- while the bytes so far are a front of the file's
+module _ (before now : Option Folder) (reader : Option Reader) (name bytes : List ℕ) (h : Reading before now reader name bytes) where
+  -- a read gave the next bytes
+  pub reading_more : (next : Option Folder) (after : Option Reader) (buffer more : List ℕ) (count : ℕ) → count ≤ length buffer
+      → Tells now next (λ old _. GivesNext old reader count buffer) → next ≡ now → after ≡ reader_after reader (Ok count)
+      → more ≡ bytes ++ take count buffer → Reading before next after name more
+  reading_more next after buffer more count w t same m e =
+      let piece = take count buffer in
+      let longer : length bytes + count ≡ length (bytes ++ piece) =
+      sym (length-append bytes piece ∙ ap (λ n. length bytes + n) (length-take-le count buffer w)) in
+      subst (Reading before next after name) (sym e) record {
+        place = m ∙ ap (λ r. reader_after r (Ok count)) h.place ∙ ap (λ n. Some (record { name = name; place = n })) longer;
+        told = tells_unchanged before now next (ReadsFront name bytes) (ReadsFront name (bytes ++ piece))
+            (λ y. GivesNext y reader count buffer) h.told t same
+            (λ x y (asks, front) given. (
+              asks,
+              next_front (bytes_at x.held name) bytes buffer count front
+                  (given_at y x.held reader name bytes buffer count h.place (ap (λ f. f.held) asks) given),
+            ));
+      }
 
--- a read gave nothing: these are all bytes of the file
-pub reading_end : (before now next : Option Folder) (reader : Option Reader) (name bytes buffer : List ℕ)
-    → Reading before now reader name bytes → Tells now next (λ old _. GivesNext old reader 0 buffer) → next ≡ now
-    → Tells before next (λ old _. bytes ≡ bytes_at old.held name)
-reading_end before now next reader name bytes buffer h t same =
-    tells_still before now next (ReadsFront name bytes) (λ old _. bytes ≡ bytes_at old.held name)
-    (λ y. GivesNext y reader 0 buffer) h.told t same
-    (λ x y (asks, front) given. next_none (bytes_at x.held name) bytes buffer front
-    (given_at y x.held reader name bytes buffer 0 h.place (ap (λ f. f.held) asks) given))
+  -- a read gave nothing: these are all bytes of the file
+  pub reading_end : (next : Option Folder) (buffer : List ℕ) → Tells now next (λ old _. GivesNext old reader 0 buffer) → next ≡ now
+      → Tells before next (λ old _. bytes ≡ bytes_at old.held name)
+  reading_end next buffer t same =
+      tells_unchanged before now next (ReadsFront name bytes) (λ old _. bytes ≡ bytes_at old.held name)
+      (λ y. GivesNext y reader 0 buffer) h.told t same
+      (λ x y (asks, front) given. next_none (bytes_at x.held name) bytes buffer front
+      (given_at y x.held reader name bytes buffer 0 h.place (ap (λ f. f.held) asks) given))
 
--- the file is no shorter than what was read
-pub reading_over : (before now : Option Folder) (reader : Option Reader) (name bytes : List ℕ) (limit : ℕ)
-    → Reading before now reader name bytes → limit < length bytes
-    → Tells before now (λ old _. limit < length (bytes_at old.held name))
-reading_over before now reader name bytes limit h l =
-    tells_weaker before now (ReadsFront name bytes) (λ old _. limit < length (bytes_at old.held name)) h.told
-    (λ x y (_, (rest, split)).
-    let e : length (bytes_at x.held name) ≡ length bytes + length rest = ap length split ∙ length-append bytes rest in
-    omega arith)
+  -- the file is no shorter than what was read
+  pub reading_over : (limit : ℕ) → limit < length bytes → Tells before now (λ old _. limit < length (bytes_at old.held name))
+  reading_over limit l =
+      tells_weaker before now (ReadsFront name bytes) (λ old _. limit < length (bytes_at old.held name)) h.told
+      (λ x y (_, (rest, split)).
+      let e : length (bytes_at x.held name) ≡ length bytes + length rest = ap length split ∙ length-append bytes rest in
+      omega arith)
 
--- the name was asked once, whatever came
-pub reading_asks : {T : Type 0} (before now : Option Folder) (reader : Option Reader) (name bytes : List ℕ)
-    (result : Result T ReadFault) → Reading before now reader name bytes → Tells before now (AsksFor result name)
-reading_asks before now reader name bytes result h =
-    tells_weaker before now (ReadsFront name bytes) (AsksFor result name) h.told (λ x y p. inl p.0)
+  -- the name was asked once, whatever came
+  pub reading_asks : {T : Type 0} (result : Result T ReadFault) → Tells before now (AsksFor result name)
+  reading_asks result = tells_weaker before now (ReadsFront name bytes) (AsksFor result name) h.told (λ x y p. asked p.0)

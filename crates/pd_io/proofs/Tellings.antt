@@ -1,5 +1,5 @@
 -- What is told over several calls.
-use Rattle.std.proofs.Common.{◌≡◌, Option, None, Some, sym, subst}
+use Rattle.std.proofs.Common.{◌≡◌, Option, None, Some, Result, Ok, Err, OnErr, sym, subst}
 use Rattle.pd_io.specs.Telling.{Tells}
 
 -- what holds between each value and itself is told where nothing changed
@@ -33,9 +33,14 @@ tells_at (Some x) None P R Q p q r = p
 tells_at (Some x) (Some y) P R Q p q r = r x y p q
 
 -- what a second call tells that leaves all as it was
-pub tells_still : {A : Type 0} (a b c : Option A) (P R : A → A → Type 0) (Q : A → Type 0) → Tells a b P → Tells b c (λ y _. Q y)
+pub tells_unchanged : {A : Type 0} (a b c : Option A) (P R : A → A → Type 0) (Q : A → Type 0) → Tells a b P → Tells b c (λ y _. Q y)
     → c ≡ b → ((x y : A) → P x y → Q y → R x y) → Tells a c R
-tells_still {A} a b c P R Q p q e r =
+tells_unchanged {A} a b c P R Q p q e r =
     let F : Option A → Type 0 = λ w. Tells b w (λ y _. Q y) in
     let G : Option A → Type 0 = λ w. Tells a w R in
     subst G (sym e) (tells_at a b P R Q p (subst F e q) r)
+
+-- what holds, holds where there is an error
+pub on_err : {T E P : Type 0} (r : Result T E) → P → OnErr r P
+on_err (Ok x) p = tt
+on_err (Err e) p = p

@@ -1,11 +1,12 @@
 -- A file that is written piece by piece.
-use Rattle.std.proofs.Common.{◌≡◌, inl, inr, ℕ, Bool, true, false, cond, List, [], ◌++◌, take, drop, Option, Some, Result, Ok, Err, refl, sym, ap, subst, ◌∙◌, append_assoc, nat_eq}
+use Rattle.std.proofs.Common.{◌≡◌, ℕ, Bool, true, false, cond, List, [], ◌++◌, take, drop, Option, Some, Result, Ok, Err, refl, sym, ap, subst, ◌∙◌, append_assoc, nat_eq}
 use Rattle.std.proofs.lemmas.List.{append-nil}
 use Rattle.std.proofs.lemmas.Slice.Eq.{bytes_eq-Decides}
 use Rattle.std.specs.Cmp.Lexicographic.{pointwise}
 use Rattle.pd_io.specs.declared.fault.FileFault.{FileFault}
 use Rattle.pd_io.specs.Telling.{Tells}
 use Rattle.pd_io.specs.Folder.{Folder, Contents, bytes_at, put, contents_after_write}
+use Rattle.pd_io.specs.Folder.HoldsFront.{untouched, front}
 use Rattle.pd_io.specs.Whole.{folder_with, HoldsPart}
 use Rattle.pd_io.proofs.Tellings.{tells_chain, tells_weaker}
 use Rattle.pd_io.proofs.Handing.{cut_at}
@@ -58,57 +59,55 @@ stores_more writer name text rest count old mid new w s p =
     ∙ ap (λ f. record { held = contents_after_write f.held (Some name) (Ok count) rest; asked = f.asked }) s
     ∙ ap (λ c. record { held = c; asked = old.asked }) (put_more old.held name text (take count rest))
 
--- one more piece was written
-pub writing_more : (before now next : Option Folder) (writer after : Option (List ℕ)) (name text rest left : List ℕ) (count : ℕ)
-    → Writing before now writer name text rest → Tells now next (Writes writer (Ok count) rest) → after ≡ writer
-    → left ≡ drop count rest → Writing before next after name text left
-writing_more before now next writer after name text rest left count h t same e =
-    let piece = take count rest in
-    record {
-      open_name = same ∙ h.open_name;
-      done = h.done ++ piece;
-      split = h.split ∙ ap (λ l. h.done ++ l) (cut_at rest left count e) ∙ sym (append_assoc h.done piece left);
-      told = tells_chain before now next (Stores name h.done) (Writes writer (Ok count) rest) (Stores name (h.done ++ piece))
-          h.told t
-          (λ x y z s p. stores_more writer name h.done rest count x y z h.open_name s p);
-    }
-
--- all is written
-pub writing_all : (before now next : Option Folder) (writer : Option (List ℕ)) (name text rest : List ℕ)
-    → Writing before now writer name text rest → rest ≡ [] → next ≡ now → Tells before next (Stores name text)
-writing_all before now next writer name text rest h e same =
-    let F : Option Folder → Type 0 = λ w. Tells before w (Stores name text) in
-    subst F (sym same) (tells_weaker before now (Stores name h.done) (Stores name text) h.told
-    (λ x y p. p ∙ ap (folder_with x name) (sym (h.split ∙ ap (λ l. h.done ++ l) e ∙ append-nil h.done))))
-
 -- a front that was written is a part of the text
 holds_part : (name text done rest : List ℕ) (old new : Folder) → text ≡ done ++ rest → Stores name done old new
     → HoldsPart name text old new
 holds_part name text done rest old new e p = record {
-  held = inr (done, (rest, e), ap (λ f. f.held) p);
+  held = front done (rest, e) (ap (λ f. f.held) p);
   asked = ap (λ f. f.asked) p;
 }
 
--- a fault came while writing, and no more was written
-pub writing_part : (before now next : Option Folder) (writer : Option (List ℕ)) (name text rest : List ℕ) (fault : FileFault)
-    → Writing before now writer name text rest → Tells now next (Writes writer (Err fault) rest)
-    → Tells before next (HoldsPart name text)
-writing_part before now next writer name text rest fault h t =
-    tells_chain before now next (Stores name h.done) (Writes writer (Err fault) rest) (HoldsPart name text) h.told t
-    (λ x y z s p. holds_part name text h.done rest x z h.split
-    (p ∙ ap (λ o. record { held = contents_after_write y.held o (Err fault) rest; asked = y.asked }) h.open_name ∙ s))
+-- while the name holds a front of the text
+module _ (before now next : Option Folder) (writer : Option (List ℕ)) (name text rest : List ℕ)
+    (h : Writing before now writer name text rest) where
+  -- one more piece was written
+  pub writing_more : (after : Option (List ℕ)) (left : List ℕ) (count : ℕ) → Tells now next (Writes writer (Ok count) rest)
+      → after ≡ writer → left ≡ drop count rest → Writing before next after name text left
+  writing_more after left count t same e =
+      let piece = take count rest in
+      record {
+        open_name = same ∙ h.open_name;
+        done = h.done ++ piece;
+        split = h.split ∙ ap (λ l. h.done ++ l) (cut_at rest left count e) ∙ sym (append_assoc h.done piece left);
+        told = tells_chain before now next (Stores name h.done) (Writes writer (Ok count) rest) (Stores name (h.done ++ piece))
+            h.told t
+            (λ x y z s p. stores_more writer name h.done rest count x y z h.open_name s p);
+      }
 
--- a fault came at the end, after which the bytes stand as they were
-pub writing_stays : (before now next : Option Folder) (writer : Option (List ℕ)) (name text rest : List ℕ)
-    → Writing before now writer name text rest → next ≡ now → Tells before next (HoldsPart name text)
-writing_stays before now next writer name text rest h same =
-    let F : Option Folder → Type 0 = λ w. Tells before w (HoldsPart name text) in
-    subst F (sym same) (tells_weaker before now (Stores name h.done) (HoldsPart name text) h.told
-    (λ x y p. holds_part name text h.done rest x y h.split p))
+  -- all is written
+  pub writing_all : rest ≡ [] → next ≡ now → Tells before next (Stores name text)
+  writing_all e same =
+      let F : Option Folder → Type 0 = λ w. Tells before w (Stores name text) in
+      subst F (sym same) (tells_weaker before now (Stores name h.done) (Stores name text) h.told
+      (λ x y p. p ∙ ap (folder_with x name) (sym (h.split ∙ ap (λ l. h.done ++ l) e ∙ append-nil h.done))))
+
+  -- a write failed, and no more was written
+  pub writing_part : (error : FileFault) → Tells now next (Writes writer (Err error) rest) → Tells before next (HoldsPart name text)
+  writing_part error t =
+      tells_chain before now next (Stores name h.done) (Writes writer (Err error) rest) (HoldsPart name text) h.told t
+      (λ x y z s p. holds_part name text h.done rest x z h.split
+      (p ∙ ap (λ o. record { held = contents_after_write y.held o (Err error) rest; asked = y.asked }) h.open_name ∙ s))
+
+  -- the call at the end failed, after which the bytes stand as they were
+  pub writing_stays : next ≡ now → Tells before next (HoldsPart name text)
+  writing_stays same =
+      let F : Option Folder → Type 0 = λ w. Tells before w (HoldsPart name text) in
+      subst F (sym same) (tells_weaker before now (Stores name h.done) (HoldsPart name text) h.told
+      (λ x y p. holds_part name text h.done rest x y h.split p))
 
 -- the file could not be begun
 pub writing_none : (before now : Option Folder) (name text : List ℕ) → Tells before now (λ old new. new ≡ old)
     → Tells before now (HoldsPart name text)
 writing_none before now name text t =
     tells_weaker before now (λ old new. new ≡ old) (HoldsPart name text) t
-    (λ x y p. record { held = inl (ap (λ f. f.held) p); asked = ap (λ f. f.asked) p })
+    (λ x y p. record { held = untouched (ap (λ f. f.held) p); asked = ap (λ f. f.asked) p })

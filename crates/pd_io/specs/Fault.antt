@@ -1,4 +1,4 @@
--- What a fault of one call is called where a whole file was read or written (this project's own).
+-- What the error of one call is called where a whole file was to be read or written (this project's own).
 use Rattle.pd_io.specs.declared.fault.FileFault.{FileFault}
 use Rattle.pd_io.specs.declared.fault.FileFault.TheVariants as call
 use Rattle.pd_io.specs.declared.fault.ReadFault.{ReadFault}

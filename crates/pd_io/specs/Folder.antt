@@ -1,6 +1,6 @@
 -- What a file object holds and tells: names with bytes, the names asked, the file that is read and the one that is
 -- written (this project's own).
-use Rattle.std.specs.Prelude.{◌≡◌, ◌⊎◌, ⊤, ℕ, ◌+◌, ◌≤◌, List, [], ◌∷◌, ◌++◌, length, take, drop, Option, None, Some, Result, Ok, Err, unwrap_or, option_map, nat_eq, if◌then◌else◌}
+use Rattle.std.specs.Prelude.{◌≡◌, ⊤, ℕ, ◌+◌, ◌≤◌, List, [], ◌∷◌, ◌++◌, length, take, drop, Option, None, Some, Result, Ok, Err, unwrap_or, option_map, nat_eq, if◌then◌else◌}
 use Rattle.std.specs.Cmp.Lexicographic.{pointwise}
 use Rattle.pd_io.specs.declared.fault.FileFault.{FileFault}
 use Rattle.pd_io.specs.declared.fault.FileFault.TheVariants.{Failed, NoMemory}
@@ -38,10 +38,10 @@ names_after_asking (Ok done) asked name = asked ++ name ∷ []
 names_after_asking (Err Failed) asked name = asked ++ name ∷ []
 names_after_asking (Err NoMemory) asked name = asked
 
--- the reader after a `read`: moved by the bytes that it gave; a fault leaves it
+-- the reader after a `read`: moved by the bytes that it gave; an error leaves it
 abbrev pub reader_after : Option Reader → Result ℕ FileFault → Option Reader
 reader_after reader (Ok count) = option_map (λ r. record { name = r.name; place = r.place + count }) reader
-reader_after reader (Err fault) = reader
+reader_after reader (Err error) = reader
 
 -- the first count bytes of a buffer are the next ones of these; there are none exactly at the end
 pub record IsNext (left : List ℕ) (count : ℕ) (buffer : List ℕ) : Type 0 where
@@ -54,22 +54,25 @@ abbrev pub GivesNext : Folder → Option Reader → ℕ → List ℕ → Type 0
 GivesNext folder None count buffer = ⊥
 GivesNext folder (Some reader) count buffer = IsNext (drop reader.place (bytes_at folder.held reader.name)) count buffer
 
--- the contents after a `begin_write`: the name holds nothing; a fault leaves them
+-- the contents after a `begin_write`: the name holds nothing; an error leaves them
 abbrev pub contents_after_begin : Result ⊤ FileFault → Contents → List ℕ → Contents
 contents_after_begin (Ok done) held name = put held name []
-contents_after_begin (Err fault) held name = held
+contents_after_begin (Err error) held name = held
 
--- the bytes that a `write` took: the first count of them; a fault takes none
+-- the bytes that a `write` took: the first count of them; none where it failed
 abbrev pub bytes_taken : Result ℕ FileFault → List ℕ → List ℕ
 bytes_taken (Ok count) bytes = take count bytes
-bytes_taken (Err fault) bytes = []
+bytes_taken (Err error) bytes = []
 
 -- the contents after a `write`: what it took stands behind the bytes of the file that is open for writing
 abbrev pub contents_after_write : Contents → Option (List ℕ) → Result ℕ FileFault → List ℕ → Contents
 contents_after_write held None result bytes = held
 contents_after_write held (Some name) (Ok count) bytes = put held name (bytes_at held name ++ take count bytes)
-contents_after_write held (Some name) (Err fault) bytes = held
+contents_after_write held (Some name) (Err error) bytes = held
 
--- the contents are as before, or the name holds a front of this text and every other name is as before
-abbrev pub HoldsFront : Contents → Contents → List ℕ → List ℕ → Type 0
-HoldsFront old new name text = (new ≡ old) ⊎ ((front : List ℕ) × IsFrontOf front text × (new ≡ put old name front))
+-- what stands under the names after a write of this text under this name, however far it came
+pub data HoldsFront (old new : Contents) (name text : List ℕ) : Type 0 where
+  -- every name has what it had
+  untouched : new ≡ old → HoldsFront old new name text
+  -- the name has a front of the text, and every other name has what it had
+  front : (bytes : List ℕ) → IsFrontOf bytes text → new ≡ put old name bytes → HoldsFront old new name text

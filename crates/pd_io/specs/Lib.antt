@@ -3,6 +3,7 @@ pub mod Fault
 pub mod Folder
 pub mod Memory
 pub mod Plan
+pub mod Seen
 pub mod Shelf
 pub mod StdFiles
 pub mod Steady

@@ -1,7 +1,8 @@
 -- Calls that are planned to fail, by their numbers (this project's own).
-use Rattle.std.specs.Prelude.{ℕ, ◌+◌, ◌-◌, ◌^◌, ◌==◌, Bool, List, [], ◌∷◌, ◌++◌, min}
+use Rattle.std.specs.Prelude.{ℕ, ◌+◌, ◌==◌, Bool, List, [], ◌∷◌, ◌++◌, min}
 use Rattle.std.specs.List.{list_any}
 use Rattle.pd_io.specs.declared.plan.Plan.{Plan}
+use Rattle.pd_io.specs.Counts.{greatest_count}
 
 -- how often a method was called, and which of its calls, counted from 1, are to fail
 pub record CallPlan : Type 0 where
@@ -16,9 +17,9 @@ plan_of plan = record { calls = plan.calls; failing = plan.failing.items }
 abbrev pub empty_plan : CallPlan
 empty_plan = record { calls = 0; failing = [] }
 
--- the number of the next call; a count stands still at the end of its type
+-- the number of the next call; the count stops at its greatest number
 abbrev pub next_number : CallPlan → ℕ
-next_number plan = min (plan.calls + 1) (2 ^ 64 - 1)
+next_number plan = min (plan.calls + 1) greatest_count
 
 -- the next call is to fail
 abbrev pub fails_next : CallPlan → Bool

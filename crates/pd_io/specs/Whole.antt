@@ -1,5 +1,5 @@
 -- What stands after a whole file was read or written, and after all bytes went to a sink (this project's own).
-use Rattle.std.specs.Prelude.{◌≡◌, ◌≢◌, ◌⊎◌, ℕ, List, [], ◌∷◌, ◌++◌, Result, Err}
+use Rattle.std.specs.Prelude.{◌≡◌, ◌≢◌, ℕ, List, [], ◌∷◌, ◌++◌, Result, Err}
 use Rattle.pd_io.specs.declared.fault.ReadFault.{ReadFault}
 use Rattle.pd_io.specs.declared.fault.ReadFault.TheVariants.{NoMemory}
 use Rattle.pd_io.specs.Folder.{Folder, put, HoldsFront}
@@ -8,9 +8,12 @@ use Rattle.pd_io.specs.Folder.{Folder, put, HoldsFront}
 abbrev pub folder_after_asking : Folder → List ℕ → Folder
 folder_after_asking folder name = record folder { asked = folder.asked ++ name ∷ [] }
 
--- reading a whole file asks its name once; where memory ran out, maybe it was not asked
-abbrev pub AsksFor : {T : Type 0} → Result T ReadFault → List ℕ → Folder → Folder → Type 0
-AsksFor result name old new = (new ≡ folder_after_asking old name) ⊎ ((result ≡ Err NoMemory) × (new ≡ old))
+-- what reading a whole file does to the folder
+pub data AsksFor {T : Type 0} (result : Result T ReadFault) (name : List ℕ) (old new : Folder) : Type 0 where
+  -- the name was asked once
+  asked : new ≡ folder_after_asking old name → AsksFor result name old new
+  -- memory ran out before the name was asked
+  no_memory : result ≡ Err NoMemory → new ≡ old → AsksFor result name old new
 
 -- the folder with these bytes under this name
 abbrev pub folder_with : Folder → List ℕ → List ℕ → Folder

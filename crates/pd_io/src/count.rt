@@ -1,24 +1,25 @@
 // How often calls failed. Each object that can fail has such counts.
-ghost use Rattle.std.specs.Prelude.{◌≡◌, ◌+◌, ◌-◌, ◌^◌, ◌≤◌, min};
+ghost use Rattle.std.specs.Prelude.{◌≡◌, ◌+◌, ◌≤◌, min};
+ghost use Rattle.pd_io.specs.Counts.{greatest_count};
 
-/// A number of faults. It stands still at the end of its type.
+/// A number of failed calls. It stops at 2^64 - 1.
 #[derive(Drop)]
-pub(crate) struct FaultCount {
+pub(crate) struct FailedCalls {
     count: u64,
-    ghost within: { count ≤ 2 ^ 64 - 1 },
+    ghost within: { count ≤ greatest_count },
 }
 
-impl FaultCount {
-    /// No fault yet.
-    pub(crate) fn new() -> FaultCount
+impl FailedCalls {
+    /// No call failed yet.
+    pub(crate) fn new() -> FailedCalls
         ensures { result.count ≡ 0 }
     {
-        FaultCount { count: 0 }
+        FailedCalls { count: 0 }
     }
 
-    /// One fault more.
+    /// One more call failed.
     pub(crate) fn rise(&mut self)
-        ensures { self.new.count ≡ min (self.old.count + 1) (2 ^ 64 - 1) }
+        ensures { self.new.count ≡ min (self.old.count + 1) greatest_count }
     {
         self.count = self.count.saturating_add(1);
     }

@@ -1,4 +1,4 @@
-// The faults of the outside, and how a fault of a call becomes one of a whole file.
+// Why a call of the outside fails, and how the error of one call becomes that of a whole file.
 ghost use Rattle.std.specs.Prelude.{◌≡◌};
 ghost use Rattle.pd_io.specs.Fault.{read_fault_of, write_fault_of};
 ghost use Rattle.pd_io.specs.declared.fault.FileFault.TheVariants as call;
@@ -10,22 +10,22 @@ use thiserror::Error;
 /// Why a call of a file object or of a sink failed.
 #[derive(Clone, Copy, Debug, PartialEq, Eq)]
 pub enum FileFault {
-    /// The outside failed, and its count of such faults rose in this call.
+    /// The outside failed, and its count of failed calls rose in this call or stands at 2^64 - 1.
     Failed,
-    /// A growth was refused. No count of faults changed.
+    /// Memory ran out. No count of failed calls changed.
     NoMemory,
 }
 
 /// Why a whole file was not read.
 #[derive(Debug, Drop, Error)]
 pub enum ReadFault {
-    /// A call failed, and the count of read faults rose.
+    /// A call failed, and the count of failed reads rose or stands at 2^64 - 1.
     #[error("reading failed")]
     Failed,
     /// The file holds more bytes than the limit.
     #[error("the file is over the limit")]
     TooLong,
-    /// A growth was refused.
+    /// Memory ran out.
     #[error("want of memory")]
     NoMemory,
 }
@@ -33,10 +33,10 @@ pub enum ReadFault {
 /// Why a whole file was not written.
 #[derive(Debug, Drop, Error)]
 pub enum WriteFault {
-    /// A call failed, and the count of write faults rose.
+    /// A call failed, and the count of failed writes rose or stands at 2^64 - 1.
     #[error("writing failed")]
     Failed,
-    /// A growth was refused.
+    /// Memory ran out.
     #[error("want of memory")]
     NoMemory,
 }

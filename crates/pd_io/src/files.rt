@@ -8,7 +8,7 @@ ghost use Rattle.pd_io.specs.Folder.{Folder, Reader, names_after_asking, reader_
 use crate::FileFault;
 
 /// Files by name, as a program sees them: at most one is open for reading, and one for writing. A call that answers
-/// `Failed` raises its count of faults, unless that is 2^64 - 1; one that answers anything else changes no count.
+/// `Failed` raises its count of failed calls, which stops at 2^64 - 1; one that answers anything else changes no count.
 pub trait Files {
     /// What the object holds and was asked. One that tells nothing of it has `None`, always.
     ghost folder: { Self → Option Folder };
@@ -26,7 +26,7 @@ pub trait Files {
     ghost write_faults: { Self → ℕ };
 
     /// Opens a file for reading, from its start. An absent name is `Failed`, or an empty file. The name is
-    /// noted among those asked, unless memory runs out. After a fault any file may be open, or none.
+    /// noted among those asked, unless memory runs out. After an error any file may be open, or none.
     fn begin_read(&mut self, name: &str) -> Result<(), FileFault>
         ensures begins { OnOk result (
             reader self.new ≡ Some (record { name = name.now; place = 0 })) }
@@ -37,7 +37,7 @@ pub trait Files {
         ensures write_faults { write_faults self.new ≡ write_faults self.old };
 
     /// Puts the bytes that follow the place into the front of the buffer, and answers how many these are. The
-    /// answer is 0 at the end of the file and nowhere else. After a fault the place is the same.
+    /// answer is 0 at the end of the file and nowhere else. After an error the place is the same.
     fn read(&mut self, buf: &mut [u8]) -> Result<usize, FileFault>
         requires open { IsSome (reader self.old) }
         requires room { 0 < length buf.old }
@@ -50,8 +50,8 @@ pub trait Files {
         ensures cause { HasCause (read_faults self.old) (read_faults self.new) result Failed }
         ensures write_faults { write_faults self.new ≡ write_faults self.old };
 
-    /// Opens a file for writing: its name holds nothing from now on. A fault leaves the names as they were,
-    /// and after it any file may be open, or none.
+    /// Opens a file for writing: its name holds nothing from now on. After an error every name keeps its bytes,
+    /// and any file may be open, or none.
     fn begin_write(&mut self, name: &str) -> Result<(), FileFault>
         ensures begins { OnOk result (writer self.new ≡ Some name.now) }
         ensures reader { OnOk result (reader self.new ≡ reader self.old) }
@@ -61,7 +61,7 @@ pub trait Files {
         ensures read_faults { read_faults self.new ≡ read_faults self.old };
 
     /// Appends the first of the bytes to the file that is open for writing, at least one, and answers how
-    /// many. A fault appends nothing.
+    /// many. After an error every name keeps its bytes.
     fn write(&mut self, bytes: &[u8]) -> Result<usize, FileFault>
         requires open { IsSome (writer self.old) }
         requires some { 0 < length bytes.now }
@@ -75,7 +75,7 @@ pub trait Files {
         ensures cause { HasCause (write_faults self.old) (write_faults self.new) result Failed }
         ensures read_faults { read_faults self.new ≡ read_faults self.old };
 
-    /// Ends the writing. After a fault too no file is open for writing, and the bytes stand as they were.
+    /// Ends the writing: no file is open for writing from now on, also after an error. Every name keeps its bytes.
     fn finish(&mut self) -> Result<(), FileFault>
         requires open { IsSome (writer self.old) }
         ensures writer { writer self.new ≡ None }

@@ -6,8 +6,8 @@ ghost use Rattle.pd_io.specs.Whole.{folder_with};
 ghost use Rattle.pd_io.specs.Plan.{empty_plan, fails_next, plan_after_call, plan_with};
 ghost use Rattle.pd_io.specs.Memory.{memory_folder, memory_reader, memory_writer, memory_read_faults, memory_write_faults, memory_plans, no_plans, plans_with, refuses, memory_bytes, memory_faults, sink_plan};
 
-use crate::count::FaultCount;
-use crate::named::take_front;
+use crate::count::FailedCalls;
+use crate::named::{MOST_AT_ONCE, take_front};
 use crate::plan::Plan;
 use crate::shelf::Shelf;
 use crate::{FileFault, Files, Sink};
@@ -30,7 +30,7 @@ pub enum FileCall {
 }
 
 /// Files kept in memory, with calls that were chosen to fail. Opening an absent name for reading fails too. No read
-/// or write moves more than 4,096 bytes. A failing call does what `Files` says of a fault, and nothing else.
+/// or write moves more than `MOST_AT_ONCE` bytes. A call that fails does what `Files` says of an error, and nothing else.
 #[derive(Drop)]
 pub struct MemoryFiles {
     shelf: Shelf,
@@ -39,8 +39,8 @@ pub struct MemoryFiles {
     begin_writes: Plan,
     writes: Plan,
     finishes: Plan,
-    read_faults: FaultCount,
-    write_faults: FaultCount,
+    read_faults: FailedCalls,
+    write_faults: FailedCalls,
 }
 
 impl MemoryFiles {
@@ -60,12 +60,12 @@ impl MemoryFiles {
             begin_writes: Plan::new(alloc),
             writes: Plan::new(alloc),
             finishes: Plan::new(alloc),
-            read_faults: FaultCount::new(),
-            write_faults: FaultCount::new(),
+            read_faults: FailedCalls::new(),
+            write_faults: FailedCalls::new(),
         }
     }
 
-    /// Makes a name hold these bytes. All other names stay. Where a growth is refused, all names do.
+    /// Makes a name hold these bytes. All other names keep theirs. If memory runs out, every name keeps its bytes.
     pub fn put(&mut self, name: &str, bytes: &[u8]) -> Result<(), OutOfMemory>
         ensures ok { OnOk result (
             memory_folder self.new ≡ folder_with (memory_folder self.old) name.now bytes.now) }
@@ -87,8 +87,8 @@ impl MemoryFiles {
         self.shelf.get(name)
     }
 
-    /// Plans that the call of this number fails, counted from 1 over all calls of the method since `new`. Where a
-    /// growth is refused, no more calls are to fail than before.
+    /// Plans that the call of this number fails, counted from 1 over all calls of the method since `new`. If memory
+    /// runs out, the same calls are to fail as before.
     pub fn fail(&mut self, call: FileCall, nth: u64) -> Result<(), OutOfMemory>
         ensures ok { OnOk result (
             memory_plans self.new ≡ plans_with (memory_plans self.old) call nth) }
@@ -133,7 +133,7 @@ impl Files for MemoryFiles {
             (memory_read_faults self.old) (memory_read_faults self.new) result FileFault.Failed }
         ensures write_faults { memory_write_faults self.new ≡ memory_write_faults self.old }
 
-        // It is `Ok` only where no fault is planned and the name is there, and `Failed` only where one is, or it is absent.
+        // `Ok` comes only where no failure is planned and the name is there, `Failed` only where one is or it is absent.
         ensures ok { OnOk result (refuses self.old name.now ≡ false) }
         ensures failed { IsErrOf result FileFault.Failed → IsTrue (refuses self.old name.now) }
         ensures plans { memory_plans self.new ≡ record (memory_plans self.old) {
@@ -154,7 +154,7 @@ impl Files for MemoryFiles {
         requires open { IsSome (memory_reader self.old) }
         requires room { 0 < length buf.old }
         ensures within { IfOk result (λ count. count ≤ length buf.new) }
-        ensures most { IfOk result (λ count. count ≤ 4096) }
+        ensures most { IfOk result (λ count. count ≤ MOST_AT_ONCE) }
         ensures place { memory_reader self.new ≡ reader_after (memory_reader self.old) result }
         ensures bytes { IfOk result (λ count.
             GivesNext (memory_folder self.old) (memory_reader self.old) count buf.new) }
@@ -190,7 +190,7 @@ impl Files for MemoryFiles {
             (memory_write_faults self.old) (memory_write_faults self.new) result FileFault.Failed }
         ensures read_faults { memory_read_faults self.new ≡ memory_read_faults self.old }
 
-        // It is `Ok` only where no fault is planned, and `Failed` only where one is.
+        // `Ok` comes only where no failure is planned, and `Failed` only where one is.
         ensures ok { OnOk result (fails_next (memory_plans self.old).begin_write ≡ false) }
         ensures failed { IsErrOf result FileFault.Failed →
             IsTrue (fails_next (memory_plans self.old).begin_write) }
@@ -210,7 +210,7 @@ impl Files for MemoryFiles {
         requires open { IsSome (memory_writer self.old) }
         requires some { 0 < length bytes.now }
         ensures within { IfOk result (λ count. (0 < count) × (count ≤ length bytes.now)) }
-        ensures most { IfOk result (λ count. count ≤ 4096) }
+        ensures most { IfOk result (λ count. count ≤ MOST_AT_ONCE) }
         ensures told { memory_folder self.new ≡ record (memory_folder self.old) {
           held = contents_after_write
               (memory_folder self.old).held (memory_writer self.old) result bytes.now;
@@ -221,7 +221,7 @@ impl Files for MemoryFiles {
             (memory_write_faults self.old) (memory_write_faults self.new) result FileFault.Failed }
         ensures read_faults { memory_read_faults self.new ≡ memory_read_faults self.old }
 
-        // It is `Ok` only where no fault is planned, and `Failed` only where one is.
+        // `Ok` comes only where no failure is planned, and `Failed` only where one is.
         ensures ok { OnOk result (fails_next (memory_plans self.old).write ≡ false) }
         ensures failed { IsErrOf result FileFault.Failed →
             IsTrue (fails_next (memory_plans self.old).write) }
@@ -262,12 +262,13 @@ impl Files for MemoryFiles {
     }
 }
 
-/// A sink that keeps its bytes in memory, with writes that were chosen to fail. One write takes 4,096 bytes or fewer.
+/// A sink that keeps its bytes in memory, with writes that were chosen to fail. One write takes at most `MOST_AT_ONCE`
+/// bytes.
 #[derive(Drop)]
 pub struct MemorySink {
     bytes: Vec<u8>,
     writes: Plan,
-    faults: FaultCount,
+    faults: FailedCalls,
 }
 
 impl MemorySink {
@@ -280,7 +281,7 @@ impl MemorySink {
         MemorySink {
             bytes: Vec::new(alloc),
             writes: Plan::new(alloc),
-            faults: FaultCount::new(),
+            faults: FailedCalls::new(),
         }
     }
 
@@ -291,8 +292,8 @@ impl MemorySink {
         self.bytes.as_slice()
     }
 
-    /// Plans that the write of this number fails, counted from 1 over all writes since `new`. Where a growth is
-    /// refused, no more writes are to fail than before.
+    /// Plans that the write of this number fails, counted from 1 over all writes since `new`. If memory runs out, the
+    /// same writes are to fail as before.
     pub fn fail(&mut self, nth: u64) -> Result<(), OutOfMemory>
         ensures ok { OnOk result (sink_plan self.new ≡ plan_with (sink_plan self.old) nth) }
         ensures err { OnErr result (sink_plan self.new ≡ sink_plan self.old) }
@@ -312,13 +313,13 @@ impl Sink for MemorySink {
     fn write(&mut self, bytes: &[u8]) -> Result<usize, FileFault>
         requires { 0 < length bytes.now }
         ensures within { IfOk result (λ count. (0 < count) × (count ≤ length bytes.now)) }
-        ensures most { IfOk result (λ count. count ≤ 4096) }
+        ensures most { IfOk result (λ count. count ≤ MOST_AT_ONCE) }
         ensures told { memory_bytes self.new
             ≡ memory_bytes self.old ++ bytes_taken result bytes.now }
         ensures cause { HasCause
             (memory_faults self.old) (memory_faults self.new) result FileFault.Failed }
 
-        // It is `Ok` only where no fault is planned, and `Failed` only where one is.
+        // `Ok` comes only where no failure is planned, and `Failed` only where one is.
         ensures ok { OnOk result (fails_next (sink_plan self.old) ≡ false) }
         ensures failed { IsErrOf result FileFault.Failed →
             IsTrue (fails_next (sink_plan self.old)) }

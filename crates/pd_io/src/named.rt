@@ -1,39 +1,29 @@
-// A list of named files in memory, of which the first with a name counts. Over it stands `Shelf`.
-ghost use Rattle.std.specs.Prelude.{◌≡◌, ◌+◌, ◌^◌, ◌<◌, ◌≤◌, [], ◌++◌, length, take, drop, Some, None, position, IfOk, OnOk, OnErr, option_copied};
+// Named files in memory. Over them stands `Shelf`.
+ghost use Rattle.std.specs.Prelude.{◌≡◌, ◌+◌, ◌^◌, ◌<◌, ◌≤◌, ◌++◌, length, take, drop, IfOk, OnOk, OnErr, option_copied};
 ghost use Rattle.pd_io.specs.Folder.{bytes_at, put, IsNext};
-ghost use Rattle.pd_io.specs.Shelf.{has_name, contents_of};
+ghost use Rattle.pd_io.specs.Shelf.{contents_of};
 
 use std::alloc::{AllocError, Global};
+use std::collections::BTreeMap;
 
-/// The most bytes that a read gives or a write takes.
-pub(crate) const MOST_AT_ONCE: usize = 4096;
+/// The most bytes that one read gives, or one write takes, of files or a sink in memory.
+pub const MOST_AT_ONCE: usize = 4096;
 
-/// A name, and the bytes under it.
-#[derive(Drop)]
-pub(crate) struct NamedFile {
-    name: String,
-    bytes: Vec<u8>,
-}
-
-/// Where the first file of this name stands.
-fn place_of(files: &[NamedFile], name: &str) -> Option<usize>
-    ensures { result ≡ position (has_name name.now) files.now }
-{
-    files.iter().position(|file| name == file.name.as_str())
-}
+/// The bytes under each name.
+pub(crate) type NamedFiles = BTreeMap<String, Vec<u8>>;
 
 /// The bytes under a name.
-pub(crate) fn bytes_of<'a>(files: &'a [NamedFile], name: &str) -> Option<&'a [u8]>
+pub(crate) fn bytes_of<'a>(files: &'a NamedFiles, name: &str) -> Option<&'a [u8]>
     ensures { option_copied result ≡ contents_of files.now name.now }
 {
-    match place_of(files, name) {
-        Some(at) => Some(files[at].bytes.as_slice()),
+    match files.get(name) {
+        Some(bytes) => Some(bytes.as_slice()),
         None => None,
     }
 }
 
 /// The bytes under a name that stand behind this place. An absent name has none.
-pub(crate) fn left_of<'a>(files: &'a [NamedFile], name: &str, place: usize) -> &'a [u8]
+pub(crate) fn left_of<'a>(files: &'a NamedFiles, name: &str, place: usize) -> &'a [u8]
     ensures left { result.now ≡ drop place (bytes_at (contents_of files.now) name.now) }
     ensures fits { place + length result.now < 2 ^ 64 }
 {
@@ -43,30 +33,26 @@ pub(crate) fn left_of<'a>(files: &'a [NamedFile], name: &str, place: usize) -> &
     }
 }
 
-/// Makes a name hold these bytes. Where a growth is refused, all names hold what they held.
+/// Makes a name hold these bytes. If memory runs out, every name keeps its bytes.
 pub(crate) fn store(
-    files: &mut Vec<NamedFile>,
+    files: &mut NamedFiles,
     alloc: Global,
     name: &str,
     bytes: Vec<u8>,
 ) -> Result<(), AllocError>
     ensures ok { OnOk result (
-        contents_of files.new.items ≡ put (contents_of files.old.items) name.now bytes.items) }
-    ensures err { OnErr result (contents_of files.new.items ≡ contents_of files.old.items) }
+        contents_of files.new ≡ put (contents_of files.old) name.now bytes.items) }
+    ensures err { OnErr result (contents_of files.new ≡ contents_of files.old) }
 {
-    match place_of(files.as_slice(), name) {
-        Some(at) => files[at].bytes = bytes,
-        None => {
-            let name = String::from_str(alloc, name)?;
-            files.push(NamedFile { name, bytes })?;
-        }
-    }
+    let name = String::from_str(alloc, name)?;
+    files.insert(name, bytes)?;
     Ok(())
 }
 
-/// Appends the first of these bytes to those under a name, at most 4,096 and at least one, and answers how many.
+/// Appends the first of these bytes to those under a name, at least one and at most `MOST_AT_ONCE`, and answers how
+/// many. If memory runs out, every name keeps its bytes.
 pub(crate) fn append(
-    files: &mut Vec<NamedFile>,
+    files: &mut NamedFiles,
     alloc: Global,
     name: &str,
     bytes: &[u8],
@@ -75,12 +61,12 @@ pub(crate) fn append(
     ensures within { IfOk result (λ count. (0 < count) × (count ≤ length bytes.now)) }
     ensures most { IfOk result (λ count. count ≤ MOST_AT_ONCE) }
     ensures ok { IfOk result (λ count.
-        contents_of files.new.items ≡ put (contents_of files.old.items) name.now
-        (bytes_at (contents_of files.old.items) name.now ++ take count bytes.now)) }
-    ensures err { OnErr result (contents_of files.new.items ≡ contents_of files.old.items) }
+        contents_of files.new ≡ put (contents_of files.old) name.now
+        (bytes_at (contents_of files.old) name.now ++ take count bytes.now)) }
+    ensures err { OnErr result (contents_of files.new ≡ contents_of files.old) }
 {
-    match place_of(files.as_slice(), name) {
-        Some(at) => take_front(&mut files[at].bytes, bytes),
+    match files.get_mut(name) {
+        Some(taken) => take_front(taken, bytes),
         None => {
             let mut start = Vec::new(alloc);
             let count = take_front(&mut start, bytes)?;
@@ -90,7 +76,8 @@ pub(crate) fn append(
     }
 }
 
-/// Appends the first of these bytes, at most 4,096 and at least one, and answers how many.
+/// Appends the first of these bytes, at least one and at most `MOST_AT_ONCE`, and answers how many. If memory runs out,
+/// it appends none.
 pub(crate) fn take_front(taken: &mut Vec<u8>, bytes: &[u8]) -> Result<usize, AllocError>
     requires { 0 < length bytes.now }
     ensures within { IfOk result (λ count. (0 < count) × (count ≤ length bytes.now)) }
@@ -103,7 +90,7 @@ pub(crate) fn take_front(taken: &mut Vec<u8>, bytes: &[u8]) -> Result<usize, All
     Ok(count)
 }
 
-/// Copies the first of these bytes into a buffer, at most 4,096 and none only where there are none.
+/// Copies the first of these bytes into a buffer, at most `MOST_AT_ONCE`, and none only where there are none.
 pub(crate) fn copy_front(buf: &mut [u8], bytes: &[u8]) -> usize
     requires { 0 < length buf.old }
     ensures within { result ≤ length buf.new }

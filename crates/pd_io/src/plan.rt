@@ -22,7 +22,7 @@ impl Plan {
         }
     }
 
-    /// Plans that the call of this number is to fail. Where a growth is refused, the plan is as it was.
+    /// Plans that the call of this number is to fail. If memory runs out, the plan is as it was.
     pub(crate) fn fail(&mut self, nth: u64) -> Result<(), AllocError>
         ensures ok { OnOk result (plan_of self.new ≡ plan_with (plan_of self.old) nth) }
         ensures err { OnErr result (plan_of self.new ≡ plan_of self.old) }

@@ -5,8 +5,9 @@ ghost use Rattle.pd_io.specs.Folder.{empty_folder, put, reader_after, GivesNext,
 ghost use Rattle.pd_io.specs.Whole.{folder_after_asking, folder_with};
 ghost use Rattle.pd_io.specs.Shelf.{folder_of, reader_of, writer_of};
 
-use crate::named::{MOST_AT_ONCE, NamedFile, append, bytes_of, copy_front, left_of, store};
+use crate::named::{MOST_AT_ONCE, NamedFiles, append, bytes_of, copy_front, left_of, store};
 use std::alloc::{AllocError, Global};
+use std::collections::BTreeMap;
 
 /// A file that is open for reading, and how many of its bytes were taken.
 #[derive(Drop)]
@@ -19,7 +20,7 @@ pub(crate) struct OpenFile {
 #[derive(Drop)]
 pub(crate) struct Shelf {
     alloc: Global,
-    files: Vec<NamedFile>,
+    files: NamedFiles,
     asked: Vec<String>,
     reading: Option<OpenFile>,
     writing: Option<String>,
@@ -34,7 +35,7 @@ impl Shelf {
     {
         Shelf {
             alloc,
-            files: Vec::new(alloc),
+            files: BTreeMap::new(alloc),
             asked: Vec::new(alloc),
             reading: None,
             writing: None,
@@ -57,7 +58,7 @@ impl Shelf {
     pub(crate) fn get(&self, name: &str) -> Option<&[u8]>
         ensures { option_copied result ≡ (folder_of self.now).held name.now }
     {
-        bytes_of(self.files.as_slice(), name)
+        bytes_of(&self.files, name)
     }
 
     /// Notes a name among those asked.
@@ -106,7 +107,7 @@ impl Shelf {
         match &mut self.reading {
             None => unreachable!(),
             Some(file) => {
-                let left = left_of(self.files.as_slice(), file.name.as_str(), file.place);
+                let left = left_of(&self.files, file.name.as_str(), file.place);
                 let count = copy_front(buf, left);
                 file.place += count;
                 count

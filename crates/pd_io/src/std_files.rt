@@ -1,38 +1,44 @@
 // The trusted edge: real files and streams, by std. They tell nothing of content, and count the errors of std's calls.
-ghost use Rattle.std.specs.Prelude.{◌≡◌, ◌+◌, ◌<◌, ◌≤◌, length, None, Some, IfSome, IfNone};
-ghost use Rattle.pd_io.specs.StdFiles.{std_reader, std_writer};
+ghost use Rattle.std.specs.Prelude.{◌≡◌, ◌+◌, ◌<◌, ◌≤◌, length, take, None, Some, IsSome, IfSome, IfNone, IfOk, OnOk, OnErr, IfErr, IsTrue, string_bytes};
+ghost use Rattle.std.specs.Io.KnownBytes.{Appends};
+ghost use Rattle.std.specs.IoError.{error_kind};
+ghost use Rattle.pd_io.specs.Counts.{HasCause};
+ghost use Rattle.pd_io.specs.Folder.{reader_after};
+ghost use Rattle.pd_io.specs.StdFiles.{std_reader, std_writer, open_to_read, open_to_write, Gave, FileGave, FileTook, cannot_sync};
 
-use crate::count::FaultCount;
+use crate::count::FailedCalls;
 use crate::{FileFault, Files, Sink};
 use std::alloc::Global;
-use std::io::{Read, Write};
-use std::{fs, rt};
+use std::fs::OpenFile;
+use std::io::{ErrorKind, Read, Write};
+use std::{fs, io, rt};
 
-/// A file that is open for reading, its name, and how many of its bytes were taken.
+/// A file that is read, its name, and how many of its bytes were taken. A failed read closes it for good.
 #[derive(Drop)]
 struct ReadFile<F> {
-    file: F,
+    file: Option<F>,
     name: String,
     place: u64,
 }
 
-/// A file that is open for writing, and its name.
+/// A file that is written, and its name. A failed write closes it for good.
 #[derive(Drop)]
 struct WriteFile<F> {
-    file: F,
+    file: Option<F>,
     name: String,
 }
 
-/// The files of a runtime. Each error of std counts as a fault, also one that a signal brings; so does a write
-/// that takes nothing, and a read past byte 2^64 - 1.
+/// The files of a runtime. Each error of std is a failed call, also one that a signal brings; so is a write that takes
+/// nothing, and a read past byte 2^64 - 1. A failed call gives its file back to the system at once, so that nothing
+/// that is written later under the same descriptor lands in it.
 #[derive(Drop)]
 pub struct StdFiles<R: rt::Files> {
     alloc: Global,
     runtime: R,
     reading: Option<ReadFile<R::File>>,
     writing: Option<WriteFile<R::File>>,
-    read_faults: FaultCount,
-    write_faults: FaultCount,
+    read_faults: FailedCalls,
+    write_faults: FailedCalls,
 }
 
 impl<R: rt::Files> StdFiles<R> {
@@ -49,8 +55,8 @@ impl<R: rt::Files> StdFiles<R> {
             runtime,
             reading: None,
             writing: None,
-            read_faults: FaultCount::new(),
-            write_faults: FaultCount::new(),
+            read_faults: FailedCalls::new(),
+            write_faults: FailedCalls::new(),
         }
     }
 }
@@ -66,12 +72,25 @@ impl<R: rt::Files> Files for StdFiles<R> {
 
     ghost write_faults = { λ files. files.write_faults.count };
 
-    fn begin_read(&mut self, name: &str) -> Result<(), FileFault> {
+    fn begin_read(&mut self, name: &str) -> Result<(), FileFault>
+        ensures begins { OnOk result (
+            std_reader self.new.reading ≡ Some (record { name = name.now; place = 0 })) }
+        ensures writer { std_writer self.new.writing ≡ std_writer self.old.writing }
+        ensures cause { HasCause
+            self.old.read_faults.count self.new.read_faults.count result FileFault.Failed }
+        ensures write_faults { self.new.write_faults.count ≡ self.old.write_faults.count }
+
+        // A file is open exactly where one was begun.
+        ensures opened { OnOk result (IsSome (open_to_read self.new.reading)) }
+        ensures closed { OnErr result (open_to_read self.new.reading ≡ None) }
+    {
+        // What was read before is closed first.
+        self.reading = None;
         let kept = String::from_str(self.alloc, name)?;
         match fs::open(&self.runtime, name) {
             Ok(file) => {
                 self.reading = Some(ReadFile {
-                    file,
+                    file: Some(file),
                     name: kept,
                     place: 0,
                 });
@@ -84,10 +103,25 @@ impl<R: rt::Files> Files for StdFiles<R> {
         }
     }
 
-    fn read(&mut self, buf: &mut [u8]) -> Result<usize, FileFault> {
+    fn read(&mut self, buf: &mut [u8]) -> Result<usize, FileFault>
+        requires open { IsSome (std_reader self.old.reading) }
+        requires room { 0 < length buf.old }
+        ensures within { IfOk result (λ count. count ≤ length buf.new) }
+        ensures place { std_reader self.new.reading
+            ≡ reader_after (std_reader self.old.reading) result }
+        ensures writer { std_writer self.new.writing ≡ std_writer self.old.writing }
+        ensures cause { HasCause
+            self.old.read_faults.count self.new.read_faults.count result FileFault.Failed }
+        ensures write_faults { self.new.write_faults.count ≡ self.old.write_faults.count }
+
+        // The bytes are those that std read, and none only at the end. A failed read closes the file.
+        ensures gave { IfOk result (λ count. FileGave R.File.remaining
+            (open_to_read self.old.reading) (open_to_read self.new.reading) count buf.new) }
+        ensures closed { OnErr result (open_to_read self.new.reading ≡ None) }
+    {
         match &mut self.reading {
             None => unreachable!(),
-            Some(reading) => match read_on(&mut reading.file, &mut reading.place, buf) {
+            Some(reading) => match reading.read(buf) {
                 Some(count) => Ok(count),
                 None => {
                     self.read_faults.rise();
@@ -97,11 +131,26 @@ impl<R: rt::Files> Files for StdFiles<R> {
         }
     }
 
-    fn begin_write(&mut self, name: &str) -> Result<(), FileFault> {
+    fn begin_write(&mut self, name: &str) -> Result<(), FileFault>
+        ensures begins { OnOk result (std_writer self.new.writing ≡ Some name.now) }
+        ensures reader { std_reader self.new.reading ≡ std_reader self.old.reading }
+        ensures cause { HasCause
+            self.old.write_faults.count self.new.write_faults.count result FileFault.Failed }
+        ensures read_faults { self.new.read_faults.count ≡ self.old.read_faults.count }
+
+        // A file is open exactly where one was begun.
+        ensures opened { OnOk result (IsSome (open_to_write self.new.writing)) }
+        ensures closed { OnErr result (open_to_write self.new.writing ≡ None) }
+    {
+        // What was written before is closed first.
+        self.writing = None;
         let kept = String::from_str(self.alloc, name)?;
         match fs::create(&self.runtime, name) {
             Ok(file) => {
-                self.writing = Some(WriteFile { file, name: kept });
+                self.writing = Some(WriteFile {
+                    file: Some(file),
+                    name: kept,
+                });
                 Ok(())
             }
             Err(_) => {
@@ -111,10 +160,25 @@ impl<R: rt::Files> Files for StdFiles<R> {
         }
     }
 
-    fn write(&mut self, bytes: &[u8]) -> Result<usize, FileFault> {
+    fn write(&mut self, bytes: &[u8]) -> Result<usize, FileFault>
+        requires open { IsSome (std_writer self.old.writing) }
+        requires some { 0 < length bytes.now }
+        ensures within { IfOk result (λ count. (0 < count) × (count ≤ length bytes.now)) }
+        ensures writer { std_writer self.new.writing ≡ std_writer self.old.writing }
+        ensures reader { std_reader self.new.reading ≡ std_reader self.old.reading }
+        ensures cause { HasCause
+            self.old.write_faults.count self.new.write_faults.count result FileFault.Failed }
+        ensures read_faults { self.new.read_faults.count ≡ self.old.read_faults.count }
+
+        // The bytes that are answered for are those that std took. A failed write closes the file.
+        ensures took { IfOk result (λ count. FileTook R.File.contents
+            (open_to_write self.old.writing) (open_to_write self.new.writing)
+            (take count bytes.now)) }
+        ensures closed { OnErr result (open_to_write self.new.writing ≡ None) }
+    {
         match &mut self.writing {
             None => unreachable!(),
-            Some(writing) => match write_some(&mut writing.file, bytes) {
+            Some(writing) => match writing.write(bytes) {
                 Some(count) => Ok(count),
                 None => {
                     self.write_faults.rise();
@@ -124,13 +188,22 @@ impl<R: rt::Files> Files for StdFiles<R> {
         }
     }
 
-    fn finish(&mut self) -> Result<(), FileFault> {
-        let flushed = match &mut self.writing {
-            None => true,
-            Some(writing) => writing.file.flush().is_ok(),
+    fn finish(&mut self) -> Result<(), FileFault>
+        requires open { IsSome (std_writer self.old.writing) }
+        ensures writer { std_writer self.new.writing ≡ None }
+        ensures reader { std_reader self.new.reading ≡ std_reader self.old.reading }
+        ensures cause { HasCause
+            self.old.write_faults.count self.new.write_faults.count result FileFault.Failed }
+        ensures read_faults { self.new.read_faults.count ≡ self.old.read_faults.count }
+
+        // It is `Ok` only where no write of this file failed.
+        ensures whole { OnOk result (IsSome (open_to_write self.old.writing)) }
+    {
+        let file = match self.writing.take() {
+            None => None,
+            Some(writing) => writing.file,
         };
-        self.writing = None;
-        if !flushed {
+        if !close(file) {
             self.write_faults.rise();
             return Err(FileFault::Failed);
         }
@@ -138,11 +211,58 @@ impl<R: rt::Files> Files for StdFiles<R> {
     }
 }
 
+impl<F: Read + Drop> ReadFile<F> {
+    /// Reads the next bytes, and moves the place by their number. `None` is an error: the place stays, and the file is
+    /// closed.
+    fn read(&mut self, buf: &mut [u8]) -> Option<usize>
+        requires { 0 < length buf.old }
+        ensures name { string_bytes self.new.name ≡ string_bytes self.old.name }
+        ensures moved { IfSome result (λ count. self.new.place ≡ self.old.place + count) }
+        ensures stays { IfNone result (self.new.place ≡ self.old.place) }
+        ensures within { IfSome result (λ count. count ≤ length buf.new) }
+        ensures gave { IfSome result (λ count.
+            FileGave F.remaining self.old.file self.new.file count buf.new) }
+        ensures closed { IfNone result (self.new.file ≡ None) }
+    {
+        let count = match &mut self.file {
+            None => None,
+            Some(file) => read_on(file, &mut self.place, buf),
+        };
+        if count.is_none() {
+            self.file = None;
+        }
+        count
+    }
+}
+
+impl<F: Write + Drop> WriteFile<F> {
+    /// Writes a front of these bytes, at least one. `None` is an error, and closes the file.
+    fn write(&mut self, bytes: &[u8]) -> Option<usize>
+        ensures name { string_bytes self.new.name ≡ string_bytes self.old.name }
+        ensures within { IfSome result (λ count. (0 < count) × (count ≤ length bytes.now)) }
+        ensures took { IfSome result (λ count.
+            FileTook F.contents self.old.file self.new.file (take count bytes.now)) }
+        ensures closed { IfNone result (self.new.file ≡ None) }
+    {
+        let count = match &mut self.file {
+            None => None,
+            Some(file) => write_some(file, bytes),
+        };
+        if count.is_none() {
+            self.file = None;
+        }
+        count
+    }
+}
+
 /// Reads the next bytes, and moves the place by their number. `None` is an error, and leaves the place.
 fn read_on<F: Read>(file: &mut F, place: &mut u64, buf: &mut [u8]) -> Option<usize>
+    requires { 0 < length buf.old }
     ensures moved { IfSome result (λ count. place.new ≡ place.old + count) }
     ensures stays { IfNone result (place.new ≡ place.old) }
     ensures within { IfSome result (λ count. count ≤ length buf.new) }
+    ensures gave { IfSome result (λ count.
+        Gave (F.remaining file.old) (F.remaining file.new) count buf.new) }
 {
     let count = file.read(buf).ok()?;
     *place = place.checked_add(count as u64)?;
@@ -151,7 +271,9 @@ fn read_on<F: Read>(file: &mut F, place: &mut u64, buf: &mut [u8]) -> Option<usi
 
 /// Writes a front of these bytes, at least one. `None` is an error.
 fn write_some<W: Write>(stream: &mut W, bytes: &[u8]) -> Option<usize>
-    ensures { IfSome result (λ count. (0 < count) × (count ≤ length bytes.now)) }
+    ensures within { IfSome result (λ count. (0 < count) × (count ≤ length bytes.now)) }
+    ensures took { IfSome result (λ count.
+        Appends (W.contents stream.old) (W.contents stream.new) (take count bytes.now)) }
 {
     match stream.write(bytes) {
         Ok(0) | Err(_) => None,
@@ -159,23 +281,49 @@ fn write_some<W: Write>(stream: &mut W, bytes: &[u8]) -> Option<usize>
     }
 }
 
-/// A stream of a runtime, as standard output. Each error counts as a fault, also one that a signal brings; so
-/// does a write that takes nothing.
+/// Closes a file once its bytes have reached their device, and answers whether they have. Those of a file that a failed
+/// write closed have not. A pipe or a device can't be asked for that, and passes.
+fn close<F: Write + OpenFile + Drop>(file: Option<F>) -> bool
+    ensures { IsTrue result → IsSome file }
+{
+    match file {
+        None => false,
+        Some(mut file) => file.flush().is_ok() && is_synced(file.sync_all()),
+    }
+}
+
+/// Whether `sync_all`, which answered this, brought a file's bytes to their device. Two kinds of error say that the file
+/// is none that can be synced, and pass.
+fn is_synced(answer: io::Result<()>) -> bool
+    ensures ok { OnOk answer (IsTrue result) }
+    ensures err { IfErr answer (λ error. result ≡ cannot_sync (error_kind error)) }
+{
+    match answer {
+        Ok(()) => true,
+        Err(error) => matches!(
+            error.kind(),
+            ErrorKind::InvalidInput | ErrorKind::Unsupported
+        ),
+    }
+}
+
+/// A stream of a runtime, as standard output. Each error is a failed write, also one that a signal brings; so is a
+/// write that takes nothing.
 #[derive(Drop)]
 pub struct StdSink<W: Write> {
     stream: W,
-    faults: FaultCount,
+    faults: FailedCalls,
 }
 
 impl<W: Write> StdSink<W> {
-    /// A sink over a stream, with no fault yet.
+    /// A sink over a stream, with no failed write yet.
     pub fn new(stream: W) -> StdSink<W>
         ensures taken { ⟦<StdSink<W> as Sink>⟧.taken result ≡ None }
         ensures faults { ⟦<StdSink<W> as Sink>⟧.faults result ≡ 0 }
     {
         StdSink {
             stream,
-            faults: FaultCount::new(),
+            faults: FailedCalls::new(),
         }
     }
 }
@@ -185,7 +333,15 @@ impl<W: Write> Sink for StdSink<W> {
 
     ghost faults = { λ sink. sink.faults.count };
 
-    fn write(&mut self, bytes: &[u8]) -> Result<usize, FileFault> {
+    fn write(&mut self, bytes: &[u8]) -> Result<usize, FileFault>
+        requires { 0 < length bytes.now }
+        ensures within { IfOk result (λ count. (0 < count) × (count ≤ length bytes.now)) }
+        ensures cause { HasCause self.old.faults.count self.new.faults.count result FileFault.Failed }
+
+        // The bytes that are answered for are those that std took.
+        ensures took { IfOk result (λ count. Appends
+            (W.contents self.old.stream) (W.contents self.new.stream) (take count bytes.now)) }
+    {
         match write_some(&mut self.stream, bytes) {
             Some(count) => Ok(count),
             None => {

@@ -1,17 +1,17 @@
-// Files and a sink in memory whose calls succeed unless memory runs out. Their counts of faults stay 0.
+// Files and a sink in memory whose calls succeed unless memory runs out. Their counts of failed calls stay 0.
 ghost use Rattle.std.specs.Prelude.{◌≡◌, ◌<◌, ◌≤◌, ◌++◌, length, [], Some, None, Err, IsSome, IsOk, IfOk, OnOk, OnErr, option_copied};
 ghost use Rattle.pd_io.specs.Folder.{empty_folder, reader_after, GivesNext, contents_after_write, bytes_taken};
 ghost use Rattle.pd_io.specs.Whole.{folder_with};
 ghost use Rattle.pd_io.specs.Steady.{steady_folder, steady_reader, steady_writer, steady_bytes};
 
-use crate::named::take_front;
+use crate::named::{MOST_AT_ONCE, take_front};
 use crate::shelf::Shelf;
 use crate::{FileFault, Files, Sink};
 use pd_base::OutOfMemory;
 use std::alloc::Global;
 
 /// Files kept in memory, where an absent name reads as an empty file. No call answers `Failed`; `read` and `finish`
-/// never fail at all, and the others only where a growth is refused. No read or write moves more than 4,096 bytes.
+/// always succeed, and the others unless memory runs out. No read or write moves more than `MOST_AT_ONCE` bytes.
 #[derive(Drop)]
 pub struct SteadyFiles {
     shelf: Shelf,
@@ -29,7 +29,7 @@ impl SteadyFiles {
         }
     }
 
-    /// Makes a name hold these bytes. All other names stay. Where a growth is refused, all names do.
+    /// Makes a name hold these bytes. All other names keep theirs. If memory runs out, every name keeps its bytes.
     pub fn put(&mut self, name: &str, bytes: &[u8]) -> Result<(), OutOfMemory>
         ensures ok { OnOk result (
             steady_folder self.new ≡ folder_with (steady_folder self.old) name.now bytes.now) }
@@ -69,7 +69,7 @@ impl Files for SteadyFiles {
         requires open { IsSome (steady_reader self.old) }
         requires room { 0 < length buf.old }
         ensures within { IfOk result (λ count. count ≤ length buf.new) }
-        ensures most { IfOk result (λ count. count ≤ 4096) }
+        ensures most { IfOk result (λ count. count ≤ MOST_AT_ONCE) }
         ensures place { steady_reader self.new ≡ reader_after (steady_reader self.old) result }
         ensures bytes { IfOk result (λ count.
             GivesNext (steady_folder self.old) (steady_reader self.old) count buf.new) }
@@ -91,7 +91,7 @@ impl Files for SteadyFiles {
         requires open { IsSome (steady_writer self.old) }
         requires some { 0 < length bytes.now }
         ensures within { IfOk result (λ count. (0 < count) × (count ≤ length bytes.now)) }
-        ensures most { IfOk result (λ count. count ≤ 4096) }
+        ensures most { IfOk result (λ count. count ≤ MOST_AT_ONCE) }
         ensures told { steady_folder self.new ≡ record (steady_folder self.old) {
           held = contents_after_write
               (steady_folder self.old).held (steady_writer self.old) result bytes.now;
@@ -117,8 +117,8 @@ impl Files for SteadyFiles {
     }
 }
 
-/// A sink that keeps its bytes in memory, and takes no more than 4,096 of them in one write. A write fails only where a
-/// growth is refused, and then takes none.
+/// A sink that keeps its bytes in memory. One write takes at most `MOST_AT_ONCE` bytes. It fails only if memory runs
+/// out, and then takes none.
 #[derive(Drop)]
 pub struct SteadySink {
     bytes: Vec<u8>,
@@ -150,7 +150,7 @@ impl Sink for SteadySink {
     fn write(&mut self, bytes: &[u8]) -> Result<usize, FileFault>
         requires { 0 < length bytes.now }
         ensures within { IfOk result (λ count. (0 < count) × (count ≤ length bytes.now)) }
-        ensures most { IfOk result (λ count. count ≤ 4096) }
+        ensures most { IfOk result (λ count. count ≤ MOST_AT_ONCE) }
         ensures told { steady_bytes self.new
             ≡ steady_bytes self.old ++ bytes_taken result bytes.now }
         ensures memory { OnErr result (result ≡ Err FileFault.NoMemory) }

@@ -12,7 +12,7 @@ use std::alloc::Global;
 const PIECE: usize = 4096;
 
 /// Reads a whole file of at most `limit` bytes. A longer one is `TooLong`, after `limit + 1` of its bytes
-/// were taken. `Failed` comes where a call of the object failed, and `NoMemory` where a growth was refused.
+/// were taken. `Failed` comes where a call of the object failed, and `NoMemory` where memory ran out.
 /// The name is asked once, unless memory runs out, and no name's bytes change.
 pub fn read_whole<F: Files>(
     alloc: Global,
@@ -39,7 +39,7 @@ pub fn read_whole<F: Files>(
     ensures too_long_writer { IsErrOf result ReadFault.TooLong →
         F.writer files.new ≡ F.writer files.old }
 
-    // Failed: a fault was counted.
+    // Failed: the count of failed reads rose.
     ensures cause { HasCause
         (F.read_faults files.old) (F.read_faults files.new) result ReadFault.Failed }
 
@@ -61,8 +61,8 @@ pub fn read_whole<F: Files>(
 }
 
 /// Stores the bytes under the name. One file is begun, every write is offered all that was not yet taken, and then
-/// the file is finished. A fault on the way leaves the name untouched, or leaves a front of the bytes under it.
-/// `Failed` comes where a call of the object failed, and `NoMemory` where a growth was refused.
+/// the file is finished. After an error the name has what it had, or a front of the bytes. `Failed` comes where a call
+/// of the object failed, and `NoMemory` where memory ran out.
 pub fn write_whole<F: Files>(files: &mut F, name: &str, bytes: &[u8]) -> Result<(), WriteFault>
     ensures ok { OnOk result (Tells (F.folder files.old) (F.folder files.new) (λ old new.
         new ≡ folder_with old name.now bytes.now)) }

@@ -3,6 +3,7 @@ use Rattle.std.proofs.lemmas.List.{length-drop, length-take, length-take-le}
 use Rattle.pd_io.proofs.Reading.{Reading, more_bytes, reading_begun, reading_more}
 use Rattle.pd_io.proofs.whole.read_whole.Goals as goal
 
+-- the file was opened, and nothing was read yet
 pub loop-buffer-init : goal.loop-buffer-init
 loop-buffer-init g c =
     let F = g.F.Files in
@@ -14,11 +15,12 @@ loop-buffer-init g c =
       within = omega arith;
       buffer = refl;
       writer = c.in_ok-begin_read.ensures.writer;
-      calm = c.in_ok-begin_read.ensures.cause.calm;
+      unchanged = c.in_ok-begin_read.ensures.cause.only_then;
       counted = omega arith;
       write_faults = c.begin_read.ensures.write_faults;
     }
 
+-- one more read gave the next bytes
 pub loop-buffer-preserved : goal.loop-buffer-preserved
 loop-buffer-preserved g c =
     let count = c.in_ok-count.count in
@@ -31,12 +33,12 @@ loop-buffer-preserved g c =
     more_bytes _ bytes buffer rest count c.in_ok-extend_from_slice.ensures.items fits in
     let size : length buffer ≡ c.min-room.result = omega (arith, c.read.auto.buf, length-take {A = ℕ}) in
     record {
-      reading = reading_more _ _ _ _ _ _ _ buffer _ _ c.loop-buffer.invariant.reading fits c.in_ok-count.ensures.bytes
+      reading = reading_more _ _ _ _ _ c.loop-buffer.invariant.reading _ _ buffer _ _ fits c.in_ok-count.ensures.bytes
           c.read.ensures.folder c.in_ok-count.ensures.place more;
       within = omega (arith, ap length more, length-append bytes piece, length-take-le count buffer fits, size);
       buffer = length-append buffer rest ∙ omega (arith, size, length-drop c.min-room.result c.loop-buffer.buffer);
       writer = c.read.ensures.writer ∙ c.loop-buffer.invariant.writer;
-      calm = c.in_ok-count.ensures.cause.calm ∙ c.loop-buffer.invariant.calm;
+      unchanged = c.in_ok-count.ensures.cause.only_then ∙ c.loop-buffer.invariant.unchanged;
       counted = omega arith;
       write_faults = c.read.ensures.write_faults ∙ c.loop-buffer.invariant.write_faults;
     }

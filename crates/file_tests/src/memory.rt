@@ -1,6 +1,8 @@
-// What no clause says: that the calls succeed with ample memory, and what happens at real files.
-use super::*;
-use std::fs;
+// The objects in memory: with ample memory their calls succeed, and exactly those fail that are planned to.
+use pd_io::{
+    FileCall, FileFault, MOST_AT_ONCE, MemoryFiles, MemorySink, ReadFault, StdSink, SteadyFiles,
+    SteadySink, WriteFault, read_whole, write_all, write_whole,
+};
 use std::test::Fail;
 
 #[test]
@@ -9,9 +11,9 @@ fn files_up_to_the_limit_are_read(rt: HostRuntime) -> Result<(), Fail> {
         (0usize, 0usize, true),
         (5, 5, true),
         (6, 5, false),
-        (4096, 4096, true),
-        (4097, 4096, false),
-        (4097, 4097, true),
+        (MOST_AT_ONCE, MOST_AT_ONCE, true),
+        (MOST_AT_ONCE + 1, MOST_AT_ONCE, false),
+        (MOST_AT_ONCE + 1, MOST_AT_ONCE + 1, true),
         (9000, 20000, true),
     ];
     for (len, limit, whole) in rows {
@@ -34,7 +36,7 @@ fn files_up_to_the_limit_are_read(rt: HostRuntime) -> Result<(), Fail> {
 
 #[test]
 fn written_files_hold_their_bytes(rt: HostRuntime) -> Result<(), Fail> {
-    for len in [0usize, 1, 4096, 4097, 9000] {
+    for len in [0usize, 1, MOST_AT_ONCE, MOST_AT_ONCE + 1, 9000] {
         let mut files = MemoryFiles::new(rt.alloc());
         files.put("b", b"old")?;
         let text = vec![in rt.alloc(); 8u8; len]?;
@@ -46,7 +48,7 @@ fn written_files_hold_their_bytes(rt: HostRuntime) -> Result<(), Fail> {
 }
 
 #[test]
-fn a_planned_fault_of_reading_is_answered(rt: HostRuntime) -> Result<(), Fail> {
+fn a_planned_failure_of_reading_is_answered(rt: HostRuntime) -> Result<(), Fail> {
     let rows = [
         ("a", FileCall::BeginRead, 1, true),
         ("a", FileCall::Read, 2, true),
@@ -70,11 +72,11 @@ fn a_planned_fault_of_reading_is_answered(rt: HostRuntime) -> Result<(), Fail> {
 }
 
 #[test]
-fn a_planned_fault_of_writing_leaves_a_front(rt: HostRuntime) -> Result<(), Fail> {
+fn a_planned_failure_of_writing_leaves_a_front(rt: HostRuntime) -> Result<(), Fail> {
     let rows = [
         (FileCall::BeginWrite, 1, Some(3usize)),
         (FileCall::Write, 1, Some(0)),
-        (FileCall::Write, 2, Some(4096)),
+        (FileCall::Write, 2, Some(MOST_AT_ONCE)),
         (FileCall::Finish, 1, Some(5000)),
         (FileCall::Write, 3, None),
     ];
@@ -125,31 +127,5 @@ fn an_absent_name_is_an_empty_steady_file(rt: HostRuntime) -> Result<(), Fail> {
     write_whole(&mut files, "b", text.as_slice())?;
     assert_eq!(rt; files.get("b"), Some(b"text".as_slice()));
     assert_eq!(rt; files.get("c"), None);
-    Ok(())
-}
-
-#[test]
-fn real_files_are_written_and_read(rt: HostRuntime) -> Result<(), Fail> {
-    let name = "/tmp/pdfgen_pd_io_real_files_are_written_and_read";
-    let text = vec![in rt.alloc(); 7u8; 9000]?;
-    let mut files = StdFiles::new(rt.alloc(), &rt);
-    write_whole(&mut files, name, text.as_slice())?;
-    let again = read_whole(rt.alloc(), &mut files, name, 9000)?;
-    let over = read_whole(rt.alloc(), &mut files, name, 8999);
-    fs::remove_file(&rt, name)?;
-    assert!(rt; again.as_slice() == text.as_slice());
-    assert!(rt; matches!(over, Err(ReadFault::TooLong)));
-    assert!(rt;
-        matches!(
-            read_whole(rt.alloc(), &mut files, name, 9000),
-            Err(ReadFault::Failed)
-        )
-    );
-    assert!(rt;
-        matches!(
-            write_whole(&mut files, "/", b"text"),
-            Err(WriteFault::Failed)
-        )
-    );
     Ok(())
 }
