@@ -1,1 +1,3 @@
 pub mod Forests
+pub mod LawfulRuns
+pub mod Preorders

@@ -1,1 +1,4 @@
+pub mod Lawful
+pub mod RobustRun
 pub mod Trees
+pub mod Verdicts

@@ -54,6 +54,7 @@ impl Tree {
     pub fn nodes(&self) -> &[Node]
         ensures nodes { result.now ≡ self.now }
         ensures tree { IsTree self.now }
+        ensures few { length self.now < 2 ^ 31 }
     {
         self.nodes.as_slice()
     }

@@ -1,3 +1,4 @@
+-- The walk over the nodes keeps what is left to fill, and so says at its end whether they were one whole tree.
 use Rattle.std.proofs.lemmas.Bool.{false≢true}
 use Rattle.std.proofs.Common.{ap, arith, ◌∙◌, add-one, ◌≡◌, ℕ, drop, sym}
 use Rattle.refutation_check.proofs.Forests.{fills, fills-step, few_more, whole_at_end, no_place}

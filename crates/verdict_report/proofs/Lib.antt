@@ -1,0 +1,4 @@
+pub mod CsvRows
+pub mod PlainTexts
+pub mod StepTexts
+pub mod VerdictCounts

@@ -1,0 +1,7 @@
+use Rattle.std.proofs.Common.{◌≡◌, ◌+◌, ◌++◌, drop}
+use Rattle.verdict_report.specs.ProofsText.{proof_lines, proofs_text}
+use Rattle.verdict_report.proofs.proofs_file.proofs_text.Given as goal
+
+-- with the lines of the proofs that are left, the text is whole
+abbrev pub invariant-loop-index : goal.invariant-loop-index
+invariant-loop-index l = l.text.items ++ proof_lines (l.index + 1) (drop l.index l.run.proofs) ≡ proofs_text l.run.proofs

@@ -1,0 +1,6 @@
+pub mod PlainTexts
+pub mod ProofsText
+pub mod ReportRows
+pub mod ReportText
+pub mod Summary
+pub mod VerdictCounts

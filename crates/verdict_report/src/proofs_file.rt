@@ -1,0 +1,77 @@
+// The proofs file.
+ghost use Rattle.std.specs.Prelude.{◌≡◌, ◌++◌, IfOk, OnOk, decimal, flat_map};
+ghost use Rattle.refutation_check.specs.Lawful.{AreLawfulProofs};
+ghost use Rattle.verdict_report.specs.ProofsText.{claim_word, node_text, proof_line, proofs_text};
+ghost use Rattle.text_pieces.specs.Tokens.{after_space};
+
+use pd_base::{OutOfMemory, push_decimal};
+use refutation_check::{Node, Proof, Run};
+use std::alloc::Global;
+use text_pieces::{direction_word, kind_word, push_spaced, push_spaced_number};
+
+/// The text of the proofs file of a run: its heading, and a line for each proof, numbered from 1. The proofs must be
+/// lawful as far as no circuit is asked.
+pub fn proofs_text(alloc: Global, run: &Run) -> Result<Vec<u8>, OutOfMemory>
+    requires { AreLawfulProofs run.now.proofs }
+    ensures { IfOk result (λ text. text.items ≡ proofs_text run.now.proofs) }
+{
+    let mut text = Vec::from_slice(alloc, b"pdfgen proofs 1\n")?;
+    for (index, proof) in run.proofs.as_slice().iter().enumerate() {
+        push_proof_line(&mut text, index as u64 + 1, proof)?;
+    }
+    Ok(text)
+}
+
+// Appends the line of a proof. If memory runs out, a part of it may have been written.
+fn push_proof_line(out: &mut Vec<u8>, number: u64, proof: &Proof) -> Result<(), OutOfMemory>
+    ensures { OnOk result (out.new.items ≡ out.old.items ++ proof_line number proof.now) }
+{
+    push_decimal(out, number)?;
+    push_spaced(out, claim_word(proof.spent))?;
+    push_spaced(out, kind_word(proof.kind))?;
+    push_spaced(out, direction_word(proof.dir))?;
+    push_spaced_number(out, u64::from(proof.path))?;
+    push_spaced_number(out, u64::from(proof.steps))?;
+    push_tree(out, proof.tree.nodes())?;
+    out.push(b'\n')?;
+    Ok(())
+}
+
+// What a proof claims: that the budget was spent, or else a refutation.
+fn claim_word(spent: bool) -> &'static [u8]
+    ensures { result.now ≡ claim_word spent }
+{
+    if spent { b"spent" } else { b"refutes" }
+}
+
+// Appends the nodes of a tree, each behind a space.
+fn push_tree(out: &mut Vec<u8>, nodes: &[Node]) -> Result<(), OutOfMemory>
+    ensures { OnOk result (out.new.items
+        ≡ out.old.items ++ flat_map (λ node. after_space (node_text node)) nodes.now) }
+{
+    for node in nodes {
+        push_node(out, node)?;
+    }
+    Ok(())
+}
+
+// Appends a space and a node.
+fn push_node(out: &mut Vec<u8>, node: &Node) -> Result<(), OutOfMemory>
+    ensures { OnOk result (out.new.items ≡ out.old.items ++ after_space (node_text node.now)) }
+{
+    match node {
+        Node::Closed => push_spaced(out, b"X"),
+        Node::Waiting => push_spaced(out, b"O"),
+        Node::Value(source) => push_split(out, b"V", *source),
+        Node::Steadiness(source) => push_split(out, b"H", *source),
+    }
+}
+
+// Appends a space, the letter of a split, and the number of its source.
+fn push_split(out: &mut Vec<u8>, letter: &[u8], source: u32) -> Result<(), OutOfMemory>
+    ensures { OnOk result
+        (out.new.items ≡ out.old.items ++ after_space (letter.now ++ decimal source)) }
+{
+    push_spaced(out, letter)?;
+    push_decimal(out, u64::from(source))
+}
