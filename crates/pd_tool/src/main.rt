@@ -1,35 +1,20 @@
-//! The program `pdfgen`: a path delay fault test generator whose answers are proved. Stands on all crates below.
-//! All that is promised stands on `run::run`, which is called here over the real files and streams.
+//! The program `pdfgen`: a path delay fault test generator whose answers are proved. Stands on pd_io and top_call.
+//! All that is promised stands on `top_call::run`, which is called here over the real files and streams.
 #![tactic(auto)]
 
-mod chain_reader;
-mod chain_run;
-mod ending;
-mod generating;
-mod inputs;
-mod run;
-mod status;
-mod telling;
-mod texts;
-mod words;
-mod works;
-mod writes;
-
-use ending::Ending;
+use call_endings::{Ending, Status, tell};
 use pd_io::{StdFiles, StdSink};
-use run::run;
-use status::Status;
 use std::alloc::Global;
 use std::process::ExitCode;
 use std::{env, io};
-use telling::tell;
+use top_call::run;
 
 fn main(rt: HostRuntime) -> ExitCode {
     let status = match arguments(&rt) {
         Ok(arguments) => call(rt, arguments.as_slice()),
         Err(error) => match error.kind() {
             io::ErrorKind::OutOfMemory => end_without_memory(rt),
-            // Words that are no text are no words.
+            // Arguments that are not UTF-8 count as missing.
             _ => call(rt, &[]),
         },
     };

@@ -1,0 +1,72 @@
+-- The status and the line on err of each ending (this project's own).
+use Rattle.std.specs.Prelude.{ℕ, List, [], ◌++◌, map, codes, decimal}
+use Rattle.std.specs.List.{concat}
+use denote.Ref.{Bor}
+use Rattle.call_words.specs.declared.refusal.WordsRefusal.{WordsRefusal}
+use Rattle.call_words.specs.declared.refusal.WordsRefusal.TheVariants.{Command, OptionAt, EmptyAt, Count, SameAt}
+use Rattle.call_endings.specs.declared.role.Role.{Role}
+use Rattle.call_endings.specs.declared.role.Role.TheVariants.{Net, Delays, Tests, Report, Proofs}
+use Rattle.call_endings.specs.declared.refusal.Refusal.{Refusal}
+use Rattle.call_endings.specs.declared.refusal.Refusal.TheVariants.{Words, NotBuilt}
+use Rattle.call_endings.specs.declared.ending.Ending.{Ending}
+use Rattle.call_endings.specs.declared.ending.Ending.TheVariants.{Done, Refused, ReadFault, WriteFault, OutFault, NoMemory}
+use Rattle.call_endings.specs.declared.status.Status.{Status}
+use Rattle.call_endings.specs.declared.status.Status.TheVariants as exit
+use Rattle.text_pieces.specs.Tokens.{line, after_space}
+
+-- the word for a file in the line on err
+abbrev pub role_word : Role → List ℕ
+role_word Net = codes "NET"
+role_word Delays = codes "DELAYS"
+role_word Tests = codes "TESTS"
+role_word Report = codes "REPORT"
+role_word Proofs = codes "PROOFS"
+
+-- why the words were refused, as the line on err says it
+abbrev pub words_reason : WordsRefusal → List ℕ
+words_reason Command = codes "command"
+words_reason (OptionAt place) = codes "option at " ++ decimal place
+words_reason (EmptyAt place) = codes "empty at " ++ decimal place
+words_reason Count = codes "count"
+words_reason (SameAt first second) = codes "same at " ++ decimal first ++ after_space (decimal second)
+
+-- the line on err for a refusal
+abbrev pub refusal_line : Refusal → List ℕ
+refusal_line (Words reason) = line (codes "words: " ++ words_reason reason)
+refusal_line (NotBuilt role) = line (codes "not built: " ++ role_word role)
+
+-- the line on err for an ending; `Done` has none
+abbrev pub line_of : Ending → List ℕ
+line_of Done = []
+line_of (Refused refusal) = refusal_line refusal
+line_of (ReadFault role) = line (codes "read fault " ++ role_word role)
+line_of (WriteFault role) = line (codes "write fault " ++ role_word role)
+line_of OutFault = line (codes "write fault out")
+line_of NoMemory = line (codes "want of memory")
+
+-- the status of a refusal
+abbrev pub refusal_status : Refusal → Status
+refusal_status (Words reason) = exit.Words
+refusal_status (NotBuilt role) = exit.NotBuilt
+
+-- the status of an ending
+abbrev pub status_of : Ending → Status
+status_of Done = exit.Done
+status_of (Refused refusal) = refusal_status refusal
+status_of (ReadFault role) = exit.ReadFault
+status_of (WriteFault role) = exit.WriteFault
+status_of OutFault = exit.WriteFault
+status_of NoMemory = exit.NoMemory
+
+-- the number of a status
+abbrev pub number_of : Status → ℕ
+number_of exit.Done = 0
+number_of exit.Words = 2
+number_of exit.ReadFault = 5
+number_of exit.WriteFault = 6
+number_of exit.NoMemory = 7
+number_of exit.NotBuilt = 9
+
+-- the text of these pieces, one behind another
+abbrev pub pieces_text : List (Bor (List ℕ)) → List ℕ
+pieces_text pieces = concat (map (λ piece. piece.now) pieces)

@@ -1,0 +1,15 @@
+//! How a call ends: its ending with all detail, its status, and its line on err (specs/Lines.antt).
+//! Stands on pd_io, call_words and text_pieces. The layers above use `Ending`, and `tell`, which reports one.
+#![tactic(auto)]
+
+mod ending;
+mod refusal;
+mod role;
+mod status;
+mod telling;
+
+pub use ending::Ending;
+pub use refusal::Refusal;
+pub use role::Role;
+pub use status::Status;
+pub use telling::tell;

@@ -1,0 +1,29 @@
+// The exit status of a call.
+ghost use Rattle.std.specs.Prelude.{◌≡◌};
+ghost use Rattle.call_endings.specs.Lines.{number_of};
+
+/// How a call ended, as the number with which the program ends.
+#[derive(Clone, Copy, Debug, PartialEq, Eq)]
+pub enum Status {
+    /// The work was done.
+    Done = 0,
+    /// The words were refused.
+    Words = 2,
+    /// A file could not be read.
+    ReadFault = 5,
+    /// A file or out could not be written.
+    WriteFault = 6,
+    /// Memory ran out.
+    NoMemory = 7,
+    /// An input has a form that is not built yet.
+    NotBuilt = 9,
+}
+
+impl Status {
+    /// The number with which the program ends.
+    pub fn number(self) -> u8
+        ensures { result ≡ number_of self }
+    {
+        self as u8
+    }
+}

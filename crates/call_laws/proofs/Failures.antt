@@ -1,0 +1,108 @@
+-- The causes of the statuses 5, 6 and 7: which reads or writes failed, and what stands then.
+use Rattle.std.proofs.Common.{◌≡◌, refl, sym, subst, ◌∙◌}
+use Rattle.pd_io.specs.Counts.{Rose}
+use Rattle.pd_io.specs.Seen.{Outside, seen_of}
+use Rattle.call_endings.specs.declared.role.Role.{Role}
+use Rattle.call_endings.specs.declared.refusal.Refusal.{Refusal}
+use Rattle.call_endings.specs.declared.refusal.Refusal.TheVariants.{Words, NotBuilt}
+use Rattle.call_endings.specs.declared.ending.Ending.{Ending}
+use Rattle.call_endings.specs.declared.ending.Ending.TheVariants.{Done, Refused, ReadFault, WriteFault, OutFault, NoMemory}
+use Rattle.call_endings.specs.declared.status.Status.{Status}
+use Rattle.call_endings.specs.declared.status.Status.TheVariants as exit
+use Rattle.call_endings.specs.Lines.{refusal_status, status_of}
+use Rattle.call_endings.specs.Reports.{IsReported}
+use Rattle.call_endings.specs.Reports as reports
+use Rattle.call_work.specs.Work.{Work}
+use Rattle.call_work.specs.Stopping.{IsUnread}
+use Rattle.call_work.specs.Calls.{Performs, Ends}
+use Rattle.call_work.specs.Calls as calls
+use Rattle.call_laws.proofs.Calls.{rose_since}
+
+-- the status is that of its ending, or that of want of memory
+data StatusIs (ending : Ending) (status : Status) : Type 0 where
+  of_ending : status ≡ status_of ending → StatusIs ending status
+  of_memory : status ≡ exit.NoMemory → StatusIs ending status
+
+-- so is each that is reported
+status_is : (ending : Ending) (status : Status) (old new : Outside) → IsReported ending status old.err new.err
+    → StatusIs ending status
+status_is ending status old new (reports.nothing is done same) =
+    of_ending (done ∙ sym (subst (λ (e : Ending). status_of e ≡ exit.Done) (sym is) refl))
+status_is ending status old new (reports.whole other is line) = of_ending is
+status_is ending status old new (reports.cut other is part) = of_ending is
+status_is ending status old new (reports.no_memory other is part) = of_memory is
+
+-- no refusal has the status of a failed read
+refusal_is_no_read : (refusal : Refusal) → refusal_status refusal ≡ exit.ReadFault → ⊥
+refusal_is_no_read (Words reason) same = cc
+refusal_is_no_read (NotBuilt role) same = cc
+
+-- and none that of a failed write
+refusal_is_no_write : (refusal : Refusal) → refusal_status refusal ≡ exit.WriteFault → ⊥
+refusal_is_no_write (Words reason) same = cc
+refusal_is_no_write (NotBuilt role) same = cc
+
+-- status 5: a read of the file of this role failed, nothing was written, and out is as it was
+pub record HasFailedRead (work : Work) (old new : Outside) : Type 0 where
+  pub role : Role
+  pub unread : IsUnread work role old.files new.files
+  pub out : new.out ≡ old.out
+
+-- the status of a failed read has its failed read
+pub read_failed : (work : Work) (status : Status) (old new : Outside) → Ends work status old new
+    → status ≡ exit.ReadFault → HasFailedRead work old new
+read_failed work status old new ends failed =
+    by_ending ends.ending ends.performed (status_is ends.ending status old new ends.reported) where
+      by_kind : (ending : Ending) → Performs work ending (seen_of old) (seen_of new) → status_of ending ≡ exit.ReadFault
+          → HasFailedRead work old new
+      by_kind Done performed is = absurd (cc)
+      by_kind (Refused refusal) performed is = absurd (refusal_is_no_read refusal is)
+      by_kind (ReadFault role) (calls.stopped stops same) is = record { role = role; unread = stops; out = same }
+      by_kind (ReadFault role) (calls.wrote inputs products read passed gives writes) is = absurd writes
+      by_kind (WriteFault role) performed is = absurd (cc)
+      by_kind OutFault performed is = absurd (cc)
+      by_kind NoMemory performed is = absurd (cc)
+
+      by_ending : (ending : Ending) → Performs work ending (seen_of old) (seen_of new) → StatusIs ending status
+          → HasFailedRead work old new
+      by_ending ending performed (of_ending is) = by_kind ending performed (sym is ∙ failed)
+      by_ending ending performed (of_memory is) = let never : exit.NoMemory ≡ exit.ReadFault = sym is ∙ failed in absurd (cc)
+
+-- status 6: a failed write of the files was counted, or one of out
+pub data HasFailedWrite (old new : Outside) : Type 0 where
+  of_files : Rose old.files.write_faults new.files.write_faults → HasFailedWrite old new
+  of_out : Rose old.out.faults new.out.faults → HasFailedWrite old new
+
+-- the status of a failed write has its failed write
+pub write_failed : (work : Work) (status : Status) (old new : Outside) → Ends work status old new
+    → status ≡ exit.WriteFault → HasFailedWrite old new
+write_failed work status old new ends failed =
+    by_ending ends.ending ends.performed (status_is ends.ending status old new ends.reported) where
+      by_kind : (ending : Ending) → Performs work ending (seen_of old) (seen_of new) → status_of ending ≡ exit.WriteFault
+          → HasFailedWrite old new
+      by_kind Done performed is = absurd (cc)
+      by_kind (Refused refusal) performed is = absurd (refusal_is_no_write refusal is)
+      by_kind (ReadFault role) performed is = absurd (cc)
+      by_kind (WriteFault role) (calls.stopped stops same) is = absurd stops
+      by_kind (WriteFault role) (calls.wrote inputs products read passed gives writes) is =
+          of_files (rose_since _ _ _ passed.only.write_faults writes.rose)
+      by_kind OutFault (calls.stopped stops same) is = absurd stops
+      by_kind OutFault (calls.wrote inputs products read passed gives writes) is = of_out writes.rose
+      by_kind NoMemory performed is = absurd (cc)
+
+      by_ending : (ending : Ending) → Performs work ending (seen_of old) (seen_of new) → StatusIs ending status
+          → HasFailedWrite old new
+      by_ending ending performed (of_ending is) = by_kind ending performed (sym is ∙ failed)
+      by_ending ending performed (of_memory is) = let never : exit.NoMemory ≡ exit.WriteFault = sym is ∙ failed in absurd (cc)
+
+-- over files and streams whose counts never rise, as the steady ones, the statuses 5 and 6 never come
+pub none_fails : (work : Work) (status : Status) (old new : Outside) → Ends work status old new
+    → ¬ Rose old.files.read_faults new.files.read_faults → ¬ Rose old.files.write_faults new.files.write_faults
+    → ¬ Rose old.out.faults new.out.faults → (status ≡ exit.ReadFault → ⊥) × (status ≡ exit.WriteFault → ⊥)
+none_fails work status old new ends no_read no_write no_out = (
+  λ failed. no_read (read_failed work status old new ends failed).unread.rose,
+  λ failed. no_such_write (write_failed work status old new ends failed),
+) where
+  no_such_write : HasFailedWrite old new → ⊥
+  no_such_write (of_files rose) = no_write rose
+  no_such_write (of_out rose) = no_out rose

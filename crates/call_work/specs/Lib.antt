@@ -1,0 +1,10 @@
+pub mod Calls
+pub mod Inputs
+pub mod Outputs
+pub mod Passing
+pub mod Preparing
+pub mod Refused
+pub mod Stopping
+pub mod Texts
+pub mod Work
+pub mod Writing

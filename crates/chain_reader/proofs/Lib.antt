@@ -1,0 +1,4 @@
+pub mod ChainLength
+pub mod ChainLines
+pub mod ChainNames
+pub mod ChainReading

@@ -1,0 +1,2 @@
+pub mod ChainPieces
+pub mod ChainText

@@ -1,0 +1,3 @@
+pub mod ChainPath
+pub mod ChainRobust
+pub mod ChainTests

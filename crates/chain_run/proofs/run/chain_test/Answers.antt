@@ -1,0 +1,16 @@
+use Rattle.std.proofs.Common.{refl, ap, ◌∙◌, not, [], ◌∷◌}
+use Rattle.netlist.specs.Circuit.{gate_count}
+use Rattle.netlist.specs.Values.{value}
+use Rattle.chain_run.proofs.ChainTests.{chain_test_is_robust}
+use Rattle.chain_run.proofs.run.chain_test.Goals as goal
+
+-- the test is a robust test of the path
+pub returns : goal.returns
+returns c =
+    let net = c.args.net.now in
+    chain_test_is_robust net c.requires c.args.dir _ refl refl refl
+    (c.new.ensures.first ∙ c.in_ok-from_slice.ensures.items ∙ ap (λ bit. not bit ∷ []) c.bit_after-second.ensures)
+    (c.new.ensures.second ∙ c.in_ok-from_slice-2.ensures.items ∙ ap (λ bit. bit ∷ []) c.bit_after-second.ensures)
+    (c.new-2.ensures ∙ c.in_ok-from_slice-3.ensures.items
+    ∙ ap (λ bit. bit ∷ []) c.last_value-expected.ensures
+    ∙ ap (λ bit. value net (bit ∷ []) (gate_count net) ∷ []) c.bit_after-second.ensures)

@@ -1,0 +1,3 @@
+pub mod GenLaws
+pub mod GenStages
+pub mod GenTexts

@@ -1,0 +1,2 @@
+pub mod Gen
+pub mod Judging

@@ -1,0 +1,8 @@
+//! The command `gen`: from a netlist and delays to the texts of one run. What it promises stands in specs/Gen.antt.
+//! Stands on call_work, and today on the reader and the run of chains. The top call uses `prepare_gen`.
+#![tactic(auto)]
+
+mod judging;
+mod preparing;
+
+pub use preparing::prepare_gen;

@@ -1,7 +1,0 @@
-use Rattle.std.proofs.Common.{◌≡◌}
-use Rattle.pd_tool.specs.ChainRun.{steps_through}
-use Rattle.pd_tool.proofs.chain_run.chain_path.Given as goal
-
--- the steps so far go through the gates so far
-abbrev pub invariant-loop-gate : goal.invariant-loop-gate
-invariant-loop-gate l = l.steps.items ≡ steps_through 0 l.gate

@@ -1,7 +1,0 @@
-use Rattle.std.proofs.Common.{◌≡◌, [], ◌∷◌}
-use Rattle.netlist.specs.Values.{value}
-use Rattle.pd_tool.proofs.chain_run.last_value.Given as goal
-
--- the value is that of the line before the gate
-abbrev pub invariant-loop-gate : goal.invariant-loop-gate
-invariant-loop-gate l = l.value ≡ value l.net (l.bit ∷ []) l.gate

@@ -1,7 +1,0 @@
-use Rattle.std.proofs.Common.{◌≡◌, ◌+◌, ◌++◌, drop}
-use Rattle.pd_tool.specs.ProofsText.{proof_lines, proofs_text}
-use Rattle.pd_tool.proofs.texts.proofs_file.proofs_text.Given as goal
-
--- with the lines of the proofs that are left, the text is whole
-abbrev pub invariant-loop-index : goal.invariant-loop-index
-invariant-loop-index l = l.text.items ++ proof_lines (l.index + 1) (drop l.index l.proofs) ≡ proofs_text l.proofs

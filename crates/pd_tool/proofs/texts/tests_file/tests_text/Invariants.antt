@@ -1,7 +1,0 @@
-use Rattle.std.proofs.Common.{◌≡◌, ◌+◌, ◌++◌, drop}
-use Rattle.pd_tool.specs.TestsText.{test_lines, tests_text}
-use Rattle.pd_tool.proofs.texts.tests_file.tests_text.Given as goal
-
--- with the lines of the tests that are left, the text is whole
-abbrev pub invariant-loop-index : goal.invariant-loop-index
-invariant-loop-index l = l.text.items ++ test_lines (l.index + 1) (drop l.index l.tests) ≡ tests_text l.net l.tests
