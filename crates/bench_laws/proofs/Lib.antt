@@ -1,0 +1,7 @@
+pub mod CanonicalText
+pub mod CircuitAgain
+mod LawfulBytes
+mod NamedLines
+mod Projections
+pub mod StatementLines
+mod StatementTexts

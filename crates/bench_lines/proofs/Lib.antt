@@ -1,0 +1,5 @@
+pub mod Scanning
+pub mod Listing
+pub mod Arguments
+pub mod Lawful
+pub mod Reading

@@ -1,0 +1,5 @@
+pub mod Bytes
+pub mod Tokens
+pub mod Kinds
+pub mod Statements
+pub mod Seen

@@ -1,0 +1,2 @@
+pub mod PinTests
+pub mod RankPass

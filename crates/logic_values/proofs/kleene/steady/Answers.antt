@@ -1,0 +1,30 @@
+-- Each turn of the loop gives one gate more its steadiness, and after the last turn all lines have theirs.
+use Rattle.std.proofs.Common.{List, map, ap, ap₂, ◌∙◌, arith}
+use Rattle.pd_base.specs.declared.ids.LineId.{LineId}
+use Rattle.netlist.specs.Circuit.{kind_at}
+use Rattle.netlist.specs.Steadiness.{agreed_bit, known_gate_value}
+use Rattle.logic_values.specs.Known.{known, known_at}
+use Rattle.logic_values.specs.declared.steadiness.Steady.TheVariants.{Zero}
+use Rattle.logic_values.proofs.RankPass.{all_read, one_set}
+use Rattle.logic_values.proofs.kleene.steady.Goals as goal
+
+pub loop-gate-preserved : goal.loop-gate-preserved
+loop-gate-preserved c =
+    let net = c.args.net.now in
+    let order = c.order-gate-items in
+    let out = c.loop-gate.out in
+    let told = λ (lines : List LineId). map (λ pin. known_at out pin.0) lines in
+    one_set net (agreed_bit c.args.pair.now) (λ gate values. known_gate_value (kind_at net gate) values)
+    c.sources.ensures.circuit order.result.now order.ensures.rank order.ensures.reads
+    c.loop-gate.gate-index c.loop-gate-test.true known Zero out _ c.gate_steadiness.result
+    (omega arith) (omega arith)
+    (c.gate_steadiness.ensures ∙ ap₂ known_gate_value c.kind.ensures (ap told c.pins.ensures.pins))
+    c.loop-gate.invariant
+
+pub returns : goal.returns
+returns c =
+    let net = c.args.net.now in
+    let order = c.order-gate-items in
+    λ line within. all_read net (agreed_bit c.args.pair.now) (λ gate values. known_gate_value (kind_at net gate) values)
+    order.result.now order.ensures.rank c.loop-gate.gate-index c.loop-gate-test.false (known_at c.loop-gate.out)
+    c.loop-gate.invariant line (omega arith)
