@@ -1,11 +1,6 @@
 pub mod Counts
 pub mod Fault
 pub mod Folder
-pub mod Memory
-pub mod Plan
 pub mod Seen
-pub mod Shelf
-pub mod StdFiles
-pub mod Steady
 pub mod Telling
 pub mod Whole

@@ -1,8 +1,8 @@
 use Rattle.std.proofs.Common.{◌≡◌, ◌++◌, take, Ok, Some, sym, ap, ◌∙◌, option_map, string_bytes}
 use Rattle.std.proofs.lemmas.Result.{IfOk-weaker}
 use Rattle.pd_io.specs.Folder.{bytes_at, put, contents_after_write}
-use Rattle.pd_io.specs.Shelf.{contents_of, folder_of, writer_of}
-use Rattle.pd_io.proofs.shelf.Shelf.write.Goals as goal
+use Rattle.memory_files.specs.Shelf.{contents_of, folder_of, writer_of}
+use Rattle.memory_files.proofs.shelf.Shelf.write.Goals as goal
 
 -- the bytes that were taken stand behind those of the open file
 pub returns-clause-ok : goal.returns-clause-ok

@@ -1,7 +1,7 @@
 use Rattle.std.proofs.Common.{◌≡◌, ◌++◌, take, sym, rules}
 use Rattle.std.proofs.lemmas.Result.{IfOk-weaker, on_err_weaker}
-use Rattle.pd_io.proofs.NamedFiles.{contents_of-more, contents_of-same}
-use Rattle.pd_io.proofs.named.append.Goals as goal
+use Rattle.memory_files.proofs.NamedFiles.{contents_of-more, contents_of-same}
+use Rattle.memory_files.proofs.named.append.Goals as goal
 
 -- more bytes stand under a name that was there
 pub returns-in-Some-clause-ok : goal.returns-in-Some-clause-ok

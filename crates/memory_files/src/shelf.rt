@@ -3,7 +3,7 @@
 ghost use Rattle.std.specs.Prelude.{◌≡◌, ◌<◌, ◌≤◌, length, [], Some, None, Ok, IsSome, IfOk, OnOk, OnErr, option_copied};
 ghost use Rattle.pd_io.specs.Folder.{empty_folder, put, reader_after, GivesNext, contents_after_write};
 ghost use Rattle.pd_io.specs.Whole.{folder_after_asking, folder_with};
-ghost use Rattle.pd_io.specs.Shelf.{folder_of, reader_of, writer_of};
+ghost use Rattle.memory_files.specs.Shelf.{folder_of, reader_of, writer_of};
 
 use crate::named::{MOST_AT_ONCE, NamedFiles, append, bytes_of, copy_front, left_of, store};
 use std::alloc::{AllocError, Global};

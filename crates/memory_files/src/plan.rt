@@ -1,6 +1,6 @@
 // Which calls of one method are to fail. `MemoryFiles` has a plan for each method, `MemorySink` one for its writes.
 ghost use Rattle.std.specs.Prelude.{◌≡◌, OnOk, OnErr};
-ghost use Rattle.pd_io.specs.Plan.{plan_of, empty_plan, fails_next, plan_after_call, plan_with};
+ghost use Rattle.memory_files.specs.Plan.{plan_of, empty_plan, fails_next, plan_after_call, plan_with};
 
 use std::alloc::{AllocError, Global};
 

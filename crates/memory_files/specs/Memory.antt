@@ -1,12 +1,12 @@
 -- What the objects in memory hold, and which of their calls fail (this project's own).
 use Rattle.std.specs.Prelude.{ℕ, ◌||◌, Bool, List, Option, is_none}
-use Rattle.pd_io.specs.declared.memory.MemoryFiles.{MemoryFiles}
-use Rattle.pd_io.specs.declared.memory.MemorySink.{MemorySink}
-use Rattle.pd_io.specs.declared.memory.FileCall.{FileCall}
-use Rattle.pd_io.specs.declared.memory.FileCall.TheVariants.{BeginRead, Read, BeginWrite, Write, Finish}
+use Rattle.memory_files.specs.declared.memory.MemoryFiles.{MemoryFiles}
+use Rattle.memory_files.specs.declared.memory.MemorySink.{MemorySink}
+use Rattle.memory_files.specs.declared.memory.FileCall.{FileCall}
+use Rattle.memory_files.specs.declared.memory.FileCall.TheVariants.{BeginRead, Read, BeginWrite, Write, Finish}
 use Rattle.pd_io.specs.Folder.{Folder, Reader}
-use Rattle.pd_io.specs.Shelf.{folder_of, reader_of, writer_of}
-use Rattle.pd_io.specs.Plan.{CallPlan, plan_of, empty_plan, fails_next, plan_with}
+use Rattle.memory_files.specs.Shelf.{folder_of, reader_of, writer_of}
+use Rattle.memory_files.specs.Plan.{CallPlan, plan_of, empty_plan, fails_next, plan_with}
 
 -- what the files hold, and the names that they were asked
 abbrev pub memory_folder : MemoryFiles → Folder

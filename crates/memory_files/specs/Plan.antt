@@ -1,7 +1,7 @@
 -- Calls that are planned to fail, by their numbers (this project's own).
 use Rattle.std.specs.Prelude.{ℕ, ◌+◌, ◌==◌, Bool, List, [], ◌∷◌, ◌++◌, min}
 use Rattle.std.specs.List.{list_any}
-use Rattle.pd_io.specs.declared.plan.Plan.{Plan}
+use Rattle.memory_files.specs.declared.plan.Plan.{Plan}
 use Rattle.pd_io.specs.Counts.{greatest_count}
 
 -- how often a method was called, and which of its calls, counted from 1, are to fail

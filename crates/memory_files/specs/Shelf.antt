@@ -1,8 +1,8 @@
 -- What files kept in memory hold and were asked (this project's own).
 use Rattle.std.specs.Prelude.{ℕ, List, map, Option, option_map, string_bytes, String, Vec}
 use Rattle.std.specs.BTreeMap.{BTreeMap, get_by_text}
-use Rattle.pd_io.specs.declared.shelf.OpenFile.{OpenFile}
-use Rattle.pd_io.specs.declared.shelf.Shelf.{Shelf}
+use Rattle.memory_files.specs.declared.shelf.OpenFile.{OpenFile}
+use Rattle.memory_files.specs.declared.shelf.Shelf.{Shelf}
 use Rattle.pd_io.specs.Folder.{Contents, Folder, Reader}
 
 -- what stands under each name

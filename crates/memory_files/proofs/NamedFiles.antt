@@ -8,7 +8,7 @@ use Rattle.std.specs.Cmp.Lexicographic.{slice_cmp, nat_list_eq_equiv}
 use Rattle.std.specs.String.{string_cmp, string_bytes}
 use Rattle.std.proofs.lemmas.Slice.Eq.{bytes_eq-Decides}
 use Rattle.pd_io.specs.Folder.{Contents, bytes_at, put}
-use Rattle.pd_io.specs.Shelf.{contents_of}
+use Rattle.memory_files.specs.Shelf.{contents_of}
 
 -- what stands under a name may be put there again
 kept : (held : Contents) (name bytes other : List ℕ) (b : Bool) → b ≡ bytes_eq other name → held name ≡ Some bytes

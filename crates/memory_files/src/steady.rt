@@ -2,12 +2,12 @@
 ghost use Rattle.std.specs.Prelude.{◌≡◌, ◌<◌, ◌≤◌, ◌++◌, length, [], Some, None, Err, IsSome, IsOk, IfOk, OnOk, OnErr, option_copied};
 ghost use Rattle.pd_io.specs.Folder.{empty_folder, reader_after, GivesNext, contents_after_write, bytes_taken};
 ghost use Rattle.pd_io.specs.Whole.{folder_with};
-ghost use Rattle.pd_io.specs.Steady.{steady_folder, steady_reader, steady_writer, steady_bytes};
+ghost use Rattle.memory_files.specs.Steady.{steady_folder, steady_reader, steady_writer, steady_bytes};
 
 use crate::named::{MOST_AT_ONCE, take_front};
 use crate::shelf::Shelf;
-use crate::{FileFault, Files, Sink};
 use pd_base::OutOfMemory;
+use pd_io::{FileFault, Files, Sink};
 use std::alloc::Global;
 
 /// Files kept in memory, where an absent name reads as an empty file. No call answers `Failed`; `read` and `finish`

@@ -3,8 +3,8 @@ use Rattle.std.specs.Prelude.{◌≡◌, ℕ, Bool, true, false, List, take, Opt
 use Rattle.std.specs.Io.KnownBytes.{Appends, Consumes, IsAtEnd}
 use Rattle.std.specs.declared.io.ErrorKind.{ErrorKind}
 use Rattle.std.specs.declared.io.ErrorKind.TheVariants.{InvalidInput, Unsupported}
-use Rattle.pd_io.specs.declared.std_files.ReadFile.{ReadFile}
-use Rattle.pd_io.specs.declared.std_files.WriteFile.{WriteFile}
+use Rattle.system_files.specs.declared.std_files.ReadFile.{ReadFile}
+use Rattle.system_files.specs.declared.std_files.WriteFile.{WriteFile}
 use Rattle.pd_io.specs.Folder.{Reader}
 
 -- the file that is read, by its name's bytes, and how many of its bytes were taken

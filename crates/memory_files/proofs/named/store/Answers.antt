@@ -1,8 +1,8 @@
 use Rattle.std.proofs.Common.{ap, ◌∙◌, string_bytes}
 use Rattle.pd_io.specs.Folder.{put}
-use Rattle.pd_io.specs.Shelf.{contents_of}
-use Rattle.pd_io.proofs.NamedFiles.{contents_of-update}
-use Rattle.pd_io.proofs.named.store.Goals as goal
+use Rattle.memory_files.specs.Shelf.{contents_of}
+use Rattle.memory_files.proofs.NamedFiles.{contents_of-update}
+use Rattle.memory_files.proofs.named.store.Goals as goal
 
 -- the name holds the bytes, and all others what they held
 pub returns-clause-ok : goal.returns-clause-ok

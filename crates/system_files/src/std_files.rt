@@ -4,10 +4,9 @@ ghost use Rattle.std.specs.Io.KnownBytes.{Appends};
 ghost use Rattle.std.specs.IoError.{error_kind};
 ghost use Rattle.pd_io.specs.Counts.{HasCause};
 ghost use Rattle.pd_io.specs.Folder.{reader_after};
-ghost use Rattle.pd_io.specs.StdFiles.{std_reader, std_writer, open_to_read, open_to_write, Gave, FileGave, FileTook, cannot_sync};
+ghost use Rattle.system_files.specs.StdFiles.{std_reader, std_writer, open_to_read, open_to_write, Gave, FileGave, FileTook, cannot_sync};
 
-use crate::count::FailedCalls;
-use crate::{FileFault, Files, Sink};
+use pd_io::{FailedCalls, FileFault, Files, Sink};
 use std::alloc::Global;
 use std::fs::OpenFile;
 use std::io::{ErrorKind, Read, Write};

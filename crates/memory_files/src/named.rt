@@ -1,7 +1,7 @@
 // Named files in memory. Over them stands `Shelf`.
 ghost use Rattle.std.specs.Prelude.{◌≡◌, ◌+◌, ◌^◌, ◌<◌, ◌≤◌, ◌++◌, length, take, drop, IfOk, OnOk, OnErr, option_copied};
 ghost use Rattle.pd_io.specs.Folder.{bytes_at, put, IsNext};
-ghost use Rattle.pd_io.specs.Shelf.{contents_of};
+ghost use Rattle.memory_files.specs.Shelf.{contents_of};
 
 use std::alloc::{AllocError, Global};
 use std::collections::BTreeMap;

@@ -1,9 +1,9 @@
 -- What the steady objects hold (this project's own).
 use Rattle.std.specs.Prelude.{ℕ, List, Option}
-use Rattle.pd_io.specs.declared.steady.SteadyFiles.{SteadyFiles}
-use Rattle.pd_io.specs.declared.steady.SteadySink.{SteadySink}
+use Rattle.memory_files.specs.declared.steady.SteadyFiles.{SteadyFiles}
+use Rattle.memory_files.specs.declared.steady.SteadySink.{SteadySink}
 use Rattle.pd_io.specs.Folder.{Folder, Reader}
-use Rattle.pd_io.specs.Shelf.{folder_of, reader_of, writer_of}
+use Rattle.memory_files.specs.Shelf.{folder_of, reader_of, writer_of}
 
 -- what the files hold, and the names that they were asked
 abbrev pub steady_folder : SteadyFiles → Folder

@@ -3,15 +3,14 @@ ghost use Rattle.std.specs.Prelude.{◌≡◌, ◌↔◌, ◌<◌, ◌≤◌, �
 ghost use Rattle.pd_io.specs.Counts.{HasCause};
 ghost use Rattle.pd_io.specs.Folder.{empty_folder, names_after_asking, reader_after, GivesNext, contents_after_begin, contents_after_write, bytes_taken};
 ghost use Rattle.pd_io.specs.Whole.{folder_with};
-ghost use Rattle.pd_io.specs.Plan.{empty_plan, fails_next, plan_after_call, plan_with};
-ghost use Rattle.pd_io.specs.Memory.{memory_folder, memory_reader, memory_writer, memory_read_faults, memory_write_faults, memory_plans, no_plans, plans_with, refuses, memory_bytes, memory_faults, sink_plan};
+ghost use Rattle.memory_files.specs.Plan.{empty_plan, fails_next, plan_after_call, plan_with};
+ghost use Rattle.memory_files.specs.Memory.{memory_folder, memory_reader, memory_writer, memory_read_faults, memory_write_faults, memory_plans, no_plans, plans_with, refuses, memory_bytes, memory_faults, sink_plan};
 
-use crate::count::FailedCalls;
 use crate::named::{MOST_AT_ONCE, take_front};
 use crate::plan::Plan;
 use crate::shelf::Shelf;
-use crate::{FileFault, Files, Sink};
 use pd_base::OutOfMemory;
+use pd_io::{FailedCalls, FileFault, Files, Sink};
 use std::alloc::Global;
 
 /// A method of `Files`, of which calls can be planned to fail.

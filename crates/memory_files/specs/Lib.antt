@@ -1,0 +1,4 @@
+pub mod Memory
+pub mod Plan
+pub mod Shelf
+pub mod Steady
