@@ -25,7 +25,7 @@ name_of_gate c gate within =
     ∙ get_or-map (λ g. g.name) c.gates gate no_gate [] within
 
 -- what holds of each line holds of each when repeated lines are dropped
-each_distinct : (P : LineId → Type 0) (lines : List LineId) → All P lines → All P (distinct_lines lines)
+pub each_distinct : (P : LineId → Type 0) (lines : List LineId) → All P lines → All P (distinct_lines lines)
 each_distinct P [] all = all
 each_distinct P (line ∷ lines) all =
     let IsOther = λ (other : LineId). not (eqb other.0 line.0) in

@@ -1,15 +1,5 @@
-pub mod ChainCircuit
-mod ChainFanouts
-pub mod ChainGates
-mod ChainLists
-mod ChainSteps
-mod ChainStored
 pub mod CircuitLines
 pub mod Evaluation
-mod Inserting
-mod Looking
+pub mod Looking
 mod RankOrder
-mod RawStatements
-mod Results
-mod Spans
-mod StoredLists
+pub mod StoredLists

@@ -9,7 +9,7 @@ use Rattle.std.proofs.lemmas.Slice.Eq.{bytes_eq-Decides}
 use Rattle.std.specs.Str.{bytes_eq}
 use Rattle.std.specs.List.{prefix_len, position_or_len}
 use Rattle.std.specs.Global.{Vec}
-use Rattle.netlist.specs.declared.netlist.Netlist.TheInside.{Inside}
+use Rattle.netlist.specs.declared.netlist.Layout.{Layout}
 use Rattle.netlist.specs.Circuit.{Circuit, line_names}
 use Rattle.netlist.specs.Stored.{IsStored, lists}
 
@@ -26,7 +26,7 @@ position_in_lists p vecs =
     (λ i. let n = prefix_in_lists (λ x. not (p x)) vecs i in cond (ltb n (length-map vecs (λ v. v.items) i)) (Some n) None)
 
 -- and so it is among the names of a circuit and those that a netlist stores of it
-pub position_in_names : {c : Circuit} {n : Inside} → IsStored c n → (p : List ℕ → Bool)
+pub position_in_names : {c : Circuit} {n : Layout} → IsStored c n → (p : List ℕ → Bool)
     → position p (line_names c) ≡ position (λ v. p v.items) n.names.keys
 position_in_names {c} {n} stored p = ap (position p) (sym stored.names) ∙ position_in_lists p n.names.keys
 

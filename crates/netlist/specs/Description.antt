@@ -1,5 +1,6 @@
 -- The circuit that a list of statements describes (ISCAS .bench: lines are known by name, and names may be used before they
--- are defined). Why a list may describe none is said in Refusals.antt.
+-- are defined). Why a list may describe none is said in specs/Refusals.antt of
+-- the crate net_builder.
 use Rattle.std.specs.Prelude.{◌≡◌, ◌≢◌, ℕ, ◌≤◌, List, [], ◌∷◌, ◌++◌, length, map, sum_by, All, AllPairs, Contains}
 use Rattle.std.specs.List.{flat_map, position_or_len}
 use Rattle.std.specs.Str.{bytes_eq}
@@ -147,7 +148,7 @@ AreDistinct statements = AllPairs (λ a b. a ≢ b) (defined_names statements)
 abbrev pub AreDefined : List Numbered → Type 0
 AreDefined statements = All (λ name. Contains (defined_names statements) name) (used_names statements)
 
--- each use means one line
+-- lines and pins are within their limits, and each use means one line
 pub record AreNamed (statements : List Numbered) : Type 0 where
   pub limits : IsWithinLimits statements
   pub distinct : AreDistinct statements

@@ -1,4 +1,3 @@
-pub mod Chain
 pub mod Circuit
 pub mod Conditions
 pub mod Description
@@ -12,7 +11,6 @@ pub mod NameTexts
 pub mod Order
 pub mod Paths
 pub mod Pins
-pub mod RawStored
 pub mod Statements
 pub mod Steadiness
 pub mod Stored

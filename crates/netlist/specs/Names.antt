@@ -4,7 +4,7 @@ use Rattle.netlist.specs.declared.limits.TheConstants.{MOST_NAME_BYTES}
 use Rattle.netlist.specs.Circuit.{Circuit, line_names}
 use Rattle.netlist.specs.Greatest.{greatest}
 
--- a byte that a name may have: a printable one of ASCII but the space and those with a meaning of their own
+-- a byte that a name may have: 33 to 126, but the double quote and those with a meaning of their own
 pub record IsNameByte (byte : ℕ) : Type 0 where
   pub above_space : 32 < byte
   pub below_delete : byte < 127

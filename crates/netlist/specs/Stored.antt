@@ -1,8 +1,10 @@
--- What a netlist stores, and the circuit that this stands for (this project's own).
+-- What a netlist keeps, and the circuit that this stands for (this project's own).
 use Rattle.std.specs.Prelude.{◌≡◌, ℕ, List, [], ◌∷◌, map, take, drop}
 use Rattle.std.specs.Global.{Vec}
-use Rattle.netlist.specs.declared.netlist.StoredGate.{StoredGate}
-use Rattle.netlist.specs.declared.netlist.Netlist.TheInside.{Inside}
+use Rattle.smallvec.specs.SmallVec.{SmallVec}
+use Rattle.netlist.specs.declared.kind.GateKind.{GateKind}
+use Rattle.pd_base.specs.declared.ids.LineId.{LineId}
+use Rattle.netlist.specs.declared.netlist.Layout.{Layout}
 use Rattle.netlist.specs.Circuit.{Circuit, Gate, source_count, line_names, observed_lines}
 use Rattle.netlist.specs.Names.{longest_name}
 use Rattle.netlist.specs.Pins.{AreFanouts, pin_total}
@@ -13,38 +15,40 @@ use Rattle.netlist.specs.Lawful.{IsCircuit}
 abbrev pub lists : {X : Type 0} → List (Vec X) → List (List X)
 lists vecs = map (λ v. v.items) vecs
 
--- gates out of their names, and their kinds and pins
-abbrev pub named_gates : List (List ℕ) → List StoredGate → List Gate
-named_gates [] gates = []
-named_gates (name ∷ names) [] = []
-named_gates (name ∷ names) (gate ∷ gates) =
-    record { name = name; kind = gate.kind; pins = gate.pins } ∷ named_gates names gates
+-- the lists in some small vectors
+abbrev pub small_lists : {X : Type 0} → List (SmallVec X) → List (List X)
+small_lists vecs = map (λ v. v.items) vecs
 
--- the kind and the pins of a gate
-abbrev pub stored_gate : Gate → StoredGate
-stored_gate gate = record { kind = gate.kind; pins = gate.pins }
+-- gates out of their names, their kinds and their pins
+abbrev pub gates_of : List (List ℕ) → List GateKind → List (List LineId) → List Gate
+gates_of [] kinds pins = []
+gates_of (name ∷ names) [] pins = []
+gates_of (name ∷ names) (kind ∷ kinds) [] = []
+gates_of (name ∷ names) (kind ∷ kinds) (own ∷ pins) =
+    record { name = name; kind = kind; pins = own } ∷ gates_of names kinds pins
 
--- the circuit that a netlist's fields stand for
-abbrev pub circuit_of : Inside → Circuit
+-- the circuit that a netlist's lists stand for
+abbrev pub circuit_of : Layout → Circuit
 circuit_of n = record {
   sources = take n.sources (lists n.names.keys);
-  gates = named_gates (drop n.sources (lists n.names.keys)) n.gates.items;
+  gates = gates_of (drop n.sources (lists n.names.keys)) n.kinds.items (small_lists n.pins.items);
   outputs = n.outputs.items;
   flops = n.flops.items;
 }
 
--- what the fields of the netlist of a circuit hold
-pub record IsStored (c : Circuit) (n : Inside) : Type 0 where
+-- what the netlist of a circuit keeps
+pub record IsStored (c : Circuit) (n : Layout) : Type 0 where
   pub circuit : IsCircuit c
   pub sources : n.sources ≡ source_count c
   pub names : lists n.names.keys ≡ line_names c
-  pub gates : n.gates.items ≡ map stored_gate c.gates
+  pub kinds : n.kinds.items ≡ map (λ gate. gate.kind) c.gates
+  pub pins : small_lists n.pins.items ≡ map (λ gate. gate.pins) c.gates
   pub outputs : n.outputs.items ≡ c.outputs
   pub flops : n.flops.items ≡ c.flops
   pub observed : n.observed.items ≡ observed_lines c
   pub fanouts : AreFanouts c (lists n.fanouts.items)
   pub levels : n.levels.items ≡ line_levels c
   pub order : IsRankOrder c n.order.items
-  pub pins : n.pin_total ≡ pin_total c
+  pub pin_count : n.pin_total ≡ pin_total c
   pub deepest : n.greatest_level ≡ greatest_level c
   pub longest : n.longest_name ≡ longest_name c

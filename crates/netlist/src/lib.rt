@@ -2,17 +2,14 @@
 //! Stands on pd_base. The layers above use a `Netlist` as the circuit that its contracts show.
 #![tactic(auto)]
 
-mod chains;
 mod kind;
 mod limits;
-mod name_list;
 mod netlist;
 mod raw_net;
 
-pub use chains::chain;
 pub use kind::GateKind;
 pub use limits::{
     MOST_FAN_IN, MOST_LEVELS, MOST_LINES, MOST_NAME_BYTES, MOST_PINS, MOST_STATEMENTS,
 };
-pub use netlist::Netlist;
-pub use raw_net::{RawNet, RawStmt};
+pub use netlist::{Layout, Netlist};
+pub use raw_net::RawStmt;

@@ -1,4 +1,4 @@
-// The limits of a circuit. A list of statements that goes beyond one of them has no circuit.
+// The limits of a circuit, those of a statement (its names and arguments), and how long a list of statements may be.
 
 /// The most lines of a circuit: sources and gates together.
 pub const MOST_LINES: u32 = 262_144;

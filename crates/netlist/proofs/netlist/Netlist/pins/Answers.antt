@@ -1,12 +1,16 @@
-use Rattle.std.proofs.Common.{subst, sym, ◌≡◌, arith}
-use Rattle.std.proofs.lemmas.Grind.{common_steps}
-use Rattle.netlist.specs.Circuit.{HasLines, pins_at}
-use Rattle.netlist.proofs.StoredLists.{stored_of}
+use Rattle.std.proofs.Common.{subst, sym, ◌∙◌}
+use Rattle.netlist.specs.Circuit.{HasLines}
+use Rattle.netlist.proofs.StoredLists.{stored_of, pins_found}
 use Rattle.netlist.proofs.netlist.Netlist.pins.Goals as goal
 
--- the pins that are given read lines of the circuit
+-- the small vector that is given has the pins of the gate
+pub returns-clause-pins : goal.returns-clause-pins
+returns-clause-pins c =
+    let stored = stored_of c.self.invariant c.self.view_is in
+    c.as_slice.ensures ∙ pins_found c.args.self.now _ stored.pins _ c.requires _ c.index.ensures
+
+-- so they read lines of the circuit
 pub returns-clause-in_circuit : goal.returns-clause-in_circuit
 returns-clause-in_circuit c =
     let stored = stored_of c.self.invariant c.self.view_is in
-    let pins : c.as_slice.result.now ≡ pins_at c.args.self.now c.args.gate.0 = grind (arith, common_steps) in
-    subst (HasLines c.args.self.now) (sym pins) (stored.circuit.reads_lines c.args.gate.0 c.requires)
+    subst (HasLines c.args.self.now) (sym (returns-clause-pins c)) (stored.circuit.reads_lines c.args.gate.0 c.requires)

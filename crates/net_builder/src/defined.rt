@@ -1,0 +1,110 @@
+// The names that are defined: the first that is defined twice, and the first that is used with no definition.
+ghost use Rattle.std.specs.Prelude.{◌≡◌, ◌≢◌, ◌+◌, ◌<◌, length, take, All, AllPairs, Contains, IfOk, IfErr, OnOk};
+ghost use Rattle.netlist.specs.Description.{AreDefined, AreDistinct, IsWithinLimits, defined_names, used_names};
+ghost use Rattle.netlist.specs.Statements.{used_by};
+ghost use Rattle.netlist.specs.Stored.{lists};
+ghost use Rattle.raw_netlist.specs.Reading.{statement_at};
+ghost use Rattle.net_builder.specs.Refusals.{MayRefuse};
+
+use crate::BuildFault;
+use crate::name_set::{has_name, push_name};
+use crate::reading::defined;
+use indexmap::IndexSet;
+use pd_base::{Items, OutOfMemory};
+use raw_netlist::RawNet;
+use std::alloc::Global;
+
+/// Refuses statements that define a name twice or, else, use one that none defines.
+pub(crate) fn check_names(alloc: Global, raw: &RawNet) -> Result<(), BuildFault>
+    requires { IsWithinLimits raw.now }
+    ensures distinct { IfOk result (λ _. AreDistinct raw.now) }
+    ensures defined { IfOk result (λ _. AreDefined raw.now) }
+    ensures refused { IfErr result (MayRefuse raw.now) }
+{
+    let names = all_defined(alloc, raw)?;
+    check_uses(alloc, raw, &names)
+}
+
+// The names that are defined, in order, each once.
+fn all_defined(alloc: Global, raw: &RawNet) -> Result<IndexSet<Vec<u8>>, BuildFault>
+    requires { IsWithinLimits raw.now }
+    ensures names { IfOk result (λ names. lists names.keys ≡ defined_names raw.now) }
+    ensures distinct { IfOk result (λ _. AreDistinct raw.now) }
+    ensures refused { IfErr result (MayRefuse raw.now) }
+{
+    let mut names = IndexSet::new(alloc);
+    for place in 0..raw.len() {
+        add_defined(alloc, raw, place, &mut names)?;
+    }
+    Ok(names)
+}
+
+// Adds the name that a statement defines to those that the statements before it define.
+fn add_defined(
+    alloc: Global,
+    raw: &RawNet,
+    place: usize,
+    names: &mut IndexSet<Vec<u8>>,
+) -> Result<(), BuildFault>
+    requires within { place < length raw.now }
+    requires limits { IsWithinLimits raw.now }
+    requires names { lists names.old.keys ≡ defined_names (take place raw.now) }
+    requires distinct { AreDistinct (take place raw.now) }
+    ensures names { OnOk result (lists names.new.keys ≡ defined_names (take (place + 1) raw.now)) }
+    ensures distinct { OnOk result (AreDistinct (take (place + 1) raw.now)) }
+    ensures refused { IfErr result (MayRefuse raw.now) }
+{
+    let Some(name) = defined(raw, place) else {
+        return Ok(());
+    };
+    if has_name(names, name) {
+        return Err(BuildFault::Twice(raw.line(place), copied(alloc, name)?));
+    }
+    push_name(alloc, names, name)?;
+    Ok(())
+}
+
+// Looks for the first use of a name that is none of these, which are the names that are defined.
+fn check_uses(alloc: Global, raw: &RawNet, names: &IndexSet<Vec<u8>>) -> Result<(), BuildFault>
+    requires limits { IsWithinLimits raw.now }
+    requires distinct { AreDistinct raw.now }
+    requires names { lists names.now.keys ≡ defined_names raw.now }
+    ensures defined { IfOk result (λ _. AreDefined raw.now) }
+    ensures refused { IfErr result (MayRefuse raw.now) }
+{
+    for place in 0..raw.len() {
+        check_used(alloc, raw, place, names)?;
+    }
+    Ok(())
+}
+
+// Looks for the first such use in a statement.
+fn check_used(
+    alloc: Global,
+    raw: &RawNet,
+    place: usize,
+    names: &IndexSet<Vec<u8>>,
+) -> Result<(), BuildFault>
+    requires within { place < length raw.now }
+    requires limits { IsWithinLimits raw.now }
+    requires distinct { AreDistinct raw.now }
+    requires names { lists names.now.keys ≡ defined_names raw.now }
+    requires before { All (Contains (defined_names raw.now)) (used_names (take place raw.now)) }
+    ensures defined { IfOk result (λ _. All (Contains (defined_names raw.now)) (used_by (statement_at raw.now place))) }
+    ensures refused { IfErr result (MayRefuse raw.now) }
+{
+    for argument in 0..raw.used_len(place) {
+        let name = raw.used(place, argument);
+        if !has_name(names, name) {
+            return Err(BuildFault::Undefined(raw.line(place), copied(alloc, name)?));
+        }
+    }
+    Ok(())
+}
+
+/// A copy of a name.
+pub(crate) fn copied(alloc: Global, name: &[u8]) -> Result<Items<u8>, OutOfMemory>
+    ensures { IfOk result (λ copy. copy ≡ name.now) }
+{
+    Ok(Items::new(Vec::from_slice(alloc, name)?))
+}

@@ -1,0 +1,43 @@
+// A set of names, each with its number: the names in the order in which they came.
+ghost use Rattle.std.specs.Prelude.{◌≡◌, ◌≢◌, ◌<◌, ◌≤◌, [], ◌∷◌, ◌++◌, length, slice_index_or, MatchBool, OnOk, Contains};
+ghost use Rattle.netlist.specs.declared.limits.TheConstants.{MOST_LINES};
+ghost use Rattle.netlist.specs.Description.{line_named};
+ghost use Rattle.netlist.specs.Stored.{lists};
+
+use indexmap::IndexSet;
+use pd_base::{LineId, OutOfMemory};
+use std::alloc::Global;
+
+/// Whether the set has a name.
+pub(crate) fn has_name(names: &IndexSet<Vec<u8>>, name: &[u8]) -> bool
+    ensures { MatchBool result (Contains (lists names.now.keys) name.now) (¬ Contains (lists names.now.keys) name.now) }
+{
+    match names.get_index_of(name) {
+        Some(_) => true,
+        None => false,
+    }
+}
+
+/// The line that bears a name, where the names are those of the lines, by line.
+pub(crate) fn line_of(names: &IndexSet<Vec<u8>>, name: &[u8]) -> LineId
+    requires { length names.now.keys ≤ MOST_LINES }
+    ensures { result ≡ line_named (lists names.now.keys) name.now }
+{
+    match names.get_index_of(name) {
+        Some(line) => LineId(line as u32),
+        None => LineId(names.len() as u32),
+    }
+}
+
+/// Puts a name last that the set has not.
+pub(crate) fn push_name(
+    alloc: Global,
+    names: &mut IndexSet<Vec<u8>>,
+    name: &[u8],
+) -> Result<(), OutOfMemory>
+    requires { ¬ Contains (lists names.old.keys) name.now }
+    ensures { OnOk result (lists names.new.keys ≡ lists names.old.keys ++ name.now ∷ []) }
+{
+    names.insert(Vec::from_slice(alloc, name)?)?;
+    Ok(())
+}

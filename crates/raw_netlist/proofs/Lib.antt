@@ -1,0 +1,4 @@
+mod RawStatements
+pub mod ReadStatements
+mod Results
+mod Spans
