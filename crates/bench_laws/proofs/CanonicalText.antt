@@ -1,7 +1,7 @@
 -- The canonical text of a circuit has that circuit.
 use Rattle.netlist.specs.Circuit.{Circuit}
 use Rattle.netlist.specs.Lawful.{IsCircuit}
-use Rattle.bench_reader.specs.Canonical.{bench_text, circuit_statements}
+use Rattle.bench_writer.specs.Canonical.{bench_text, circuit_statements}
 use Rattle.bench_reader.specs.Circuits.{HasCircuit}
 use Rattle.bench_laws.proofs.CircuitAgain.{describes_again, listed, lawful_statements}
 use Rattle.bench_laws.proofs.StatementLines.{statements_again}

@@ -17,7 +17,7 @@ use Rattle.netlist.specs.Names.{IsName, name_at}
 use Rattle.netlist.specs.Pins.{pin_total}
 use Rattle.netlist.specs.Statements.{IsStatement, Numbered, defined_by, used_by}
 use Rattle.netlist.proofs.CircuitLines.{data_lines_in_circuit, flops_are_sources, line_names-length, name_of_gate}
-use Rattle.bench_reader.specs.Canonical.{circuit_statements, flop_statement, flop_statements, gate_statement, gate_statements, input_count, input_statements, names_at, output_statement, output_statements}
+use Rattle.bench_writer.specs.Canonical.{circuit_statements, flop_statement, flop_statements, gate_statement, gate_statements, input_count, input_statements, names_at, output_statement, output_statements}
 use Rattle.bench_laws.proofs.NamedLines.{elements_from, line_again, lines_again}
 use Rattle.bench_laws.proofs.Projections.{length_mentions, none_of_each, of_numbered, one_of_each, sum_of_each, sum_of_numbered}
 use Rattle.bench_laws.proofs.StatementLines.{numbered_from}

@@ -11,7 +11,7 @@ use Rattle.netlist.specs.Description.{line_named}
 use Rattle.netlist.specs.Lawful.{IsCircuit}
 use Rattle.netlist.specs.Names.{name_at}
 use Rattle.netlist.proofs.CircuitLines.{line_names-length}
-use Rattle.bench_reader.specs.Canonical.{names_at}
+use Rattle.bench_writer.specs.Canonical.{names_at}
 
 -- a test of two names that differ fails
 fails : (a b : List ℕ) → a ≢ b → bytes_eq a b ≡ false

@@ -3,7 +3,7 @@ use Rattle.std.proofs.Common.{◌≡◌, ℕ, ◌+◌, List, [], ◌∷◌, Ok, 
 use Rattle.std.specs.List.{AllByRecursion}
 use Rattle.netlist.specs.declared.raw_net.RawStmt.{RawStmt}
 use Rattle.netlist.specs.Statements.{IsStatement, Numbered, numbered}
-use Rattle.bench_reader.specs.Canonical.{statement_text, statements_text}
+use Rattle.bench_writer.specs.Canonical.{statement_text, statements_text}
 use Rattle.bench_reader.specs.Lines.{lines_of}
 use Rattle.bench_reader.specs.Texts.{put_first, statements_from, statements_of, with_line}
 use Rattle.bench_laws.proofs.LawfulBytes.{line_of_code}

@@ -17,7 +17,7 @@ use Rattle.bench_lines.specs.Kinds.{is_many, kind_word_of, may_have}
 use Rattle.bench_lines.specs.Statements.{arguments_of, code_reading, defined_reading, gate_reading, is_too_long, kind_reading, line_reading, names_of, says, tokens_reading, with_first}
 use Rattle.bench_lines.specs.Tokens.{Token, begins_name, mark, name, tokens_of}
 use Rattle.bench_lines.proofs.Scanning.{AreParts, tokens_of_name}
-use Rattle.bench_reader.specs.Canonical.{arguments_text, kind_text, more_arguments, statement_text}
+use Rattle.bench_writer.specs.Canonical.{arguments_text, kind_text, more_arguments, statement_text}
 use Rattle.bench_reader.specs.Lines.{ends_line}
 use Rattle.bench_laws.proofs.LawfulBytes.{AreCode, class_of_name_byte, code_append, code_of_code, name_byte_is_code, no_bad_byte}
 

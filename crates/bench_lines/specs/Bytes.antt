@@ -17,7 +17,7 @@ code_of line = before_first begins_comment line
 abbrev pub is_blank : ℕ → Bool
 is_blank byte = byte == 9 || (byte == 12 || (byte == 13 || byte == 32))
 
--- the printable bytes of ASCII without the double quote, and without the one that begins a comment
+-- the bytes 33 to 126 without the double quote, and without the one that begins a comment
 abbrev pub is_allowed : ℕ → Bool
 is_allowed byte = nat_le 33 byte && (nat_le byte 126 && (not (byte == 34) && not (begins_comment byte)))
 

@@ -29,7 +29,7 @@ kind_words = And ∷ Nand ∷ Or ∷ Nor ∷ Xor ∷ Xnor ∷ Not ∷ Inv ∷ Bu
 abbrev pub kind_word_of : List ℕ → Option KindWord
 kind_word_of word = find (λ known. str_eq_ignore_ascii_case word (spelling known)) kind_words
 
--- whether there are as many arguments as a gate of several pins may have
+-- whether there are as many arguments as a gate of any kind but NOT and BUFF may have
 abbrev pub is_many : ℕ → Bool
 is_many count = nat_le 1 count && nat_le count MOST_FAN_IN
 

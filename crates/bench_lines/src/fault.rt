@@ -10,7 +10,7 @@ pub enum LineFault {
     BadByte,
     /// A name has more than 255 bytes.
     NameTooLong,
-    /// The tokens have none of the three forms of a statement.
+    /// The tokens have none of the three forms of a statement (specs/Statements.antt).
     Syntax,
     /// The word for the kind names no kind.
     UnknownKind,

@@ -7,7 +7,7 @@ use crate::statement::{Statement, read_tokens};
 use crate::token::{Token, has_long_name, list_tokens};
 
 /// What a line says, or None where it has no token. The names of a gate's arguments are left in `arguments`. The lists
-/// hold what an earlier line left, and are used again so that a line takes no memory of its own.
+/// hold what an earlier line left, and are used again, so that only a longer line than those before takes memory.
 ///
 /// Of the faults of a line the first is answered, in the order of `LineFault`; `NoMemory` may come in place of any answer.
 pub fn read_line<'a>(

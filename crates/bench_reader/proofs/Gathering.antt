@@ -4,7 +4,7 @@ use Rattle.std.proofs.lemmas.Grind.{common_steps}
 use Rattle.netlist.specs.Statements.{Numbered, numbered}
 use Rattle.bench_lines.specs.Statements.{Reading, line_reading}
 use Rattle.bench_reader.specs.declared.fault.BenchFault.{BenchFault}
-use Rattle.bench_reader.specs.declared.fault.BenchFault.TheVariants.{BadByte, NameTooLong, Syntax, UnknownKind, FanIn, NoMemory}
+use Rattle.bench_reader.specs.declared.fault.BenchFault.TheVariants.{BadByte, NameTooLong, Syntax, UnknownKind, FanIn, Build, NoMemory}
 use Rattle.bench_reader.specs.Lines.{lines_of}
 use Rattle.bench_reader.specs.Texts.{AddsLine, IsAnswer, RefusesLine, Statements, put_first, statements_from, statements_of, with_line}
 
@@ -45,11 +45,13 @@ refuses_line number (Err line) (NameTooLong at) before rest expected is refuses 
 refuses_line number (Err line) (Syntax at) before rest expected is refuses = is ∙ ap Err (sym refuses)
 refuses_line number (Err line) (UnknownKind at) before rest expected is refuses = is ∙ ap Err (sym refuses)
 refuses_line number (Err line) (FanIn at) before rest expected is refuses = is ∙ ap Err (sym refuses)
+refuses_line number (Err line) (Build reason) before rest expected is refuses = is ∙ ap Err (sym refuses)
 refuses_line number (Ok found) (BadByte at) before rest expected is refuses = absurd refuses
 refuses_line number (Ok found) (NameTooLong at) before rest expected is refuses = absurd refuses
 refuses_line number (Ok found) (Syntax at) before rest expected is refuses = absurd refuses
 refuses_line number (Ok found) (UnknownKind at) before rest expected is refuses = absurd refuses
 refuses_line number (Ok found) (FanIn at) before rest expected is refuses = absurd refuses
+refuses_line number (Ok found) (Build reason) before rest expected is refuses = absurd refuses
 
 -- at most one statement is put last
 adds_one : (number : ℕ) (reading : Reading) (before after : List Numbered) → AddsLine number reading before after

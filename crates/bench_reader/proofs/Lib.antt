@@ -1,3 +1,3 @@
+pub mod Answering
 pub mod Cutting
 pub mod Gathering
-pub mod Writing

@@ -1,4 +1,4 @@
-pub mod Lines
-pub mod Texts
-pub mod Canonical
 pub mod Circuits
+pub mod Lines
+pub mod Refusals
+pub mod Texts

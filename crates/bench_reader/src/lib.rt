@@ -1,12 +1,11 @@
-//! Netlists in `.bench` form: read from bytes, and written in one canonical text.
-//! Stands on netlist and bench_lines. The layers above use `read_bench` and `bench_text`.
+//! Netlists in `.bench` form, read from bytes.
+//! Stands on bench_lines, raw_netlist and net_builder. The layers above use `read_bench`.
 #![tactic(auto)]
 
 mod fault;
 mod lines;
-mod pieces;
+mod reading;
 mod statements;
-mod text;
 
 pub use fault::BenchFault;
-pub use text::bench_text;
+pub use reading::read_bench;

@@ -10,8 +10,8 @@ ghost use Rattle.bench_reader.specs.Texts.{AddsLine, IsAnswer, RefusesLine, stat
 use crate::fault::{BenchFault, at_line};
 use crate::lines::split_line;
 use bench_lines::{Statement, Token, read_line};
-use netlist::RawNet;
 use pd_base::OutOfMemory;
+use raw_netlist::RawNet;
 use std::alloc::Global;
 
 /// The most bytes of a text.

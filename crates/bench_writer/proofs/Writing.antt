@@ -1,10 +1,10 @@
 -- The line of a gate, as it is written piece by piece.
-use Rattle.std.proofs.Common.{◌≡◌, ℕ, ◌+◌, ◌<◌, List, ◌∷◌, [], ◌++◌, length, map, get_or, codes, ap, sym, ◌∙◌, append_assoc}
+use Rattle.std.proofs.Common.{◌≡◌, ℕ, ◌<◌, List, [], ◌++◌, map, codes, ap, ◌∙◌, append_assoc}
 use Rattle.std.proofs.lemmas.List.{get_or-append-add, get_or-map}
 use Rattle.netlist.specs.declared.kind.GateKind.{GateKind}
 use Rattle.netlist.specs.Circuit.{Circuit, gate_at, gate_count, gate_line, no_gate}
 use Rattle.netlist.specs.Names.{name_at}
-use Rattle.bench_reader.specs.Canonical.{arguments_text, ended, gate_head, gate_statement, names_at, statement_text}
+use Rattle.bench_writer.specs.Canonical.{arguments_text, ended, gate_head, gate_statement, names_at, statement_text}
 
 -- the line of a gate bears its name
 gate_name : (c : Circuit) (gate : ℕ) → gate < gate_count c → name_at c (gate_line c gate) ≡ (gate_at c gate).name

@@ -1,7 +1,7 @@
 use Rattle.std.proofs.Common.{◌≡◌, ◌++◌, map, take}
 use Rattle.netlist.specs.declared.raw_net.RawStmt.TheVariants.{Input}
-use Rattle.bench_reader.specs.Canonical.{statements_text}
-use Rattle.bench_reader.proofs.text.push_inputs.Given as goal
+use Rattle.bench_writer.specs.Canonical.{statements_text}
+use Rattle.bench_writer.proofs.text.push_inputs.Given as goal
 
 abbrev pub invariant-loop-line : goal.invariant-loop-line
 invariant-loop-line l =

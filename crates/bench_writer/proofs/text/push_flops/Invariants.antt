@@ -1,6 +1,6 @@
 use Rattle.std.proofs.Common.{◌≡◌, ◌++◌, map, take}
-use Rattle.bench_reader.specs.Canonical.{flop_statement, statements_text}
-use Rattle.bench_reader.proofs.text.push_flops.Given as goal
+use Rattle.bench_writer.specs.Canonical.{flop_statement, statements_text}
+use Rattle.bench_writer.proofs.text.push_flops.Given as goal
 
 abbrev pub invariant-loop-flop : goal.invariant-loop-flop
 invariant-loop-flop l =

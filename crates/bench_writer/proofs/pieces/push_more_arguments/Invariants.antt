@@ -1,6 +1,6 @@
 use Rattle.std.proofs.Common.{◌≡◌, ◌++◌, take}
-use Rattle.bench_reader.specs.Canonical.{more_arguments, names_at}
-use Rattle.bench_reader.proofs.pieces.push_more_arguments.Given as goal
+use Rattle.bench_writer.specs.Canonical.{more_arguments, names_at}
+use Rattle.bench_writer.proofs.pieces.push_more_arguments.Given as goal
 
 abbrev pub invariant-loop-line : goal.invariant-loop-line
 invariant-loop-line l =

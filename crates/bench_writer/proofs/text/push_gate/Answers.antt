@@ -1,8 +1,8 @@
 -- The line of a gate is its head, its arguments and its end.
 use Rattle.std.proofs.Common.{◌+◌, ◌∙◌, ap}
 use Rattle.netlist.specs.Names.{name_at}
-use Rattle.bench_reader.proofs.Writing.{gate_written}
-use Rattle.bench_reader.proofs.text.push_gate.Goals as goal
+use Rattle.bench_writer.proofs.Writing.{gate_written}
+use Rattle.bench_writer.proofs.text.push_gate.Goals as goal
 
 pub returns : goal.returns
 returns c =

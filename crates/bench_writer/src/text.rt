@@ -2,7 +2,7 @@
 // been written.
 ghost use Rattle.std.specs.Prelude.{◌≡◌, ◌<◌, ◌++◌, IfOk, OnOk};
 ghost use Rattle.netlist.specs.Circuit.{gate_at, gate_count};
-ghost use Rattle.bench_reader.specs.Canonical.{bench_text, ended, flop_statements, gate_statement, gate_statements, input_statements, output_statements, statement_text, statements_text};
+ghost use Rattle.bench_writer.specs.Canonical.{bench_text, ended, flop_statements, gate_statement, gate_statements, input_statements, output_statements, statement_text, statements_text};
 
 use crate::pieces::{push_arguments, push_flop, push_gate_head, push_port};
 use netlist::Netlist;

@@ -1,6 +1,6 @@
 use Rattle.std.proofs.Common.{◌≡◌, ◌++◌, map, take}
-use Rattle.bench_reader.specs.Canonical.{output_statement, statements_text}
-use Rattle.bench_reader.proofs.text.push_outputs.Given as goal
+use Rattle.bench_writer.specs.Canonical.{output_statement, statements_text}
+use Rattle.bench_writer.proofs.text.push_outputs.Given as goal
 
 abbrev pub invariant-loop-line : goal.invariant-loop-line
 invariant-loop-line l =

@@ -1,6 +1,6 @@
 use Rattle.std.proofs.Common.{◌≡◌, ◌++◌, map, take}
-use Rattle.bench_reader.specs.Canonical.{gate_statement, statements_text}
-use Rattle.bench_reader.proofs.text.push_gates.Given as goal
+use Rattle.bench_writer.specs.Canonical.{gate_statement, statements_text}
+use Rattle.bench_writer.proofs.text.push_gates.Given as goal
 
 abbrev pub invariant-loop-gate : goal.invariant-loop-gate
 invariant-loop-gate l =

@@ -2,7 +2,7 @@
 ghost use Rattle.std.specs.Prelude.{◌≡◌, ◌++◌, codes, OnOk};
 ghost use Rattle.netlist.specs.Circuit.{HasLines};
 ghost use Rattle.netlist.specs.declared.raw_net.RawStmt.TheVariants.{Flop};
-ghost use Rattle.bench_reader.specs.Canonical.{arguments_text, ended, gate_head, kind_text, more_arguments, names_at, statement_text};
+ghost use Rattle.bench_writer.specs.Canonical.{arguments_text, ended, gate_head, kind_text, more_arguments, names_at, statement_text};
 
 use netlist::{GateKind, Netlist};
 use pd_base::{LineId, OutOfMemory};
