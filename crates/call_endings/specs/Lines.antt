@@ -6,8 +6,10 @@ use Rattle.call_words.specs.declared.refusal.WordsRefusal.{WordsRefusal}
 use Rattle.call_words.specs.declared.refusal.WordsRefusal.TheVariants.{Command, OptionAt, EmptyAt, Count, SameAt}
 use Rattle.call_endings.specs.declared.role.Role.{Role}
 use Rattle.call_endings.specs.declared.role.Role.TheVariants.{Net, Delays, Tests, Report, Proofs}
+use Rattle.call_endings.specs.declared.netlist_refusal.NetlistRefusal.{NetlistRefusal}
+use Rattle.call_endings.specs.declared.netlist_refusal.NetlistRefusal.TheVariants.{BadByte, NameTooLong, Syntax, UnknownKind, FanIn, TooManyLines, TooManyPins, Twice, Undefined, Loop, TooDeep}
 use Rattle.call_endings.specs.declared.refusal.Refusal.{Refusal}
-use Rattle.call_endings.specs.declared.refusal.Refusal.TheVariants.{Words, NotBuilt}
+use Rattle.call_endings.specs.declared.refusal.Refusal.TheVariants.{Words, TooLong, Netlist, NotBuilt}
 use Rattle.call_endings.specs.declared.ending.Ending.{Ending}
 use Rattle.call_endings.specs.declared.ending.Ending.TheVariants.{Done, Refused, ReadFault, WriteFault, OutFault, NoMemory}
 use Rattle.call_endings.specs.declared.status.Status.{Status}
@@ -30,9 +32,29 @@ words_reason (EmptyAt place) = codes "empty at " ++ decimal place
 words_reason Count = codes "count"
 words_reason (SameAt first second) = codes "same at " ++ decimal first ++ after_space (decimal second)
 
+-- a place, and what is wrong there
+abbrev pub at_place : ℕ → List ℕ → List ℕ
+at_place place reason = codes "line " ++ decimal place ++ reason
+
+-- why the netlist was refused, as the line on err says it
+abbrev pub netlist_reason : NetlistRefusal → List ℕ
+netlist_reason (BadByte place) = at_place place (codes " bad byte")
+netlist_reason (NameTooLong place) = at_place place (codes " name too long")
+netlist_reason (Syntax place) = at_place place (codes " syntax")
+netlist_reason (UnknownKind place) = at_place place (codes " unknown kind")
+netlist_reason (FanIn place) = at_place place (codes " fan-in")
+netlist_reason (TooManyLines count) = codes "too many lines " ++ decimal count
+netlist_reason (TooManyPins count) = codes "too many pins " ++ decimal count
+netlist_reason (Twice place name) = at_place place (codes " twice " ++ name)
+netlist_reason (Undefined place name) = at_place place (codes " undefined " ++ name)
+netlist_reason (Loop place name) = at_place place (codes " loop " ++ name)
+netlist_reason (TooDeep place name) = at_place place (codes " too deep " ++ name)
+
 -- the line on err for a refusal
 abbrev pub refusal_line : Refusal → List ℕ
 refusal_line (Words reason) = line (codes "words: " ++ words_reason reason)
+refusal_line (TooLong role) = line (codes "size: " ++ role_word role)
+refusal_line (Netlist reason) = line (codes "netlist: " ++ netlist_reason reason)
 refusal_line (NotBuilt role) = line (codes "not built: " ++ role_word role)
 
 -- the line on err for an ending; `Done` has none
@@ -47,6 +69,8 @@ line_of NoMemory = line (codes "want of memory")
 -- the status of a refusal
 abbrev pub refusal_status : Refusal → Status
 refusal_status (Words reason) = exit.Words
+refusal_status (TooLong role) = exit.Size
+refusal_status (Netlist reason) = exit.Netlist
 refusal_status (NotBuilt role) = exit.NotBuilt
 
 -- the status of an ending
@@ -62,9 +86,11 @@ status_of NoMemory = exit.NoMemory
 abbrev pub number_of : Status → ℕ
 number_of exit.Done = 0
 number_of exit.Words = 2
+number_of exit.Netlist = 3
 number_of exit.ReadFault = 5
 number_of exit.WriteFault = 6
 number_of exit.NoMemory = 7
+number_of exit.Size = 8
 number_of exit.NotBuilt = 9
 
 -- the text of these pieces, one behind another

@@ -12,9 +12,9 @@ pub enum Ending {
     Done,
     /// The words or the inputs were refused.
     Refused(Refusal),
-    /// A call that reads the file of this role failed.
+    /// A read of the file of this role failed.
     ReadFault(Role),
-    /// A call that writes the file of this role failed.
+    /// A write of the file of this role failed.
     WriteFault(Role),
     /// A write on out failed.
     OutFault,

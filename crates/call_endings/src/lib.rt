@@ -1,14 +1,17 @@
 //! How a call ends: its ending with all detail, its status, and its line on err (specs/Lines.antt).
-//! Stands on pd_io, call_words and text_pieces. The layers above use `Ending`, and `tell`, which reports one.
+//! Stands on pd_base, pd_io, call_words and text_pieces. The layers above use `Ending`, and `tell`, which reports one.
 #![tactic(auto)]
 
 mod ending;
+mod netlist_refusal;
+mod netlist_telling;
 mod refusal;
 mod role;
 mod status;
 mod telling;
 
 pub use ending::Ending;
+pub use netlist_refusal::NetlistRefusal;
 pub use refusal::Refusal;
 pub use role::Role;
 pub use status::Status;

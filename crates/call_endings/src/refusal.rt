@@ -1,12 +1,16 @@
 // Why a call is refused, before anything was written. A refusal owns all that its line on err names.
-use crate::Role;
+use crate::{NetlistRefusal, Role};
 use call_words::WordsRefusal;
 
 /// A reason for which the words or the inputs of a call are refused.
 #[derive(Debug, Drop)]
 pub enum Refusal {
-    /// The words ask for no command.
+    /// The words are no lawful command.
     Words(WordsRefusal),
+    /// This input has more bytes than are read of it.
+    TooLong(Role),
+    /// The netlist has no circuit.
+    Netlist(NetlistRefusal),
     /// This input has a form that is not built yet.
     NotBuilt(Role),
 }

@@ -9,12 +9,16 @@ pub enum Status {
     Done = 0,
     /// The words were refused.
     Words = 2,
+    /// The netlist has no circuit.
+    Netlist = 3,
     /// A file could not be read.
     ReadFault = 5,
     /// A file or out could not be written.
     WriteFault = 6,
     /// Memory ran out.
     NoMemory = 7,
+    /// An input has more bytes than are read of it.
+    Size = 8,
     /// An input has a form that is not built yet.
     NotBuilt = 9,
 }

@@ -4,6 +4,7 @@ ghost use Rattle.pd_io.specs.Seen.{sink_seen};
 ghost use Rattle.call_endings.specs.Lines.{line_of, pieces_text, refusal_line, refusal_status, role_word, status_of};
 ghost use Rattle.call_endings.specs.Reports.{IsReported, LineEnds};
 
+use crate::netlist_telling::write_netlist_refusal;
 use crate::{Ending, Refusal, Role, Status};
 use call_words::WordsRefusal;
 use itoa::Buffer;
@@ -42,6 +43,8 @@ fn refused_status(refusal: &Refusal) -> Status
 {
     match refusal {
         Refusal::Words(_) => Status::Words,
+        Refusal::TooLong(_) => Status::Size,
+        Refusal::Netlist(_) => Status::Netlist,
         Refusal::NotBuilt(_) => Status::NotBuilt,
     }
 }
@@ -68,6 +71,8 @@ fn write_refusal<E: Sink>(refusal: &Refusal, err: &mut E) -> Result<(), FileFaul
 {
     match refusal {
         Refusal::Words(reason) => write_words_refusal(*reason, err),
+        Refusal::TooLong(role) => write_pieces(err, &[b"size: ", word(*role), b"\n"]),
+        Refusal::Netlist(reason) => write_netlist_refusal(reason, err),
         Refusal::NotBuilt(role) => write_pieces(err, &[b"not built: ", word(*role), b"\n"]),
     }
 }
@@ -117,7 +122,7 @@ fn word(role: Role) -> &'static [u8]
 
 // Writes one piece after another, up to the first that is not taken whole.
 #[tactic(auto, using(crate::proofs::Pieces::pieces_all))]
-fn write_pieces<E: Sink>(err: &mut E, pieces: &[&[u8]]) -> Result<(), FileFault>
+pub(crate) fn write_pieces<E: Sink>(err: &mut E, pieces: &[&[u8]]) -> Result<(), FileFault>
     ensures { LineEnds (pieces_text pieces.now) result
         (sink_seen E.Sink err.old) (sink_seen E.Sink err.new) }
 {

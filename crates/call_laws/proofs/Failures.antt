@@ -4,7 +4,7 @@ use Rattle.pd_io.specs.Counts.{Rose}
 use Rattle.pd_io.specs.Seen.{Outside, seen_of}
 use Rattle.call_endings.specs.declared.role.Role.{Role}
 use Rattle.call_endings.specs.declared.refusal.Refusal.{Refusal}
-use Rattle.call_endings.specs.declared.refusal.Refusal.TheVariants.{Words, NotBuilt}
+use Rattle.call_endings.specs.declared.refusal.Refusal.TheVariants.{Words, TooLong, Netlist, NotBuilt}
 use Rattle.call_endings.specs.declared.ending.Ending.{Ending}
 use Rattle.call_endings.specs.declared.ending.Ending.TheVariants.{Done, Refused, ReadFault, WriteFault, OutFault, NoMemory}
 use Rattle.call_endings.specs.declared.status.Status.{Status}
@@ -35,11 +35,15 @@ status_is ending status old new (reports.no_memory other is part) = of_memory is
 -- no refusal has the status of a failed read
 refusal_is_no_read : (refusal : Refusal) → refusal_status refusal ≡ exit.ReadFault → ⊥
 refusal_is_no_read (Words reason) same = cc
+refusal_is_no_read (TooLong role) same = cc
+refusal_is_no_read (Netlist reason) same = cc
 refusal_is_no_read (NotBuilt role) same = cc
 
 -- and none that of a failed write
 refusal_is_no_write : (refusal : Refusal) → refusal_status refusal ≡ exit.WriteFault → ⊥
 refusal_is_no_write (Words reason) same = cc
+refusal_is_no_write (TooLong role) same = cc
+refusal_is_no_write (Netlist reason) same = cc
 refusal_is_no_write (NotBuilt role) same = cc
 
 -- status 5: a read of the file of this role failed, nothing was written, and out is as it was

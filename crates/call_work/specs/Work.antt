@@ -3,18 +3,24 @@
 use Rattle.std.specs.Prelude.{ℕ, List, [], ◌∷◌}
 use Rattle.call_endings.specs.declared.role.Role.{Role}
 use Rattle.call_endings.specs.declared.refusal.Refusal.{Refusal}
-use Rattle.call_endings.specs.declared.refusal.Refusal.TheVariants.{Words, NotBuilt}
+use Rattle.call_endings.specs.declared.refusal.Refusal.TheVariants.{Words, TooLong, Netlist, NotBuilt}
 
 -- what is required of the words, or of the inputs that were read so far
 pub data Requirement : Type 0 where
   -- the words ask for a command
   Wording : Requirement
+  -- the input of this role has no more bytes than the limit
+  WithinLimit : Role → Requirement
+  -- the netlist has a circuit
+  SpellsCircuit : Requirement
   -- the input of this role has the form that is built today
   BuiltForm : Role → Requirement
 
 -- the requirement that a refusal speaks of
 abbrev pub requirement_of : Refusal → Requirement
 requirement_of (Words reason) = Wording
+requirement_of (TooLong role) = WithinLimit role
+requirement_of (Netlist reason) = SpellsCircuit
 requirement_of (NotBuilt role) = BuiltForm role
 
 -- a stage of a command before it writes

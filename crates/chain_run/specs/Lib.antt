@@ -1,1 +1,2 @@
 pub mod ChainRun
+pub mod UnitDelays

@@ -1,11 +1,10 @@
 // The run of a chain: its one path, and a robust test for each transition. A chain has no side pins, so that any pair of
 // vectors that launches the transition is one.
 ghost use Rattle.std.specs.Prelude.{◌≡◌, ℕ, ◌≤◌, [], ◌∷◌, IfOk};
-ghost use Rattle.netlist.specs.Circuit.{gate_count};
 ghost use Rattle.netlist.specs.Conditions.{final_bit};
 ghost use Rattle.netlist.specs.Values.{gate_value, value};
-ghost use Rattle.chain_run.specs.ChainRun.{IsChainCircuit, chain_route};
-ghost use Rattle.chain_reader.specs.ChainText.{unit_delays};
+ghost use Rattle.chain_run.specs.ChainRun.{IsChainCircuit, IsChainOrder, last_line, route_through};
+ghost use Rattle.chain_run.specs.UnitDelays.{unit_delays};
 ghost use Rattle.refutation_check.specs.RobustRun.{IsRobustRun, IsRobustTest};
 
 use netlist::{GateKind, Netlist};
@@ -20,16 +19,17 @@ pub fn chain_run(alloc: Global, net: &Netlist) -> Result<Run, OutOfMemory>
     ensures { IfOk result (λ run. (count : ℕ) → 1 ≤ count
         → IsRobustRun net.now unit_delays count run) }
 {
+    let gates = net.order();
     let mut paths = Vec::new(alloc);
     paths.push(ListedPath {
-        path: chain_path(alloc, net)?,
-        length: u64::from(net.gates()),
+        path: chain_path(alloc, gates)?,
+        length: gates.len() as u64,
         rise: Verdict::Robust { test: 1 },
         fall: Verdict::Robust { test: 2 },
     })?;
     let mut tests = Vec::new(alloc);
-    tests.push(chain_test(alloc, net, Direction::Rise)?)?;
-    tests.push(chain_test(alloc, net, Direction::Fall)?)?;
+    tests.push(chain_test(alloc, net, gates, Direction::Rise)?)?;
+    tests.push(chain_test(alloc, net, gates, Direction::Fall)?)?;
     Ok(Run {
         paths: Items::new(paths),
         tests: Items::new(tests),
@@ -37,28 +37,33 @@ pub fn chain_run(alloc: Global, net: &Netlist) -> Result<Run, OutOfMemory>
     })
 }
 
-// The path through every gate.
-fn chain_path(alloc: Global, net: &Netlist) -> Result<Path, OutOfMemory>
-    ensures { IfOk result (λ path. path ≡ chain_route (gate_count net.now)) }
+// The path through these gates.
+fn chain_path(alloc: Global, gates: &[GateId]) -> Result<Path, OutOfMemory>
+    ensures { IfOk result (λ path. path ≡ route_through gates.now) }
 {
     let mut steps = Vec::new(alloc);
-    for gate in 0..net.gates() {
+    for gate in gates {
         steps.push(PinRef {
-            gate: GateId(gate),
+            gate: *gate,
             pin: 0,
         })?;
     }
     Path::new(alloc, LineId(0), steps.as_slice())
 }
 
-// The robust test of the path for a transition.
-fn chain_test(alloc: Global, net: &Netlist, dir: Direction) -> Result<Test, OutOfMemory>
-    requires { IsChainCircuit net.now }
-    ensures { IfOk result (λ test.
-        IsRobustTest net.now 1 (chain_route (gate_count net.now)) dir test) }
+// The robust test of the path through all gates for a transition.
+fn chain_test(
+    alloc: Global,
+    net: &Netlist,
+    gates: &[GateId],
+    dir: Direction,
+) -> Result<Test, OutOfMemory>
+    requires chain { IsChainCircuit net.now }
+    requires order { IsChainOrder net.now gates.now }
+    ensures { IfOk result (λ test. IsRobustTest net.now 1 (route_through gates.now) dir test) }
 {
     let second = bit_after(dir);
-    let expected = last_value(net, second);
+    let expected = last_value(net, gates, second);
     Ok(Test {
         path: 1,
         dir,
@@ -82,13 +87,14 @@ fn bit_after(dir: Direction) -> bool
 }
 
 // The value of the last line, where the source has this bit.
-fn last_value(net: &Netlist, bit: bool) -> bool
-    requires { IsChainCircuit net.now }
-    ensures { result ≡ value net.now (bit ∷ []) (gate_count net.now) }
+fn last_value(net: &Netlist, gates: &[GateId], bit: bool) -> bool
+    requires chain { IsChainCircuit net.now }
+    requires order { IsChainOrder net.now gates.now }
+    ensures { result ≡ value net.now (bit ∷ []) (last_line net.now 0 gates.now) }
 {
     let mut value = bit;
-    for gate in 0..net.gates() {
-        value = value_behind(net.kind(GateId(gate)), value);
+    for gate in gates {
+        value = value_behind(net.kind(*gate), value);
     }
     value
 }

@@ -1,27 +1,31 @@
--- What was found of an input that was read, or was over the limit (this project's own).
-use Rattle.std.specs.Prelude.{◌≡◌, ℕ, List, Option, None, Some, Vec}
-use Rattle.std.specs.declared.alloc.Global.{Global}
-use Rattle.netlist.specs.Circuit.{Circuit}
-use Rattle.chain_reader.specs.ChainText.{IsNet, unit_delays_text}
-use Rattle.call_endings.specs.declared.role.Role.TheVariants.{Net, Delays}
-use Rattle.call_endings.specs.declared.refusal.Refusal.TheVariants.{NotBuilt}
+-- What was found of an input (this project's own).
+use Rattle.std.specs.Prelude.{◌≡◌, ℕ, List, None}
+use Rattle.pd_io.specs.Seen.{FilesSeen}
+use Rattle.call_endings.specs.declared.netlist_refusal.NetlistRefusal.{NetlistRefusal}
+use Rattle.call_endings.specs.declared.role.Role.{Role}
+use Rattle.call_endings.specs.declared.refusal.Refusal.TheVariants.{TooLong, Netlist, NotBuilt}
 use Rattle.call_endings.specs.declared.ending.Ending.{Ending}
 use Rattle.call_endings.specs.declared.ending.Ending.TheVariants.{Refused, NoMemory}
+use Rattle.call_work.specs.Inputs.{FailsToRead, ReadsInput}
+use Rattle.gen_call.specs.declared.judging.TheConstants.{INPUT_LIMIT}
+use Rattle.gen_call.specs.Reasons.{HasNoCircuitFor}
 
--- the input was read whole, and has this property
-abbrev pub WasRead : Option (Vec ℕ Global) → (List ℕ → Type 0) → Type 0
-WasRead None P = ⊥
-WasRead (Some read) P = P read.items
+-- an input was not read whole
+pub data FailsWithin (role : Role) (name : List ℕ) (ending : Ending) (old new : FilesSeen) : Type 0 where
+  unread : FailsToRead role name ending old new → FailsWithin role name ending old new
+  -- it has more bytes than the limit
+  too_long : ending ≡ Refused (TooLong role) → ReadsInput INPUT_LIMIT name None old new
+      → FailsWithin role name ending old new
 
 -- there is no netlist
-pub data FailsNet (net : Option (Vec ℕ Global)) (ending : Ending) : Type 0 where
-  -- the input was not read whole, or spells no chain
-  not_built : ending ≡ Refused (NotBuilt Net) → ((c : Circuit) → ¬ WasRead net (λ bytes. IsNet bytes c))
+pub data FailsNet (net : List ℕ) (ending : Ending) : Type 0 where
+  -- the text has no circuit
+  refused : (reason : NetlistRefusal) → ending ≡ Refused (Netlist reason) → HasNoCircuitFor net reason
       → FailsNet net ending
   -- memory ran out
   no_memory : ending ≡ NoMemory → FailsNet net ending
 
--- the delays were not read whole, or not every delay is one unit
-pub record IsUnbuiltDelays (delays : Option (Vec ℕ Global)) (ending : Ending) : Type 0 where
-  pub is_refusal : ending ≡ Refused (NotBuilt Delays)
-  pub other : ¬ WasRead delays (λ bytes. bytes ≡ unit_delays_text)
+-- the input of this role does not have the form that is built today
+pub record IsUnbuilt (role : Role) (why : Type 0) (ending : Ending) : Type 0 where
+  pub is_refusal : ending ≡ Refused (NotBuilt role)
+  pub because : why

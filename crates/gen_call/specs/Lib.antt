@@ -1,2 +1,3 @@
 pub mod Gen
 pub mod Judging
+pub mod Reasons

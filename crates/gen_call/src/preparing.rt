@@ -1,5 +1,5 @@
 // The stages of `gen` in their order, up to the texts that are to be written.
-ghost use Rattle.std.specs.Prelude.{◌≡◌, ◌≤◌, IfOk};
+ghost use Rattle.std.specs.Prelude.{◌≡◌, IfOk};
 ghost use Rattle.pd_io.specs.Seen.{files_seen};
 ghost use Rattle.call_words.specs.Commands.{gen_call_of};
 ghost use Rattle.call_words.specs.Words.{HasGenNumbers};
@@ -8,10 +8,10 @@ ghost use Rattle.call_work.specs.Texts.{dues_of, products_of};
 ghost use Rattle.chain_run.specs.ChainRun.{IsChainCircuit};
 ghost use Rattle.gen_call.specs.Gen.{GivesProductsOf, gen_files, gen_work};
 
-use crate::judging::{built_netlist, try_delays};
+use crate::judging::{netlist_of, read_within, try_delays, try_net};
 use call_endings::{Ending, Role};
 use call_words::GenCommand;
-use call_work::{DueFile, Texts, read_input};
+use call_work::{DueFile, Texts};
 use chain_run::chain_run;
 use netlist::Netlist;
 use pattern_writer::tests_text;
@@ -20,10 +20,8 @@ use pd_io::Files;
 use std::alloc::Global;
 use verdict_report::{proofs_text, report_text, summary_text};
 
-/// How many bytes an input may have. A longer one does not have the form that is built today.
-const INPUT_LIMIT: usize = 4096;
-
-/// Reads NET and DELAYS, requires their forms, and makes the texts of the three files and of the summary on out. Nothing is written.
+/// Reads NET, which has to have a circuit, and DELAYS, requires the form that is built today of both, and makes the texts of the
+/// three files and of the summary on out. Nothing is written.
 pub fn prepare_gen<'a, F: Files>(
     alloc: Global,
     command: &GenCommand<'a>,
@@ -33,10 +31,11 @@ pub fn prepare_gen<'a, F: Files>(
     ensures { Prepares (gen_work (gen_call_of command.now)) result
         (files_seen F.Files files.old) (files_seen F.Files files.new) }
 {
-    let net = read_input(alloc, files, Role::Net, command.net, INPUT_LIMIT)?;
-    let delays = read_input(alloc, files, Role::Delays, command.delays, INPUT_LIMIT)?;
-    let netlist = built_netlist(alloc, &net)?;
-    try_delays(&delays)?;
+    let net = read_within(alloc, files, Role::Net, command.net)?;
+    let netlist = netlist_of(alloc, net.as_slice())?;
+    let delays = read_within(alloc, files, Role::Delays, command.delays)?;
+    try_net(&netlist)?;
+    try_delays(delays.as_slice())?;
     Ok(texts_of(alloc, command, &netlist)?)
 }
 

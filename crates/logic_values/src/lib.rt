@@ -1,6 +1,6 @@
 //! The values of all lines under a vector, and at which value each line is steady under a pair of vectors.
 //! Stands on pd_base and netlist.
-//! The layers above use the contracts of `evaluate` and `steady`.
+//! No command uses `evaluate` and `steady` yet.
 #![tactic(auto)]
 
 mod boolean;

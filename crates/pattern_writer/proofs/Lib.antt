@@ -1,1 +1,2 @@
 pub mod ObservedNames
+pub mod KnownTests

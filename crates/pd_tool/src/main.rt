@@ -1,12 +1,12 @@
-//! The program `pdfgen`: a path delay fault test generator whose answers are proved. Stands on pd_io and top_call.
+//! The program `pdfgen`: a path delay fault test generator whose answers are proved. Stands on system_files and top_call.
 //! All that is promised stands on `top_call::run`, which is called here over the real files and streams.
 #![tactic(auto)]
 
 use call_endings::{Ending, Status, tell};
-use pd_io::{StdFiles, StdSink};
 use std::alloc::Global;
 use std::process::ExitCode;
 use std::{env, io};
+use system_files::{StdFiles, StdSink};
 use top_call::run;
 
 fn main(rt: HostRuntime) -> ExitCode {

@@ -4,9 +4,9 @@ use Rattle.pattern_writer.specs.TestsText.{tests_text}
 use Rattle.pd_base.specs.declared.test.Test.{Test}
 use Rattle.refutation_check.specs.Lawful.{AreLawfulTests}
 use Rattle.refutation_check.proofs.LawfulRuns.{robust_is_lawful}
-use Rattle.chain_reader.specs.ChainText.{unit_delays}
+use Rattle.chain_run.specs.UnitDelays.{unit_delays}
 use Rattle.call_words.specs.Commands.{gen_call_of}
-use Rattle.gen_call.proofs.GenTexts.{chain_has_plain_names, products_of_run}
+use Rattle.gen_call.proofs.GenTexts.{has_plain_names, products_of_run}
 use Rattle.gen_call.proofs.preparing.texts_of.Goals as goal
 
 pub tests_text-requires : goal.tests_text-requires
@@ -23,7 +23,7 @@ report_text-requires-clause-lawful c =
     lawful.report
 
 pub report_text-requires-clause-names : goal.report_text-requires-clause-names
-report_text-requires-clause-names c = chain_has_plain_names c.args.net.now c.requires.chain
+report_text-requires-clause-names c = has_plain_names c.args.net.now c.requires.chain.circuit
 
 pub returns : goal.returns
 returns c = record {

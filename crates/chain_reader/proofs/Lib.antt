@@ -1,4 +1,0 @@
-pub mod ChainLength
-pub mod ChainLines
-pub mod ChainNames
-pub mod ChainReading

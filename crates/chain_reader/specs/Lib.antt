@@ -1,2 +1,0 @@
-pub mod ChainPieces
-pub mod ChainText
