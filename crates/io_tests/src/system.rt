@@ -1,10 +1,9 @@
 // The files of the system. A test has a working folder of its own, which is empty when it begins.
-use pd_io::{
-    FileFault, Files, ReadFault, StdFiles, StdSink, WriteFault, read_whole, write_all, write_whole,
-};
+use pd_io::{FileFault, Files, ReadFault, WriteFault, read_whole, write_all, write_whole};
 use std::fs;
 use std::os::fd::AsRawFd;
 use std::test::Fail;
+use system_files::{StdFiles, StdSink};
 
 /// A device that is full from the start.
 const FULL: &str = "/dev/full";

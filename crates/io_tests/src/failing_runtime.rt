@@ -1,10 +1,11 @@
 // A runtime with one file, of which a call fails: what a real file can't be made to do in a test.
-use pd_io::{ReadFault, StdFiles, WriteFault, read_whole, write_whole};
+use pd_io::{ReadFault, WriteFault, read_whole, write_whole};
 use std::alloc::Allocator;
 use std::fs::{Metadata, OpenFile, OpenOptions};
 use std::io::{Error, ErrorKind, Read, Seek, SeekFrom, Write};
 use std::test::Fail;
 use std::{io, rt};
+use system_files::StdFiles;
 
 /// Which call fails.
 #[derive(Clone, Copy, Debug)]

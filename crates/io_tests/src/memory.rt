@@ -1,9 +1,8 @@
 // The objects in memory: with ample memory their calls succeed, and exactly those fail that are planned to.
-use pd_io::{
-    FileCall, FileFault, MOST_AT_ONCE, MemoryFiles, MemorySink, ReadFault, StdSink, SteadyFiles,
-    SteadySink, WriteFault, read_whole, write_all, write_whole,
-};
+use memory_files::{FileCall, MOST_AT_ONCE, MemoryFiles, MemorySink, SteadyFiles, SteadySink};
+use pd_io::{FileFault, ReadFault, WriteFault, read_whole, write_all, write_whole};
 use std::test::Fail;
+use system_files::StdSink;
 
 #[test]
 fn files_up_to_the_limit_are_read(rt: HostRuntime) -> Result<(), Fail> {
@@ -43,30 +42,6 @@ fn written_files_hold_their_bytes(rt: HostRuntime) -> Result<(), Fail> {
         write_whole(&mut files, "b", text.as_slice())?;
         assert_eq!(rt; files.get("b"), Some(text.as_slice()), "{len}");
         assert_eq!(rt; files.get("a"), None);
-    }
-    Ok(())
-}
-
-#[test]
-fn a_planned_failure_of_reading_is_answered(rt: HostRuntime) -> Result<(), Fail> {
-    let rows = [
-        ("a", FileCall::BeginRead, 1, true),
-        ("a", FileCall::Read, 2, true),
-        ("a", FileCall::Read, 4, false),
-        ("absent", FileCall::Finish, 1, true),
-    ];
-    for (name, call, nth, fails) in rows {
-        let mut files = MemoryFiles::new(rt.alloc());
-        let text = vec![in rt.alloc(); 7u8; 5000]?;
-        files.put("a", text.as_slice())?;
-        files.fail(call, nth)?;
-        let result = read_whole(rt.alloc(), &mut files, name, 5000);
-        assert_eq!(rt;
-            matches!(result, Err(ReadFault::Failed)),
-            fails,
-            "{call:?} {nth}"
-        );
-        assert_eq!(rt; result.is_ok(), !fails, "{call:?} {nth}");
     }
     Ok(())
 }

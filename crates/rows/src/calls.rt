@@ -1,0 +1,112 @@
+// What stands between two calls: the files that a call finds, and what is to fail in the next one.
+use crate::Trouble;
+use crate::row::Object;
+use crate::texts::{exchanged, spelled_out};
+use memory_files::{MemoryFiles, MemorySink};
+use std::alloc::{AllocError, Global};
+use std::collections::BTreeMap;
+use top_call::run;
+
+// The names of which a call may change what they hold.
+const NAMES: [&str; 6] = ["net", "delays", "tests", "report", "proofs", "other"];
+
+/// Files by name, and failures of the next call.
+#[derive(Drop)]
+pub struct Table {
+    alloc: Global,
+    held: BTreeMap<String, String>,
+    failing: Vec<(Object, u64)>,
+}
+
+impl Table {
+    /// No files, and no failures.
+    pub fn new(alloc: Global) -> Table {
+        Table {
+            alloc,
+            held: BTreeMap::new(alloc),
+            failing: Vec::new(alloc),
+        }
+    }
+
+    /// Puts a text under a name.
+    pub fn put(&mut self, name: &str, text: &str) -> Result<(), AllocError> {
+        let text = spelled_out(self.alloc, text)?;
+        self.held.insert(String::from_str(self.alloc, name)?, text)?;
+        Ok(())
+    }
+
+    /// Makes a name absent.
+    pub fn remove(&mut self, name: &str) {
+        self.held.remove(name);
+    }
+
+    /// Plans a failure of the next call.
+    pub fn fail(&mut self, object: Object, nth: u64) -> Result<(), AllocError> {
+        self.failing.push((object, nth))?;
+        Ok(())
+    }
+
+    /// A call with these words: what came of it, line by line.
+    pub fn call(&mut self, words: &[&str]) -> Result<String, Trouble> {
+        let alloc = self.alloc;
+        let mut files = self.files()?;
+        let mut out = MemorySink::new(alloc);
+        let mut err = MemorySink::new(alloc);
+        for (object, nth) in self.failing.iter() {
+            match object {
+                Object::Files(call) => files.fail(*call, *nth)?,
+                Object::Out => out.fail(*nth)?,
+                Object::Err => err.fail(*nth)?,
+            }
+        }
+        self.failing.clear();
+        let status = run(alloc, words, &mut files, &mut out, &mut err);
+        let mut came = format!(in alloc; "  status {}\n", status.number())?;
+        add_taken(alloc, &mut came, "err", err.bytes())?;
+        add_taken(alloc, &mut came, "out", out.bytes())?;
+        self.add_changed(&mut came, &files)?;
+        Ok(came)
+    }
+
+    // Files that hold what a call finds.
+    fn files(&self) -> Result<MemoryFiles, Trouble> {
+        let mut files = MemoryFiles::new(self.alloc);
+        for (name, text) in self.held.iter() {
+            files.put(name.as_str(), text.as_bytes())?;
+        }
+        Ok(files)
+    }
+
+    // A line for each file that holds another text than before.
+    fn add_changed(&self, came: &mut String, files: &MemoryFiles) -> Result<(), Trouble> {
+        for name in NAMES {
+            let before = self.held.get(name).map(|text| text.as_bytes());
+            let after = files.get(name);
+            if after == before {
+                continue;
+            }
+            match after {
+                Some(bytes) => add(self.alloc, came, name, bytes)?,
+                None => add(self.alloc, came, name, b"absent")?,
+            }
+        }
+        Ok(())
+    }
+}
+
+// A line with what was taken, if it is anything.
+fn add_taken(alloc: Global, came: &mut String, name: &str, bytes: &[u8]) -> Result<(), Trouble> {
+    if bytes.is_empty() {
+        return Ok(());
+    }
+    add(alloc, came, name, bytes)
+}
+
+// A line with a name and a text.
+fn add(alloc: Global, came: &mut String, name: &str, bytes: &[u8]) -> Result<(), Trouble> {
+    let text = str::from_utf8(bytes).map_err(|_| Trouble::NoText)?;
+    let shown = exchanged(alloc, text, "\n", "\\n")?;
+    let line = format!(in alloc; "  {name} {shown}\n")?;
+    came.push_str(line.as_str())?;
+    Ok(())
+}

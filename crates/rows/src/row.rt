@@ -1,0 +1,93 @@
+// The rows: netlists and values of their lines; what stands in files, what is to fail, and calls.
+use crate::Trouble;
+use memory_files::FileCall;
+
+/// What fails: a call of the files, or a write on out or err.
+#[derive(Clone, Copy, Debug)]
+pub enum Object {
+    /// Such a call of the files.
+    Files(FileCall),
+    /// A write on out.
+    Out,
+    /// A write on err.
+    Err,
+}
+
+/// One row.
+#[derive(Clone, Copy, Debug)]
+pub enum Row<'a> {
+    /// A line for the reader: empty, or behind `#`.
+    Heading,
+    /// From now on each call finds this text under this name; `\n` stands for LF (texts.rt has all signs).
+    Put(&'a str, &'a str),
+    /// From now on the name is absent.
+    Remove(&'a str),
+    /// In the next call the call of this number fails.
+    Fail(Object, u64),
+    /// The canonical text of the netlist of this text, or that it is refused.
+    Text(&'a str),
+    /// The same, and what else is said of the netlist.
+    Net(&'a str),
+    /// The values of the lines of the last netlist under this vector.
+    Values(&'a str),
+    /// The steadiness of its lines under these vectors.
+    Steady(&'a str, &'a str),
+    /// Which of its lines stand in the transitive fan-in of the line of this number.
+    Support(u32),
+    /// A call without words.
+    BareCall,
+    /// A call with these words, single spaces between.
+    Call(&'a str),
+}
+
+impl<'a> Row<'a> {
+    /// The row of a line.
+    pub fn of(line: &'a str) -> Result<Row<'a>, Trouble> {
+        if line.is_empty() || line.starts_with('#') {
+            return Ok(Row::Heading);
+        }
+        if line == "call" {
+            return Ok(Row::BareCall);
+        }
+        let (key, rest) = line.split_once(' ').ok_or(Trouble::NoRow)?;
+        match key {
+            "put" => {
+                let (name, text) = rest.split_once(' ').ok_or(Trouble::NoRow)?;
+                Ok(Row::Put(name, text))
+            }
+            "text" => Ok(Row::Text(rest)),
+            "net" => Ok(Row::Net(rest)),
+            "values" => Ok(Row::Values(rest)),
+            "steady" => {
+                let (first, second) = rest.split_once(' ').ok_or(Trouble::NoRow)?;
+                Ok(Row::Steady(first, second))
+            }
+            "support" => Ok(Row::Support(number_of(rest)?)),
+            "remove" => Ok(Row::Remove(rest)),
+            "fail" => failure(rest),
+            "call" => Ok(Row::Call(rest)),
+            _ => Err(Trouble::NoRow),
+        }
+    }
+}
+
+// A failure: what fails, and the number of the call.
+fn failure(text: &str) -> Result<Row<'_>, Trouble> {
+    let (object, nth) = text.split_once(' ').ok_or(Trouble::NoRow)?;
+    let object = match object {
+        "begin_read" => Object::Files(FileCall::BeginRead),
+        "read" => Object::Files(FileCall::Read),
+        "begin_write" => Object::Files(FileCall::BeginWrite),
+        "write" => Object::Files(FileCall::Write),
+        "finish" => Object::Files(FileCall::Finish),
+        "out" => Object::Out,
+        "err" => Object::Err,
+        _ => return Err(Trouble::NoRow),
+    };
+    Ok(Row::Fail(object, u64::from(number_of(nth)?)))
+}
+
+// A number.
+fn number_of(text: &str) -> Result<u32, Trouble> {
+    text.parse::<u32>().map_err(|_| Trouble::NoRow)
+}

@@ -1,0 +1,41 @@
+// Why the rows can't be played to their end.
+use pd_base::OutOfMemory;
+use std::alloc::{AllocError, AllocFailed};
+use std::io;
+
+/// Why a row can't be played.
+#[derive(Debug, Drop)]
+pub enum Trouble {
+    /// The line is no row.
+    NoRow,
+    /// What a call wrote is no text.
+    NoText,
+    /// Memory ran out.
+    NoMemory,
+    /// A line could not be read or printed.
+    Io(io::Error),
+}
+
+impl From<OutOfMemory> for Trouble {
+    fn from(_: OutOfMemory) -> Trouble {
+        Trouble::NoMemory
+    }
+}
+
+impl From<AllocError> for Trouble {
+    fn from(_: AllocError) -> Trouble {
+        Trouble::NoMemory
+    }
+}
+
+impl<T: Drop> From<AllocFailed<T>> for Trouble {
+    fn from(_: AllocFailed<T>) -> Trouble {
+        Trouble::NoMemory
+    }
+}
+
+impl From<io::Error> for Trouble {
+    fn from(error: io::Error) -> Trouble {
+        Trouble::Io(error)
+    }
+}
