@@ -1,4 +1,4 @@
+mod NameParts
 mod RawStatements
-pub mod ReadStatements
 mod Results
-mod Spans
+pub mod ReadStatements

@@ -1,24 +1,18 @@
 // A list of names in one text: a netlist has many short names, and a vector for each would take more room than its bytes.
 ghost use Rattle.std.specs.Prelude.{◌≡◌, ◌+◌, ◌<◌, List, ℕ, [], ◌∷◌, ◌++◌, length, map, slice_index_or, OnOk, OnErr};
 ghost use Rattle.netlist.specs.NameTexts.{bytes_of};
-ghost use Rattle.raw_netlist.specs.NameLists.{Extends};
+ghost use Rattle.raw_netlist.specs.NameLists.{Extends, parts, Reach};
 
 use pd_base::{Items, OutOfMemory};
 use std::alloc::Global;
 use std::marker::Model;
 
-/// Where a name stands in the text: from `start` up to, not including, `end`.
-#[derive(Clone, Copy, Debug)]
-pub(crate) struct Span {
-    pub(crate) start: usize,
-    pub(crate) end: usize,
-}
-
-/// A list that names are only put behind. Contracts see it as the list of the names.
+/// A list that names are only put behind. Contracts see it as the list of the names. They stand in the text one after
+/// another, with nothing between, so the end of each is kept alone.
 #[derive(Debug, Drop)]
 pub(crate) struct NameList {
     text: Vec<u8>,
-    spans: Vec<Span>,
+    ends: Vec<usize>,
 }
 
 impl Model for NameList {
@@ -26,11 +20,11 @@ impl Model for NameList {
 
     ghost Value = { List (List ℕ) };
 
-    ghost use Rattle.raw_netlist.specs.NameLists.{names_in, AreSpans};
+    ghost use Rattle.raw_netlist.specs.NameLists.{names_in, AreEnds};
 
     ghost view = { names_in };
 
-    ghost invariant = { AreSpans };
+    ghost invariant = { AreEnds };
 }
 
 impl NameList {
@@ -40,7 +34,7 @@ impl NameList {
     {
         NameList {
             text: Vec::new(alloc),
-            spans: Vec::new(alloc),
+            ends: Vec::new(alloc),
         }
     }
 
@@ -48,7 +42,7 @@ impl NameList {
     pub(crate) fn len(&self) -> usize
         ensures { result ≡ length self.now }
     {
-        self.spans.len()
+        self.ends.len()
     }
 
     /// The name at a place.
@@ -56,8 +50,7 @@ impl NameList {
         requires { place < length self.now }
         ensures { result.now ≡ slice_index_or self.now place [] }
     {
-        let span = self.spans[place];
-        &self.text[span.start..span.end]
+        part_at(self.text.as_slice(), self.ends.as_slice(), place)
     }
 
     /// The name that stands so many places behind another place.
@@ -65,8 +58,7 @@ impl NameList {
         requires { place + count < length self.now }
         ensures { result.now ≡ slice_index_or self.now (place + count) [] }
     {
-        let span = self.spans[place + count];
-        &self.text[span.start..span.end]
+        part_at(self.text.as_slice(), self.ends.as_slice(), place + count)
     }
 
     /// Puts a name last. Where memory runs out the list is as before.
@@ -74,10 +66,9 @@ impl NameList {
         ensures pushed { OnOk result (self.new ≡ self.old ++ name.now ∷ []) }
         ensures kept { OnErr result (self.new ≡ self.old) }
     {
-        let start = self.text.len();
+        self.ends.reserve(1)?;
         self.text.extend_from_slice(name)?;
-        let end = self.text.len();
-        self.spans.push(Span { start, end })?;
+        self.ends.push(self.text.len()).unwrap();
         Ok(())
     }
 
@@ -102,4 +93,23 @@ impl NameList {
         }
         Ok(())
     }
+}
+
+#[tactic(auto, using(crate::proofs::NameParts::begins_before, crate::proofs::NameParts::ends_within,))]
+// The part of the text that ends at the end at this place, and begins where the one before it ended.
+fn part_at<'t>(text: &'t [u8], ends: &[usize], place: usize) -> &'t [u8]
+    requires place { place < length ends.now }
+    requires ends { Reach 0 ends.now (length text.now) }
+    ensures { result.now ≡ slice_index_or (parts text.now 0 ends.now) place [] }
+{
+    let start = start_of(ends, place);
+    &text[start..ends[place]]
+}
+
+// Where the part begins that ends at the end at this place: at the end before it.
+fn start_of(ends: &[usize], place: usize) -> usize
+    requires { place < length ends.now }
+    ensures { result ≡ slice_index_or (0 ∷ ends.now) place 0 }
+{
+    if place == 0 { 0 } else { ends[place - 1] }
 }

@@ -27,14 +27,17 @@ pub enum Form {
     Flop,
 }
 
-/// A statement as it is kept: its names are `count` names from `first` on.
+/// A statement as it is kept: its names are `count` names from `first` on, at most one more than a gate may have arguments.
 #[derive(Clone, Copy, Debug)]
 pub(crate) struct Placed {
     pub(crate) line: u32,
     pub(crate) form: Form,
+    pub(crate) count: u16,
     pub(crate) first: usize,
-    pub(crate) count: usize,
 }
+
+// A netlist has many statements: the order of the fields leaves no gap between them.
+const _: () = prove!(std::mem::size_of::<Placed>() == 16);
 
 /// A list of statements, each with the number of its line in the text. Contracts see it as that list.
 #[derive(Debug, Drop)]
@@ -107,7 +110,7 @@ impl RawNet {
         ensures few { result ≤ MOST_FAN_IN }
     {
         let placed = self.statements[place];
-        used_count(placed.form, placed.count)
+        used_count(placed.form, placed.count as usize)
     }
 
     /// A name that a statement uses, by its place from the left.
@@ -202,7 +205,7 @@ impl RawNet {
         self.names.push(name)?;
         self.names.push_all(arguments)?;
         let form = Form::Gate(kind);
-        let count = arguments.len() + 1;
+        let count = arguments.len() as u16 + 1;
         self.statements.push(Placed {
             line,
             form,
@@ -232,7 +235,7 @@ impl RawNet {
         self.names.push(name)?;
         self.names.push_items(arguments)?;
         let form = Form::Gate(kind);
-        let count = arguments.len() + 1;
+        let count = arguments.len() as u16 + 1;
         self.statements.push(Placed {
             line,
             form,

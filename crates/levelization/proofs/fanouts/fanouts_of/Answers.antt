@@ -18,7 +18,7 @@ add_readers-requires-clause-in_range c =
     let gates = pin_lists c.args.pins.now in
     let within : c.loop-gate.gate < length gates = omega (arith, c.loop-gate-test.true, pin_lists-length c.args.pins.now) in
     let own = part_at (λ (v : SmallVec LineId). v.items) c.args.pins.now c.loop-gate.gate c.index-pins-gate.result _ within
-    c.index-pins-gate.is c.as_slice.ensures in
+    c.index-pins-gate.is c.as_slice-in-loop-gate.ensures in
     let long : c.args.lines ≡ length c.as_mut_slice.result.now =
     omega (
       arith,
@@ -26,7 +26,7 @@ add_readers-requires-clause-in_range c =
       length-map c.loop-gate.fanouts.items (λ (v : Vec PinRef). v.items),
       c.loop-gate.invariant.long,
     ) in
-    subst (λ n. All (λ line. line.0 < n) c.as_slice.result.now) long
+    subst (λ n. All (λ line. line.0 < n) c.as_slice-in-loop-gate.result.now) long
     (subst (λ l. All (λ line. line.0 < c.args.lines) l) (sym own) (c.requires.reads c.loop-gate.gate [] within))
 
 pub add_readers-requires-clause-few : goal.add_readers-requires-clause-few
@@ -34,7 +34,7 @@ add_readers-requires-clause-few c =
     let gates = pin_lists c.args.pins.now in
     let within : c.loop-gate.gate < length gates = omega (arith, c.loop-gate-test.true, pin_lists-length c.args.pins.now) in
     let own = part_at (λ (v : SmallVec LineId). v.items) c.args.pins.now c.loop-gate.gate c.index-pins-gate.result _ within
-    c.index-pins-gate.is c.as_slice.ensures in
+    c.index-pins-gate.is c.as_slice-in-loop-gate.ensures in
     omega (arith, ap length own, get_or-le-sum_by length gates c.loop-gate.gate [] within, c.requires.few_pins)
 
 pub loop-gate-preserved : goal.loop-gate-preserved
@@ -43,7 +43,7 @@ loop-gate-preserved c =
     let i = c.loop-gate.gate in
     let within : i < length gates = omega (arith, c.loop-gate-test.true, pin_lists-length c.args.pins.now) in
     let own = part_at (λ (v : SmallVec LineId). v.items) c.args.pins.now i c.index-pins-gate.result _ within
-    c.index-pins-gate.is c.as_slice.ensures in
+    c.index-pins-gate.is c.as_slice-in-loop-gate.ensures in
     let now = c.add_readers.new.fanouts in
     let before = c.loop-gate.fanouts in
     let items : Vec PinRef → List PinRef = λ v. v.items in
@@ -58,10 +58,10 @@ loop-gate-preserved c =
       added =
           λ line low.
           ap (λ l. get_or (lists l) line []) kept
-          ∙ gate_added gates i (lists before.items) (lists now) c.as_slice.result.now line within own
+          ∙ gate_added gates i (lists before.items) (lists now) c.as_slice-in-loop-gate.result.now line within own
           (c.loop-gate.invariant.added line low)
           (c.in_ok-add_readers.ensures line (omega (arith, ap length value, long_before, c.loop-gate.invariant.long))
-          ∙ ap (λ l. get_or (lists l) line [] ++ own_readers i 0 c.as_slice.result.now line) value);
+          ∙ ap (λ l. get_or (lists l) line [] ++ own_readers i 0 c.as_slice-in-loop-gate.result.now line) value);
     }
 
 pub returns-clause-fanouts : goal.returns-clause-fanouts

@@ -1,18 +1,24 @@
-use Rattle.std.proofs.Common.{rules, ap, ◌∙◌, ◌++◌, [], ◌∷◌}
-use Rattle.raw_netlist.proofs.Results.{on_err}
-use Rattle.raw_netlist.proofs.Spans.{names_kept, names_pushed}
+-- The name stands last, and its end is that of the text.
+use Rattle.std.proofs.Common.{◌≡◌, rules, ap, sym, subst, ◌∙◌, ◌++◌, [], ◌∷◌, length, arith}
+use Rattle.std.proofs.lemmas.List.{length-append}
+use Rattle.raw_netlist.specs.NameLists.{Reach, parts}
+use Rattle.raw_netlist.proofs.NameParts.{parts_pushed, reach_pushed}
 use Rattle.raw_netlist.proofs.name_list.NameList.push.Goals as goal
 
--- where the place of the name can't be noted, the text has bytes that no name has
-pub returns-in_err-push-clause-kept : goal.returns-in_err-push-clause-kept
-returns-in_err-push-clause-kept c =
-    on_err _
-    (names_kept c.self.inside.spans.items c.args.name.now c.self.invariant c.in_ok-extend_from_slice.ensures.items c.in_err-push.ensures.items
-    ∙ c.self.view_is)
+pub invariant_of-self-2 : goal.invariant_of-self-2
+invariant_of-self-2 c =
+    let text = c.self.inside.text.items in
+    let longer : c.extend_from_slice.new.self.items ≡ text ++ c.args.name.now = search rules in
+    let put : c.push.new.self.items ≡ c.self.inside.ends.items ++ length c.extend_from_slice.new.self.items ∷ [] = search rules in
+    subst (λ ends. Reach 0 ends (length c.extend_from_slice.new.self.items)) (sym put)
+    (reach_pushed 0 c.self.inside.ends.items (length text) _ c.self.invariant
+    (omega (arith, ap length longer, length-append text c.args.name.now)))
 
--- else the name stands last
 pub returns-clause-pushed : goal.returns-clause-pushed
 returns-clause-pushed c =
-    names_pushed c.self.inside.spans.items c.args.name.now c.self.invariant c.in_ok-extend_from_slice.ensures.items _
-    c.in_ok-push.ensures.items (search rules) (search rules)
+    let text = c.self.inside.text.items in
+    let longer : c.extend_from_slice.new.self.items ≡ text ++ c.args.name.now = search rules in
+    let put : c.push.new.self.items ≡ c.self.inside.ends.items ++ length c.extend_from_slice.new.self.items ∷ [] = search rules in
+    (λ i. parts (longer i) 0 (put i))
+    ∙ parts_pushed text c.args.name.now 0 c.self.inside.ends.items _ c.self.invariant (ap length longer)
     ∙ ap (λ names. names ++ c.args.name.now ∷ []) c.self.view_is
