@@ -1,23 +1,20 @@
--- The names of the lines by number are the names that are defined, in another order, so they differ where those do.
-use Rattle.std.proofs.Common.{◌≡◌, ◌≢◌, inl, inr, ℕ, ◌+◌, ◌<◌, List, [], ◌∷◌, ◌++◌, length, map, take, drop, get_or, refl, sym, ap, subst, ◌∙◌, append_assoc, arith}
+-- The names of the lines by number are the names that are defined, in another order, so either differ where the others do.
+use Rattle.std.proofs.Common.{◌≡◌, ◌≢◌, inl, inr, ℕ, ◌<◌, List, [], ◌∷◌, ◌++◌, length, map, get_or, refl, sym, ap, subst, ◌∙◌, append_assoc, arith}
 use Rattle.std.specs.List.{AllPairs, Contains, flat_map, swap}
 use Rattle.std.specs.List.Sorted.{IsPermutation}
 use Rattle.std.specs.Global.{Vec}
 use Rattle.std.proofs.lemmas.Bool.{cases_lt}
-use Rattle.std.proofs.lemmas.List.{get_or_append_left, length-append, map-append}
+use Rattle.std.proofs.lemmas.List.{map-append}
 use Rattle.std.proofs.lemmas.List.Edits.{length-swap}
-use Rattle.std.proofs.lemmas.List.Sorted.{IsPermutation-append_comm, IsPermutation-append_left, IsPermutation-append_right, IsPermutation-keeps, IsPermutation-refl, IsPermutation-trans, Contains-permutation, length_permutation}
+use Rattle.std.proofs.lemmas.List.Sorted.{IsPermutation-append_comm, IsPermutation-append_left, IsPermutation-append_right, IsPermutation-keeps, IsPermutation-refl, IsPermutation-sym, IsPermutation-trans, Contains-permutation, length_permutation}
 use Rattle.indexmap.proofs.ReorderLemmas.{exchange, exchange-twice, exchange-within, get_or-swap}
 use Rattle.netlist.specs.declared.raw_net.RawStmt.{RawStmt}
 use Rattle.netlist.specs.declared.raw_net.RawStmt.TheVariants.{Input, Output, Gate, Flop}
 use Rattle.netlist.specs.Description.{AreDistinct, defined_names, flop_in, gate_in, names_by_line}
 use Rattle.netlist.specs.Statements.{Numbered, defined_by}
 use Rattle.netlist.specs.Stored.{lists}
-use Rattle.raw_netlist.specs.Reading.{no_statement, statement_at}
-use Rattle.net_builder.specs.declared.names.Group.{Group}
 use Rattle.net_builder.specs.declared.names.Group.TheVariants.{Inputs, Flops, Gates}
 use Rattle.net_builder.specs.Groups.{group_in, group_names}
-use Rattle.net_builder.proofs.Pieces.{flat_split}
 
 -- the elements of a list are all different
 abbrev pub Differ : {X : Type 0} → List X → Type 0
@@ -48,12 +45,6 @@ module _ {X : Type 0} where
   pub order_differ : (xs ys : List X) → IsPermutation xs ys → Differ xs → Differ ys
   order_differ xs ys other differ =
       IsPermutation-keeps xs Differ differ (λ l i j p q h. swap_differ l i j p q h) ys other
-
-  -- the first of them
-  pub front_differ : (xs ys : List X) → Differ (xs ++ ys) → Differ xs
-  front_differ xs ys differ i j d before within same =
-      differ i j d before (omega (arith, length-append xs ys))
-      (get_or_append_left xs ys d i (omega arith) ∙ same ∙ sym (get_or_append_left xs ys d j within))
 
 -- two lists of each element, together and one behind the other
 two_groups : {X A : Type 0} (f g : X → List A) (xs : List X)
@@ -129,49 +120,26 @@ module _ (statements : List Numbered) where
   pub is_line : (name : List ℕ) → Contains (defined_names statements) name → Contains (names_by_line statements) name
   is_line name = Contains-permutation (defined_names statements) (names_by_line statements) name reordered
 
-  module _ (distinct : AreDistinct statements) where
-    -- the names of the lines differ
-    pub lines_differ : Differ (names_by_line statements)
-    lines_differ = order_differ (defined_names statements) (names_by_line statements) reordered distinct
+  -- and that of a line is defined
+  pub is_defined : (name : List ℕ) → Contains (names_by_line statements) name → Contains (defined_names statements) name
+  is_defined name =
+      Contains-permutation (names_by_line statements) (defined_names statements) name
+      (IsPermutation-sym (defined_names statements) (names_by_line statements) reordered)
 
-    pub groups_differ : Differ ((first ++ second) ++ third)
-    groups_differ = subst Differ (sym by_groups) lines_differ
+  -- where each is defined once, the names of the lines differ
+  pub lines_differ : AreDistinct statements → Differ (names_by_line statements)
+  lines_differ = order_differ (defined_names statements) (names_by_line statements) reordered
 
-    module _ (none : List (Vec ℕ)) (empty : none ≡ []) where
-      -- so each group can be put behind those before it
-      pub first_differ : Differ (lists none ++ first)
-      first_differ =
-          subst (λ (l : List (Vec ℕ)). Differ (lists l ++ first)) (sym empty)
-          (front_differ first second (front_differ (first ++ second) third groups_differ))
+  -- and where these differ, each is defined once
+  pub lines_distinct : Differ (names_by_line statements) → AreDistinct statements
+  lines_distinct =
+      order_differ (names_by_line statements) (defined_names statements)
+      (IsPermutation-sym (defined_names statements) (names_by_line statements) reordered)
 
-      module _ (one : List (Vec ℕ)) (is_one : lists one ≡ lists none ++ first) where
-        firsts : lists one ≡ first
-        firsts = is_one ∙ ap (λ (l : List (Vec ℕ)). lists l ++ first) empty
-
-        pub second_differ : Differ (lists one ++ second)
-        second_differ =
-            subst (λ l. Differ (l ++ second)) (sym firsts) (front_differ (first ++ second) third groups_differ)
-
-        module _ (two : List (Vec ℕ)) (is_two : lists two ≡ lists one ++ second) where
-          seconds : lists two ≡ first ++ second
-          seconds = is_two ∙ ap (λ l. l ++ second) firsts
-
-          pub third_differ : Differ (lists two ++ third)
-          third_differ = subst (λ l. Differ (l ++ third)) (sym seconds) groups_differ
-
-          pub all_lines : (three : List (Vec ℕ)) → lists three ≡ lists two ++ third → lists three ≡ names_by_line statements
-          all_lines three is_three = is_three ∙ ap (λ l. l ++ third) seconds ∙ by_groups
-
--- the names of a group up to a statement, and its own, differ where all do
-pub member_differs : (group : Group) (statements : List Numbered) (place : ℕ) → place < length statements
-    → (before now : List (List ℕ)) → Differ (before ++ group_names group statements)
-    → now ≡ before ++ group_names group (take place statements)
-    → Differ (now ++ group_in group (statement_at statements place))
-member_differs group statements place within before now differ is =
-    let a = group_names group (take place statements) in
-    let b = group_in group (statement_at statements place) in
-    let c = group_names group (drop (place + 1) statements) in
-    let split : before ++ group_names group statements ≡ ((before ++ a) ++ b) ++ c =
-    ap (λ l. before ++ l) (flat_split (λ s. group_in group s.statement) statements place no_statement within)
-    ∙ sym (append_assoc before a (b ++ c)) ∙ sym (append_assoc (before ++ a) b c) in
-    subst (λ l. Differ (l ++ b)) (sym is) (front_differ ((before ++ a) ++ b) c (subst Differ split differ))
+  module _ (none one two three : List (Vec ℕ)) (empty : none ≡ []) (is_one : lists one ≡ lists none ++ first)
+      (is_two : lists two ≡ lists one ++ second) (is_three : lists three ≡ lists two ++ third) where
+    -- the groups put one behind another are all lines
+    pub all_lines : lists three ≡ names_by_line statements
+    all_lines =
+        is_three ∙ ap (λ l. l ++ third) (is_two ∙ ap (λ l. l ++ second)
+        (is_one ∙ ap (λ (l : List (Vec ℕ)). lists l ++ first) empty)) ∙ by_groups

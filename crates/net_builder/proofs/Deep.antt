@@ -4,7 +4,7 @@ use Rattle.std.proofs.lemmas.Bool.{cases_lt}
 use Rattle.std.proofs.lemmas.List.{length-map}
 use Rattle.netlist.specs.declared.limits.TheConstants.{MOST_LINES}
 use Rattle.netlist.specs.Circuit.{Circuit, gate_count, gate_line, line_count, source_count}
-use Rattle.netlist.specs.Description.{AreNamed, Mention, described, gate_mentions, gate_on, gates, names_by_line}
+use Rattle.netlist.specs.Description.{AreNamed, Mention, described, gate_mentions, gate_on, gates, names_by_line, IsWithinLimits}
 use Rattle.netlist.specs.Greatest.{greatest}
 use Rattle.netlist.specs.Lawful.{IsLoopFree}
 use Rattle.netlist.specs.Levels.{level, line_levels}
@@ -22,8 +22,8 @@ pub gates_mentioned : (st : List Numbered) → length (gate_mentions st) ≡ gat
 gates_mentioned st = count_of_mentions st ∙ sym (length-map (gates st) (gate_on (names_by_line st)))
 
 -- a circuit within the limits has few lines
-pub few_lines : (st : List Numbered) → AreNamed st → line_count (described st) ≤ MOST_LINES
-few_lines st named = omega (arith, defined_lines st, named.limits.few_lines)
+pub few_lines : (st : List Numbered) → IsWithinLimits st → line_count (described st) ≤ MOST_LINES
+few_lines st limits = omega (arith, defined_lines st, limits.few_lines)
 
 -- the first looped gate
 pub refuses_loop : (st : List Numbered) → AreNamed st → (gate : ℕ) → IsFirstLooped (described st) gate → (mention : Mention)

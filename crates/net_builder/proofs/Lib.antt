@@ -8,5 +8,6 @@ pub mod Exclusive
 mod GatePlaces
 mod GreatestMore
 mod Inserting
+pub mod KnownUses
 mod Naming
 mod Pieces

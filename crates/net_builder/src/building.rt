@@ -11,10 +11,9 @@ ghost use Rattle.netlist.specs.Stored.{IsStored, lists, small_lists};
 ghost use Rattle.net_builder.specs.Refusals.{MayRefuse};
 
 use crate::BuildFault;
-use crate::defined::check_names;
+use crate::defined::{check_uses, distinct_names};
 use crate::limits::{check_limits, count_pins};
 use crate::measures::{greatest_of, longest_of};
-use crate::names::names_of_lines;
 use crate::once::{observed_of, once};
 use crate::parts::{flops_of, kinds_of, named_outputs, pins_of};
 use crate::wires::{Wires, wires_of};
@@ -33,9 +32,9 @@ pub fn build(alloc: Global, raw: &RawNet) -> Result<Netlist, BuildFault>
     ensures refused { IfErr result (MayRefuse raw.now) }
 {
     check_limits(raw)?;
-    check_names(alloc, raw)?;
-    let names = names_of_lines(alloc, raw)?;
+    let names = distinct_names(alloc, raw)?;
     let pins = pins_of(alloc, raw, &names)?;
+    check_uses(alloc, raw, &names, pins.as_slice())?;
     let sources = (names.len() - pins.len()) as u32;
     let wires = wires_of(alloc, raw, sources, pins.as_slice())?;
     let layout = layout_of(alloc, raw, sources, names, pins, wires)?;

@@ -1,28 +1,38 @@
 // The names that are defined: the first that is defined twice, and the first that is used with no definition.
-ghost use Rattle.std.specs.Prelude.{◌≡◌, ◌≢◌, ◌+◌, ◌<◌, length, take, All, AllPairs, Contains, IfOk, IfErr, OnOk};
-ghost use Rattle.netlist.specs.Description.{AreDefined, AreDistinct, IsWithinLimits, defined_names, used_names};
+ghost use Rattle.std.specs.Prelude.{◌≡◌, ◌≢◌, ◌+◌, ◌<◌, length, map, take, All, AllPairs, Contains, IfOk, IfErr, OnOk};
+ghost use Rattle.netlist.specs.Description.{AreDefined, AreDistinct, IsWithinLimits, defined_names, gates, line_named, names_by_line, used_names};
 ghost use Rattle.netlist.specs.Statements.{used_by};
-ghost use Rattle.netlist.specs.Stored.{lists};
+ghost use Rattle.netlist.specs.Stored.{lists, small_lists};
 ghost use Rattle.raw_netlist.specs.Reading.{statement_at};
 ghost use Rattle.net_builder.specs.Refusals.{MayRefuse};
 
 use crate::BuildFault;
-use crate::name_set::{has_name, push_name};
+use crate::known::{are_lines, others_defined};
+use crate::name_set::{NameFault, has_name, push_name};
+use crate::names::names_of_lines;
 use crate::reading::defined;
 use indexmap::IndexSet;
-use pd_base::{Items, OutOfMemory};
+use pd_base::{Items, LineId, OutOfMemory};
 use raw_netlist::RawNet;
+use smallvec::SmallVec;
 use std::alloc::Global;
 
-/// Refuses statements that define a name twice or, else, use one that none defines.
-pub(crate) fn check_names(alloc: Global, raw: &RawNet) -> Result<(), BuildFault>
+/// The names of all lines, by line, or the first that is defined twice.
+pub(crate) fn distinct_names(alloc: Global, raw: &RawNet) -> Result<IndexSet<Vec<u8>>, BuildFault>
     requires { IsWithinLimits raw.now }
+    ensures names { IfOk result (λ names. lists names.keys ≡ names_by_line raw.now) }
     ensures distinct { IfOk result (λ _. AreDistinct raw.now) }
-    ensures defined { IfOk result (λ _. AreDefined raw.now) }
     ensures refused { IfErr result (MayRefuse raw.now) }
 {
-    let names = all_defined(alloc, raw)?;
-    check_uses(alloc, raw, &names)
+    match names_of_lines(alloc, raw) {
+        Ok(names) => Ok(names),
+        Err(NameFault::NoMemory) => Err(BuildFault::NoMemory),
+        Err(NameFault::Repeated) => {
+            // The first in the order of the statements; it is found, since there is one.
+            all_defined(alloc, raw)?;
+            Err(BuildFault::NoMemory)
+        }
+    }
 }
 
 // The names that are defined, in order, each once.
@@ -64,11 +74,33 @@ fn add_defined(
     Ok(())
 }
 
-// Looks for the first use of a name that is none of these, which are the names that are defined.
-fn check_uses(alloc: Global, raw: &RawNet, names: &IndexSet<Vec<u8>>) -> Result<(), BuildFault>
+/// Refuses statements that use a name which is none of these, the names of the lines. The pins are those of the gates, and
+/// the number past the last line stands for a name that no line bears. So the arguments of gates, of which there are many,
+/// are looked up again only where there is such a pin.
+pub(crate) fn check_uses(
+    alloc: Global,
+    raw: &RawNet,
+    names: &IndexSet<Vec<u8>>,
+    pins: &[SmallVec<LineId, 4>],
+) -> Result<(), BuildFault>
     requires limits { IsWithinLimits raw.now }
     requires distinct { AreDistinct raw.now }
-    requires names { lists names.now.keys ≡ defined_names raw.now }
+    requires names { lists names.now.keys ≡ names_by_line raw.now }
+    requires pins { small_lists pins.now ≡ map (λ gate. map (line_named (lists names.now.keys)) gate.arguments) (gates raw.now) }
+    ensures defined { IfOk result (λ _. AreDefined raw.now) }
+    ensures refused { IfErr result (MayRefuse raw.now) }
+{
+    if are_lines(pins, names.len() as u32) && others_defined(raw, names) {
+        return Ok(());
+    }
+    first_undefined(alloc, raw, names)
+}
+
+// Looks for the first use of a name that is none of these, which are the names of the lines.
+fn first_undefined(alloc: Global, raw: &RawNet, names: &IndexSet<Vec<u8>>) -> Result<(), BuildFault>
+    requires limits { IsWithinLimits raw.now }
+    requires distinct { AreDistinct raw.now }
+    requires names { lists names.now.keys ≡ names_by_line raw.now }
     ensures defined { IfOk result (λ _. AreDefined raw.now) }
     ensures refused { IfErr result (MayRefuse raw.now) }
 {
@@ -88,7 +120,7 @@ fn check_used(
     requires within { place < length raw.now }
     requires limits { IsWithinLimits raw.now }
     requires distinct { AreDistinct raw.now }
-    requires names { lists names.now.keys ≡ defined_names raw.now }
+    requires names { lists names.now.keys ≡ names_by_line raw.now }
     requires before { All (Contains (defined_names raw.now)) (used_names (take place raw.now)) }
     ensures defined { IfOk result (λ _. All (Contains (defined_names raw.now)) (used_by (statement_at raw.now place))) }
     ensures refused { IfErr result (MayRefuse raw.now) }

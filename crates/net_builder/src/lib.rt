@@ -6,6 +6,7 @@
 mod building;
 mod defined;
 mod fault;
+mod known;
 mod limits;
 mod measures;
 mod name_set;

@@ -6,7 +6,28 @@ ghost use Rattle.netlist.specs.Stored.{lists};
 
 use indexmap::IndexSet;
 use pd_base::{LineId, OutOfMemory};
-use std::alloc::Global;
+use std::alloc::{AllocError, AllocFailed, Global};
+
+/// Why names are not a set.
+#[derive(Drop)]
+pub(crate) enum NameFault {
+    /// A name came before.
+    Repeated,
+    /// Memory ran out.
+    NoMemory,
+}
+
+impl From<AllocError> for NameFault {
+    fn from(_: AllocError) -> NameFault {
+        NameFault::NoMemory
+    }
+}
+
+impl<T: Drop> From<AllocFailed<T>> for NameFault {
+    fn from(_: AllocFailed<T>) -> NameFault {
+        NameFault::NoMemory
+    }
+}
 
 /// Whether the set has a name.
 pub(crate) fn has_name(names: &IndexSet<Vec<u8>>, name: &[u8]) -> bool
@@ -27,6 +48,21 @@ pub(crate) fn line_of(names: &IndexSet<Vec<u8>>, name: &[u8]) -> LineId
         Some(line) => LineId(line as u32),
         None => LineId(names.len() as u32),
     }
+}
+
+/// Puts a name last, if the set has it not.
+pub(crate) fn add_name(
+    alloc: Global,
+    names: &mut IndexSet<Vec<u8>>,
+    name: &[u8],
+) -> Result<(), NameFault>
+    ensures fresh { OnOk result (¬ Contains (lists names.old.keys) name.now) }
+    ensures names { OnOk result (lists names.new.keys ≡ lists names.old.keys ++ name.now ∷ []) }
+{
+    if names.insert(Vec::from_slice(alloc, name)?)? {
+        return Ok(());
+    }
+    Err(NameFault::Repeated)
 }
 
 /// Puts a name last that the set has not.

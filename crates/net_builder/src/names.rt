@@ -5,10 +5,9 @@ ghost use Rattle.netlist.specs.Stored.{lists};
 ghost use Rattle.raw_netlist.specs.Reading.{statement_at};
 ghost use Rattle.net_builder.specs.Groups.{group_in, group_names};
 
-use crate::name_set::push_name;
+use crate::name_set::{NameFault, add_name};
 use crate::reading::{flop, gate, input};
 use indexmap::IndexSet;
-use pd_base::OutOfMemory;
 use raw_netlist::RawNet;
 use std::alloc::Global;
 
@@ -20,12 +19,12 @@ pub(crate) enum Group {
     Gates,
 }
 
-/// The names of all lines, by line.
-pub(crate) fn names_of_lines(alloc: Global, raw: &RawNet) -> Result<IndexSet<Vec<u8>>, OutOfMemory>
-    requires { AreDistinct raw.now }
-    ensures { IfOk result (λ names. lists names.keys ≡ names_by_line raw.now) }
+/// The names of all lines, by line, where no two are one.
+pub(crate) fn names_of_lines(alloc: Global, raw: &RawNet) -> Result<IndexSet<Vec<u8>>, NameFault>
+    ensures names { IfOk result (λ names. lists names.keys ≡ names_by_line raw.now) }
+    ensures distinct { IfOk result (λ _. AreDistinct raw.now) }
 {
-    let mut names = IndexSet::new(alloc);
+    let mut names = IndexSet::with_capacity(alloc, raw.len())?;
     add_group(alloc, raw, Group::Inputs, &mut names)?;
     add_group(alloc, raw, Group::Flops, &mut names)?;
     add_group(alloc, raw, Group::Gates, &mut names)?;
@@ -38,9 +37,10 @@ fn add_group(
     raw: &RawNet,
     group: Group,
     names: &mut IndexSet<Vec<u8>>,
-) -> Result<(), OutOfMemory>
-    requires { AllPairs (λ a b. a ≢ b) (lists names.old.keys ++ group_names group raw.now) }
-    ensures { OnOk result (lists names.new.keys ≡ lists names.old.keys ++ group_names group raw.now) }
+) -> Result<(), NameFault>
+    requires { AllPairs (λ a b. a ≢ b) (lists names.old.keys) }
+    ensures names { OnOk result (lists names.new.keys ≡ lists names.old.keys ++ group_names group raw.now) }
+    ensures distinct { OnOk result (AllPairs (λ a b. a ≢ b) (lists names.new.keys)) }
 {
     for place in 0..raw.len() {
         add_member(alloc, raw, place, group, names)?;
@@ -55,15 +55,17 @@ fn add_member(
     place: usize,
     group: Group,
     names: &mut IndexSet<Vec<u8>>,
-) -> Result<(), OutOfMemory>
+) -> Result<(), NameFault>
     requires within { place < length raw.now }
-    requires distinct { AllPairs (λ a b. a ≢ b) (lists names.old.keys ++ group_in group (statement_at raw.now place)) }
-    ensures { OnOk result (lists names.new.keys ≡ lists names.old.keys ++ group_in group (statement_at raw.now place)) }
+    requires distinct { AllPairs (λ a b. a ≢ b) (lists names.old.keys) }
+    ensures names { OnOk result (lists names.new.keys ≡ lists names.old.keys ++ group_in group (statement_at raw.now place)) }
+    ensures distinct { OnOk result (AllPairs (λ a b. a ≢ b) (lists names.new.keys)) }
 {
     let Some(name) = member(raw, place, group) else {
         return Ok(());
     };
-    push_name(alloc, names, name)
+    add_name(alloc, names, name)?;
+    Ok(())
 }
 
 // The name that a statement defines, if it is of the group.

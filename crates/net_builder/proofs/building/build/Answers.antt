@@ -1,7 +1,7 @@
 -- What is left after all checks is the circuit that the statements describe.
 use Rattle.std.proofs.Common.{◌≡◌, ◌≤◌, length, map, sym, ap, subst, ◌∙◌, arith}
 use Rattle.netlist.specs.declared.limits.TheConstants.{MOST_LEVELS}
-use Rattle.netlist.specs.Description.{AreNamed, described, gates, line_named}
+use Rattle.netlist.specs.Description.{described, gates, line_named}
 use Rattle.netlist.specs.Lawful.{IsLoopFree}
 use Rattle.netlist.specs.Levels.{greatest_level}
 use Rattle.net_builder.proofs.Assembly.{gates_counted, keys_counted, stored_itself, stored_view}
@@ -11,49 +11,39 @@ use Rattle.net_builder.proofs.building.build.Goals as goal
 pub pins_of-requires : goal.pins_of-requires
 pins_of-requires c =
     let st = c.args.raw.now in
-    let named : AreNamed st = record {
-      limits = c.in_ok-check_limits.ensures.within;
-      distinct = c.in_ok-check_names.ensures.distinct;
-      defined = c.in_ok-check_names.ensures.defined;
-    } in
-    omega (arith, keys_counted st c.in_ok-names.names.keys c.in_ok-names.ensures, few_lines st named)
+    omega (arith, keys_counted st c.in_ok-names.names.keys c.in_ok-names.ensures.names, few_lines st c.in_ok-check_limits.ensures.within)
 
 pub overflow_sub-sources : goal.overflow_sub-sources
 overflow_sub-sources c =
     let st = c.args.raw.now in
     let lines : c.len.result ≡ length c.in_ok-names.names.keys = c.len.ensures.len in
-    let pins = c.in_ok-pins.ensures ∙ ap (λ names. map (λ gate. map (line_named names) gate.arguments) (gates st)) c.in_ok-names.ensures in
+    let pins = c.in_ok-pins.ensures ∙ ap (λ names. map (λ gate. map (line_named names) gate.arguments) (gates st)) c.in_ok-names.ensures.names in
     omega (
       arith,
       lines,
       c.len-2.ensures,
       c.in_ok-pins.pins.ok.0,
-      keys_counted st c.in_ok-names.names.keys c.in_ok-names.ensures,
+      keys_counted st c.in_ok-names.names.keys c.in_ok-names.ensures.names,
       gates_counted st c.in_ok-pins.pins.items pins,
     )
 
 pub overflow_cast-sources : goal.overflow_cast-sources
 overflow_cast-sources c =
     let st = c.args.raw.now in
-    let named : AreNamed st = record {
-      limits = c.in_ok-check_limits.ensures.within;
-      distinct = c.in_ok-check_names.ensures.distinct;
-      defined = c.in_ok-check_names.ensures.defined;
-    } in
     let lines : c.len.result ≡ length c.in_ok-names.names.keys = c.len.ensures.len in
-    omega (arith, lines, keys_counted st c.in_ok-names.names.keys c.in_ok-names.ensures, few_lines st named)
+    omega (arith, lines, keys_counted st c.in_ok-names.names.keys c.in_ok-names.ensures.names, few_lines st c.in_ok-check_limits.ensures.within)
 
 pub wires_of-requires-clause-sources : goal.wires_of-requires-clause-sources
 wires_of-requires-clause-sources c =
     let st = c.args.raw.now in
     let lines : c.len.result ≡ length c.in_ok-names.names.keys = c.len.ensures.len in
-    let pins = c.in_ok-pins.ensures ∙ ap (λ names. map (λ gate. map (line_named names) gate.arguments) (gates st)) c.in_ok-names.ensures in
+    let pins = c.in_ok-pins.ensures ∙ ap (λ names. map (λ gate. map (line_named names) gate.arguments) (gates st)) c.in_ok-names.ensures.names in
     omega (
       arith,
       lines,
       c.len-2.ensures,
       c.in_ok-pins.pins.ok.0,
-      keys_counted st c.in_ok-names.names.keys c.in_ok-names.ensures,
+      keys_counted st c.in_ok-names.names.keys c.in_ok-names.ensures.names,
       gates_counted st c.in_ok-pins.pins.items pins,
     )
 
@@ -61,13 +51,13 @@ pub layout_of-requires-clause-sources : goal.layout_of-requires-clause-sources
 layout_of-requires-clause-sources c =
     let st = c.args.raw.now in
     let lines : c.len.result ≡ length c.in_ok-names.names.keys = c.len.ensures.len in
-    let pins = c.in_ok-pins.ensures ∙ ap (λ names. map (λ gate. map (line_named names) gate.arguments) (gates st)) c.in_ok-names.ensures in
+    let pins = c.in_ok-pins.ensures ∙ ap (λ names. map (λ gate. map (line_named names) gate.arguments) (gates st)) c.in_ok-names.ensures.names in
     omega (
       arith,
       lines,
       c.len-2.ensures,
       c.in_ok-pins.pins.ok.0,
-      keys_counted st c.in_ok-names.names.keys c.in_ok-names.ensures,
+      keys_counted st c.in_ok-names.names.keys c.in_ok-names.ensures.names,
       gates_counted st c.in_ok-pins.pins.items pins,
     )
 
@@ -81,8 +71,8 @@ returns-clause-circuit c =
     record {
       named = record {
         limits = c.in_ok-check_limits.ensures.within;
-        distinct = c.in_ok-check_names.ensures.distinct;
-        defined = c.in_ok-check_names.ensures.defined;
+        distinct = c.in_ok-names.ensures.distinct;
+        defined = c.in_ok-check_uses.ensures.defined;
       };
       is = same;
       loop_free = subst IsLoopFree (sym same) c.in_ok-wires.ensures.loop_free;

@@ -17,12 +17,12 @@ pub overflow_cast-lines : goal.overflow_cast-lines
 overflow_cast-lines c =
     let st = c.args.raw.now in
     let counted : c.len-lines.result ≡ length c.args.names.keys = c.len-lines.ensures.len in
-    omega (arith, counted, keys_counted st c.args.names.keys c.requires.names, few_lines st c.requires.named)
+    omega (arith, counted, keys_counted st c.args.names.keys c.requires.names, few_lines st c.requires.named.limits)
 
 pub named_outputs-requires : goal.named_outputs-requires
 named_outputs-requires c =
     let st = c.args.raw.now in
-    omega (arith, keys_counted st c.args.names.keys c.requires.names, few_lines st c.requires.named)
+    omega (arith, keys_counted st c.args.names.keys c.requires.names, few_lines st c.requires.named.limits)
 
 pub once-requires : goal.once-requires
 once-requires c =
@@ -36,7 +36,7 @@ once-requires c =
 pub flops_of-requires : goal.flops_of-requires
 flops_of-requires c =
     let st = c.args.raw.now in
-    omega (arith, keys_counted st c.args.names.keys c.requires.names, few_lines st c.requires.named)
+    omega (arith, keys_counted st c.args.names.keys c.requires.names, few_lines st c.requires.named.limits)
 
 pub observed_of-requires-clause-outputs : goal.observed_of-requires-clause-outputs
 observed_of-requires-clause-outputs c =
@@ -63,7 +63,7 @@ pub order_of-requires : goal.order_of-requires
 order_of-requires c =
     let st = c.args.raw.now in
     let levels = c.as_slice-4.ensures.value ∙ c.requires.levels in
-    omega (arith, levels_counted st c.as_slice-4.result.now levels, few_lines st c.requires.named)
+    omega (arith, levels_counted st c.as_slice-4.result.now levels, few_lines st c.requires.named.limits)
 
 pub longest_of-longest_name-requires : goal.longest_of-longest_name-requires
 longest_of-longest_name-requires c =

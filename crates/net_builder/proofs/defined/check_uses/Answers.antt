@@ -1,18 +1,31 @@
--- The uses of one statement more are checked, and in the end those of all.
-use Rattle.std.proofs.Common.{ap, subst, arith}
+-- Where all pins read lines and the other uses are among the names, each use is defined.
+use Rattle.std.proofs.Common.{◌≡◌, ◌<◌, ℕ, List, refl, arith, length, sym, subst, ◌∙◌}
 use Rattle.std.specs.List.{All, Contains}
-use Rattle.std.proofs.lemmas.List.{take_all}
-use Rattle.netlist.specs.Description.{defined_names, used_names}
-use Rattle.net_builder.proofs.Defining.{all_used_more}
+use Rattle.std.proofs.lemmas.List.Elements.{All-weaker}
+use Rattle.pd_base.specs.declared.ids.LineId.{LineId}
+use Rattle.netlist.specs.Description.{defined_names, gates, used_names}
+use Rattle.netlist.specs.Stored.{lists, small_lists}
+use Rattle.netlist.proofs.StoredLists.{lists-length}
+use Rattle.net_builder.proofs.Assembly.{keys_counted}
+use Rattle.net_builder.proofs.ByLine.{is_defined}
+use Rattle.net_builder.proofs.Deep.{few_lines}
+use Rattle.net_builder.proofs.KnownUses.{all_used, arguments_have_lines}
 use Rattle.net_builder.proofs.defined.check_uses.Goals as goal
 
-pub loop-place-preserved : goal.loop-place-preserved
-loop-place-preserved c =
-    let raw = c.args.raw.now in
-    all_used_more raw c.loop-place.place (omega arith) (Contains (defined_names raw)) c.loop-place.invariant
-    c.in_ok-check_used.ensures.defined
+pub overflow_cast-len : goal.overflow_cast-len
+overflow_cast-len c =
+    let st = c.args.raw.now in
+    omega (arith, c.len.ensures.len, keys_counted st c.args.names.now.keys c.requires.names, few_lines st c.requires.limits)
 
-pub returns-clause-defined : goal.returns-clause-defined
-returns-clause-defined c =
-    let raw = c.args.raw.now in
-    subst (All (Contains (defined_names raw))) (ap used_names (take_all c.loop-place.place raw (omega arith))) c.loop-place.invariant
+pub returns-then-others_defined-clause-defined : goal.returns-then-others_defined-clause-defined
+returns-then-others_defined-clause-defined c =
+    let st = c.args.raw.now in
+    let names = lists c.args.names.now.keys in
+    let many : c.len.result ≡ length names = c.len.ensures.len ∙ sym (lists-length c.args.names.now.keys) in
+    let below = c.if-are_lines.ensures refl in
+    let read = subst (λ (n : ℕ). All (λ (gate : List LineId). All (λ (line : LineId). line.0 < n) gate) (small_lists c.args.pins.now)) many below in
+    let arguments = arguments_have_lines names (gates st)
+    (subst (All (λ (gate : List LineId). All (λ (line : LineId). line.0 < length names) gate)) c.requires.pins read) in
+    All-weaker (Contains names) (Contains (defined_names st))
+    (λ name has. is_defined st name (subst (λ (all : List (List ℕ)). Contains all name) c.requires.names has)) (used_names st)
+    (all_used (Contains names) st arguments (c.if-others_defined.ensures refl))

@@ -1,20 +1,17 @@
--- Each group goes behind those before it, and together they are all lines.
-use Rattle.net_builder.proofs.ByLine.{first_differ, second_differ, third_differ, all_lines}
+-- The groups one behind another are all lines.
+use Rattle.std.proofs.Common.{subst}
+use Rattle.net_builder.proofs.ByLine.{Differ, all_lines, lines_distinct}
 use Rattle.net_builder.proofs.names.names_of_lines.Goals as goal
 
-pub add_group-requires : goal.add_group-requires
-add_group-requires c = first_differ c.args.raw.now c.requires _ c.new-names.ensures.empty
+pub returns-clause-names : goal.returns-clause-names
+returns-clause-names c =
+    all_lines c.args.raw.now _ c.add_group.new.names.keys c.add_group-2.new.names.keys c.add_group-3.new.names.keys
+    c.in_ok-names.ensures.empty c.in_ok-add_group.ensures.names c.in_ok-add_group-2.ensures.names
+    c.in_ok-add_group-3.ensures.names
 
-pub add_group-requires-2 : goal.add_group-requires-2
-add_group-requires-2 c =
-    second_differ c.args.raw.now c.requires _ c.new-names.ensures.empty c.add_group.new.names.keys c.in_ok-add_group.ensures
-
-pub add_group-requires-3 : goal.add_group-requires-3
-add_group-requires-3 c =
-    third_differ c.args.raw.now c.requires _ c.new-names.ensures.empty c.add_group.new.names.keys c.in_ok-add_group.ensures
-    c.add_group-2.new.names.keys c.in_ok-add_group-2.ensures
-
-pub returns : goal.returns
-returns c =
-    all_lines c.args.raw.now c.requires _ c.new-names.ensures.empty c.add_group.new.names.keys c.in_ok-add_group.ensures
-    c.add_group-2.new.names.keys c.in_ok-add_group-2.ensures c.add_group-3.new.names.keys c.in_ok-add_group-3.ensures
+pub returns-clause-distinct : goal.returns-clause-distinct
+returns-clause-distinct c =
+    lines_distinct c.args.raw.now (subst Differ
+    (all_lines c.args.raw.now _ c.add_group.new.names.keys c.add_group-2.new.names.keys c.add_group-3.new.names.keys
+    c.in_ok-names.ensures.empty c.in_ok-add_group.ensures.names c.in_ok-add_group-2.ensures.names
+    c.in_ok-add_group-3.ensures.names) c.in_ok-add_group-3.ensures.distinct)

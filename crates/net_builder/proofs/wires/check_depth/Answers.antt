@@ -7,7 +7,7 @@ pub overflow_cast-deep : goal.overflow_cast-deep
 overflow_cast-deep c =
     let st = c.args.raw.now in
     let over = c.in-Some.ensures in
-    omega (arith, over.within, levels_counted st c.args.levels.now c.requires.levels, few_lines st c.requires.named)
+    omega (arith, over.within, levels_counted st c.args.levels.now c.requires.levels, few_lines st c.requires.named.limits)
 
 pub overflow_sub-deep : goal.overflow_sub-deep
 overflow_sub-deep c =

@@ -8,12 +8,12 @@ use Rattle.net_builder.proofs.wires.wires_of.Goals as goal
 pub overflow_cast-pins : goal.overflow_cast-pins
 overflow_cast-pins c =
     let st = c.args.raw.now in
-    omega (arith, wire_lines st c.args.pins.now c.requires.pins c.args.sources c.requires.sources, few_lines st c.requires.named)
+    omega (arith, wire_lines st c.args.pins.now c.requires.pins c.args.sources c.requires.sources, few_lines st c.requires.named.limits)
 
 pub overflow_add-sources : goal.overflow_add-sources
 overflow_add-sources c =
     let st = c.args.raw.now in
-    omega (arith, wire_lines st c.args.pins.now c.requires.pins c.args.sources c.requires.sources, few_lines st c.requires.named)
+    omega (arith, wire_lines st c.args.pins.now c.requires.pins c.args.sources c.requires.sources, few_lines st c.requires.named.limits)
 
 pub fanouts_of-requires : goal.fanouts_of-requires
 fanouts_of-requires c =
