@@ -1,7 +1,7 @@
 // What stands between two calls: the files that a call finds, and what is to fail in the next one.
 use crate::Trouble;
 use crate::row::Object;
-use crate::texts::{exchanged, spelled_out};
+use crate::texts::{shown, spelled_out};
 use memory_files::{MemoryFiles, MemorySink};
 use std::alloc::{AllocError, Global};
 use std::collections::BTreeMap;
@@ -52,6 +52,23 @@ impl Table {
         let mut files = self.files()?;
         let mut out = MemorySink::new(alloc);
         let mut err = MemorySink::new(alloc);
+        self.plan_failures(&mut files, &mut out, &mut err)?;
+        self.failing.clear();
+        let status = status_of(alloc, words, &mut files, &mut out, &mut err);
+        let mut came = format!(in alloc; "  status {status}\n")?;
+        add_taken(alloc, &mut came, "err", err.bytes())?;
+        add_taken(alloc, &mut came, "out", out.bytes())?;
+        self.add_changed(&mut came, &files)?;
+        Ok(came)
+    }
+
+    // Makes the calls fail that are to fail.
+    fn plan_failures(
+        &self,
+        files: &mut MemoryFiles,
+        out: &mut MemorySink,
+        err: &mut MemorySink,
+    ) -> Result<(), Trouble> {
         for (object, nth) in self.failing.iter() {
             match object {
                 Object::Files(call) => files.fail(*call, *nth)?,
@@ -59,13 +76,7 @@ impl Table {
                 Object::Err => err.fail(*nth)?,
             }
         }
-        self.failing.clear();
-        let status = run(alloc, words, &mut files, &mut out, &mut err);
-        let mut came = format!(in alloc; "  status {}\n", status.number())?;
-        add_taken(alloc, &mut came, "err", err.bytes())?;
-        add_taken(alloc, &mut came, "out", out.bytes())?;
-        self.add_changed(&mut came, &files)?;
-        Ok(came)
+        Ok(())
     }
 
     // Files that hold what a call finds.
@@ -105,8 +116,19 @@ fn add_taken(alloc: Global, came: &mut String, name: &str, bytes: &[u8]) -> Resu
 // A line with a name and a text.
 fn add(alloc: Global, came: &mut String, name: &str, bytes: &[u8]) -> Result<(), Trouble> {
     let text = str::from_utf8(bytes).map_err(|_| Trouble::NoText)?;
-    let shown = exchanged(alloc, text, "\n", "\\n")?;
+    let shown = shown(alloc, text)?;
     let line = format!(in alloc; "  {name} {shown}\n")?;
     came.push_str(line.as_str())?;
     Ok(())
+}
+
+// The status of a call. It promises nothing, so that what is printed is not proved over again under the contract of `run`.
+fn status_of(
+    alloc: Global,
+    words: &[&str],
+    files: &mut MemoryFiles,
+    out: &mut MemorySink,
+    err: &mut MemorySink,
+) -> u8 {
+    run(alloc, words, files, out, err).number()
 }

@@ -1,35 +1,47 @@
-// Signs of a row that stand for others.
+// Signs of a row that stand for bytes: `\n` for LF, and so on.
 use std::alloc::{AllocError, Global};
-
-// The signs of a row, and what they stand for.
-const SIGNS: [(&str, &str); 8] = [
-    ("\\n", "\n"),
-    ("\\r", "\r"),
-    ("\\t", "\t"),
-    ("\\f", "\u{c}"),
-    ("\\b", "\u{7}"),
-    ("\\v", "\u{b}"),
-    ("\\d", "\u{7f}"),
-    ("\\0", "\0"),
-];
 
 /// The text that a row spells, with each sign exchanged for what it stands for.
 pub fn spelled_out(alloc: Global, row: &str) -> Result<String, AllocError> {
-    let mut text = String::from_str(alloc, row)?;
-    for (sign, byte) in SIGNS {
-        text = exchanged(alloc, text.as_str(), sign, byte)?;
+    let mut text = String::new(alloc);
+    let mut in_sign = false;
+    for letter in row.chars() {
+        if in_sign {
+            text.push(meant(letter))?;
+            in_sign = false;
+        } else if letter == '\\' {
+            in_sign = true;
+        } else {
+            text.push(letter)?;
+        }
     }
     Ok(text)
 }
 
-/// The text with one sign in place of each other one.
-pub fn exchanged(alloc: Global, text: &str, old: &str, new: &str) -> Result<String, AllocError> {
-    let mut exchanged = String::new(alloc);
-    for (place, part) in text.split(old).enumerate() {
-        if place > 0 {
-            exchanged.push_str(new)?;
-        }
-        exchanged.push_str(part)?;
+// What a sign with this letter stands for.
+fn meant(letter: char) -> char {
+    match letter {
+        'n' => '\n',
+        'r' => '\r',
+        't' => '\t',
+        'f' => '\u{c}',
+        'b' => '\u{7}',
+        'v' => '\u{b}',
+        'd' => '\u{7f}',
+        '0' => '\0',
+        _ => letter,
     }
-    Ok(exchanged)
+}
+
+/// The text as a row shows it, in one line: LF by its sign.
+pub fn shown(alloc: Global, text: &str) -> Result<String, AllocError> {
+    let mut shown = String::new(alloc);
+    for letter in text.chars() {
+        if letter == '\n' {
+            shown.push_str("\\n")?;
+        } else {
+            shown.push(letter)?;
+        }
+    }
+    Ok(shown)
 }
