@@ -25,7 +25,7 @@ fn with_levels(alloc: Global, sources: u32, levels: &[u32]) -> Result<Vec<(u32, 
     requires { length levels.now ≤ MOST_LINES }
     ensures { IfOk result (λ ranked. ranked.items ≡ gates_with_levels sources levels.now) }
 {
-    let mut ranked = Vec::new(alloc);
+    let mut ranked = Vec::with_capacity(alloc, levels.len())?;
     for line in sources as usize..levels.len() {
         ranked.push((levels[line], line as u32 - sources))?;
     }
@@ -36,7 +36,7 @@ fn with_levels(alloc: Global, sources: u32, levels: &[u32]) -> Result<Vec<(u32, 
 fn without_levels(alloc: Global, ranked: &[(u32, u32)]) -> Result<Vec<GateId>, OutOfMemory>
     ensures { IfOk result (λ order. order.items ≡ gates_in ranked.now) }
 {
-    let mut order = Vec::new(alloc);
+    let mut order = Vec::with_capacity(alloc, ranked.len())?;
     for (_, gate) in ranked {
         order.push(GateId(*gate))?;
     }

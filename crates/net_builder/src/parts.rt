@@ -50,7 +50,7 @@ pub(crate) fn pins_of(
     ensures { IfOk result (λ pins. small_lists pins.items
         ≡ map (λ gate. map (line_named (lists names.now.keys)) gate.arguments) (gates raw.now)) }
 {
-    let mut pins = Vec::new(alloc);
+    let mut pins = Vec::with_capacity(alloc, raw.len())?;
     for place in 0..raw.len() {
         push_pins(alloc, raw, place, names, &mut pins)?;
     }

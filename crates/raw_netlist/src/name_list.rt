@@ -1,5 +1,5 @@
 // A list of names in one text: a netlist has many short names, and a vector for each would take more room than its bytes.
-ghost use Rattle.std.specs.Prelude.{◌≡◌, ◌+◌, ◌<◌, List, ℕ, [], ◌∷◌, ◌++◌, length, map, slice_index_or, OnOk, OnErr};
+ghost use Rattle.std.specs.Prelude.{◌≡◌, ◌+◌, ◌<◌, List, ℕ, [], ◌∷◌, ◌++◌, length, map, slice_index_or, IfSome, OnOk, OnErr};
 ghost use Rattle.netlist.specs.NameTexts.{bytes_of};
 ghost use Rattle.raw_netlist.specs.NameLists.{Extends, parts, Reach};
 
@@ -8,11 +8,11 @@ use std::alloc::Global;
 use std::marker::Model;
 
 /// A list that names are only put behind. Contracts see it as the list of the names. They stand in the text one after
-/// another, with nothing between, so the end of each is kept alone.
+/// another, with nothing between, so the end of each is kept alone. All of them have less than 2^32 bytes.
 #[derive(Debug, Drop)]
 pub(crate) struct NameList {
     text: Vec<u8>,
-    ends: Vec<usize>,
+    ends: Vec<u32>,
 }
 
 impl Model for NameList {
@@ -61,14 +61,17 @@ impl NameList {
         part_at(self.text.as_slice(), self.ends.as_slice(), place + count)
     }
 
-    /// Puts a name last. Where memory runs out the list is as before.
+    /// Puts a name last. Where memory runs out, or the text would have 2^32 bytes, the list is as before.
     pub(crate) fn push(&mut self, name: &[u8]) -> Result<(), OutOfMemory>
         ensures pushed { OnOk result (self.new ≡ self.old ++ name.now ∷ []) }
         ensures kept { OnErr result (self.new ≡ self.old) }
     {
+        let Some(end) = end_of(self.text.len(), name.len()) else {
+            return Err(OutOfMemory);
+        };
         self.ends.reserve(1)?;
         self.text.extend_from_slice(name)?;
-        self.ends.push(self.text.len()).unwrap();
+        self.ends.push(end).unwrap();
         Ok(())
     }
 
@@ -97,19 +100,30 @@ impl NameList {
 
 #[tactic(auto, using(crate::proofs::NameParts::begins_before, crate::proofs::NameParts::ends_within,))]
 // The part of the text that ends at the end at this place, and begins where the one before it ended.
-fn part_at<'t>(text: &'t [u8], ends: &[usize], place: usize) -> &'t [u8]
+fn part_at<'t>(text: &'t [u8], ends: &[u32], place: usize) -> &'t [u8]
     requires place { place < length ends.now }
     requires ends { Reach 0 ends.now (length text.now) }
     ensures { result.now ≡ slice_index_or (parts text.now 0 ends.now) place [] }
 {
     let start = start_of(ends, place);
-    &text[start..ends[place]]
+    &text[start..ends[place] as usize]
 }
 
 // Where the part begins that ends at the end at this place: at the end before it.
-fn start_of(ends: &[usize], place: usize) -> usize
+fn start_of(ends: &[u32], place: usize) -> usize
     requires { place < length ends.now }
     ensures { result ≡ slice_index_or (0 ∷ ends.now) place 0 }
 {
-    if place == 0 { 0 } else { ends[place - 1] }
+    if place == 0 {
+        0
+    } else {
+        ends[place - 1] as usize
+    }
+}
+
+// Where a name of this length ends behind a text of that length, if that is below 2^32.
+fn end_of(text: usize, name: usize) -> Option<u32>
+    ensures { IfSome result (λ end. end ≡ text + name) }
+{
+    u32::try_from(text.checked_add(name)?).ok()
 }
