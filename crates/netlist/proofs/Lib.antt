@@ -1,5 +1,5 @@
 pub mod CircuitLines
 pub mod Evaluation
 pub mod Looking
-mod RankOrder
+pub mod RankOrder
 pub mod StoredLists

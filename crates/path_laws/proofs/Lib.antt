@@ -8,5 +8,6 @@ pub mod PinPlaces
 pub mod Prefixes
 pub mod RelatedValues
 pub mod RobustPath
+pub mod StepCounts
 pub mod Steadiness
 mod ThreeValues

@@ -6,6 +6,7 @@ use Rattle.std.proofs.lemmas.List.Sums.{sum_by-append, sum_by-cons}
 use Rattle.pd_base.specs.declared.ids.LineId.{LineId}
 use Rattle.pd_base.specs.declared.ids.PinRef.{PinRef}
 use Rattle.pd_base.specs.declared.fault.Direction.{Direction}
+use Rattle.pd_base.specs.declared.fault.Kind.{Kind}
 use Rattle.pd_base.specs.declared.fault.Kind.TheVariants.{Robust, Nonrobust}
 use Rattle.pd_base.specs.Pair.{Vectors}
 use Rattle.pd_base.specs.Route.{Route}
@@ -61,6 +62,12 @@ robust_is_nonrobust c path direction pair meets = record {
   launches = meets.launches;
   sides = nonrobust_sides c pair path.source.0 path.steps meets.sides;
 }
+
+-- so a test of either kind is a nonrobust one
+pub test_is_nonrobust : (kind : Kind) (c : Circuit) (path : Route) (direction : Direction) (pair : Vectors)
+    → Meets kind c path direction pair → Meets Nonrobust c path direction pair
+test_is_nonrobust Robust c path direction pair meets = robust_is_nonrobust c path direction pair meets
+test_is_nonrobust Nonrobust c path direction pair meets = meets
 
 -- a side that the table allows for a nonrobust test and that shows its final value is held
 settled_held : (kind : GateKind) (on_path shown final steady : Bool) → shown ≡ final

@@ -1,0 +1,2 @@
+pub mod Annotation
+pub mod Places

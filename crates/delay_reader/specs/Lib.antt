@@ -1,0 +1,4 @@
+pub mod DelayFile
+pub mod LastRows
+pub mod Settling
+pub mod Taking
