@@ -1,8 +1,9 @@
 // The steadiness of each line: one pass over the gates in rank order, each of which computes with Kleene's three values.
-ghost use Rattle.std.specs.Prelude.{◌≡◌, ◌≤◌, ◌<◌, ℕ, false, Some, not, map, length, is_some, unwrap_or, if◌then◌else◌, EachIndex};
+ghost use Rattle.std.specs.Prelude.{◌≡◌, ◌≤◌, ◌<◌, ℕ, ℤ, Bool, false, Some, not, map, length, is_some, unwrap_or, if◌then◌else◌, EachIndex};
 ghost use Rattle.std.specs.List.{list_all, list_any};
 ghost use Rattle.netlist.specs.Circuit.{source_count, line_count};
-ghost use Rattle.netlist.specs.Values.{parity};
+ghost use Rattle.netlist.specs.Values.{parity, value};
+ghost use Rattle.netlist.specs.Waves.{Delays, wave_of};
 ghost use Rattle.netlist.specs.Steadiness.{is_known_as, known_gate_value, known_parity, only_known, agreed_bit, steady_value};
 ghost use Rattle.logic_values.specs.Known.{known, known_at, HasPlaces};
 
@@ -11,11 +12,18 @@ use netlist::{GateKind, Netlist};
 use pd_base::{LineId, Pair};
 
 /// Fills in at which value each line is steady under a pair, if it is. The vectors have one bit per source in the order of the
-/// sources, and `out` has one place per line, by line number. Takes no memory.
+/// sources, and `out` has one place per line, by line number. A line that is steady has its value under both vectors, and its
+/// wave has it at every time, whatever the delays are. Of a line that is not, nothing follows. Takes no memory.
 pub fn steady(net: &Netlist, pair: &Pair, out: &mut [Steady])
     requires bits { length pair.now.first ≡ source_count net.now }
     requires places { length out.old ≡ line_count net.now }
-    ensures { EachIndex out.new (λ line. known_at out.new line ≡ steady_value net.now pair.now line) }
+    ensures exactly { EachIndex out.new (λ line. known_at out.new line ≡ steady_value net.now pair.now line) }
+    ensures steady_at_all_times { (line : ℕ) (bit : Bool) → line < length out.new → known_at out.new line ≡ Some bit
+        → (delays : Delays) (time : ℤ) → wave_of net.now pair.now delays line time ≡ bit }
+    ensures steady_under_first { (line : ℕ) (bit : Bool) → line < length out.new → known_at out.new line ≡ Some bit
+        → value net.now pair.now.first line ≡ bit }
+    ensures steady_under_second { (line : ℕ) (bit : Bool) → line < length out.new → known_at out.new line ≡ Some bit
+        → value net.now pair.now.second line ≡ bit }
 {
     set_sources(pair, out);
     for gate in net.order() {

@@ -1,6 +1,6 @@
 //! The values of all lines under a vector, and at which value each line is steady under a pair of vectors.
-//! Stands on pd_base and netlist.
-//! No command uses `evaluate` and `steady` yet.
+//! Stands on pd_base, netlist and path_laws.
+//! The layers above use `evaluate` and `steady`, which give each line's value as it is defined, without memory.
 #![tactic(auto)]
 
 mod boolean;

@@ -26,8 +26,8 @@ impl Steady {
         }
     }
 
-    // Whether the line is steady, at either value.
-    pub(crate) fn is_steady(self) -> bool
+    /// Whether the line is steady, at either value.
+    pub fn is_steady(self) -> bool
         ensures { result ≡ is_some (known self) }
     {
         match self {

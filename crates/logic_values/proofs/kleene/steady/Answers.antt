@@ -1,8 +1,10 @@
--- Each turn of the loop gives one gate more its steadiness, and after the last turn all lines have theirs.
-use Rattle.std.proofs.Common.{List, map, ap, ap₂, ◌∙◌, arith}
+-- Each turn of the loop gives one gate more its steadiness, and after the last turn all lines have theirs. What follows of
+-- their values and waves are the laws of steadiness.
+use Rattle.std.proofs.Common.{◌≡◌, ℕ, ◌<◌, Bool, List, length, map, Some, sym, ap, ap₂, ◌∙◌, arith}
 use Rattle.pd_base.specs.declared.ids.LineId.{LineId}
 use Rattle.netlist.specs.Circuit.{kind_at}
 use Rattle.netlist.specs.Steadiness.{agreed_bit, known_gate_value}
+use Rattle.path_laws.proofs.Steadiness.{steady_wave_of, steady_first, steady_second}
 use Rattle.logic_values.specs.Known.{known, known_at}
 use Rattle.logic_values.specs.declared.steadiness.Steady.TheVariants.{Zero}
 use Rattle.logic_values.proofs.RankPass.{all_read, one_set}
@@ -24,7 +26,19 @@ loop-gate-preserved c =
 pub returns : goal.returns
 returns c =
     let net = c.args.net.now in
+    let pair = c.args.pair.now in
+    let out = c.loop-gate.out in
     let order = c.order-gate-items in
-    λ line within. all_read net (agreed_bit c.args.pair.now) (λ gate values. known_gate_value (kind_at net gate) values)
-    order.result.now order.ensures.rank c.loop-gate.gate-index c.loop-gate-test.false (known_at c.loop-gate.out)
-    c.loop-gate.invariant line (omega arith)
+    let exactly = λ (line : ℕ) (within : line < length out).
+    all_read net (agreed_bit pair) (λ gate values. known_gate_value (kind_at net gate) values)
+    order.result.now order.ensures.rank c.loop-gate.gate-index c.loop-gate-test.false (known_at out)
+    c.loop-gate.invariant line (omega arith) in
+    let steady = λ (line : ℕ) (bit : Bool) (within : line < length out) (known : known_at out line ≡ Some bit).
+    sym (exactly line within) ∙ known in
+    record {
+      exactly = exactly;
+      steady_at_all_times = λ line bit within known delays time.
+          steady_wave_of net pair delays line bit (steady line bit within known) time;
+      steady_under_first = λ line bit within known. steady_first net pair line bit (steady line bit within known);
+      steady_under_second = λ line bit within known. steady_second net pair line bit (steady line bit within known);
+    }

@@ -1,0 +1,3 @@
+mod PathOrder
+mod PathSteps
+mod SidesJudged

@@ -1,0 +1,13 @@
+//! What is asked of one path: whether it is one, how long it is, which of two stands first, and whether a pair of vectors is a
+//! test for it. Stands on pd_base, netlist, path_laws, delay_annotation and logic_values.
+//! The layers above use `is_path`, `length`, `compare` and `meets`, each of which decides its definition without memory.
+#![tactic(auto)]
+
+mod connected;
+mod measured;
+mod side_conditions;
+mod test_conditions;
+
+pub use connected::is_path;
+pub use measured::{compare, length};
+pub use test_conditions::{Scratch, final_bit, meets};
