@@ -1,0 +1,7 @@
+use Rattle.std.proofs.Common.{◌≡◌, map, take}
+use Rattle.path_walks.specs.CircuitGraph.{route_of}
+use Rattle.path_lister.proofs.paths.paths_of.Given as goal
+
+-- the paths of the walks before this one are there
+abbrev pub invariant-loop-place : goal.invariant-loop-place
+invariant-loop-place l = l.paths.items ≡ map (route_of l.net l.pins) (take l.place l.listing)

@@ -1,0 +1,4 @@
+pub mod Ranking
+pub mod Rows
+pub mod Stops
+pub mod Graphs

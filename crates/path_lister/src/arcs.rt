@@ -1,0 +1,70 @@
+// Where each arc leads and what its delay is, and at which nodes a walk may stop.
+ghost use Rattle.std.specs.Prelude.{◌≡◌, ◌++◌, All, IfOk, length, map, replicate, take};
+ghost use Rattle.netlist.specs.Circuit.{gate_line, line_count, source_count};
+ghost use Rattle.delay_annotation.specs.Annotation.{delays_of, Fits};
+ghost use Rattle.delay_annotation.specs.Places.{IsPin};
+ghost use Rattle.path_walks.specs.CircuitGraph.{node_of};
+ghost use Rattle.path_lister.specs.Ranking.{AreNodesWithin};
+ghost use Rattle.path_lister.specs.Stops.{AreStops};
+
+use delay_annotation::Delays;
+use netlist::Netlist;
+use pd_base::{OutOfMemory, PinRef};
+use std::alloc::Global;
+
+// The node to which each arc leads: those of the sources, and then those of the lines of the pins' gates.
+pub(crate) fn arc_ends(
+    alloc: Global,
+    net: &Netlist,
+    nodes: &[u32],
+    pins: &[PinRef],
+) -> Result<Vec<u32>, OutOfMemory>
+    requires nodes { length nodes.now ≡ line_count net.now }
+    requires pins { All (IsPin net.now) pins.now }
+    ensures { IfOk result (λ ends. ends.items
+        ≡ take (source_count net.now) nodes.now ++ map (λ pin. node_of nodes.now (gate_line net.now pin.gate.0)) pins.now) }
+{
+    let sources = net.sources();
+    let mut ends = Vec::with_capacity(alloc, sources as usize + net.pin_total() as usize)?;
+    ends.extend_from_slice(&nodes[..sources as usize])?;
+    for pin in pins {
+        ends.push(nodes[(sources + pin.gate.0) as usize])?;
+    }
+    Ok(ends)
+}
+
+// The delay of each arc: none on the way to a source, and else that of the arc's pin.
+pub(crate) fn arc_delays(
+    alloc: Global,
+    net: &Netlist,
+    delays: &Delays,
+    pins: &[PinRef],
+) -> Result<Vec<u32>, OutOfMemory>
+    requires fits { Fits net.now delays.now }
+    requires pins { All (IsPin net.now) pins.now }
+    ensures { IfOk result (λ times. times.items ≡ replicate (source_count net.now) 0 ++ map (delays_of delays.now) pins.now) }
+{
+    let sources = net.sources() as usize;
+    let mut times = Vec::with_capacity(alloc, sources + net.pin_total() as usize)?;
+    times.resize(sources, 0)?;
+    for pin in pins {
+        times.push(delays.delay(net, *pin))?;
+    }
+    Ok(times)
+}
+
+// Whether a walk may stop, by node: at those of the observed lines.
+pub(crate) fn stops_of(
+    alloc: Global,
+    net: &Netlist,
+    nodes: &[u32],
+) -> Result<Vec<bool>, OutOfMemory>
+    requires { AreNodesWithin net.now nodes.now }
+    ensures { IfOk result (λ stops. AreStops net.now nodes.now stops.items) }
+{
+    let mut stops = vec![in alloc; false; net.lines() as usize + 1]?;
+    for line in net.observed() {
+        stops[nodes[line.0 as usize] as usize] = true;
+    }
+    Ok(stops)
+}

@@ -1,0 +1,44 @@
+// The graph of a circuit under a delay assignment. Node 0 leads to each source. The nodes behind it are the lines by level, so
+// that each arc leads to a greater node, and the arcs of a line's node are the pins of its fan-out.
+ghost use Rattle.std.specs.Prelude.{IfOk};
+ghost use Rattle.netlist.specs.Lawful.{IsCircuit};
+ghost use Rattle.delay_annotation.specs.Annotation.{delays_of, Fits};
+ghost use Rattle.path_lister.specs.Graphs.{IsGraphUnder};
+
+use crate::arcs::{arc_delays, arc_ends, stops_of};
+use crate::ranking::{nodes_of, ranked_lines};
+use crate::rows::rows_of;
+use delay_annotation::Delays;
+use netlist::Netlist;
+use pd_base::{OutOfMemory, PinRef};
+use std::alloc::Global;
+use timing_graph::TimingGraph;
+
+// The graph, and for each arc behind those of the sources its pin.
+#[derive(Debug, Drop)]
+pub(crate) struct CircuitGraph {
+    pub(crate) graph: TimingGraph,
+    pub(crate) pins: Vec<PinRef>,
+}
+
+// Builds the graph, in as many steps as there are lines and pins. `OutOfMemory` comes where a growth was refused.
+pub(crate) fn graph_of(
+    alloc: Global,
+    net: &Netlist,
+    delays: &Delays,
+) -> Result<CircuitGraph, OutOfMemory>
+    requires { Fits net.now delays.now }
+    ensures graph { IfOk result (λ own. IsGraphUnder net.now (delays_of delays.now) own.pins.items own.graph) }
+    ensures circuit { IsCircuit net.now }
+{
+    let lines = ranked_lines(alloc, net)?;
+    let nodes = nodes_of(alloc, net, lines.as_slice())?;
+    let rows = rows_of(alloc, net, lines.as_slice())?;
+    let ends = arc_ends(alloc, net, nodes.as_slice(), rows.pins.as_slice())?;
+    let times = arc_delays(alloc, net, delays, rows.pins.as_slice())?;
+    let stops = stops_of(alloc, net, nodes.as_slice())?;
+    Ok(CircuitGraph {
+        graph: TimingGraph::new(rows.firsts, ends, times, stops),
+        pins: rows.pins,
+    })
+}

@@ -1,0 +1,5 @@
+pub mod ArcPins
+pub mod WalkOrder
+pub mod FirstPaths
+pub mod ShortWalks
+pub mod WalkPaths

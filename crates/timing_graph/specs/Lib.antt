@@ -1,0 +1,3 @@
+pub use Rattle.walk_laws.specs.Graph
+pub use Rattle.walk_laws.specs.Walks
+pub use Rattle.walk_laws.specs.Order

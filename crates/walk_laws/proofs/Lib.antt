@@ -1,0 +1,14 @@
+pub mod Ordered
+pub mod Appending
+pub mod Arcs
+pub mod Heads
+pub mod Moving
+pub mod Taking
+pub mod Taken
+pub mod Choosing
+pub mod Stepping
+pub mod Growing
+pub mod LastEntry
+pub mod FirstTurns
+pub mod Unfolding
+pub mod FirstWalks
