@@ -1,0 +1,7 @@
+mod BackwardSteps
+mod ChangeTimes
+mod Counting
+mod EndValues
+mod PrefixLengths
+mod Replaying
+mod Sampling

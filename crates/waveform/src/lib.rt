@@ -1,0 +1,13 @@
+//! Waves of lines, kept as their changes: of a source, as a pin sees it, and of a gate out of its pins' lines.
+//! Stands on pd_base, netlist and delay_annotation.
+//! The layer above uses the contracts of `Wave`, `source_wave` and `gate_wave`.
+#![tactic(auto)]
+
+mod edges;
+mod gate;
+mod merge;
+mod tally;
+mod wave;
+
+pub use gate::{MOST_CHANGES, WaveFault, gate_wave};
+pub use wave::{LATEST_CHANGE, Wave, pin_copy, source_wave};
