@@ -1,0 +1,5 @@
+pub mod Changes
+pub mod Joins
+pub mod Limits
+pub mod Passes
+pub mod Sets

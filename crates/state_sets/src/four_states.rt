@@ -1,0 +1,115 @@
+// The four states of the project's definitions: steady or not, with the value under the second vector.
+ghost use Rattle.std.specs.Prelude.{◌≡◌, ◌<◌, ◌+◌, ◌*◌, length, slice_index_or, not, refl};
+ghost use Rattle.state_sets.specs.FourStates.{four_states, four_state, four_stays, four_last};
+ghost use Rattle.state_sets.specs.StateAlgebra.{joined_bit, unit_bit};
+ghost use Rattle.state_sets.specs.FourLaws.{four_laws};
+
+use crate::four_tables::{AND_SETS, OR_SETS, XOR_SETS};
+use crate::{Algebra, Op, State, StateSet};
+
+/// S0, S1, N0, N1 as states 0 to 3: S where the line is steady, N where not, and the digit is the value under the second vector.
+#[derive(Clone, Copy, Debug, PartialEq, Eq)]
+pub struct FourStates;
+
+impl Algebra for FourStates {
+    ghost COUNT = { 4 };
+
+    const COUNT: u32 = 4;
+
+    ghost algebra = { four_states };
+
+    fn join(op: Op, a: State, b: State) -> State {
+        state_of(stays_steady(op, a, b), join_bits(op, is_one(a), is_one(b)))
+    }
+
+    fn unit(op: Op) -> State {
+        match op {
+            Op::And => State(1),
+            Op::Or | Op::Xor => State(0),
+        }
+    }
+
+    fn invert(a: State) -> State {
+        state_of(a.0 < 2, !is_one(a))
+    }
+
+    fn last(a: State) -> bool {
+        is_one(a)
+    }
+
+    fn is_steady(a: State) -> bool {
+        a.0 < 2
+    }
+
+    fn source_states() -> StateSet {
+        StateSet(15)
+    }
+
+    fn link(a: State, c: State) -> bool {
+        c.0 >= 2 || is_one(a) == is_one(c)
+    }
+
+    fn join_sets(op: Op, a: StateSet, b: StateSet) -> StateSet {
+        match op {
+            Op::And => set_in(&AND_SETS, a, b),
+            Op::Or => set_in(&OR_SETS, a, b),
+            Op::Xor => set_in(&XOR_SETS, a, b),
+        }
+    }
+
+    ghost counts = { refl };
+
+    ghost laws = { four_laws };
+}
+
+// Whether the last value of a state is 1.
+fn is_one(a: State) -> bool
+    ensures { result ≡ four_last a }
+{
+    a.0 == 1 || a.0 == 3
+}
+
+// The state that is steady or not and has this last value.
+fn state_of(steady: bool, last: bool) -> State
+    ensures { result ≡ four_state steady last }
+{
+    match (steady, last) {
+        (true, false) => State(0),
+        (true, true) => State(1),
+        (false, false) => State(2),
+        (false, true) => State(3),
+    }
+}
+
+// What an operation makes of two bits.
+fn join_bits(op: Op, a: bool, b: bool) -> bool
+    ensures { result ≡ joined_bit op a b }
+{
+    match op {
+        Op::And => a && b,
+        Op::Or => a || b,
+        Op::Xor => a != b,
+    }
+}
+
+// Whether the join of two states is steady.
+fn stays_steady(op: Op, a: State, b: State) -> bool
+    ensures { result ≡ four_stays op a b }
+{
+    let both = a.0 < 2 && b.0 < 2;
+    match op {
+        Op::And => both || a.0 == 0 || b.0 == 0,
+        Op::Or => both || a.0 == 1 || b.0 == 1,
+        Op::Xor => both,
+    }
+}
+
+// The set that a table has for two sets.
+fn set_in(table: &[u8], a: StateSet, b: StateSet) -> StateSet
+    requires first { a.0 < 16 }
+    requires second { b.0 < 16 }
+    requires places { length table.now ≡ 256 }
+    ensures { result.0 ≡ slice_index_or table.now (a.0 * 16 + b.0) 0 }
+{
+    StateSet(table[(a.0 as usize) * 16 + b.0 as usize])
+}
