@@ -8,8 +8,10 @@ use Rattle.call_endings.specs.declared.role.Role.{Role}
 use Rattle.call_endings.specs.declared.role.Role.TheVariants.{Net, Delays, Tests, Report, Proofs}
 use Rattle.call_endings.specs.declared.netlist_refusal.NetlistRefusal.{NetlistRefusal}
 use Rattle.call_endings.specs.declared.netlist_refusal.NetlistRefusal.TheVariants.{BadByte, NameTooLong, Syntax, UnknownKind, FanIn, TooManyLines, TooManyPins, Twice, Undefined, Loop, TooDeep}
+use Rattle.call_endings.specs.declared.delays_refusal.DelaysRefusal.{DelaysRefusal}
+use Rattle.call_endings.specs.declared.delays_refusal.DelaysRefusal.TheVariants.{Header, Fields, UnknownGate, BadPin, BadNumber}
 use Rattle.call_endings.specs.declared.refusal.Refusal.{Refusal}
-use Rattle.call_endings.specs.declared.refusal.Refusal.TheVariants.{Words, TooLong, Netlist, NotBuilt}
+use Rattle.call_endings.specs.declared.refusal.Refusal.TheVariants.{Words, TooLong, Netlist, Delays as NoDelays, PathText, TestText, NotBuilt}
 use Rattle.call_endings.specs.declared.ending.Ending.{Ending}
 use Rattle.call_endings.specs.declared.ending.Ending.TheVariants.{Done, Refused, ReadFault, WriteFault, OutFault, NoMemory}
 use Rattle.call_endings.specs.declared.status.Status.{Status}
@@ -50,11 +52,26 @@ netlist_reason (Undefined place name) = at_place place (codes " undefined " ++ n
 netlist_reason (Loop place name) = at_place place (codes " loop " ++ name)
 netlist_reason (TooDeep place name) = at_place place (codes " too deep " ++ name)
 
+-- a row, and what is wrong there
+abbrev pub at_row : ℕ → List ℕ → List ℕ
+at_row row reason = codes "row " ++ decimal row ++ reason
+
+-- why the delay file was refused, as the line on err says it
+abbrev pub delays_reason : DelaysRefusal → List ℕ
+delays_reason Header = codes "header"
+delays_reason (Fields row) = at_row row (codes " fields")
+delays_reason (UnknownGate row) = at_row row (codes " unknown gate")
+delays_reason (BadPin row) = at_row row (codes " bad pin")
+delays_reason (BadNumber row) = at_row row (codes " bad number")
+
 -- the line on err for a refusal
 abbrev pub refusal_line : Refusal → List ℕ
 refusal_line (Words reason) = line (codes "words: " ++ words_reason reason)
 refusal_line (TooLong role) = line (codes "size: " ++ role_word role)
 refusal_line (Netlist reason) = line (codes "netlist: " ++ netlist_reason reason)
+refusal_line (NoDelays reason) = line (codes "delays: " ++ delays_reason reason)
+refusal_line (PathText product) = line (codes "size: path text " ++ decimal product)
+refusal_line (TestText product) = line (codes "size: test text " ++ decimal product)
 refusal_line (NotBuilt role) = line (codes "not built: " ++ role_word role)
 
 -- the line on err for an ending; `Done` has none
@@ -71,6 +88,9 @@ abbrev pub refusal_status : Refusal → Status
 refusal_status (Words reason) = exit.Words
 refusal_status (TooLong role) = exit.Size
 refusal_status (Netlist reason) = exit.Netlist
+refusal_status (NoDelays reason) = exit.Delays
+refusal_status (PathText product) = exit.Size
+refusal_status (TestText product) = exit.Size
 refusal_status (NotBuilt role) = exit.NotBuilt
 
 -- the status of an ending
@@ -87,6 +107,7 @@ abbrev pub number_of : Status → ℕ
 number_of exit.Done = 0
 number_of exit.Words = 2
 number_of exit.Netlist = 3
+number_of exit.Delays = 4
 number_of exit.ReadFault = 5
 number_of exit.WriteFault = 6
 number_of exit.NoMemory = 7

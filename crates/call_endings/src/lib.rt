@@ -2,6 +2,8 @@
 //! Stands on pd_base, pd_io, call_words and text_pieces. The layers above use `Ending`, and `tell`, which reports one.
 #![tactic(auto)]
 
+mod delays_refusal;
+mod delays_telling;
 mod ending;
 mod netlist_refusal;
 mod netlist_telling;
@@ -10,6 +12,7 @@ mod role;
 mod status;
 mod telling;
 
+pub use delays_refusal::DelaysRefusal;
 pub use ending::Ending;
 pub use netlist_refusal::NetlistRefusal;
 pub use refusal::Refusal;

@@ -1,5 +1,5 @@
 // Why a call is refused, before anything was written. A refusal owns all that its line on err names.
-use crate::{NetlistRefusal, Role};
+use crate::{DelaysRefusal, NetlistRefusal, Role};
 use call_words::WordsRefusal;
 
 /// A reason for which the words or the inputs of a call are refused.
@@ -11,6 +11,12 @@ pub enum Refusal {
     TooLong(Role),
     /// The netlist has no circuit.
     Netlist(NetlistRefusal),
+    /// The delay file gives no delays.
+    Delays(DelaysRefusal),
+    /// The texts of the paths may be too long: the product that bounds them.
+    PathText(u64),
+    /// The texts of the tests may be too long: the product that bounds them.
+    TestText(u64),
     /// This input has a form that is not built yet.
     NotBuilt(Role),
 }

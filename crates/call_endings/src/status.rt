@@ -11,13 +11,15 @@ pub enum Status {
     Words = 2,
     /// The netlist has no circuit.
     Netlist = 3,
+    /// The delay file gives no delays.
+    Delays = 4,
     /// A file could not be read.
     ReadFault = 5,
     /// A file or out could not be written.
     WriteFault = 6,
     /// Memory ran out.
     NoMemory = 7,
-    /// An input has more bytes than are read of it.
+    /// An input has more bytes than are read of it, or the texts may be too long.
     Size = 8,
     /// An input has a form that is not built yet.
     NotBuilt = 9,

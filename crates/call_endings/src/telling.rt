@@ -1,9 +1,11 @@
 // Telling how a call ended: its line on err, in pieces that need no memory, and its status.
-ghost use Rattle.std.specs.Prelude.{◌≡◌, ◌≢◌};
+ghost use Rattle.std.specs.Prelude.{◌≡◌, ◌≢◌, ◌++◌, codes, decimal};
 ghost use Rattle.pd_io.specs.Seen.{sink_seen};
 ghost use Rattle.call_endings.specs.Lines.{line_of, pieces_text, refusal_line, refusal_status, role_word, status_of};
 ghost use Rattle.call_endings.specs.Reports.{IsReported, LineEnds};
+ghost use Rattle.text_pieces.specs.Tokens.{line};
 
+use crate::delays_telling::write_delays_refusal;
 use crate::netlist_telling::write_netlist_refusal;
 use crate::{Ending, Refusal, Role, Status};
 use call_words::WordsRefusal;
@@ -43,8 +45,9 @@ fn refused_status(refusal: &Refusal) -> Status
 {
     match refusal {
         Refusal::Words(_) => Status::Words,
-        Refusal::TooLong(_) => Status::Size,
+        Refusal::TooLong(_) | Refusal::PathText(_) | Refusal::TestText(_) => Status::Size,
         Refusal::Netlist(_) => Status::Netlist,
+        Refusal::Delays(_) => Status::Delays,
         Refusal::NotBuilt(_) => Status::NotBuilt,
     }
 }
@@ -73,8 +76,21 @@ fn write_refusal<E: Sink>(refusal: &Refusal, err: &mut E) -> Result<(), FileFaul
         Refusal::Words(reason) => write_words_refusal(*reason, err),
         Refusal::TooLong(role) => write_pieces(err, &[b"size: ", word(*role), b"\n"]),
         Refusal::Netlist(reason) => write_netlist_refusal(reason, err),
+        Refusal::Delays(reason) => write_delays_refusal(*reason, err),
+        Refusal::PathText(product) => write_product(err, b"path text ", *product),
+        Refusal::TestText(product) => write_product(err, b"test text ", *product),
         Refusal::NotBuilt(role) => write_pieces(err, &[b"not built: ", word(*role), b"\n"]),
     }
+}
+
+// Writes the line that names a product that is over its limit.
+fn write_product<E: Sink>(err: &mut E, what: &[u8], product: u64) -> Result<(), FileFault>
+    ensures { LineEnds (line (codes "size: " ++ what.now ++ decimal product)) result
+        (sink_seen E.Sink err.old) (sink_seen E.Sink err.new) }
+{
+    let mut digits = Buffer::new();
+    let product = digits.format(product).as_bytes();
+    write_pieces(err, &[b"size: ", what, product, b"\n"])
 }
 
 // Writes the line that says why the words were refused.

@@ -3,7 +3,7 @@
 use Rattle.std.specs.Prelude.{ℕ, List, [], ◌∷◌}
 use Rattle.call_endings.specs.declared.role.Role.{Role}
 use Rattle.call_endings.specs.declared.refusal.Refusal.{Refusal}
-use Rattle.call_endings.specs.declared.refusal.Refusal.TheVariants.{Words, TooLong, Netlist, NotBuilt}
+use Rattle.call_endings.specs.declared.refusal.Refusal.TheVariants.{Words, TooLong, Netlist, Delays, PathText, TestText, NotBuilt}
 
 -- what is required of the words, or of the inputs that were read so far
 pub data Requirement : Type 0 where
@@ -13,6 +13,12 @@ pub data Requirement : Type 0 where
   WithinLimit : Role → Requirement
   -- the netlist has a circuit
   SpellsCircuit : Requirement
+  -- the delay file gives delays
+  SpellsDelays : Requirement
+  -- the product that bounds the texts of the paths is within its limit
+  ShortPathText : Requirement
+  -- so is the one that bounds the texts of the tests
+  ShortTestText : Requirement
   -- the input of this role has the form that is built today
   BuiltForm : Role → Requirement
 
@@ -21,6 +27,9 @@ abbrev pub requirement_of : Refusal → Requirement
 requirement_of (Words reason) = Wording
 requirement_of (TooLong role) = WithinLimit role
 requirement_of (Netlist reason) = SpellsCircuit
+requirement_of (Delays reason) = SpellsDelays
+requirement_of (PathText product) = ShortPathText
+requirement_of (TestText product) = ShortTestText
 requirement_of (NotBuilt role) = BuiltForm role
 
 -- a stage of a command before it writes

@@ -1,56 +1,123 @@
 -- The requirements of `gen`: what each of them accepts.
-use Rattle.std.proofs.Common.{◌≡◌, ℕ, ◌≤◌, List, [], ◌∷◌, length, subst, ◌∙◌, arith}
+use Rattle.std.proofs.Common.{◌≡◌, ℕ, ◌≤◌, List, [], ◌∷◌, length, ap, subst, ◌∙◌, arith}
 use Rattle.netlist.specs.Circuit.{Circuit}
+use Rattle.netlist.specs.Waves.{Delays}
 use Rattle.bench_reader.specs.Circuits.{HasCircuit}
-use Rattle.chain_run.specs.ChainRun.{IsChainCircuit}
-use Rattle.call_words.specs.Words.{GenCall}
-use Rattle.call_endings.specs.declared.role.Role.{Role}
-use Rattle.call_endings.specs.declared.role.Role.TheVariants.{Net, Delays}
-use Rattle.call_endings.specs.declared.refusal.Refusal.TheVariants.{Words, TooLong, Netlist, NotBuilt}
-use Rattle.call_work.specs.Work.{WithinLimit, SpellsCircuit, BuiltForm}
-use Rattle.call_work.specs.Passing.{Accepts}
-use Rattle.gen_call.specs.declared.judging.TheConstants.{INPUT_LIMIT}
-use Rattle.gen_call.specs.Gen.{gen_work, HasOtherCircuit, IsUnbuiltInput}
 use Rattle.bench_reader.proofs.Answering.{one_circuit}
-use Rattle.gen_call.proofs.ToldReasons.{has_a_circuit}
+use Rattle.bench_reader.proofs.LawfulCircuits.{is_circuit}
+use Rattle.delay_reader.specs.DelayFile.{HasDelays}
+use Rattle.single_pin_run.specs.SinglePins.{HasSinglePins}
+use Rattle.call_words.specs.Words.{GenCall}
+use Rattle.call_endings.specs.declared.delays_refusal.DelaysRefusal.{DelaysRefusal}
+use Rattle.call_endings.specs.declared.role.Role.{Role}
+use Rattle.call_endings.specs.declared.role.Role.TheVariants as role
+use Rattle.call_endings.specs.declared.refusal.Refusal.TheVariants as refused
+use Rattle.call_work.specs.Work.{WithinLimit, SpellsCircuit, SpellsDelays, ShortPathText, ShortTestText, BuiltForm}
+use Rattle.call_work.specs.Passing.{Accepts}
+use Rattle.call_inputs.specs.declared.judging.TheConstants.{INPUT_LIMIT}
+use Rattle.gen_call.specs.declared.sizes.TheConstants.{MOST_PATH_TEXT, MOST_TEST_TEXT}
+use Rattle.gen_call.specs.Gen.{gen_work, HasNoDelays, HasOtherCircuit, IsOverProduct, IsUnbuiltInput}
+use Rattle.call_inputs.specs.Reasons.{HasNoDelaysFor}
+use Rattle.gen_call.specs.Sizes.{path_text_product, test_text_product}
+use Rattle.call_inputs.proofs.ToldReasons.{has_a_circuit, gives_delays}
 
 -- roles of one requirement are one role
-role_of_form : (role other : Role) → BuiltForm role ≡ BuiltForm other → role ≡ other
-role_of_form role other same = cc
+role_of_form : (of other : Role) → BuiltForm of ≡ BuiltForm other → of ≡ other
+role_of_form of other same = cc
 
 module _ (call : GenCall) where
   -- NET is within the limit
-  pub accepts_net_size : (net : List ℕ) → length net ≤ INPUT_LIMIT → Accepts (gen_work call) (WithinLimit Net) (net ∷ [])
-  accepts_net_size net within (Words reason) same refuses = refuses
-  accepts_net_size net within (TooLong role) same refuses = let over = refuses.over in omega arith
-  accepts_net_size net within (Netlist reason) same refuses = absurd cc
-  accepts_net_size net within (NotBuilt role) same refuses = refuses
+  pub accepts_net_size : (net : List ℕ) → length net ≤ INPUT_LIMIT → Accepts (gen_work call) (WithinLimit role.Net) (net ∷ [])
+  accepts_net_size net within (refused.Words reason) same refuses = refuses
+  accepts_net_size net within (refused.TooLong of) same refuses = let over = refuses.over in omega arith
+  accepts_net_size net within (refused.Netlist reason) same refuses = absurd cc
+  accepts_net_size net within (refused.Delays reason) same refuses = refuses
+  accepts_net_size net within (refused.PathText product) same refuses = refuses
+  accepts_net_size net within (refused.TestText product) same refuses = refuses
+  accepts_net_size net within (refused.NotBuilt of) same refuses = refuses
 
   -- NET has a circuit
   pub accepts_circuit : (net : List ℕ) (c : Circuit) → HasCircuit net c → Accepts (gen_work call) SpellsCircuit (net ∷ [])
-  accepts_circuit net c has (Words reason) same refuses = refuses
-  accepts_circuit net c has (TooLong role) same refuses = absurd cc
-  accepts_circuit net c has (Netlist reason) same refuses = has_a_circuit net c reason has refuses
-  accepts_circuit net c has (NotBuilt role) same refuses = refuses
+  accepts_circuit net c has (refused.Words reason) same refuses = refuses
+  accepts_circuit net c has (refused.TooLong of) same refuses = absurd cc
+  accepts_circuit net c has (refused.Netlist reason) same refuses = has_a_circuit net c reason has refuses
+  accepts_circuit net c has (refused.Delays reason) same refuses = refuses
+  accepts_circuit net c has (refused.PathText product) same refuses = refuses
+  accepts_circuit net c has (refused.TestText product) same refuses = refuses
+  accepts_circuit net c has (refused.NotBuilt of) same refuses = refuses
 
   module _ (net delays : List ℕ) where
     -- DELAYS is within the limit
-    pub accepts_delays_size : length delays ≤ INPUT_LIMIT → Accepts (gen_work call) (WithinLimit Delays) (net ∷ delays ∷ [])
-    accepts_delays_size within (Words reason) same refuses = refuses
-    accepts_delays_size within (TooLong role) same refuses = let over = refuses.over in omega arith
-    accepts_delays_size within (Netlist reason) same refuses = refuses
-    accepts_delays_size within (NotBuilt role) same refuses = absurd cc
+    pub accepts_delays_size : length delays ≤ INPUT_LIMIT
+        → Accepts (gen_work call) (WithinLimit role.Delays) (net ∷ delays ∷ [])
+    accepts_delays_size within (refused.Words reason) same refuses = refuses
+    accepts_delays_size within (refused.TooLong of) same refuses = let over = refuses.over in omega arith
+    accepts_delays_size within (refused.Netlist reason) same refuses = refuses
+    accepts_delays_size within (refused.Delays reason) same refuses = absurd cc
+    accepts_delays_size within (refused.PathText product) same refuses = absurd cc
+    accepts_delays_size within (refused.TestText product) same refuses = absurd cc
+    accepts_delays_size within (refused.NotBuilt of) same refuses = absurd cc
+
+    -- DELAYS is refused for no reason
+    pub accepts_delays : ((reason : DelaysRefusal) → ¬ HasNoDelays net delays reason)
+        → Accepts (gen_work call) SpellsDelays (net ∷ delays ∷ [])
+    accepts_delays gives (refused.Words reason) same refuses = refuses
+    accepts_delays gives (refused.TooLong of) same refuses = absurd cc
+    accepts_delays gives (refused.Netlist reason) same refuses = refuses
+    accepts_delays gives (refused.Delays reason) same refuses = gives reason refuses
+    accepts_delays gives (refused.PathText product) same refuses = absurd cc
+    accepts_delays gives (refused.TestText product) same refuses = absurd cc
+    accepts_delays gives (refused.NotBuilt of) same refuses = absurd cc
+
+    -- no product for the texts of the paths is over its limit
+    pub accepts_path_text : ((product : ℕ) → ¬ IsOverProduct net (path_text_product call.paths) MOST_PATH_TEXT product)
+        → Accepts (gen_work call) ShortPathText (net ∷ delays ∷ [])
+    accepts_path_text short (refused.Words reason) same refuses = refuses
+    accepts_path_text short (refused.TooLong of) same refuses = absurd cc
+    accepts_path_text short (refused.Netlist reason) same refuses = refuses
+    accepts_path_text short (refused.Delays reason) same refuses = absurd cc
+    accepts_path_text short (refused.PathText product) same refuses = short product refuses
+    accepts_path_text short (refused.TestText product) same refuses = absurd cc
+    accepts_path_text short (refused.NotBuilt of) same refuses = absurd cc
+
+    -- nor is one for the texts of the tests
+    pub accepts_test_text : ((product : ℕ) → ¬ IsOverProduct net (test_text_product call.paths) MOST_TEST_TEXT product)
+        → Accepts (gen_work call) ShortTestText (net ∷ delays ∷ [])
+    accepts_test_text short (refused.Words reason) same refuses = refuses
+    accepts_test_text short (refused.TooLong of) same refuses = absurd cc
+    accepts_test_text short (refused.Netlist reason) same refuses = refuses
+    accepts_test_text short (refused.Delays reason) same refuses = absurd cc
+    accepts_test_text short (refused.PathText product) same refuses = absurd cc
+    accepts_test_text short (refused.TestText product) same refuses = short product refuses
+    accepts_test_text short (refused.NotBuilt of) same refuses = absurd cc
 
     -- an input has the form that is built today
-    pub accepts_form : (role : Role) → ¬ IsUnbuiltInput role net delays
-        → Accepts (gen_work call) (BuiltForm role) (net ∷ delays ∷ [])
-    accepts_form role has (Words reason) same refuses = refuses
-    accepts_form role has (TooLong other) same refuses = absurd cc
-    accepts_form role has (Netlist reason) same refuses = refuses
-    accepts_form role has (NotBuilt other) same refuses =
-        has (subst (λ (r : Role). IsUnbuiltInput r net delays) (role_of_form other role same) refuses)
+    pub accepts_form : (of : Role) → ¬ IsUnbuiltInput of net → Accepts (gen_work call) (BuiltForm of) (net ∷ delays ∷ [])
+    accepts_form of has (refused.Words reason) same refuses = refuses
+    accepts_form of has (refused.TooLong other) same refuses = absurd cc
+    accepts_form of has (refused.Netlist reason) same refuses = refuses
+    accepts_form of has (refused.Delays reason) same refuses = absurd cc
+    accepts_form of has (refused.PathText product) same refuses = absurd cc
+    accepts_form of has (refused.TestText product) same refuses = absurd cc
+    accepts_form of has (refused.NotBuilt other) same refuses =
+        has (subst (λ (r : Role). IsUnbuiltInput r net) (role_of_form other of same) refuses)
 
--- a text that has a chain has no other circuit
-pub has_no_other : (net : List ℕ) (c : Circuit) → HasCircuit net c → IsChainCircuit c → ¬ HasOtherCircuit net
-has_no_other net c has chain other =
-    other.no_chain (subst IsChainCircuit (one_circuit net c other.circuit has other.has) chain)
+module _ (net : List ℕ) (c : Circuit) (has : HasCircuit net c) where
+  -- a delay file that gives delays to the pins of NET's circuit is refused for no reason
+  pub has_delays : (delay_file : List ℕ) (delays : Delays) (reason : DelaysRefusal) → HasDelays c delay_file delays
+      → ¬ HasNoDelays net delay_file reason
+  has_delays delay_file delays reason gives none =
+      gives_delays c (is_circuit net c has) delay_file delays reason gives
+      (subst (λ (d : Circuit). HasNoDelaysFor d delay_file reason) (one_circuit net none.circuit c none.has has) none.none)
+
+  -- a product that is within its limit is not over it
+  pub is_within : (product_of : Circuit → ℕ) (limit product : ℕ) → product_of c ≤ limit
+      → ¬ IsOverProduct net product_of limit product
+  is_within product_of limit product within it =
+      let same : product ≡ product_of c = it.is ∙ ap product_of (one_circuit net it.circuit c it.has has) in
+      let over = it.over in
+      omega arith
+
+  -- a text that has a circuit of one-pin gates has no other circuit
+  pub has_no_other : HasSinglePins c → ¬ HasOtherCircuit net
+  has_no_other single other = other.not_single (subst HasSinglePins (one_circuit net c other.circuit has other.has) single)

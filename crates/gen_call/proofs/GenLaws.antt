@@ -1,16 +1,19 @@
--- Which inputs `gen` accepts: chains under unit delays, within the limit.
-use Rattle.std.proofs.Common.{◌≡◌, ℕ, ◌≤◌, List, [], ◌∷◌, length, Some, refl, sym, subst, arith}
+-- Which inputs `gen` accepts: circuits of one-pin gates with their delays, within the limits.
+use Rattle.std.proofs.Common.{ℕ, ◌≤◌, List, [], ◌∷◌, length, Some, refl}
 use Rattle.pd_io.specs.Folder.{Folder, bytes_at}
 use Rattle.netlist.specs.Circuit.{Circuit}
 use Rattle.bench_reader.specs.Circuits.{HasCircuit}
-use Rattle.chain_run.specs.ChainRun.{IsChainCircuit}
-use Rattle.chain_run.specs.UnitDelays.{unit_delays_text}
+use Rattle.netlist.specs.Waves.{Delays}
+use Rattle.delay_reader.specs.DelayFile.{HasDelays}
+use Rattle.single_pin_run.specs.SinglePins.{HasSinglePins}
 use Rattle.call_words.specs.Words.{GenCall}
-use Rattle.call_endings.specs.declared.role.Role.TheVariants.{Net, Delays}
+use Rattle.call_endings.specs.declared.role.Role.TheVariants as role
 use Rattle.call_work.specs.Calls.{HasAcceptedInputs}
-use Rattle.gen_call.specs.declared.judging.TheConstants.{INPUT_LIMIT}
+use Rattle.call_inputs.specs.declared.judging.TheConstants.{INPUT_LIMIT}
+use Rattle.gen_call.specs.declared.sizes.TheConstants.{MOST_PATH_TEXT, MOST_TEST_TEXT}
 use Rattle.gen_call.specs.Gen.{gen_work}
-use Rattle.gen_call.proofs.Accepting.{accepts_net_size, accepts_circuit, accepts_delays_size, accepts_form, has_no_other}
+use Rattle.gen_call.specs.Sizes.{path_text_product, test_text_product}
+use Rattle.gen_call.proofs.Accepting.{accepts_net_size, accepts_circuit, accepts_delays_size, accepts_delays, accepts_path_text, accepts_test_text, accepts_form, has_delays, is_within, has_no_other}
 
 module _ (call : GenCall) (told : Folder) where
   -- the bytes under the name of NET
@@ -21,33 +24,41 @@ module _ (call : GenCall) (told : Folder) where
   abbrev delays : List ℕ
   delays = bytes_at told.held call.delays
 
-  -- inputs of the form that is built today are accepted
-  pub built_is_accepted : (c : Circuit) → length net ≤ INPUT_LIMIT → HasCircuit net c → IsChainCircuit c → delays ≡ unit_delays_text
-      → HasAcceptedInputs (gen_work call) (Some told)
-  built_is_accepted c within has chain unit =
-      let short : length delays ≤ INPUT_LIMIT = subst (λ (bytes : List ℕ). length bytes ≤ INPUT_LIMIT) (sym unit) (omega arith) in
-      record {
-        told = tt;
-        inputs = net ∷ delays ∷ [];
-        passed = (
-          net,
-          refl,
+  -- NET of one-pin gates and DELAYS, which gives delays to their pins, are accepted where they are within their limits, and the
+  -- texts are short
+  pub built_is_accepted : (c : Circuit) (given : Delays) → length net ≤ INPUT_LIMIT → HasCircuit net c
+      → length delays ≤ INPUT_LIMIT → HasDelays c delays given → path_text_product call.paths c ≤ MOST_PATH_TEXT
+      → test_text_product call.paths c ≤ MOST_TEST_TEXT → HasSinglePins c → HasAcceptedInputs (gen_work call) (Some told)
+  built_is_accepted c given within has delays_within gives short_paths short_tests single = record {
+    told = tt;
+    inputs = net ∷ delays ∷ [];
+    passed = (
+      net,
+      refl,
+      (
+        accepts_net_size call net within,
+        (
+          accepts_circuit call net c has,
           (
-            accepts_net_size call net within,
+            delays,
+            refl,
             (
-              accepts_circuit call net c has,
+              accepts_delays_size call net delays delays_within,
               (
-                delays,
-                refl,
+                accepts_delays call net delays (λ reason. has_delays net c has delays given reason gives),
                 (
-                  accepts_delays_size call net delays short,
+                  accepts_path_text call net delays
+                      (λ product. is_within net c has (path_text_product call.paths) MOST_PATH_TEXT product short_paths),
                   (
-                    accepts_form call net delays Net (has_no_other net c has chain),
-                    (accepts_form call net delays Delays (λ lacks. lacks unit), refl),
+                    accepts_test_text call net delays
+                        (λ product. is_within net c has (test_text_product call.paths) MOST_TEST_TEXT product short_tests),
+                    (accepts_form call net delays role.Net (has_no_other net c has single), refl),
                   ),
                 ),
               ),
             ),
           ),
-        );
-      }
+        ),
+      ),
+    );
+  }

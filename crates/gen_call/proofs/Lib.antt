@@ -1,5 +1,6 @@
 pub mod Accepting
-pub mod ToldReasons
+pub mod FewLines
 pub mod GenLaws
 pub mod GenStages
 pub mod GenTexts
+pub mod Products

@@ -1,3 +1,3 @@
 pub mod Gen
 pub mod Judging
-pub mod Reasons
+pub mod Sizes

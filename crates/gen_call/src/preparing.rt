@@ -5,23 +5,29 @@ ghost use Rattle.call_words.specs.Commands.{gen_call_of};
 ghost use Rattle.call_words.specs.Words.{HasGenNumbers};
 ghost use Rattle.call_work.specs.Preparing.{Prepares};
 ghost use Rattle.call_work.specs.Texts.{dues_of, products_of};
-ghost use Rattle.chain_run.specs.ChainRun.{IsChainCircuit};
+ghost use Rattle.delay_annotation.specs.Annotation.{Fits, delays_of};
 ghost use Rattle.gen_call.specs.Gen.{GivesProductsOf, gen_files, gen_work};
+ghost use Rattle.netlist.specs.Lawful.{IsCircuit};
+ghost use Rattle.single_pin_run.specs.SinglePins.{HasSinglePins};
 
-use crate::judging::{netlist_of, read_within, try_delays, try_net};
+use crate::judging::try_net;
+use crate::sizes::{sizes_of, try_path_text, try_test_text};
 use call_endings::{Ending, Role};
+use call_inputs::{delays_in, netlist_of, read_within};
 use call_words::GenCommand;
 use call_work::{DueFile, Texts};
-use chain_run::chain_run;
+use delay_annotation::Delays;
 use netlist::Netlist;
 use pattern_writer::tests_text;
 use pd_base::OutOfMemory;
 use pd_io::Files;
+use single_pin_run::single_pin_run;
 use std::alloc::Global;
 use verdict_report::{proofs_text, report_text, summary_text};
 
-/// Reads NET, which has to have a circuit, and DELAYS, requires the form that is built today of both, and makes the texts of the
-/// three files and of the summary on out. Nothing is written.
+/// Reads NET, which has to have a circuit, and DELAYS, which has to give delays to its pins; requires that the texts can't grow
+/// too long, and of NET the form that is built today; and makes the texts of the three files and of the summary on out. Nothing
+/// is written.
 pub fn prepare_gen<'a, F: Files>(
     alloc: Global,
     command: &GenCommand<'a>,
@@ -33,24 +39,30 @@ pub fn prepare_gen<'a, F: Files>(
 {
     let net = read_within(alloc, files, Role::Net, command.net)?;
     let netlist = netlist_of(alloc, net.as_slice())?;
-    let delays = read_within(alloc, files, Role::Delays, command.delays)?;
+    let delay_file = read_within(alloc, files, Role::Delays, command.delays)?;
+    let delays = delays_in(alloc, &netlist, delay_file.as_slice())?;
+    let sizes = sizes_of(&netlist, command.paths);
+    try_path_text(sizes)?;
+    try_test_text(sizes)?;
     try_net(&netlist)?;
-    try_delays(delays.as_slice())?;
-    Ok(texts_of(alloc, command, &netlist)?)
+    Ok(texts_of(alloc, command, &netlist, &delays)?)
 }
 
-// The texts of the run of a chain.
+// The texts of the run of a circuit whose gates have one pin each.
 fn texts_of<'a>(
     alloc: Global,
     command: &GenCommand<'a>,
     net: &Netlist,
+    delays: &Delays,
 ) -> Result<Texts<'a>, OutOfMemory>
-    requires chain { IsChainCircuit net.now }
+    requires circuit { IsCircuit net.now }
+    requires single { HasSinglePins net.now }
+    requires fits { Fits net.now delays.now }
     requires numbers { HasGenNumbers (gen_call_of command.now) }
     ensures { IfOk result
-        (λ texts. GivesProductsOf (gen_call_of command.now) net.now (products_of texts)) }
+        (λ texts. GivesProductsOf (gen_call_of command.now) net.now (delays_of delays.now) (products_of texts)) }
 {
-    let run = chain_run(alloc, net)?;
+    let run = single_pin_run(alloc, net, delays, command.paths)?;
     let tests = tests_text(alloc, net, run.tests.as_slice())?;
     let report = report_text(alloc, net, &run)?;
     let proofs = proofs_text(alloc, &run)?;

@@ -52,7 +52,7 @@ module _ (c : Circuit) where
   )
 
   -- what a report names of a path of the circuit is in it
-  path_is_nameable : (path : Route) → IsPath c path → IsNameable c path
+  pub path_is_nameable : (path : Route) → IsPath c path → IsNameable c path
   path_is_nameable path is = record {
     source = is.prefix.source;
     steps = All-from_recursion (IsPinOf c) path.steps (connected_are_pins path.source.0 path.steps is.prefix.connects);

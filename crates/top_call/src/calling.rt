@@ -18,8 +18,9 @@ use std::alloc::Global;
 /// a robust test for each transition, and each test samples a wrong value under every delay assignment that makes its path
 /// late (`gen_work` in the crate gen_call).
 ///
-/// Inputs of more than 33,554,432 bytes are refused, and so is a netlist that has no circuit. What is not built yet is refused
-/// too: circuits that are no chain, and a delay file that is not the one line `gate,pin,delay`.
+/// Inputs of more than 33,554,432 bytes are refused, and so are a netlist that has no circuit, a delay file that gives its pins
+/// no delays, and a circuit whose texts might grow too long. What is not built yet is refused too: circuits with a gate of
+/// several pins.
 ///
 /// Only the files of the command are read or written. Where the status isn't 0, a line on err says why.
 pub fn run<F: Files, O: Sink, E: Sink>(

@@ -1,6 +1,6 @@
 //! The texts of the report and of the proofs file, and the line of counts that a run ends with.
 //! Stands on pd_base, netlist, refutation_check (lawful reports and proofs), text_pieces, csv and itoa. The layer above
-//! uses `report_text`, `proofs_text` and `summary_text`.
+//! uses `report_text`, `proofs_text` and `summary_text`; a program that measures uses `steps_text`.
 #![tactic(auto)]
 
 mod proofs_file;
@@ -11,4 +11,5 @@ mod summary;
 
 pub use proofs_file::proofs_text;
 pub use report::report_text;
+pub use steps::steps_text;
 pub use summary::summary_text;

@@ -9,11 +9,7 @@ use pd_base::{LineId, OutOfMemory, PinRef, push_decimal};
 use std::alloc::Global;
 
 /// The steps of a path with single spaces between, or a dash where there are none.
-pub(crate) fn steps_text(
-    alloc: Global,
-    net: &Netlist,
-    steps: &[PinRef],
-) -> Result<Vec<u8>, OutOfMemory>
+pub fn steps_text(alloc: Global, net: &Netlist, steps: &[PinRef]) -> Result<Vec<u8>, OutOfMemory>
     requires { All (IsPinOf net.now) steps.now }
     ensures { IfOk result (λ text. text.items ≡ steps_text net.now steps.now) }
 {

@@ -1,5 +1,0 @@
-pub mod ChainPath
-pub mod ChainRobust
-pub mod ChainTests
-pub mod RankUnique
-pub mod Turns

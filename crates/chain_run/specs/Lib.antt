@@ -1,2 +1,0 @@
-pub mod ChainRun
-pub mod UnitDelays

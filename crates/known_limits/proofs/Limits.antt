@@ -1,0 +1,66 @@
+-- The limits as numbers (this project's own; docs/formats.md lists them).
+use Rattle.std.proofs.Common.{◌≡◌, refl}
+use Rattle.netlist.specs.declared.limits.TheConstants.{MOST_LINES, MOST_PINS, MOST_FAN_IN, MOST_LEVELS, MOST_NAME_BYTES}
+use Rattle.delay_annotation.specs.declared.delays.TheConstants.{MOST_DELAY, UNIT_DELAY}
+use Rattle.delay_rows.specs.declared.field.TheConstants.{MOST_PIN_DIGITS, MOST_NUMBER_DIGITS}
+use Rattle.delay_reader.specs.declared.reading.TheConstants.{MOST_BYTES}
+use Rattle.path_lister.specs.declared.paths.TheConstants.{MOST_PATHS}
+use Rattle.waveform.specs.declared.gate.TheConstants.{MOST_CHANGES}
+use Rattle.delay_replay.specs.declared.line_waves.TheConstants.{MOST_CHANGES_OF_ALL}
+use Rattle.call_inputs.specs.declared.judging.TheConstants.{INPUT_LIMIT}
+use Rattle.gen_call.specs.declared.sizes.TheConstants.{MOST_PATH_TEXT, MOST_TEST_TEXT, STEP_BYTES}
+
+-- of circuits
+most_lines : MOST_LINES ≡ 262144
+most_lines = refl
+
+most_pins : MOST_PINS ≡ 1048576
+most_pins = refl
+
+most_fan_in : MOST_FAN_IN ≡ 1024
+most_fan_in = refl
+
+most_levels : MOST_LEVELS ≡ 4096
+most_levels = refl
+
+most_name_bytes : MOST_NAME_BYTES ≡ 255
+most_name_bytes = refl
+
+-- of delays
+most_delay : MOST_DELAY ≡ 1000000
+most_delay = refl
+
+unit_delay : UNIT_DELAY ≡ 1
+unit_delay = refl
+
+most_pin_digits : MOST_PIN_DIGITS ≡ 4
+most_pin_digits = refl
+
+most_number_digits : MOST_NUMBER_DIGITS ≡ 7
+most_number_digits = refl
+
+most_bytes : MOST_BYTES ≡ 268435456
+most_bytes = refl
+
+-- of lists and of replays
+most_paths : MOST_PATHS ≡ 10000
+most_paths = refl
+
+most_changes : MOST_CHANGES ≡ 65536
+most_changes = refl
+
+most_changes_of_all : MOST_CHANGES_OF_ALL ≡ 16777216
+most_changes_of_all = refl
+
+-- of calls
+input_limit : INPUT_LIMIT ≡ 33554432
+input_limit = refl
+
+most_path_text : MOST_PATH_TEXT ≡ 67108864
+most_path_text = refl
+
+most_test_text : MOST_TEST_TEXT ≡ 40000000
+most_test_text = refl
+
+step_bytes : STEP_BYTES ≡ 6
+step_bytes = refl

@@ -1,0 +1,3 @@
+mod ListedPaths
+mod NoSides
+mod PathTests
