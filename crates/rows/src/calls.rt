@@ -1,8 +1,7 @@
 // What stands between two calls: the files that a call finds, and what is to fail in the next one.
-use crate::Trouble;
 use crate::row::Object;
-use crate::texts::{shown, spelled_out};
 use memory_files::{MemoryFiles, MemorySink};
+use row_texts::{Trouble, shown, spelled_out};
 use std::alloc::{AllocError, Global};
 use std::collections::BTreeMap;
 use top_call::run;

@@ -1,6 +1,6 @@
-// The rows: netlists and values of their lines; what stands in files, what is to fail, and calls.
-use crate::Trouble;
+// The rows: what stands in files, what is to fail, and calls.
 use memory_files::FileCall;
+use row_texts::{Trouble, number_of};
 
 /// What fails: a call of the files, or a write on out or err.
 #[derive(Clone, Copy, Debug)]
@@ -24,16 +24,6 @@ pub enum Row<'a> {
     Remove(&'a str),
     /// In the next call the call of this number fails.
     Fail(Object, u64),
-    /// The canonical text of the netlist of this text, or that it is refused.
-    Text(&'a str),
-    /// The same, and what else is said of the netlist.
-    Net(&'a str),
-    /// The values of the lines of the last netlist under this vector.
-    Values(&'a str),
-    /// The steadiness of its lines under these vectors.
-    Steady(&'a str, &'a str),
-    /// Which of its lines stand in the transitive fan-in of the line of this number.
-    Support(u32),
     /// A call without words.
     BareCall,
     /// A call with these words, single spaces between.
@@ -55,14 +45,6 @@ impl<'a> Row<'a> {
                 let (name, text) = rest.split_once(' ').ok_or(Trouble::NoRow)?;
                 Ok(Row::Put(name, text))
             }
-            "text" => Ok(Row::Text(rest)),
-            "net" => Ok(Row::Net(rest)),
-            "values" => Ok(Row::Values(rest)),
-            "steady" => {
-                let (first, second) = rest.split_once(' ').ok_or(Trouble::NoRow)?;
-                Ok(Row::Steady(first, second))
-            }
-            "support" => Ok(Row::Support(number_of(rest)?)),
             "remove" => Ok(Row::Remove(rest)),
             "fail" => failure(rest),
             "call" => Ok(Row::Call(rest)),
@@ -85,9 +67,4 @@ fn failure(text: &str) -> Result<Row<'_>, Trouble> {
         _ => return Err(Trouble::NoRow),
     };
     Ok(Row::Fail(object, u64::from(number_of(nth)?)))
-}
-
-// A number.
-fn number_of(text: &str) -> Result<u32, Trouble> {
-    text.parse::<u32>().map_err(|_| Trouble::NoRow)
 }

@@ -1,4 +1,5 @@
-// Signs of a row that stand for bytes: `\n` for LF, and so on.
+// Signs of a row that stand for bytes, `\n` for LF and so on; and numbers in a row.
+use crate::Trouble;
 use std::alloc::{AllocError, Global};
 
 /// The text that a row spells, with each sign exchanged for what it stands for.
@@ -44,4 +45,9 @@ pub fn shown(alloc: Global, text: &str) -> Result<String, AllocError> {
         }
     }
     Ok(shown)
+}
+
+/// The number that a part of a row spells.
+pub fn number_of(text: &str) -> Result<u32, Trouble> {
+    text.parse::<u32>().map_err(|_| Trouble::NoRow)
 }

@@ -1,29 +1,15 @@
 // What a text says as a netlist: its circuit line by line, and the values of its lines.
-ghost use Rattle.std.specs.Prelude.{◌≡◌, ◌<◌, vec_len, IfOk};
-ghost use Rattle.netlist.specs.Circuit.{line_count, source_count};
+ghost use Rattle.std.specs.Prelude.{◌<◌};
+ghost use Rattle.netlist.specs.Circuit.{line_count};
 
-use crate::Trouble;
-use bench_reader::read_bench;
 use bench_writer::bench_text;
 use fan_in::support;
 use logic_values::{Steady, evaluate, steady};
 use netlist::Netlist;
 use pd_base::{LineId, Pair};
+use row_circuits::vector;
+use row_texts::Trouble;
 use std::alloc::{AllocError, Global};
-
-// The most bytes of a text that a row may have.
-const MOST_BYTES: usize = 65_536;
-
-/// The netlist of a text, or None where the text is refused.
-pub fn read(alloc: Global, text: &str) -> Result<Option<Netlist>, Trouble> {
-    if text.len() > MOST_BYTES {
-        return Err(Trouble::NoRow);
-    }
-    match read_bench(alloc, text.as_bytes()) {
-        Ok(net) => Ok(Some(net)),
-        Err(_) => Ok(None),
-    }
-}
 
 /// The canonical text of a netlist.
 pub fn text(alloc: Global, net: &Netlist) -> Result<String, Trouble> {
@@ -140,20 +126,5 @@ fn sign_of(found: Steady) -> char {
         Steady::Zero => '0',
         Steady::One => '1',
         Steady::Moving => 'x',
-    }
-}
-
-// A vector with one bit for each source.
-fn vector(alloc: Global, net: &Netlist, bits: &str) -> Result<Vec<bool>, Trouble>
-    ensures { IfOk result (λ vector. vec_len vector ≡ source_count net.now) }
-{
-    let mut vector = Vec::new(alloc);
-    for byte in bits.bytes() {
-        vector.push(byte == b'1')?;
-    }
-    if vector.len() == net.sources() as usize {
-        Ok(vector)
-    } else {
-        Err(Trouble::NoRow)
     }
 }
