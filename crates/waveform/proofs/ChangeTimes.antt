@@ -1,5 +1,5 @@
 -- The times of a wave's changes are the times at which it changes, and no list of such times is longer.
-use Rattle.std.proofs.Common.{◌≡◌, ◌≢◌, ⊎_elim, ℕ, zero, suc, ◌-◌, ◌<◌, ◌≤◌, ℤ, pos, ◌-ℤ◌, ◌<ℤ◌, ◌≤ℤ◌, Bool, true, false, not, cond, List, [], ◌∷◌, ◌++◌, map, length, get_or, Contains, Result, Ok, Err, IfOk, refl, ap, ap₂, sym, subst, ◌∙◌, arith}
+use Rattle.std.proofs.Common.{◌≡◌, ◌≢◌, ⊎_elim, ℕ, zero, suc, ◌-◌, ◌<◌, ◌≤◌, ℤ, pos, ◌-ℤ◌, ◌<ℤ◌, ◌≤ℤ◌, Bool, true, false, not, cond, List, [], ◌∷◌, ◌++◌, map, length, get_or, Contains, refl, ap, ap₂, sym, subst, ◌∙◌, arith}
 use Rattle.std.specs.Bool.{beq}
 use Rattle.std.specs.Int.RustNames.{int_le}
 use Rattle.std.specs.List.{All}
@@ -161,12 +161,6 @@ not_over wave changes most are few over =
     (λ i d within. time_is_change changes (get_or over.times i d)
     (λ e. over.changes i d within (sym (are.shows (get_or over.times i d -ℤ pos 1)) ∙ e ∙ are.shows (get_or over.times i d)))) in
     omega (arith, over.more)
-
--- likewise of a result that may be refused
-pub few_enough : {F : Type 0} (wave : Wave) (result : Result Changes F) (most : ℕ) → IfOk result (AreChangesOf wave)
-    → IfOk result (λ changes. length changes.times ≤ most) → IfOk result (λ changes. ¬ ChangesOver wave most)
-few_enough wave (Ok changes) most are few = not_over wave changes most are few
-few_enough wave (Err fault) most are few = tt
 
 -- one change more, behind as many as are allowed, is one too many
 pub over_by_one : (wave : Wave) (old : Changes) (time : ℤ) (most : ℕ) → IsRising old.times

@@ -1,12 +1,12 @@
 -- A gate's value is told by how many of its pins are 1.
-use Rattle.std.proofs.Common.{◌≡◌, ℕ, suc, ◌+◌, ◌≤◌, Bool, true, false, not, eqb, List, [], ◌∷◌, length, refl, ap, sym, zero-add, ◌∙◌, arith}
+use Rattle.std.proofs.Common.{◌≡◌, ℕ, suc, ◌+◌, ◌≤◌, Bool, true, false, not, eqb, List, [], ◌∷◌, length, refl, ap, ap₂, sym, subst, zero-add, ◌∙◌, arith}
 use Rattle.std.proofs.lemmas.List.Sums.{sum_by-cons}
 use Rattle.std.proofs.lemmas.Bool.Decides.{nat_tests}
 use Rattle.netlist.specs.declared.kind.GateKind.{GateKind}
 use Rattle.netlist.specs.declared.kind.GateKind.TheVariants.{And, Nand, Or, Nor, Xor, Xnor, Not, Buff}
 use Rattle.netlist.specs.Lawful.{IsFanIn}
 use Rattle.netlist.specs.Values.{all_true, any_true, parity, only_value, gate_value}
-use Rattle.waveform.specs.Edges.{one, ones, value_of_counts}
+use Rattle.waveform.specs.PinChanges.{one, ones}
 use Rattle.waveform.proofs.Turning.{is_odd, odd_suc}
 
 -- a value counts once at most
@@ -66,39 +66,47 @@ only_by_ones (false ∷ []) single = refl
 only_by_ones (value ∷ other ∷ values) single = absurd (omega arith)
 
 -- what is turned twice is as before
-twice : (value : Bool) → value ≡ not (not value)
+pub twice : (value : Bool) → not (not value) ≡ value
 twice true = refl
 twice false = refl
 
-module _ (n pins risen fallen : ℕ) (count : n + fallen ≡ risen) where
-  -- all pins are 1 where those that have risen are as many as all pins and those that have fallen
-  all_counted : eqb risen (pins + fallen) ≡ eqb n pins
-  all_counted = grind (arith, nat_tests)
+-- How many pins are 1 tells the value of a gate of each kind.
+module _ (kind : GateKind) (pins count : ℕ) (values : List Bool) (many : length values ≡ pins) (counted : ones values ≡ count) where
+  all_counted : eqb count pins ≡ all_true values
+  all_counted = ap₂ eqb (sym counted) (sym many) ∙ sym (all_by_ones values)
 
-  -- no pin is 1 where as many have risen as have fallen
-  none_counted : eqb risen fallen ≡ eqb n 0
-  none_counted = grind (arith, nat_tests)
+  any_counted : not (eqb count 0) ≡ any_true values
+  any_counted = ap (λ n. not (eqb n 0)) (sym counted) ∙ sym (any_by_ones values)
 
-  -- an odd number is 1 where those that have risen or fallen are odd in number
-  odd_counted : is_odd (risen + fallen) ≡ is_odd n
-  odd_counted = grind (arith, nat_tests)
+  only_counted : length values ≡ 1 → not (eqb count 0) ≡ only_value values
+  only_counted single = ap (λ n. not (eqb n 0)) (sym counted) ∙ sym (only_by_ones values single)
 
--- a gate's value is the one that its counts tell
-pub value_by_counts : (kind : GateKind) (values : List Bool) (risen fallen : ℕ) → IsFanIn kind (length values)
-    → ones values + fallen ≡ risen → value_of_counts kind (length values) risen fallen ≡ gate_value kind values
-value_by_counts And values risen fallen fan_in count =
-    all_counted (ones values) (length values) risen fallen count ∙ sym (all_by_ones values)
-value_by_counts Nand values risen fallen fan_in count =
-    ap not (all_counted (ones values) (length values) risen fallen count ∙ sym (all_by_ones values))
-value_by_counts Or values risen fallen fan_in count =
-    ap not (none_counted (ones values) (length values) risen fallen count) ∙ sym (any_by_ones values)
-value_by_counts Nor values risen fallen fan_in count =
-    none_counted (ones values) (length values) risen fallen count ∙ twice _ ∙ ap not (sym (any_by_ones values))
-value_by_counts Xor values risen fallen fan_in count =
-    odd_counted (ones values) (length values) risen fallen count ∙ sym (parity_by_ones values)
-value_by_counts Xnor values risen fallen fan_in count =
-    ap not (odd_counted (ones values) (length values) risen fallen count ∙ sym (parity_by_ones values))
-value_by_counts Not values risen fallen fan_in count =
-    none_counted (ones values) (length values) risen fallen count ∙ twice _ ∙ ap not (sym (only_by_ones values fan_in))
-value_by_counts Buff values risen fallen fan_in count =
-    ap not (none_counted (ones values) (length values) risen fallen count) ∙ sym (only_by_ones values fan_in)
+  odd_counted : is_odd count ≡ parity values
+  odd_counted = ap is_odd (sym counted) ∙ sym (parity_by_ones values)
+
+  pub and_counted : kind ≡ And → eqb count pins ≡ gate_value kind values
+  and_counted is = subst (λ k. eqb count pins ≡ gate_value k values) (sym is) all_counted
+
+  pub nand_counted : kind ≡ Nand → not (eqb count pins) ≡ gate_value kind values
+  nand_counted is = subst (λ k. not (eqb count pins) ≡ gate_value k values) (sym is) (ap not all_counted)
+
+  pub or_counted : kind ≡ Or → not (eqb count 0) ≡ gate_value kind values
+  or_counted is = subst (λ k. not (eqb count 0) ≡ gate_value k values) (sym is) any_counted
+
+  pub nor_counted : kind ≡ Nor → eqb count 0 ≡ gate_value kind values
+  nor_counted is = subst (λ k. eqb count 0 ≡ gate_value k values) (sym is) (sym (twice (eqb count 0)) ∙ ap not any_counted)
+
+  pub xor_counted : kind ≡ Xor → is_odd count ≡ gate_value kind values
+  xor_counted is = subst (λ k. is_odd count ≡ gate_value k values) (sym is) odd_counted
+
+  pub xnor_counted : kind ≡ Xnor → not (is_odd count) ≡ gate_value kind values
+  xnor_counted is = subst (λ k. not (is_odd count) ≡ gate_value k values) (sym is) (ap not odd_counted)
+
+  pub buff_counted : IsFanIn kind (length values) → kind ≡ Buff → not (eqb count 0) ≡ gate_value kind values
+  buff_counted fan_in is =
+      subst (λ k. not (eqb count 0) ≡ gate_value k values) (sym is) (only_counted (subst (λ k. IsFanIn k (length values)) is fan_in))
+
+  pub not_counted : IsFanIn kind (length values) → kind ≡ Not → eqb count 0 ≡ gate_value kind values
+  not_counted fan_in is =
+      subst (λ k. eqb count 0 ≡ gate_value k values) (sym is)
+      (sym (twice (eqb count 0)) ∙ ap not (only_counted (subst (λ k. IsFanIn k (length values)) is fan_in)))

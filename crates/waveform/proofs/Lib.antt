@@ -1,6 +1,6 @@
 pub mod ChangeTimes
 pub mod Counting
-pub mod Edging
 pub mod GatePins
-pub mod Passing
+pub mod Merging
+pub mod NextChanges
 pub mod Turning

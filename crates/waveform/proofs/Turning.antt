@@ -1,5 +1,5 @@
 -- The value of a wave at a time is told by how many of its changes are at or before it.
-use Rattle.std.proofs.Common.{◌≡◌, ◌≢◌, add-one, ℕ, zero, suc, ◌+◌, ◌%◌, ◌<◌, ◌≤◌, ℤ, pos, ◌+ℤ◌, ◌-ℤ◌, ◌<ℤ◌, ◌≤ℤ◌, Bool, true, false, not, cond, eqb, List, [], ◌∷◌, ◌++◌, map, length, get_or, refl, ap, ap₂, sym, ◌∙◌, arith, ⊎_elim}
+use Rattle.std.proofs.Common.{◌≡◌, ◌≢◌, add-one, ℕ, zero, suc, ◌%◌, ◌<◌, ◌≤◌, ℤ, pos, ◌+ℤ◌, ◌-ℤ◌, ◌<ℤ◌, ◌≤ℤ◌, Bool, true, false, not, cond, eqb, List, [], ◌∷◌, ◌++◌, map, length, get_or, refl, ap, ap₂, sym, ◌∙◌, arith, ⊎_elim}
 use Rattle.std.specs.Bool.{beq}
 use Rattle.std.specs.Int.RustNames.{int_le}
 use Rattle.std.specs.List.{All, AllWithin}
@@ -12,7 +12,7 @@ use Rattle.std.proofs.lemmas.Bool.{cases_lt}
 use Rattle.std.proofs.lemmas.Bool.Decides.{nat_tests}
 use Rattle.netlist.specs.Values.{parity}
 use Rattle.waveform.specs.declared.gate.TheConstants.{MOST_CHANGES}
-use Rattle.waveform.specs.Merging.{IsTurned}
+use Rattle.waveform.specs.Turns.{IsTurned}
 use Rattle.waveform.specs.Changes.{Changes, AreChangesOf, IsRising, wave_at}
 
 -- whether a number is odd
@@ -102,19 +102,6 @@ at_latest changes time earlier =
   where
     come : (change : ℤ) → change ≤ℤ time → int_le change time ≡ true
     come change less = grind (arith, ints)
-
--- one change more turns the value behind all changes
-pub turned_next : (before value : Bool) (n : ℕ) → value ≡ not (beq before (is_odd n))
-    → not value ≡ not (beq before (is_odd (n + 1)))
-turned_next before value n is =
-    ap not is ∙ once before (is_odd n) ∙ ap (λ odd. not (beq before odd)) (sym (odd_suc n))
-    ∙ ap (λ m. not (beq before (is_odd m))) (sym (add-one n))
-  where
-    once : (before odd : Bool) → not (not (beq before odd)) ≡ not (beq before (not odd))
-    once true true = refl
-    once true false = refl
-    once false true = refl
-    once false false = refl
 
 -- a wave that is later by a delay has its changes later by the delay
 pub at_moved : (before : Bool) (times : List ℤ) (delay : ℕ) (time : ℤ)

@@ -1,4 +1,4 @@
 pub mod Changes
-pub mod Edges
 pub mod GateWaves
-pub mod Merging
+pub mod PinChanges
+pub mod Turns

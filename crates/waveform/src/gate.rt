@@ -1,4 +1,5 @@
-// The wave of a gate, made of the waves of the lines that its pins read.
+// The wave of a gate, made of the waves of the lines that its pins read, in one pass over their changes. Those of one time are
+// taken together, and a change of the gate's value is counted before it is kept.
 ghost use Rattle.std.specs.Prelude.{◌≡◌, ◌<◌, ◌≤◌, length, All, IfOk, IfErr};
 ghost use Rattle.netlist.specs.Circuit.{gate_count, line_count};
 ghost use Rattle.delay_annotation.specs.Annotation.{Fits};
@@ -6,9 +7,8 @@ ghost use Rattle.waveform.specs.Changes.{IsBounded, ChangesOver, AreChangesOf};
 ghost use Rattle.waveform.specs.GateWaves.{Refuses, delayed_gate_wave};
 
 use crate::Wave;
-use crate::edges::pin_edges;
-use crate::merge::merge;
-use crate::tally::Tally;
+use crate::pin_changes::{PinWaves, is_before_all, pass, pin_waves};
+use crate::pin_count::{counted, value_of_count};
 use delay_annotation::Delays;
 use netlist::Netlist;
 use pd_base::{GateId, OutOfMemory};
@@ -67,12 +67,20 @@ pub fn gate_wave(
 {
     let lines = net.lines() as usize;
     prove!(waves.len() == lines);
-    let seen = pin_edges(alloc, net, delays, gate, waves)?;
-    let start = Tally {
-        kind: net.kind(gate),
-        pins: net.pins(gate).len(),
-        risen: seen.ones,
-        fallen: 0,
-    };
-    merge(alloc, start, seen.edges.as_slice())
+    let kind = net.kind(gate);
+    let pins = net.pins(gate).len();
+    let PinWaves {
+        mut ones,
+        mut nexts,
+    } = pin_waves(alloc, net, delays, gate, waves)?;
+    let mut wave = Wave::constant(alloc, value_of_count(kind, pins, ones));
+    while let Some(soonest) = nexts.peek() {
+        let passed = *soonest;
+        pass(waves, &mut nexts, passed);
+        ones = counted(ones, passed.rises);
+        if is_before_all(passed.time, &nexts) {
+            wave.turn(passed.time, value_of_count(kind, pins, ones))?;
+        }
+    }
+    Ok(wave)
 }

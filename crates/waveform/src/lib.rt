@@ -3,10 +3,9 @@
 //! The layer above uses the contracts of `Wave`, `source_wave` and `gate_wave`.
 #![tactic(auto)]
 
-mod edges;
 mod gate;
-mod merge;
-mod tally;
+mod pin_changes;
+mod pin_count;
 mod wave;
 
 pub use gate::{MOST_CHANGES, WaveFault, gate_wave};

@@ -2,7 +2,7 @@
 // a pin sees of its line. Waves of gates are in gate.rt.
 ghost use Rattle.std.specs.Prelude.{◌≡◌, ℤ, pos, ◌+ℤ◌, ◌-ℤ◌, ◌<ℤ◌, ◌≤ℤ◌, int_lt, if◌then◌else◌, All, IfOk, IfErr, OnOk, []};
 ghost use Rattle.waveform.specs.Changes.{AreChangesOf, IsRising, IsBounded, wave_at};
-ghost use Rattle.waveform.specs.Merging.{IsTurned, RefusesTurn};
+ghost use Rattle.waveform.specs.Turns.{IsTurned, RefusesTurn};
 
 use crate::{MOST_CHANGES, WaveFault};
 use pd_base::OutOfMemory;

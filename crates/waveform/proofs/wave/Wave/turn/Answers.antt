@@ -2,7 +2,7 @@
 use Rattle.std.proofs.Common.{◌≡◌, List, [], ◌∷◌, ◌++◌, ℤ, ap, sym, subst, ◌∙◌, arith, length, w64}
 use Rattle.std.proofs.lemmas.Int.{to_z-of_z}
 use Rattle.waveform.specs.Changes.{Changes, IsRising}
-use Rattle.waveform.specs.Merging.{IsTurned}
+use Rattle.waveform.specs.Turns.{IsTurned}
 use Rattle.waveform.proofs.Turning.{turned_by_change}
 use Rattle.waveform.proofs.wave.Wave.turn.Goals as goal
 
