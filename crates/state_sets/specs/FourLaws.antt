@@ -1,5 +1,5 @@
 -- The four states keep the laws of a kind of states: each law is computed at all of them (this project's own).
-use Rattle.std.proofs.Common.{◌≡◌, ℕ, zero, suc, ◌<◌, ◌==◌, Bool, true, false, not, cond, ◌&&◌, nat_lt, refl, sym, ap, lit≤}
+use Rattle.std.proofs.Common.{◌≡◌, ℕ, zero, suc, ◌<◌, ◌==◌, Bool, true, false, not, cond, ◌&&◌, nat_lt, refl, sym, ap, lit<, lit≤}
 use Rattle.std.proofs.lemmas.Bool.{ltb-true, eqb-true, not-true}
 use Rattle.std.proofs.lemmas.Bool.Decides.{Decides-below_and}
 use Rattle.state_sets.specs.declared.state.State.{State}
@@ -107,6 +107,7 @@ four_laws = record {
   unit_within = λ op. ltb-true (four_states.unit op).0 4 (unit_within_test op);
   invert_within = λ x in_x. ltb-true (four_states.invert x).0 4
       (tells_one 4 (λ a. nat_lt (four_states.invert a).0 4) refl x in_x);
+  sources_within = lit< tt;
   associative = λ op x y z in_x in_y in_z. same_state_tells (join op x (join op y z)) (join op (join op x y) z)
       (tells_three 4 (λ a b c. (join op a (join op b c)).0 == (join op (join op a b) c).0) (associative_test op)
       x y z in_x in_y in_z);

@@ -1,8 +1,10 @@
 pub mod FourLaws
 pub mod FourStates
+pub mod Hulls
 pub mod Labellings
 pub mod LineStates
 pub mod Narrowing
+pub mod Starts
 pub mod StateAlgebra
 pub mod StateSets
 pub mod States

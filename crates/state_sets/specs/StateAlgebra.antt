@@ -1,5 +1,5 @@
 -- What a kind of states is, as all definitions see it, and the laws that it keeps (this project's own).
-use Rattle.std.specs.Prelude.{◌≡◌, ℕ, ◌<◌, ◌≤◌, Bool, true, false, not, cond, List, [], ◌∷◌}
+use Rattle.std.specs.Prelude.{◌≡◌, ℕ, ◌<◌, ◌≤◌, ◌^◌, Bool, true, false, not, cond, List, [], ◌∷◌}
 use Rattle.state_sets.specs.declared.state.State.{State}
 use Rattle.state_sets.specs.declared.state.StateSet.{StateSet}
 use Rattle.state_sets.specs.declared.op.Op.{Op}
@@ -30,7 +30,8 @@ unit_bit And = true
 unit_bit Or = false
 unit_bit Xor = false
 
--- The laws of a kind of states, for states below the count: what is made of them is below it too; the join is associative and
+-- The laws of a kind of states, for states below the count: what is made of them is below it too, and so is each state of a source;
+-- the join is associative and
 -- commutative, with its unit; inversion undoes itself; the last value of a join is the operation's bit of the last values, and
 -- that of an inversion is the other bit.
 pub record HasLaws (a : StateAlgebra) : Type 0 where
@@ -38,6 +39,7 @@ pub record HasLaws (a : StateAlgebra) : Type 0 where
   pub join_within : (op : Op) (x y : State) → x.0 < a.count → y.0 < a.count → (a.join op x y).0 < a.count
   pub unit_within : (op : Op) → (a.unit op).0 < a.count
   pub invert_within : (x : State) → x.0 < a.count → (a.invert x).0 < a.count
+  pub sources_within : a.sources.0 < 2 ^ a.count
   pub associative : (op : Op) (x y z : State) → x.0 < a.count → y.0 < a.count → z.0 < a.count
       → a.join op x (a.join op y z) ≡ a.join op (a.join op x y) z
   pub commutative : (op : Op) (x y : State) → x.0 < a.count → y.0 < a.count → a.join op x y ≡ a.join op y x

@@ -1,0 +1,5 @@
+pub mod Sets
+pub mod Steps
+pub mod Sweeps
+pub mod Hulls
+pub mod Restart

@@ -1,0 +1,97 @@
+// The hull at a node of a tree of cases: from the start, with all halves above the node cut in.
+ghost use Rattle.std.specs.Prelude.{◌≡◌, ◌<◌, ◌↔◌, ℕ, [], All, IfOk};
+ghost use Rattle.netlist.specs.Circuit.{source_count, gate_count};
+ghost use Rattle.netlist.specs.Lawful.{IsCircuit};
+ghost use Rattle.netlist.specs.Levels.{greatest_level};
+ghost use Rattle.netlist.specs.Paths.{IsPrefix};
+ghost use Rattle.state_sets.specs.declared.state.State.{State};
+ghost use Rattle.state_sets.specs.Labellings.{IsLabelling};
+ghost use Rattle.state_sets.specs.Hulls.{HasAt};
+ghost use Rattle.hull_laws.specs.Nodes.{IsCut};
+ghost use Rattle.hulls.specs.Answers.{IsAtNode};
+ghost use Rattle.hulls.specs.Conditions.{IsEnteredOn};
+ghost use Rattle.hulls.specs.Pairs.{LosesNoPair, DecidesSingletons};
+
+use crate::{Conditions, Hull, cut_to_half, launch, settle};
+use hull_laws::Half;
+use narrowing::NarrowScratch;
+use netlist::Netlist;
+use pd_base::{Direction, Kind, LineId, OutOfMemory, Path};
+use state_sets::{Algebra, FourStates, Labels};
+use std::alloc::Global;
+
+/// The hull at a node: the greatest labels that no narrowing changes, under the conditions of the kind at the gates of the prefix,
+/// where the prefix's source launches the transition and each source of a half has only states of the half. It fails only where
+/// memory runs out, of which it takes three bytes a line beside the room for the steps.
+pub fn hull(
+    alloc: Global,
+    net: &Netlist,
+    prefix: &Path,
+    dir: Direction,
+    kind: Kind,
+    halves: &[Half],
+) -> Result<Hull, OutOfMemory>
+    requires prefix { IsPrefix net.now prefix.now }
+    requires sources { All (λ half. half.source < source_count net.now) halves.now }
+    ensures hull { IfOk result (IsAtNode net.now kind prefix.now dir halves.now) }
+
+    // no pair of vectors is lost, and singletons decide
+    ensures pairs { IfOk result (LosesNoPair net.now kind prefix.now dir halves.now) }
+    ensures singletons { IfOk result (DecidesSingletons net.now kind prefix.now dir) }
+{
+    hull_at(alloc, net, prefix, dir, kind, halves)
+}
+
+// The same, without what it tells of pairs.
+fn hull_at(
+    alloc: Global,
+    net: &Netlist,
+    prefix: &Path,
+    dir: Direction,
+    kind: Kind,
+    halves: &[Half],
+) -> Result<Hull, OutOfMemory>
+    requires prefix { IsPrefix net.now prefix.now }
+    requires sources { All (λ half. half.source < source_count net.now) halves.now }
+    ensures hull { IfOk result (IsAtNode net.now kind prefix.now dir halves.now) }
+    ensures circuit { IsCircuit net.now }
+{
+    let mut conditions = Conditions::new(alloc, net, kind)?;
+    enter_all(&mut conditions, net, prefix);
+    let mut labels = Labels::full(alloc, net)?;
+    launch(&mut labels, net, prefix.source(), dir);
+    cut_to_halves(&mut labels, net, halves);
+    let mut scratch = NarrowScratch::new(alloc, net)?;
+    match settle(net, &mut labels, &conditions, &mut scratch) {
+        None => Ok(Hull::Rest(labels)),
+        Some(line) => Ok(Hull::Empty(line)),
+    }
+}
+
+/// Enters all steps of a prefix, into conditions that have none yet. Takes no memory.
+pub fn enter_all(conditions: &mut Conditions, net: &Netlist, prefix: &Path)
+    requires circuit { IsCircuit net.now }
+    requires prefix { IsPrefix net.now prefix.now }
+    requires gates { conditions.old.gates ≡ gate_count net.now }
+    requires room { conditions.old.room ≡ greatest_level net.now }
+    requires none { conditions.old.steps ≡ [] }
+    ensures steps { conditions.new ≡ record conditions.old { steps = prefix.now.steps } }
+    ensures on { IsEnteredOn net.now conditions.new }
+{
+    for step in prefix.steps() {
+        conditions.enter(*step);
+    }
+}
+
+// Cuts the labels to all halves.
+fn cut_to_halves<A: Algebra>(labels: &mut Labels<A>, net: &Netlist, halves: &[Half])
+    requires labelling { IsLabelling A.algebra.count net.now labels.old }
+    requires sources { All (λ half. half.source < source_count net.now) halves.now }
+    ensures labelling { IsLabelling A.algebra.count net.now labels.new }
+    ensures cut { (line : ℕ) (state : State) → HasAt A.algebra.count labels.new line state
+        ↔ (HasAt A.algebra.count labels.old line state × All (IsCut A.algebra line state) halves.now) }
+{
+    for half in halves {
+        cut_to_half(labels, net, *half);
+    }
+}

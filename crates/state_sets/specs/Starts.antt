@@ -1,0 +1,34 @@
+-- What lines may be in at the start of a search for a pair: a transition is launched at the path's source (this project's own).
+use Rattle.std.specs.Prelude.{◌≡◌, ◌≢◌, ⊤, ℕ, ◌<◌, ◌≤◌, Bool, true, false, not}
+use Rattle.pd_base.specs.declared.fault.Direction.{Direction}
+use Rattle.netlist.specs.Circuit.{Circuit, source_count}
+use Rattle.netlist.specs.Conditions.{final_bit}
+use Rattle.state_sets.specs.declared.state.State.{State}
+use Rattle.state_sets.specs.declared.state.StateSet.{StateSet}
+use Rattle.state_sets.specs.States.{Has}
+use Rattle.state_sets.specs.StateAlgebra.{StateAlgebra}
+
+-- a source in this state launches the transition: it is not steady, and its last value is that of the direction
+pub record IsLaunching (a : StateAlgebra) (direction : Direction) (state : State) : Type 0 where
+  pub moves : a.steady state ≡ false
+  pub ends : a.last state ≡ final_bit direction
+
+-- a source that is not the path's may be in every state
+abbrev pub IsOtherStart : StateAlgebra → State → Type 0
+IsOtherStart a state = ⊤
+
+-- what a line may be in at the start: the path's source launches the transition, the other sources may be in their states, and the
+-- line of a gate in every state
+pub record MayStart (a : StateAlgebra) (c : Circuit) (source : ℕ) (direction : Direction) (line : ℕ) (state : State) : Type 0 where
+  pub own : line ≡ source → IsLaunching a direction state
+  pub other : line < source_count c → line ≢ source → IsOtherStart a state
+
+-- one of two parts of the states of a source, by its last value or by its steadiness: last value 0, or steady, is the first part
+abbrev pub IsInHalf : StateAlgebra → Bool → Bool → State → Type 0
+IsInHalf a true second state = a.steady state ≡ not second
+IsInHalf a false second state = a.last state ≡ second
+
+-- the state is that of the least number in the set
+pub record IsLeast (count : ℕ) (set : StateSet) (state : State) : Type 0 where
+  pub has : Has count set state
+  pub least : (other : State) → Has count set other → state.0 ≤ other.0
