@@ -1,0 +1,4 @@
+pub mod Completions
+pub mod FiveTests
+pub mod Joins
+mod KnownFives

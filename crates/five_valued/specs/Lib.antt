@@ -1,0 +1,2 @@
+pub mod FiveSets
+pub mod FiveValues
