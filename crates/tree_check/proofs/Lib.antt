@@ -1,0 +1,5 @@
+pub mod States
+pub mod Walking
+pub mod Told
+pub mod Checking
+pub mod Ends

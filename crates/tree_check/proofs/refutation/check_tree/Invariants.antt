@@ -1,0 +1,12 @@
+use Rattle.std.proofs.Common.{◌≡◌, length}
+use Rattle.netlist.specs.Circuit.{line_count}
+use Rattle.tree_laws.specs.Faults.{IsRightInRefutation}
+use Rattle.tree_check.proofs.Checking.{HasChecked}
+use Rattle.tree_check.proofs.refutation.check_tree.Given as goal
+
+abbrev pub invariant-loop-place : goal.invariant-loop-place
+invariant-loop-place l = record {
+  lines : length l.labels ≡ line_count l.net;
+  checked : HasChecked (IsRightInRefutation l.net l.fn.kind l.prefix l.fn.dir) l.net l.prefix.source.0 l.fn.dir l.node-items l.place
+      l.walk.sets.items l.walk.above.items;
+}

@@ -1,0 +1,4 @@
+pub mod Walks
+pub mod NodeLabels
+pub mod Judged
+pub mod Answers

@@ -1,0 +1,54 @@
+// The states of one half of a split, and those that launch a transition.
+ghost use Rattle.std.specs.Prelude.{◌≡◌, ◌<◌, ◌↔◌, IsTrue};
+ghost use Rattle.state_sets.specs.States.{Has, IsWithin};
+ghost use Rattle.state_sets.specs.FourStates.{four_states};
+ghost use Rattle.state_sets.specs.Starts.{IsInHalf, IsLaunching, IsLeast};
+ghost use Rattle.state_sets.specs.declared.state.State.{State};
+ghost use Rattle.tree_laws.specs.Spent.{HasInHalf};
+
+use hull_laws::Half;
+use pd_base::Direction;
+use state_sets::{State, StateSet};
+
+// The states of a half.
+pub(crate) fn states_of(half: Half) -> StateSet
+    ensures within { IsWithin 4 result }
+    ensures exactly { (state : State) → state.0 < 4 → Has 4 result state ↔ IsInHalf four_states half.steadiness half.second state }
+{
+    match (half.steadiness, half.second) {
+        (false, false) => StateSet(0b0101),
+        (false, true) => StateSet(0b1010),
+        (true, false) => StateSet(0b0011),
+        (true, true) => StateSet(0b1100),
+    }
+}
+
+// The states in which a source launches the transition.
+pub(crate) fn launching(dir: Direction) -> StateSet
+    ensures within { IsWithin 4 result }
+    ensures exactly { (state : State) → state.0 < 4 → Has 4 result state ↔ IsLaunching four_states dir state }
+{
+    match dir {
+        Direction::Rise => StateSet(0b1000),
+        Direction::Fall => StateSet(0b0100),
+    }
+}
+
+// Whether a set has some state of a half.
+pub(crate) fn has_in_half(set: StateSet, half: Half) -> bool
+    ensures { IsTrue result ↔ HasInHalf set half.steadiness half.second }
+{
+    set.intersect(states_of(half)) != StateSet::EMPTY
+}
+
+// The set of the least state of a set alone, or no state where it has none.
+pub(crate) fn least_only(set: StateSet) -> StateSet
+    requires { IsWithin 4 set }
+    ensures within { IsWithin 4 result }
+    ensures exactly { (state : State) → Has 4 result state ↔ IsLeast 4 set state }
+{
+    if set == StateSet::EMPTY {
+        return set;
+    }
+    StateSet::only(State(set.0.trailing_zeros() as u8))
+}

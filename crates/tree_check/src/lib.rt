@@ -1,0 +1,16 @@
+//! Whether a tree of cases refutes, and whether it shows that a budget was spent; if not, which node is first at fault.
+//! Stands on pd_base, netlist, fan_in, state_sets, hull_laws, narrowing, hulls, refutation_check and tree_laws.
+//! The layers above use the contracts of `check_tree` and `check_spent`.
+#![tactic(auto)]
+
+mod answer;
+mod halves;
+mod judging;
+mod labels;
+mod refutation;
+mod spent;
+mod walk;
+
+pub use answer::TreeCheck;
+pub use refutation::check_tree;
+pub use spent::check_spent;

@@ -1,0 +1,132 @@
+// Whether a tree shows that a budget was spent.
+ghost use Rattle.std.specs.Prelude.{◌≡◌, ◌<◌, ◌↔◌, List, length, Contains, IfOk, IsTrue};
+ghost use Rattle.pd_base.specs.Route.{Route};
+ghost use Rattle.pd_base.specs.declared.fault.Direction.{Direction};
+ghost use Rattle.netlist.specs.Circuit.{line_count, source_count};
+ghost use Rattle.netlist.specs.Paths.{IsPrefix, end_of};
+ghost use Rattle.state_sets.specs.States.{AreWithin};
+ghost use Rattle.hull_laws.specs.declared.half.Half.{Half};
+ghost use Rattle.hulls.specs.Conditions.{IsEnteredOn};
+ghost use Rattle.tree_laws.specs.Spent.{IsSpent};
+ghost use Rattle.tree_laws.specs.Bounds.{IsBelowBound};
+ghost use Rattle.tree_laws.specs.Faults.{IsRightInSpent};
+ghost use Rattle.tree_check.specs.Judged.{IsNode, IsConeOf};
+ghost use Rattle.tree_check.specs.Answers.{TellsOfSpent};
+
+use crate::TreeCheck;
+use crate::judging::{is_due, is_open, node_closes};
+use crate::walk::Walk;
+use fan_in::support;
+use hulls::{Conditions, enter_all};
+use narrowing::NarrowScratch;
+use netlist::Netlist;
+use pd_base::{Direction, Kind, LineId, OutOfMemory, Path};
+use refutation_check::{Node, Tree};
+use state_sets::{FourStates, Labels, StateSet};
+use std::alloc::Global;
+
+/// Whether a tree shows that a budget was spent on a path and a transition under the conditions of a kind of test. No(0) where it has
+/// more or fewer splits than the budget, or no open leaf. Else No names the first node in preorder that breaks a rule: a closed leaf
+/// whose node does not close; an open leaf or a split whose node closes, or whose trial does not; a split on a source outside the
+/// support, or on one that has no state of some half in the hull. After Yes the budget is below four to the power of the number of
+/// sources in the support but one. It fails only where memory runs out, of which it takes a few bytes for each line and for each half
+/// above a node.
+pub fn check_spent(
+    alloc: Global,
+    net: &Netlist,
+    path: &Path,
+    dir: Direction,
+    kind: Kind,
+    budget: u32,
+    tree: &Tree,
+) -> Result<TreeCheck, OutOfMemory>
+    requires { IsPrefix net.now path.now }
+    ensures tells { IfOk result (TellsOfSpent net.now kind path.now dir budget tree.now) }
+    ensures exactly { IfOk result (λ check. (check ≡ TreeCheck.Yes) ↔ IsSpent net.now kind path.now dir budget tree.now) }
+    ensures bound { result ≡ Ok TreeCheck.Yes → IsBelowBound net.now path.now budget }
+{
+    if tree.splits() != budget || !has_open(tree.nodes()) {
+        return Ok(TreeCheck::No(0));
+    }
+    let mut conditions = Conditions::new(alloc, net, kind)?;
+    enter_all(&mut conditions, net, path);
+    let cone = cone_of(alloc, net, path)?;
+    let mut labels = Labels::full(alloc, net)?;
+    let mut scratch = NarrowScratch::new(alloc, net)?;
+    let mut walk = Walk::new(alloc, net, path.source(), dir)?;
+    for (place, node) in tree.nodes().iter().enumerate() {
+        if !is_right_at(
+            net,
+            &conditions,
+            cone.as_slice(),
+            *node,
+            walk.sets.as_slice(),
+            &mut labels,
+            &mut scratch,
+        ) {
+            return Ok(TreeCheck::No(place as u32));
+        }
+        walk.pass(*node)?;
+    }
+    Ok(TreeCheck::Yes)
+}
+
+// Whether a node is as a spent tree asks.
+fn is_right_at(
+    net: &Netlist,
+    conditions: &Conditions,
+    cone: &[bool],
+    node: Node,
+    sets: &[StateSet],
+    labels: &mut Labels<FourStates>,
+    scratch: &mut NarrowScratch,
+) -> bool
+    requires conditions { IsEnteredOn net.now conditions.now }
+    requires cone { length cone.now ≡ line_count net.now }
+    requires lines { length labels.old ≡ line_count net.now }
+    requires sources { length sets.now ≡ source_count net.now }
+    requires within { AreWithin 4 sets.now }
+    ensures lines { length labels.new ≡ line_count net.now }
+    ensures right { (path : Route) (direction : Direction) (halves : List Half)
+        → IsNode net.now conditions.now.steps sets.now path direction halves → IsConeOf net.now path cone.now
+        → IsTrue result ↔ IsRightInSpent net.now conditions.now.kind path direction halves node }
+{
+    match node {
+        Node::Closed => node_closes(net, conditions, sets, labels, scratch),
+        Node::Waiting => is_open(net, conditions, cone, sets, labels, scratch),
+        Node::Value(source) => is_due(net, conditions, cone, sets, labels, scratch, source, false),
+        Node::Steadiness(source) => is_due(
+            net, conditions, cone, sets, labels, scratch, source, true,
+        ),
+    }
+}
+
+// Whether some leaf is open.
+fn has_open(nodes: &[Node]) -> bool
+    ensures { IsTrue result ↔ Contains nodes.now Node.Waiting }
+{
+    nodes.contains(&Node::Waiting)
+}
+
+// Which lines stand in the transitive fan-in of a path's end, by line number.
+fn cone_of(alloc: Global, net: &Netlist, path: &Path) -> Result<Vec<bool>, OutOfMemory>
+    requires { IsPrefix net.now path.now }
+    ensures lines { IfOk result (λ cone. length cone.items ≡ line_count net.now) }
+    ensures exactly { IfOk result (λ cone. IsConeOf net.now path.now cone.items) }
+{
+    let mut cone = vec![in alloc; false; net.lines() as usize]?;
+    support(net, end_of(net, path), cone.as_mut_slice());
+    Ok(cone)
+}
+
+// The last line of a path.
+fn end_of(net: &Netlist, path: &Path) -> LineId
+    requires { IsPrefix net.now path.now }
+    ensures end { result.0 ≡ end_of net.now path.now }
+    ensures line { result.0 < line_count net.now }
+{
+    match path.steps().last() {
+        Some(step) => LineId(net.sources() + step.gate.0),
+        None => path.source(),
+    }
+}

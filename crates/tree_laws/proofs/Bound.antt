@@ -1,0 +1,203 @@
+-- A spent tree has less splits than four to the power of the number of sources in the support, the path's own not counted: each
+-- leaf below a node takes one of the combinations of states that the halves leave the other sources.
+use Rattle.std.proofs.Common.{◌≡◌, ◌≢◌, ℕ, zero, suc, ◌+◌, ◌-◌, ◌*◌, ◌^◌, ◌<◌, ◌≤◌, Bool, true, false, cond, ◌&&◌, ◌==◌, List, [], ◌∷◌, ◌++◌, length, refl, sym, ap, ◌∙◌, subst, arith, pow-suc, eq-eqb}
+use Rattle.std.proofs.lemmas.List.Sums.{sum_by-append}
+use Rattle.std.proofs.lemmas.Bool.{eqb-true, false≢true}
+use Rattle.pd_base.specs.Route.{Route}
+use Rattle.pd_base.specs.declared.fault.Direction.{Direction}
+use Rattle.pd_base.specs.declared.fault.Kind.{Kind}
+use Rattle.netlist.specs.Circuit.{Circuit}
+use Rattle.netlist.specs.Paths.{IsPrefix}
+use Rattle.state_sets.specs.declared.state.StateSet.{StateSet}
+use Rattle.state_sets.specs.Labellings.{label_at}
+use Rattle.state_sets.specs.FourStates.{four_states}
+use Rattle.state_sets.specs.Starts.{IsLaunching}
+use Rattle.hull_laws.specs.declared.half.Half.{Half}
+use Rattle.hull_laws.specs.Nodes.{MayBe}
+use Rattle.refutation_check.specs.declared.tree.Node.{Node}
+use Rattle.refutation_check.specs.declared.tree.Node.TheVariants.{Value, Steadiness}
+use Rattle.refutation_check.specs.Trees.{Cases, preorder, is_split, split_count}
+use Rattle.refutation_check.specs.Trees.Cases.{closed, waiting, by_value, by_steadiness}
+use Rattle.pair_laws.proofs.FanIns.{leads_in_fan_in}
+use Rattle.tree_laws.specs.Refutations.{below}
+use Rattle.tree_laws.specs.Spent.{IsInSupport, IsDue, IsOpen, HasInHalf, IsSpentBelow, IsSpent}
+use Rattle.tree_laws.specs.Bounds.{AreSupport, IsBelowBound}
+use Rattle.tree_laws.proofs.Products.{product_by, product-pos, product_parts, product_fewer}
+use Rattle.tree_laws.proofs.Weights.{states_left, leaves_all, cut_passes, counted, other_stays, split_parts, in_half, in_half_passes, leaves_more}
+
+-- a path's source is in its support
+pub own_in_support : (c : Circuit) (path : Route) → IsPrefix c path → IsInSupport c path path.source.0
+own_in_support c path prefix = record {
+  is_source = prefix.source;
+  in_fan_in = leads_in_fan_in c path.source.0 path.steps prefix.connects;
+}
+
+-- how many leaves there are
+abbrev pub leaf_count : Cases → ℕ
+leaf_count closed = 1
+leaf_count waiting = 1
+leaf_count (by_value source first second) = leaf_count first + leaf_count second
+leaf_count (by_steadiness source first second) = leaf_count first + leaf_count second
+
+splits_append : (xs ys : List Node) → split_count (xs ++ ys) ≡ split_count xs + split_count ys
+splits_append xs ys = sum_by-append (λ node. cond (is_split node) 1 0) xs ys
+
+-- there is one leaf more than splits
+pub leaves_and_splits : (cases : Cases) → leaf_count cases ≡ split_count (preorder cases) + 1
+leaves_and_splits closed = refl
+leaves_and_splits waiting = refl
+leaves_and_splits (by_value source first second) =
+    let one : split_count (preorder (by_value source first second)) ≡ 1 + split_count (preorder first ++ preorder second) =
+    splits_append (Value source ∷ []) (preorder first ++ preorder second) in
+    omega (arith, splits_append (preorder first) (preorder second), leaves_and_splits first, leaves_and_splits second)
+leaves_and_splits (by_steadiness source first second) =
+    let one : split_count (preorder (by_steadiness source first second)) ≡ 1 + split_count (preorder first ++ preorder second) =
+    splits_append (Steadiness source ∷ []) (preorder first ++ preorder second) in
+    omega (arith, splits_append (preorder first) (preorder second), leaves_and_splits first, leaves_and_splits second)
+
+module _ (c : Circuit) (kind : Kind) (path : Route) (direction : Direction) where
+  -- how many states the halves leave a source: one to the path's own
+  abbrev pub weight_of : List Half → ℕ → ℕ
+  weight_of halves source = cond (source == path.source.0) 1 (states_left halves source)
+
+  -- a state in the hull of a half, at a node that is open, is left in that half
+  half_left : (halves : List Half) (hull : List StateSet) (steadiness : Bool) (source : ℕ) (second : Bool)
+      → IsOpen c kind path direction halves hull → HasInHalf (label_at hull source) steadiness second
+      → 1 ≤ states_left (below halves steadiness source second) source
+  half_left halves hull steadiness source second open_here has =
+      let may : MayBe four_states c path.source.0 direction halves source has.0 =
+      open_here.is_hull.rest.among source has.0 has.1 in
+      let in_it : in_half steadiness second has.0 ≡ true = in_half_passes steadiness second has.0 has.2 in
+      let left : leaves_all halves source has.0 ≡ true = cut_passes halves source has.0 may.cut in
+      counted has.0.0 has.1.in_range (leaves_all (below halves steadiness source second) source)
+      (leaves_more halves (record { source = source; steadiness = steadiness; second = second }) source has.0
+      ∙ both (leaves_all halves source has.0) (source == source) (in_half steadiness second has.0) left in_it)
+    where
+      both : (a b d : Bool) → a ≡ true → d ≡ true → (a && cond b d true) ≡ true
+      both a true d is_a is_d = cc
+      both a false d is_a is_d = cc
+
+  -- a due split is not on the path's own source, which has one state
+  due_other : (halves : List Half) (steadiness : Bool) (source : ℕ) → IsDue c kind path direction halves steadiness source
+      → source ≢ path.source.0
+  due_other halves steadiness source due own =
+      by steadiness due.in_first due.in_second
+    where
+      by : (st : Bool) → HasInHalf (label_at due.hull source) st false → HasInHalf (label_at due.hull source) st true → ⊥
+      by true first second =
+          let moves : IsLaunching four_states direction first.0 =
+          (due.is_open.is_hull.rest.among source first.0 first.1).start.own own in
+          false≢true (sym moves.moves ∙ first.2)
+      by false first second =
+          let ends : IsLaunching four_states direction first.0 =
+          (due.is_open.is_hull.rest.among source first.0 first.1).start.own own in
+          let ends_too : IsLaunching four_states direction second.0 =
+          (due.is_open.is_hull.rest.among source second.0 second.1).start.own own in
+          false≢true (sym first.2 ∙ ends.ends ∙ sym ends_too.ends ∙ second.2)
+
+  module _ (sources : List ℕ) (support : AreSupport c path sources) where
+    -- the leaves of both halves together are no more than the combinations that the node leaves
+    halves_fit : (halves : List Half) (steadiness : Bool) (source : ℕ) (first second : Cases)
+        → IsDue c kind path direction halves steadiness source
+        → ((s : ℕ) → 1 ≤ weight_of halves s)
+        → (((s : ℕ) → 1 ≤ weight_of (below halves steadiness source false) s)
+        → leaf_count first ≤ product_by (weight_of (below halves steadiness source false)) sources)
+        → (((s : ℕ) → 1 ≤ weight_of (below halves steadiness source true) s)
+        → leaf_count second ≤ product_by (weight_of (below halves steadiness source true)) sources)
+        → leaf_count first + leaf_count second ≤ product_by (weight_of halves) sources
+    halves_fit halves steadiness source first second due some below_first below_second =
+        let place = (support.exactly source).1 due.in_support in
+        let sum = product_parts (weight_of halves) (weight_of (below halves steadiness source false))
+        (weight_of (below halves steadiness source true)) source parts (same false) (same true) sources support.once place.0 place.1 place.2 in
+        omega (arith, sum, below_first (still false due.in_first), below_second (still true due.in_second))
+      where
+        here : (h : List Half) → weight_of h source ≡ states_left h source
+        here h = by (source == path.source.0) (λ e. eqb-true source path.source.0 e)
+          where
+            by : (own : Bool) → (own ≡ true → source ≡ path.source.0) → cond own 1 (states_left h source) ≡ states_left h source
+            by true tells = absurd (due_other halves steadiness source due (tells refl))
+            by false tells = refl
+
+        parts : weight_of halves source
+            ≡ weight_of (below halves steadiness source false) source + weight_of (below halves steadiness source true) source
+        parts = omega (
+          arith,
+          here halves,
+          here (below halves steadiness source false),
+          here (below halves steadiness source true),
+          split_parts halves steadiness source,
+        )
+
+        same : (half : Bool) (s : ℕ) → s ≢ source → weight_of halves s ≡ weight_of (below halves steadiness source half) s
+        same half s other =
+            ap (λ n. cond (s == path.source.0) 1 n) (sym (other_stays halves steadiness source half s other))
+
+        still : (half : Bool) → HasInHalf (label_at due.hull source) steadiness half
+            → (s : ℕ) → 1 ≤ weight_of (below halves steadiness source half) s
+        still half has s = by (s == source) (λ e. eqb-true s source e) (λ e. ne e)
+          where
+            ne : (s == source) ≡ false → s ≢ source
+            ne e is = false≢true (sym e ∙ ap (λ k. k == source) is ∙ eq-eqb source source refl)
+
+            by : (at : Bool) → (at ≡ true → s ≡ source) → (at ≡ false → s ≢ source)
+                → 1 ≤ weight_of (below halves steadiness source half) s
+            by true tells tells_not =
+                let P : ℕ → Type 0 = λ k. 1 ≤ weight_of (below halves steadiness source half) k in
+                subst P (sym (tells refl))
+                (omega (
+                  arith,
+                  here (below halves steadiness source half),
+                  half_left halves due.hull steadiness source half due.is_open has,
+                ))
+            by false tells tells_not = omega (arith, some s, same half s (tells_not refl))
+
+    -- a spent tree below some halves has no more leaves than they leave combinations
+    leaves_fit : (cases : Cases) (halves : List Half) → IsSpentBelow c kind path direction halves cases
+        → ((s : ℕ) → 1 ≤ weight_of halves s) → leaf_count cases ≤ product_by (weight_of halves) sources
+    leaves_fit closed halves spent some = product-pos (weight_of halves) sources some
+    leaves_fit waiting halves spent some = product-pos (weight_of halves) sources some
+    leaves_fit (by_value source first second) halves spent some =
+        halves_fit halves false source first second spent.0 some
+        (leaves_fit first (below halves false source false) spent.1) (leaves_fit second (below halves false source true) spent.2)
+    leaves_fit (by_steadiness source first second) halves spent some =
+        halves_fit halves true source first second spent.0 some
+        (leaves_fit first (below halves true source false) spent.1) (leaves_fit second (below halves true source true) spent.2)
+
+-- what the bound says of a product
+below_power : (n leaves product : ℕ) → 0 < n → leaves ≤ product → 4 * product ≤ 4 ^ n → leaves ≤ 4 ^ (n - 1)
+below_power zero leaves product some fit few = absurd (omega arith)
+below_power (suc n) leaves product some fit few =
+    let power : 4 ^ suc n ≡ 4 ^ n * 4 = pow-suc 4 n in
+    let e : suc n - 1 ≡ n = omega arith in
+    rw e (omega arith)
+
+-- a spent budget is below the bound
+pub spent_below_bound : (c : Circuit) (kind : Kind) (path : Route) (direction : Direction) (budget : ℕ) (nodes : List Node)
+    → IsPrefix c path → IsSpent c kind path direction budget nodes → IsBelowBound c path budget
+spent_below_bound c kind path direction budget nodes prefix spent sources support =
+    let own = (support.exactly path.source.0).1 (own_in_support c path prefix) in
+    let fit : leaf_count spent.cases ≤ product_by (weight_of c kind path direction []) sources =
+    leaves_fit c kind path direction sources support spent.cases [] spent.spent some in
+    let few : 4 * product_by (weight_of c kind path direction []) sources ≤ 4 ^ length sources =
+    product_fewer (weight_of c kind path direction []) four path.source.0 one sources own.0 own.1 own.2 in
+    let bound : leaf_count spent.cases ≤ 4 ^ (length sources - 1) =
+    below_power (length sources) (leaf_count spent.cases) (product_by (weight_of c kind path direction []) sources)
+    (omega (arith, own.1)) fit few in
+    omega (arith, bound, leaves_and_splits spent.cases, ap split_count spent.tree, spent.splits)
+  where
+    some : (s : ℕ) → 1 ≤ cond (s == path.source.0) 1 4
+    some s = by (s == path.source.0)
+      where
+        by : (b : Bool) → 1 ≤ cond b 1 4
+        by true = omega arith
+        by false = omega arith
+
+    four : (s : ℕ) → cond (s == path.source.0) 1 4 ≤ 4
+    four s = by (s == path.source.0)
+      where
+        by : (b : Bool) → cond b 1 4 ≤ 4
+        by true = omega arith
+        by false = omega arith
+
+    one : cond (path.source.0 == path.source.0) 1 4 ≤ 1
+    one = rw (eq-eqb path.source.0 path.source.0 refl) (omega arith)

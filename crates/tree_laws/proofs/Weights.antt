@@ -1,0 +1,179 @@
+-- How many states of a source the halves above a node leave, and how a split parts them.
+use Rattle.std.proofs.Common.{◌≡◌, ◌≢◌, ℕ, zero, suc, ◌+◌, ◌<◌, ◌≤◌, Bool, true, false, cond, not, ◌&&◌, ◌==◌, List, [], ◌∷◌, ◌++◌, refl, sym, ap, ◌∙◌, arith, eq-eqb}
+use Rattle.std.specs.Prelude.{All}
+use Rattle.std.proofs.lemmas.List.Elements.{All-tail}
+use Rattle.std.proofs.lemmas.Bool.{eqb-true, false≢true}
+use Rattle.state_sets.specs.declared.state.State.{State}
+use Rattle.state_sets.specs.FourStates.{four_states}
+use Rattle.state_sets.specs.FourLaws.{state_of, same_bit}
+use Rattle.state_sets.specs.Starts.{IsInHalf}
+use Rattle.hull_laws.specs.declared.half.Half.{Half}
+use Rattle.hull_laws.specs.Nodes.{IsCut}
+use Rattle.tree_laws.specs.Refutations.{below}
+
+-- whether the state is in this half
+abbrev pub in_half : Bool → Bool → State → Bool
+in_half true second state = same_bit (four_states.steady state) (not second)
+in_half false second state = same_bit (four_states.last state) second
+
+-- whether the half, if it is one of this source, leaves it the state
+abbrev pub leaves_one : ℕ → State → Half → Bool
+leaves_one source state half = cond (source == half.source) (in_half half.steadiness half.second state) true
+
+-- whether all halves do
+abbrev pub leaves_all : List Half → ℕ → State → Bool
+leaves_all [] source state = true
+leaves_all (half ∷ halves) source state = leaves_one source state half && leaves_all halves source state
+
+-- 1 for a test that passes
+abbrev pub one_if : Bool → ℕ
+one_if true = 1
+one_if false = 0
+
+-- how many of the four states pass a test
+abbrev pub count_four : (State → Bool) → ℕ
+count_four test = one_if (test (state_of 0)) + one_if (test (state_of 1)) + one_if (test (state_of 2)) + one_if (test (state_of 3))
+
+-- how many states the halves leave a source
+abbrev pub states_left : List Half → ℕ → ℕ
+states_left halves source = count_four (leaves_all halves source)
+
+same_bit_itself : (a b : Bool) → a ≡ b → same_bit a b ≡ true
+same_bit_itself true true e = refl
+same_bit_itself false false e = refl
+same_bit_itself true false e = sym e
+same_bit_itself false true e = e
+
+-- a state in a half passes the test of it
+pub in_half_passes : (steadiness second : Bool) (state : State) → IsInHalf four_states steadiness second state
+    → in_half steadiness second state ≡ true
+in_half_passes true second state is = same_bit_itself (four_states.steady state) (not second) is
+in_half_passes false second state is = same_bit_itself (four_states.last state) second is
+
+one_passes : (source : ℕ) (state : State) (half : Half) → IsCut four_states source state half → leaves_one source state half ≡ true
+one_passes source state half cut = by (source == half.source) (λ e. eqb-true source half.source e)
+  where
+    by : (same : Bool) → (same ≡ true → source ≡ half.source)
+        → cond same (in_half half.steadiness half.second state) true ≡ true
+    by true tells = in_half_passes half.steadiness half.second state (cut (tells refl))
+    by false tells = refl
+
+both_pass : (a b : Bool) → a ≡ true → b ≡ true → (a && b) ≡ true
+both_pass a b is_a is_b = cc
+
+-- a state that all halves cut out passes
+pub cut_passes : (halves : List Half) (source : ℕ) (state : State) → All (IsCut four_states source state) halves
+    → leaves_all halves source state ≡ true
+cut_passes [] source state cut = refl
+cut_passes (half ∷ halves) source state cut =
+    both_pass (leaves_one source state half) (leaves_all halves source state)
+    (one_passes source state half (cut 0 half (omega arith)))
+    (cut_passes halves source state (All-tail (IsCut four_states source state) half halves cut))
+
+-- what a line may be in is counted
+pub counted : (n : ℕ) → n < 4 → (test : State → Bool) → test (state_of n) ≡ true → 1 ≤ count_four test
+counted zero few test passes = by (test (state_of 0)) passes
+  where
+    by : (b : Bool) → b ≡ true → 1 ≤ one_if b + one_if (test (state_of 1)) + one_if (test (state_of 2)) + one_if (test (state_of 3))
+    by true e = omega arith
+    by false e = absurd (false≢true e)
+counted (suc zero) few test passes = by (test (state_of 1)) passes
+  where
+    by : (b : Bool) → b ≡ true → 1 ≤ one_if (test (state_of 0)) + one_if b + one_if (test (state_of 2)) + one_if (test (state_of 3))
+    by true e = omega arith
+    by false e = absurd (false≢true e)
+counted (suc (suc zero)) few test passes = by (test (state_of 2)) passes
+  where
+    by : (b : Bool) → b ≡ true → 1 ≤ one_if (test (state_of 0)) + one_if (test (state_of 1)) + one_if b + one_if (test (state_of 3))
+    by true e = omega arith
+    by false e = absurd (false≢true e)
+counted (suc (suc (suc zero))) few test passes = by (test (state_of 3)) passes
+  where
+    by : (b : Bool) → b ≡ true → 1 ≤ one_if (test (state_of 0)) + one_if (test (state_of 1)) + one_if (test (state_of 2)) + one_if b
+    by true e = omega arith
+    by false e = absurd (false≢true e)
+counted (suc (suc (suc (suc n)))) few test passes = absurd (omega arith)
+
+one_if_few : (b : Bool) → one_if b ≤ 1
+one_if_few true = omega arith
+one_if_few false = omega arith
+
+-- there are four at most
+pub count_few : (test : State → Bool) → count_four test ≤ 4
+count_few test = omega (
+  arith,
+  one_if_few (test (state_of 0)),
+  one_if_few (test (state_of 1)),
+  one_if_few (test (state_of 2)),
+  one_if_few (test (state_of 3)),
+)
+
+-- one half more behind the others
+pub leaves_more : (halves : List Half) (half : Half) (source : ℕ) (state : State)
+    → leaves_all (halves ++ half ∷ []) source state ≡ (leaves_all halves source state && leaves_one source state half)
+leaves_more [] half source state = by (leaves_one source state half)
+  where
+    by : (b : Bool) → (b && true) ≡ (true && b)
+    by true = refl
+    by false = refl
+leaves_more (first ∷ halves) half source state =
+    ap (λ b. leaves_one source state first && b) (leaves_more halves half source state)
+    ∙ by (leaves_one source state first) (leaves_all halves source state) (leaves_one source state half)
+  where
+    by : (a b c : Bool) → (a && (b && c)) ≡ ((a && b) && c)
+    by true b c = refl
+    by false b c = refl
+
+-- a half of another source leaves a source all its states
+pub other_stays : (halves : List Half) (steadiness : Bool) (split : ℕ) (second : Bool) (source : ℕ) → source ≢ split
+    → states_left (below halves steadiness split second) source ≡ states_left halves source
+other_stays halves steadiness split second source other =
+    let same : (state : State) → leaves_all (below halves steadiness split second) source state ≡ leaves_all halves source state =
+    λ state. leaves_more halves (record { source = split; steadiness = steadiness; second = second }) source state
+    ∙ by (source == split) (λ e. eqb-true source split e) (leaves_all halves source state) (in_half steadiness second state) in
+    cong4 (same (state_of 0)) (same (state_of 1)) (same (state_of 2)) (same (state_of 3))
+  where
+    by : (same : Bool) → (same ≡ true → source ≡ split) → (a b : Bool) → (a && cond same b true) ≡ a
+    by true tells a b = absurd (other (tells refl))
+    by false tells true b = refl
+    by false tells false b = refl
+
+    cong4 : {a b c d p q r s : Bool} → a ≡ p → b ≡ q → c ≡ r → d ≡ s
+        → one_if a + one_if b + one_if c + one_if d ≡ one_if p + one_if q + one_if r + one_if s
+    cong4 e f g h = cc
+
+-- a split parts the states of its source
+pub split_parts : (halves : List Half) (steadiness : Bool) (split : ℕ)
+    → states_left halves split ≡ states_left (below halves steadiness split false) split + states_left (below halves steadiness split true) split
+split_parts halves steadiness split =
+    let parts : (state : State) → one_if (leaves_all halves split state)
+    ≡ one_if (leaves_all (below halves steadiness split false) split state) + one_if (leaves_all (below halves steadiness split true) split state) =
+    λ state.
+    let first = leaves_more halves (record { source = split; steadiness = steadiness; second = false }) split state in
+    let second = leaves_more halves (record { source = split; steadiness = steadiness; second = true }) split state in
+    by steadiness (leaves_all halves split state) state
+    ∙ ap (λ b. one_if (leaves_all halves split state && cond b (in_half steadiness false state) true)
+    + one_if (leaves_all halves split state && cond b (in_half steadiness true state) true)) (sym itself)
+    ∙ ap (λ b. one_if b + one_if (leaves_all halves split state && cond (split == split) (in_half steadiness true state) true)) (sym first)
+    ∙ ap (λ b. one_if (leaves_all (below halves steadiness split false) split state) + one_if b) (sym second) in
+    omega (arith, parts (state_of 0), parts (state_of 1), parts (state_of 2), parts (state_of 3))
+  where
+    itself : (split == split) ≡ true
+    itself = eq-eqb split split refl
+
+    halved : (a b : Bool) → one_if a ≡ one_if (a && same_bit b false) + one_if (a && same_bit b true)
+    halved true true = refl
+    halved true false = refl
+    halved false true = refl
+    halved false false = refl
+
+    halved_too : (a b : Bool) → one_if a ≡ one_if (a && same_bit b true) + one_if (a && same_bit b false)
+    halved_too true true = refl
+    halved_too true false = refl
+    halved_too false true = refl
+    halved_too false false = refl
+
+    by : (steadiness a : Bool) (state : State)
+        → one_if a ≡ one_if (a && in_half steadiness false state) + one_if (a && in_half steadiness true state)
+    by true a state = halved_too a (four_states.steady state)
+    by false a state = halved a (four_states.last state)

@@ -1,0 +1,5 @@
+pub mod Refutations
+pub mod Spent
+pub mod Bounds
+pub mod Halves
+pub mod Faults
