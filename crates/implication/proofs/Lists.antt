@@ -1,0 +1,79 @@
+-- The lists of assumptions that scopes make: how they grow, are cut, and that there is room for each.
+use Rattle.std.proofs.Common.{◌≡◌, ◌≢◌, ℕ, ◌<◌, ◌≤◌, List, [], ◌∷◌, ◌++◌, length, take, bit_and, sym, ap, ◌∙◌, subst, arith}
+use Rattle.std.specs.Int.Bits.{and_self}
+use Rattle.std.proofs.lemmas.Nat.{and_assoc}
+use Rattle.std.proofs.lemmas.List.{append-nil}
+use Rattle.pd_base.specs.declared.ids.LineId.{LineId}
+use Rattle.pd_base.specs.declared.ids.PinRef.{PinRef}
+use Rattle.netlist.specs.Circuit.{Circuit, source_count, line_count}
+use Rattle.netlist.specs.Lawful.{IsCircuit}
+use Rattle.netlist.specs.Pins.{IsPinOn}
+use Rattle.netlist.specs.Paths.{Connects}
+use Rattle.path_laws.proofs.StepCounts.{steps_within_levels}
+use Rattle.state_sets.specs.declared.state.StateSet.{StateSet}
+use Rattle.implication.specs.declared.assumption.Beginning.{Beginning}
+use Rattle.implication.specs.declared.assumption.Assumption.{Assumption}
+use Rattle.implication.specs.declared.assumption.Assumption.TheVariants.{Entered, Assumed}
+use Rattle.implication.specs.Assumptions.{entered_pins, left_of, end_under}
+use Rattle.implication.specs.Kept.{AreAssumptions, most_assumptions}
+use Rattle.implication.proofs.Entering.{entered_append, connects_more, connects_taken}
+use Rattle.implication.proofs.Shrinking.{shrink_taken, shrink_more, sets_within_weight, weight_most, entries_counted}
+
+-- the set of a number
+abbrev set_of : ℕ → StateSet
+set_of n = record { 0 = n }
+
+module _ (count : ℕ) (c : Circuit) (begun : Beginning) where
+  -- no assumptions
+  pub list_empty : begun.source.0 < source_count c → AreAssumptions count c begun []
+  list_empty within = record { source = within; connects = tt; shrink = tt }
+
+  module _ (list : List Assumption) (are : AreAssumptions count c begun list) where
+    -- the first of them
+    pub list_taken : (mark : ℕ) → AreAssumptions count c begun (take mark list)
+    list_taken mark = record {
+      source = are.source;
+      connects = connects_taken c begun.source.0 mark list are.connects;
+      shrink = shrink_taken count (source_count c) mark [] list are.shrink;
+    }
+
+    -- a pin on the last line more
+    pub list_with_pin : (pin : PinRef) → IsPinOn c pin (end_under c begun list)
+        → AreAssumptions count c begun (list ++ Entered pin ∷ [])
+    list_with_pin pin on = record {
+      source = are.source;
+      connects = let P : List PinRef → Type 0 = λ steps. Connects c begun.source.0 steps in
+          subst P (sym (entered_append list (Entered pin ∷ [])))
+          (connects_more c begun.source.0 (entered_pins list) pin are.connects on);
+      shrink = shrink_more count (source_count c) [] list (Entered pin) are.shrink tt;
+    }
+
+    -- a set more, which takes some state of its source away
+    pub list_with_set : (source : LineId) (to cut : StateSet) → source.0 < source_count c
+        → cut.0 ≡ bit_and (left_of count source list).0 to.0 → (left_of count source list).0 ≢ cut.0
+        → AreAssumptions count c begun (list ++ Assumed source cut ∷ [])
+    list_with_set source to cut within is fewer = record {
+      source = are.source;
+      connects = let P : List PinRef → Type 0 = λ steps. Connects c begun.source.0 steps in
+          subst P (sym (entered_append list (Assumed source cut ∷ []) ∙ append-nil (entered_pins list))) are.connects;
+      shrink = shrink_more count (source_count c) [] list (Assumed source cut) are.shrink (record {
+        in_circuit = within;
+        inside = let left = left_of count source list in
+            let e : bit_and left.0 cut.0 ≡ cut.0 =
+            ap (bit_and left.0) is ∙ sym (and_assoc to.0 left.0 left.0) ∙ ap (λ n. bit_and n to.0) (and_self left.0) ∙ sym is in
+            ap set_of e;
+        fewer = fewer;
+      });
+    }
+
+    -- there is room for them
+    pub list_fits : IsCircuit c → length list ≤ most_assumptions count c
+    list_fits circuit =
+        let within : begun.source.0 < line_count c = omega (arith, are.source) in
+        omega (
+          arith,
+          entries_counted list,
+          steps_within_levels c circuit begun.source.0 (entered_pins list) within are.connects,
+          sets_within_weight count (source_count c) [] list are.shrink,
+          weight_most count (source_count c) [],
+        )

@@ -1,0 +1,6 @@
+pub mod Assumptions
+pub mod Standing
+pub mod Moves
+pub mod Clients
+pub mod Kept
+pub mod Scopes

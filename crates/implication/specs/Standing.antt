@@ -1,0 +1,62 @@
+-- What contracts see of an engine and of the scopes on it (this project's own).
+use Rattle.std.specs.Prelude.{◌≡◌, ⊤, ℕ, ◌<◌, List, [], Option, Some, None, IsSome}
+use Rattle.pd_base.specs.declared.ids.LineId.{LineId}
+use Rattle.netlist.specs.Circuit.{Circuit, line_count}
+use Rattle.state_sets.specs.declared.state.StateSet.{StateSet}
+use Rattle.state_sets.specs.StateAlgebra.{StateAlgebra}
+use Rattle.implication.specs.declared.assumption.Beginning.{Beginning}
+use Rattle.implication.specs.declared.assumption.Assumption.{Assumption}
+use Rattle.implication.specs.Assumptions.{end_under, IsHullUnder, IsEmptiedUnder, ClosesUnder}
+
+-- How an engine and the innermost scope on it stand: the circuit; with what the outermost scope began, and None where no scope is
+-- open; what was assumed and entered since, in order; the line of the conflict that stands, if there is one; and how many times an
+-- assume or enter has come upon a conflict.
+pub record Standing : Type 0 where
+  pub net : Circuit
+  pub beginning : Option Beginning
+  pub assumptions : List Assumption
+  pub conflict : Option LineId
+  pub closings : ℕ
+
+-- no scope is open, and nothing is assumed
+pub record IsIdle (standing : Standing) : Type 0 where
+  pub not_begun : standing.beginning ≡ None
+  pub nothing : standing.assumptions ≡ []
+  pub free : standing.conflict ≡ None
+
+-- a scope is open, and no conflict stands
+pub record IsFree (standing : Standing) : Type 0 where
+  pub begun : IsSome standing.beginning
+  pub free : standing.conflict ≡ None
+
+-- the last line of the prefix of the scope; where none is open, line 0
+abbrev pub end_from : Circuit → Option Beginning → List Assumption → ℕ
+end_from c None assumptions = 0
+end_from c (Some begun) assumptions = end_under c begun assumptions
+
+abbrev pub end_of_scope : Standing → ℕ
+end_of_scope standing = end_from standing.net standing.beginning standing.assumptions
+
+-- these are the labels of the scope: the hull under its assumptions. Nothing is said where no scope is open.
+abbrev pub IsHullFrom : StateAlgebra → Circuit → Option Beginning → List Assumption → List StateSet → Type 0
+IsHullFrom a c None assumptions hull = ⊤
+IsHullFrom a c (Some begun) assumptions hull = IsHullUnder a c begun assumptions hull
+
+abbrev pub IsLabels : StateAlgebra → Standing → List StateSet → Type 0
+IsLabels a standing labels = IsHullFrom a standing.net standing.beginning standing.assumptions labels
+
+-- the assumptions of the scope leave no state at this line
+abbrev pub IsEmptiedFrom : StateAlgebra → Circuit → Option Beginning → List Assumption → ℕ → Type 0
+IsEmptiedFrom a c None assumptions line = ⊤
+IsEmptiedFrom a c (Some begun) assumptions line = (line < line_count c) × IsEmptiedUnder a c begun assumptions line
+
+abbrev pub IsEmptiedIn : StateAlgebra → Standing → ℕ → Type 0
+IsEmptiedIn a standing line = IsEmptiedFrom a standing.net standing.beginning standing.assumptions line
+
+-- the assumptions of the scope leave each line some state
+abbrev pub IsOpenFrom : StateAlgebra → Circuit → Option Beginning → List Assumption → Type 0
+IsOpenFrom a c None assumptions = ⊤
+IsOpenFrom a c (Some begun) assumptions = ¬ ClosesUnder a c begun assumptions
+
+abbrev pub IsOpenIn : StateAlgebra → Standing → Type 0
+IsOpenIn a standing = IsOpenFrom a standing.net standing.beginning standing.assumptions

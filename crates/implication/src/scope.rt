@@ -1,0 +1,215 @@
+// Scopes: what is assumed in one is taken back when it is closed or dropped. A scope borrows its engine, and a scope within it borrows
+// the engine in turn, by `scope.engine.scope()` at the caller. All calls take no memory.
+ghost use Rattle.std.specs.Prelude.{◌≡◌, ◌<◌, ◌≤◌, ◌+◌, List, Some, None, Ok, Err, IfSome, IfNone, IfErr, OnOk, IsSome, length};
+ghost use Rattle.netlist.specs.Circuit.{source_count, line_count};
+ghost use Rattle.netlist.specs.Pins.{IsPinOn};
+ghost use Rattle.state_sets.specs.FourStates.{four_states};
+ghost use Rattle.state_sets.specs.Labellings.{label_at};
+ghost use Rattle.implication.specs.Standing.{Standing, IsIdle, IsFree, IsLabels, IsEmptiedIn, IsOpenIn, end_of_scope};
+ghost use Rattle.implication.specs.Moves.{with_entered, with_assumed, grown, closed_at, back_at, left_behind, HasBegun, start_at};
+ghost use Rattle.implication.specs.Clients.{Extends, IsRestored};
+
+use crate::{Beginning, Conflict, Engine, HasNetlist, Origin};
+use netlist::Netlist;
+use pd_base::{Direction, Kind, LineId, PinRef, Steps};
+use state_sets::{Algebra, StateSet};
+
+/// A length of the list of assumptions, to which a scope can go back.
+#[derive(Clone, Copy, Debug, PartialEq, Eq)]
+pub struct ScopeMark {
+    at: usize,
+}
+
+/// Assumptions about one search: those that stood when the scope was made, and those that are made in it.
+pub struct Scope<'e, A: Algebra, N: HasNetlist> {
+    /// The engine. A scope within this one is made by `scope.engine.scope()`.
+    pub engine: &'e mut Engine<A, N>,
+    origin: Origin,
+    ghost within: { start_at origin ≤ length engine.now.assumptions },
+}
+
+impl<A: Algebra, N: HasNetlist> Engine<A, N> {
+    /// A scope within the innermost open one, with its assumptions.
+    pub fn scope(&mut self) -> Scope<'_, A, N>
+        ensures same_engine { result.engine.ghost_name ≡ self.entry.ghost_name }
+        ensures standing { result.engine.now ≡ self.old }
+        ensures origin { result.origin ≡ Origin.Within (length self.old.assumptions) }
+    {
+        let origin = Origin::Within(self.mark());
+        Scope {
+            engine: self,
+            origin,
+        }
+    }
+}
+
+impl<'e, A: Algebra, N: HasNetlist> Scope<'e, A, N> {
+    ghost use Rattle.implication.specs.Scopes.{IsSameScope, standing};
+
+    /// Opens the outermost scope of an engine on which none is open: a transition is launched at a source, and conditions of a kind
+    /// of tests will stand at the pins entered. A conflict stands from here on if that alone leaves some line no state.
+    pub fn begin(
+        engine: &'e mut Engine<A, N>,
+        source: LineId,
+        direction: Direction,
+        kind: Kind,
+    ) -> Scope<'e, A, N>
+        requires idle { engine.old.beginning ≡ None }
+        requires source { source.0 < source_count engine.old.net }
+        ensures same_engine { result.engine.ghost_name ≡ engine.entry.ghost_name }
+        ensures begun { HasBegun (record { source = source; direction = direction; kind = kind }) engine.old (standing result) }
+        ensures idle { IsIdle engine.old }
+        ensures origin { result.origin ≡ Origin.Begun }
+        ensures open { IfNone (standing result).conflict (IsOpenIn A.algebra (standing result)) }
+        ensures emptied { IfSome (standing result).conflict (λ line. IsEmptiedIn A.algebra (standing result) line.0) }
+
+        // with the four states none does
+        ensures four_states { A.algebra ≡ four_states → (standing result).conflict ≡ None }
+    {
+        engine.begin(Beginning {
+            source,
+            direction,
+            kind,
+        });
+        Scope {
+            engine,
+            origin: Origin::Begun,
+        }
+    }
+
+    /// Assumes that a source is in a state of this set. Nothing is added where that takes no state away from what was left of the
+    /// source, nor while a conflict stands, which is then the answer. A Conflict gives a line at which no state is left, and what was
+    /// assumed stays.
+    pub fn assume(&mut self, source: LineId, to: StateSet) -> Result<(), Conflict>
+        requires { source.0 < source_count (standing self.old).net }
+        ensures scope { IsSameScope self.old self.new }
+
+        // while a conflict stands, the answer is that conflict
+        ensures held { IfSome (standing self.old).conflict (λ line. (result ≡ Err (record { 0 = line }))
+            × (standing self.new ≡ standing self.old)) }
+
+        // where no scope is open, nothing changes
+        ensures idle { (standing self.old).beginning ≡ None → standing self.new ≡ standing self.old }
+
+        // otherwise the set is assumed; a conflict is noted and counted
+        ensures ok { OnOk result
+            (standing self.new ≡ grown (standing self.old) (with_assumed A.algebra.count (standing self.old).assumptions source to)) }
+        ensures err { IsFree (standing self.old) → IfErr result (λ conflict. standing self.new
+            ≡ closed_at (standing self.old) (with_assumed A.algebra.count (standing self.old).assumptions source to) conflict.0) }
+
+        // Err if and only if the hull under the assumptions has an empty set
+        ensures open { OnOk result (IsOpenIn A.algebra (standing self.new)) }
+        ensures emptied { IfErr result (λ conflict. IsEmptiedIn A.algebra (standing self.new) conflict.0.0) }
+        ensures extends { Extends (standing self.old) (standing self.new) }
+    {
+        self.engine.assume(source, to)
+    }
+
+    /// Goes on through a pin on the last line of the prefix. Counts one step, whatever it answers. The answers are as for `assume`.
+    pub fn enter<L>(&mut self, pin: PinRef, steps: &mut Steps<L>) -> Result<(), Conflict>
+        requires pin { IsPinOn (standing self.old).net pin (end_of_scope (standing self.old)) }
+        requires room { steps.old < u64.MAX }
+        ensures scope { IsSameScope self.old self.new }
+        ensures counted { steps.new ≡ steps.old + 1 }
+        ensures held { IfSome (standing self.old).conflict (λ line. (result ≡ Err (record { 0 = line }))
+            × (standing self.new ≡ standing self.old)) }
+        ensures idle { (standing self.old).beginning ≡ None → standing self.new ≡ standing self.old }
+        ensures ok { OnOk result (standing self.new ≡ grown (standing self.old) (with_entered (standing self.old).assumptions pin)) }
+        ensures err { IsFree (standing self.old) → IfErr result (λ conflict. standing self.new
+            ≡ closed_at (standing self.old) (with_entered (standing self.old).assumptions pin) conflict.0) }
+        ensures open { OnOk result (IsOpenIn A.algebra (standing self.new)) }
+        ensures emptied { IfErr result (λ conflict. IsEmptiedIn A.algebra (standing self.new) conflict.0.0) }
+        ensures extends { Extends (standing self.old) (standing self.new) }
+    {
+        steps.tick();
+        self.engine.enter(pin)
+    }
+
+    /// The set of a line in the hull under the assumptions. While a conflict stands nothing is said of it.
+    pub fn label(&self, line: LineId) -> StateSet
+        requires { line.0 < line_count (standing self.now).net }
+        ensures { (standing self.now).conflict ≡ None
+            → (labels : List StateSet) × IsLabels A.algebra (standing self.now) labels × (result ≡ label_at labels line.0) }
+    {
+        self.engine.label(line)
+    }
+
+    /// The conflict that stands, if there is one: no state is left at its line. It may stand since the beginning.
+    pub fn conflict(&self) -> Option<Conflict>
+        ensures none { IfNone result ((standing self.now).conflict ≡ None) }
+        ensures some { IfSome result (λ conflict. (standing self.now).conflict ≡ Some conflict.0) }
+        ensures open { IfNone result (IsOpenIn A.algebra (standing self.now)) }
+        ensures emptied { IfSome result (λ conflict. IsEmptiedIn A.algebra (standing self.now) conflict.0.0) }
+    {
+        match self.engine.conflict() {
+            None => None,
+            Some(line) => Some(Conflict(line)),
+        }
+    }
+
+    /// The last line of the prefix: the source, or the line of the gate of the pin entered last.
+    pub fn last_line(&self) -> LineId
+        ensures end { result.0 ≡ end_of_scope (standing self.now) }
+        ensures in_circuit { IsSome (standing self.now).beginning → result.0 < line_count (standing self.now).net }
+    {
+        self.engine.last_line()
+    }
+
+    /// The netlist of the engine.
+    pub fn net(&self) -> &Netlist
+        ensures { result.now ≡ (standing self.now).net }
+    {
+        self.engine.net()
+    }
+
+    /// The present length of the list of assumptions.
+    pub fn mark(&self) -> ScopeMark
+        ensures { result.at ≡ length (standing self.now).assumptions }
+    {
+        ScopeMark {
+            at: self.engine.mark(),
+        }
+    }
+
+    /// Goes back to the time when the list of assumptions last had this length. A mark of its present length changes nothing.
+    pub fn back_to(&mut self, mark: ScopeMark)
+        requires start { start_at self.old.origin ≤ mark.at }
+        requires now { mark.at ≤ length (standing self.old).assumptions }
+        ensures scope { IsSameScope self.old self.new }
+        ensures back { standing self.new ≡ back_at (standing self.old) mark.at }
+    {
+        self.engine.back_to(mark.at);
+    }
+
+    /// How many times an assume or enter on this engine came upon a conflict where none stood, up to 2^64 - 1.
+    pub fn closings(&self) -> u64
+        ensures { result ≡ (standing self.now).closings }
+    {
+        self.engine.closings()
+    }
+
+    /// Closes the scope: what was assumed in it is taken back. Dropping it does the same.
+    pub fn close(self)
+        ensures left { self.exit.0.now ≡ left_behind self.entry.origin (standing self.entry) }
+
+        // so a scope within another leaves all as it was when it was made
+        ensures restored { (before : Standing) → self.entry.origin ≡ Origin.Within (length before.assumptions)
+            → Extends before (standing self.entry) → IsRestored before self.exit.0.now }
+    {
+        let Scope { engine, origin } = self;
+        engine.leave(origin);
+    }
+}
+
+impl<'e, A: Algebra, N: HasNetlist> Drop for Scope<'e, A, N> {
+    ghost use Rattle.implication.specs.Scopes.{standing};
+
+    fn drop(self)
+        ensures left { self.exit.0.now ≡ left_behind self.entry.origin (standing self.entry) }
+        ensures restored { (before : Standing) → self.entry.origin ≡ Origin.Within (length before.assumptions)
+            → Extends before (standing self.entry) → IsRestored before self.exit.0.now }
+    {
+        let Scope { engine, origin } = self;
+        engine.leave(origin);
+    }
+}

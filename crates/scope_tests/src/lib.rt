@@ -1,0 +1,16 @@
+//! Callers of scopes: one that nests them by recursion, one that goes back by marks in a loop, and one that leaves by `?`. Each is
+//! proved from the contracts alone. It stands on pd_base, netlist, bench_reader, state_sets and implication, and is no part of the
+//! product.
+#![tactic(auto)]
+
+mod choice;
+mod leaving;
+mod marking;
+mod nesting;
+#[cfg(test)]
+mod two_ways;
+
+pub use choice::Choice;
+pub use leaving::assume_both;
+pub use marking::keep_agreeing;
+pub use nesting::walk;
