@@ -1,0 +1,38 @@
+-- What a search may answer (this project's own).
+use Rattle.std.specs.Prelude.{⊤, ℕ, ◌+◌, ◌*◌, ◌-◌, ◌^◌, ◌≤◌, ◌⊎◌, Bool, true, false, count_by}
+use Rattle.pd_base.specs.Route.{Route}
+use Rattle.pd_base.specs.declared.fault.Direction.{Direction}
+use Rattle.pd_base.specs.declared.fault.Kind.{Kind}
+use Rattle.netlist.specs.Circuit.{Circuit}
+use Rattle.refutation_check.specs.declared.tree.Node.{Node}
+use Rattle.refutation_check.specs.declared.tree.Node.TheVariants.{Closed, Waiting, Value, Steadiness}
+use Rattle.refutation_check.specs.Trees.{split_count}
+use Rattle.tree_laws.specs.Refutations.{IsRefutation}
+use Rattle.tree_laws.specs.Spent.{IsSpent}
+use Rattle.implication.specs.Standing.{Standing}
+use Rattle.justify.specs.declared.answer.Found.{Found}
+use Rattle.justify.specs.declared.answer.Found.TheVariants.{Test, Refuted, Spent}
+use Rattle.justify.specs.Tests.{IsFitTest}
+
+-- a test; a refutation of the conditions for the whole path, with at most so many splits; or a tree that spent exactly this budget
+abbrev pub IsFound : Circuit → Kind → Route → Direction → ℕ → Found → Type 0
+IsFound c kind path direction budget (Test pair) = IsFitTest c kind path direction pair
+IsFound c kind path direction budget (Refuted tree) = IsRefutation c kind path direction tree × (split_count tree ≤ budget)
+IsFound c kind path direction budget (Spent tree) = IsSpent c kind path direction budget tree
+
+-- so many conflicts more were counted, or the count is at its end, which it does not pass
+abbrev pub HasCounted : ℕ → Standing → Standing → Type 0
+HasCounted more old new = (old.closings + more ≤ new.closings) ⊎ (2 ^ 64 - 1 ≤ new.closings)
+
+-- whether the node is a closed leaf
+abbrev pub is_closed : Node → Bool
+is_closed Closed = true
+is_closed Waiting = false
+is_closed (Value source) = false
+is_closed (Steadiness source) = false
+
+-- the search went by the scope: a conflict was counted for each closed leaf of a refutation, and for each node of a spent tree
+abbrev pub CountsConflicts : ℕ → Found → Standing → Standing → Type 0
+CountsConflicts budget (Test pair) old new = ⊤
+CountsConflicts budget (Refuted tree) old new = HasCounted (count_by is_closed tree) old new
+CountsConflicts budget (Spent tree) old new = HasCounted (2 * budget + 1) old new

@@ -1,0 +1,13 @@
+-- Which tree a search ends with (this project's own).
+use Rattle.std.specs.Prelude.{◌≡◌, List}
+use Rattle.std.specs.List.{Contains}
+use Rattle.refutation_check.specs.declared.tree.Node.{Node}
+use Rattle.refutation_check.specs.declared.tree.Node.TheVariants.{Waiting}
+use Rattle.justify.specs.declared.answer.Found.{Found}
+use Rattle.justify.specs.declared.answer.Found.TheVariants.{Test, Refuted, Spent}
+
+-- the tree of these nodes: spent if a leaf waits, else a refutation
+abbrev pub IsEnd : List Node → Found → Type 0
+IsEnd nodes (Test pair) = ⊥
+IsEnd nodes (Refuted tree) = (tree ≡ nodes) × (Contains nodes Waiting → ⊥)
+IsEnd nodes (Spent tree) = (tree ≡ nodes) × Contains nodes Waiting

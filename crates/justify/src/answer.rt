@@ -1,0 +1,14 @@
+// What a search ends with.
+use pd_base::Pair;
+use refutation_check::Tree;
+
+/// What a search found for a path, a transition and a kind of test.
+#[derive(Debug, Drop)]
+pub enum Found {
+    /// A pair of vectors that meets the conditions. Sources outside the support of the path are 0 under both vectors.
+    Test(Pair),
+    /// A tree of cases that refutes them: no pair meets them. It has at most as many splits as the budget.
+    Refuted(Tree),
+    /// A tree of cases that spent the budget: it has exactly so many splits, and a pair was tried and failed at each open node.
+    Spent(Tree),
+}
