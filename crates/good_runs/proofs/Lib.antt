@@ -1,0 +1,4 @@
+pub mod Completeness
+pub mod LeastPairs
+pub mod Numbers
+pub mod Verdicts

@@ -1,0 +1,11 @@
+mod Answered
+mod Applying
+mod Books
+mod Citing
+mod GoodRuns
+mod LawfulRuns
+mod Nameable
+mod ListedPaths
+mod Naming
+mod ObservedBits
+mod Turns

@@ -1,0 +1,5 @@
+pub mod Answers
+pub mod Book
+pub mod Findings
+pub mod Listed
+pub mod Made

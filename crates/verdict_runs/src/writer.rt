@@ -1,0 +1,224 @@
+// Gives the verdicts: each fault's test is made, and each proof that it needs is cited, fault by fault in the order of the report.
+ghost use Rattle.std.specs.Prelude.{◌≡◌, ◌+◌, ◌<◌, ◌^◌, length, IfOk, false};
+ghost use Rattle.netlist.specs.Circuit.{line_count};
+ghost use Rattle.netlist.specs.Conditions.{Meets};
+ghost use Rattle.netlist.specs.Lawful.{IsCircuit};
+ghost use Rattle.verdict_runs.specs.Answers.{CitesFor, IsAnswered, IsAsked, IsCitable};
+ghost use Rattle.verdict_runs.specs.Book.{spent_proof, unwritten};
+ghost use Rattle.verdict_runs.specs.Findings.{AreOutcomes, HasSpent, IsOutcome, IsRefutedBy, IsTestPair, Searches, is_test};
+
+use crate::draft::Draft;
+use crate::room::Room;
+use crate::{Outcome, Outcomes, Refutation};
+use netlist::Netlist;
+use pd_base::{Direction, Kind, OutOfMemory, Pair, Path};
+use refutation_check::{Proof, Tree, Verdict};
+use std::alloc::Global;
+
+/// What is written of a run so far, and the room in which its tests are made.
+#[derive(Drop)]
+pub(crate) struct Writer {
+    pub(crate) draft: Draft,
+    pub(crate) room: Room,
+}
+
+impl Writer {
+    /// Nothing is written yet.
+    pub(crate) fn new(
+        alloc: Global,
+        net: &Netlist,
+        refutations: Vec<Refutation>,
+    ) -> Result<Writer, OutOfMemory>
+        ensures draft { IfOk result (λ writer. writer.draft ≡ unwritten refutations.items) }
+        ensures room { IfOk result (λ writer. writer.room ≡ line_count net.now) }
+        ensures circuit { IfOk result (λ _. IsCircuit net.now) }
+    {
+        Ok(Writer {
+            draft: Draft::new(alloc, refutations)?,
+            room: Room::new(alloc, net)?,
+        })
+    }
+
+    /// The verdict on the fault of the listed path of this number and this direction.
+    pub(crate) fn answer(
+        &mut self,
+        net: &Netlist,
+        number: u32,
+        path: &Path,
+        dir: Direction,
+        outcomes: Outcomes,
+    ) -> Result<Verdict, OutOfMemory>
+        ghost searches: { Searches }
+        requires asked { IsAsked net.now searches number path.now self.old.draft }
+        requires outcomes { AreOutcomes net.now searches dir path.now outcomes }
+        requires room { self.old.room ≡ line_count net.now }
+        ensures answered { IfOk result (λ verdict. IsAnswered net.now searches number dir path.now self.old.draft self.new.draft verdict) }
+        ensures room { self.new.room ≡ self.old.room }
+    {
+        let Outcomes { robust, nonrobust } = outcomes;
+        match robust {
+            Outcome::Tested(pair) => self.robust(net, number, path, dir, pair),
+            none => self.not_robust(net, number, path, dir, none, nonrobust),
+        }
+    }
+
+    // The verdict where the robust search gave no test.
+    fn not_robust(
+        &mut self,
+        net: &Netlist,
+        number: u32,
+        path: &Path,
+        dir: Direction,
+        robust: Outcome,
+        nonrobust: Outcome,
+    ) -> Result<Verdict, OutOfMemory>
+        ghost searches: { Searches }
+        requires asked { IsAsked net.now searches number path.now self.old.draft }
+        requires robust { IsOutcome net.now searches Kind.Robust dir path.now robust }
+        requires no_test { is_test robust ≡ false }
+        requires nonrobust { IsOutcome net.now searches Kind.Nonrobust dir path.now nonrobust }
+        requires room { self.old.room ≡ line_count net.now }
+        ensures answered { IfOk result (λ verdict. IsAnswered net.now searches number dir path.now self.old.draft self.new.draft verdict) }
+        ensures room { self.new.room ≡ self.old.room }
+    {
+        match nonrobust {
+            Outcome::Unsearched => unreachable!(),
+            Outcome::Tested(pair) => {
+                if self.room.is_robust(net, path, dir, &pair) {
+                    self.robust(net, number, path, dir, pair)
+                } else {
+                    self.nonrobust(net, number, path, dir, robust, pair)
+                }
+            }
+            Outcome::Refuted(index) => self.untestable(net, number, path, dir, index),
+            Outcome::Spent(tree) => self.aborted(net, number, path, dir, robust, tree),
+        }
+    }
+
+    // The verdict by a robust test.
+    fn robust(
+        &mut self,
+        net: &Netlist,
+        number: u32,
+        path: &Path,
+        dir: Direction,
+        pair: Pair,
+    ) -> Result<Verdict, OutOfMemory>
+        ghost searches: { Searches }
+        requires asked { IsAsked net.now searches number path.now self.old.draft }
+        requires pair { IsTestPair net.now Kind.Robust dir path.now pair }
+        requires room { self.old.room ≡ line_count net.now }
+        ensures answered { IfOk result (λ verdict. IsAnswered net.now searches number dir path.now self.old.draft self.new.draft verdict) }
+        ensures room { self.new.room ≡ self.old.room }
+    {
+        let made = self.room.test(net, number, dir, Kind::Robust, pair)?;
+        let test = self.draft.add_test(made)?;
+        Ok(Verdict::Robust { test })
+    }
+
+    // The verdict by a test that is nonrobust only.
+    fn nonrobust(
+        &mut self,
+        net: &Netlist,
+        number: u32,
+        path: &Path,
+        dir: Direction,
+        robust: Outcome,
+        pair: Pair,
+    ) -> Result<Verdict, OutOfMemory>
+        ghost searches: { Searches }
+        requires asked { IsAsked net.now searches number path.now self.old.draft }
+        requires robust { IsOutcome net.now searches Kind.Robust dir path.now robust }
+        requires no_test { is_test robust ≡ false }
+        requires pair { IsTestPair net.now Kind.Nonrobust dir path.now pair }
+        requires not_robust { ¬ Meets Kind.Robust net.now path.now dir pair }
+        requires room { self.old.room ≡ line_count net.now }
+        ensures answered { IfOk result (λ verdict. IsAnswered net.now searches number dir path.now self.old.draft self.new.draft verdict) }
+        ensures room { self.new.room ≡ self.old.room }
+    {
+        let proof = cite_for(&mut self.draft, number, path, dir, Kind::Robust, robust)?;
+        let made = self.room.test(net, number, dir, Kind::Nonrobust, pair)?;
+        let test = self.draft.add_test(made)?;
+        Ok(Verdict::Nonrobust { test, proof })
+    }
+
+    // The verdict by a refutation of the nonrobust conditions.
+    fn untestable(
+        &mut self,
+        net: &Netlist,
+        number: u32,
+        path: &Path,
+        dir: Direction,
+        index: usize,
+    ) -> Result<Verdict, OutOfMemory>
+        ghost searches: { Searches }
+        requires asked { IsAsked net.now searches number path.now self.old.draft }
+        requires refuted { IsRefutedBy searches Kind.Nonrobust dir path.now index }
+        ensures answered { IfOk result (λ verdict. IsAnswered net.now searches number dir path.now self.old.draft self.new.draft verdict) }
+        ensures room { self.new.room ≡ self.old.room }
+    {
+        let proof = self.draft.cite(index)?;
+        Ok(Verdict::Untestable { proof })
+    }
+
+    // The verdict by a budget that was spent on a nonrobust search.
+    fn aborted(
+        &mut self,
+        net: &Netlist,
+        number: u32,
+        path: &Path,
+        dir: Direction,
+        robust: Outcome,
+        tree: Tree,
+    ) -> Result<Verdict, OutOfMemory>
+        ghost searches: { Searches }
+        requires asked { IsAsked net.now searches number path.now self.old.draft }
+        requires robust { IsOutcome net.now searches Kind.Robust dir path.now robust }
+        requires no_test { is_test robust ≡ false }
+        requires spent { HasSpent net.now searches Kind.Nonrobust dir path.now tree }
+        ensures answered { IfOk result (λ verdict. IsAnswered net.now searches number dir path.now self.old.draft self.new.draft verdict) }
+        ensures room { self.new.room ≡ self.old.room }
+    {
+        let robust = cite_for(&mut self.draft, number, path, dir, Kind::Robust, robust)?;
+        let nonrobust = self
+            .draft
+            .write(spent_proof(number, path, dir, Kind::Nonrobust, tree))?;
+        Ok(Verdict::Aborted { robust, nonrobust })
+    }
+}
+
+// The number of the proof that a search gave no test.
+fn cite_for(
+    draft: &mut Draft,
+    number: u32,
+    path: &Path,
+    dir: Direction,
+    kind: Kind,
+    outcome: Outcome,
+) -> Result<u32, OutOfMemory>
+    requires citable { IsCitable (length draft.old.slots) outcome }
+    requires few_steps { length path.now.steps < 2 ^ 32 }
+    requires few_proofs { length draft.old.proofs + 1 < 2 ^ 32 }
+    ensures { IfOk result (λ proof. CitesFor draft.old draft.new kind dir number path.now outcome proof) }
+{
+    match outcome {
+        Outcome::Unsearched | Outcome::Tested(_) => unreachable!(),
+        Outcome::Refuted(index) => draft.cite(index),
+        Outcome::Spent(tree) => draft.write(spent_proof(number, path, dir, kind, tree)),
+    }
+}
+
+// The proof that the budget was spent on a path.
+fn spent_proof(number: u32, path: &Path, dir: Direction, kind: Kind, tree: Tree) -> Proof
+    requires { length path.now.steps < 2 ^ 32 }
+    ensures { result ≡ spent_proof kind dir number path.now tree }
+{
+    Proof {
+        spent: true,
+        kind,
+        dir,
+        path: number,
+        steps: path.steps().len() as u32,
+        tree,
+    }
+}
