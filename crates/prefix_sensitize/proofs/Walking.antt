@@ -1,0 +1,212 @@
+-- A walk over the paths from fewer steps to more: what is known before it, after each path, and at its end.
+use Rattle.std.proofs.Common.{◌≡◌, ◌≢◌, ⊎_elim, ℕ, zero, suc, ◌+◌, ◌<◌, ◌≤◌, Bool, true, false, true≢false, List, [], ◌∷◌, ◌++◌, length, drop, get_or, replicate, set, Some, refl, sym, ap, subst, ◌∙◌, append_assoc, append-nil, arith, add-one, get_or-set_same, get_or-set_other}
+use Rattle.std.specs.Prelude.{slice_get, slice_index_or}
+use Rattle.std.proofs.lemmas.Bool.{cases_eq, cases_lt}
+use Rattle.std.proofs.lemmas.List.{length-set, length-replicate}
+use Rattle.std.proofs.lemmas.List.Elements.{All-append, All-nil}
+use Rattle.std.proofs.lemmas.Option.{slice_get-get_or, slice_get_within}
+use Rattle.std.proofs.Math.Seq.{drop-cons}
+use Rattle.pd_base.specs.declared.fault.Direction.{Direction}
+use Rattle.pd_base.specs.declared.fault.Kind.{Kind}
+use Rattle.pd_base.specs.Route.{Route}
+use Rattle.netlist.specs.Circuit.{Circuit}
+use Rattle.verdict_runs.specs.declared.findings.Outcome.{Outcome}
+use Rattle.verdict_runs.specs.declared.findings.Outcome.TheVariants.{Unsearched, Tested, Refuted, Spent}
+use Rattle.verdict_runs.specs.declared.findings.Refutation.{Refutation}
+use Rattle.verdict_runs.specs.Findings.{IsOutcome, NoneRefutes, Searches}
+use Rattle.prefix_sensitize.specs.declared.order.Entry.{Entry}
+use Rattle.prefix_sensitize.specs.declared.visiting.Aim.{Aim}
+use Rattle.prefix_sensitize.specs.Order.{AreRising, IsEntryOf, IsOrder}
+use Rattle.prefix_sensitize.specs.Walks.{AreNew, IsAimedAt, IsGrown, IsPassed, IsHalfway, IsWalked, KeepSettled, Stands, is_settled, outcome_at, searches_with}
+use Rattle.prefix_sensitize.proofs.Places.{all_at, same_item}
+
+-- nothing is added
+pub grown_not : (aim : Aim) (refutations : List Refutation) → IsGrown aim refutations refutations
+grown_not aim refutations = record {
+  more = [];
+  grown = sym (append-nil refutations);
+  aimed = All-nil (IsAimedAt aim);
+}
+
+-- what is added to what was added
+pub grown_on : (aim : Aim) (first second third : List Refutation) → IsGrown aim first second → IsGrown aim second third
+    → IsGrown aim first third
+grown_on aim first second third one two = record {
+  more = one.more ++ two.more;
+  grown = two.grown ∙ ap (λ list. list ++ two.more) one.grown ∙ append_assoc first one.more two.more;
+  aimed = All-append (IsAimedAt aim) one.more two.more one.aimed two.aimed;
+}
+
+-- an outcome that is settled and stands is as it is promised
+pub settled_outcome : (c : Circuit) (searches : Searches) (kind : Kind) (direction : Direction) (route : Route) (outcome : Outcome)
+    → Stands c searches kind direction route outcome → is_settled outcome ≡ true
+    → IsOutcome c searches kind direction route outcome
+settled_outcome c searches kind direction route Unsearched stands settled = absurd (true≢false (sym settled))
+settled_outcome c searches kind direction route (Tested pair) stands settled = stands
+settled_outcome c searches kind direction route (Refuted index) stands settled = stands
+settled_outcome c searches kind direction route (Spent tree) stands settled = stands
+
+-- an outcome that is not settled is that no search was run
+pub unsettled : (outcome : Outcome) → is_settled outcome ≡ false → outcome ≡ Unsearched
+unsettled Unsearched not = refl
+unsettled (Tested pair) not = absurd (true≢false not)
+unsettled (Refuted index) not = absurd (true≢false not)
+unsettled (Spent tree) not = absurd (true≢false not)
+
+module _ (c : Circuit) (routes : List Route) (aim : Aim) where
+  -- one outcome is written
+  module _ (longest at : ℕ) (was is : List Outcome) (refutations : List Refutation) (outcome : Outcome)
+      (walked : IsWalked c routes aim longest was refutations) (inside : at < length routes) (written : is ≡ set was at outcome) where
+    its_place : at < length was
+    its_place = omega (arith, inside, walked.standing.one_each)
+
+    written_at : outcome_at is at ≡ outcome
+    written_at =
+        ap (λ (list : List Outcome). outcome_at list at) written ∙ get_or-set_same was at outcome Unsearched its_place
+
+    elsewhere : (other : ℕ) → other ≢ at → outcome_at is other ≡ outcome_at was other
+    elsewhere other apart =
+        ap (λ (list : List Outcome). outcome_at list other) written ∙ get_or-set_other was at other outcome Unsearched apart
+
+    pub walked_with : ((route : Route) → slice_get routes at ≡ Some route
+        → Stands c (searches_with aim.budget routes refutations) aim.kind aim.dir route outcome)
+        → IsWalked c routes aim longest is refutations
+    walked_with stands = record {
+      are_refutations = walked.are_refutations;
+      are_short = walked.are_short;
+      standing = record {
+        one_each = ap length written ∙ length-set was at outcome ∙ walked.standing.one_each;
+        stands =
+            λ other route here.
+            (let P : Outcome → Type 0 =
+            λ o. Stands c (searches_with aim.budget routes refutations) aim.kind aim.dir route o in
+            ⊎_elim
+            (λ (same : other ≡ at).
+            let Q : ℕ → Type 0 = λ n. slice_get routes n ≡ Some route in
+            subst P (sym (ap (outcome_at is) same ∙ written_at)) (stands route (subst Q same here)))
+            (λ (apart : other ≡ at → ⊥). subst P (sym (elsewhere other apart)) (walked.standing.stands other route here))
+            (cases_eq other at));
+      };
+    }
+
+    pub settled_with : is_settled outcome ≡ true → is_settled (outcome_at is at) ≡ true
+    settled_with settled = ap is_settled written_at ∙ settled
+
+    pub kept_with : is_settled outcome ≡ true → KeepSettled was is
+    kept_with settled other within before =
+        ⊎_elim (λ (same : other ≡ at). ap is_settled (ap (outcome_at is) same) ∙ settled_with settled)
+        (λ (apart : other ≡ at → ⊥). ap is_settled (elsewhere other apart) ∙ before) (cases_eq other at)
+
+  -- paths with more steps may come
+  walked_longer : (longest longer : ℕ) (outcomes : List Outcome) (refutations : List Refutation) → longest ≤ longer
+      → IsWalked c routes aim longest outcomes refutations → IsWalked c routes aim longer outcomes refutations
+  walked_longer longest longer outcomes refutations more walked = record {
+    are_refutations = walked.are_refutations;
+    are_short =
+        λ index refutation here aimed.
+        (let few : refutation.steps ≤ longest = walked.are_short index refutation here aimed in omega (arith, few, more));
+    standing = walked.standing;
+  }
+
+  -- where nothing was searched for this aim, no outcome stands so far
+  unsearched_at : (count at : ℕ) → outcome_at (replicate count Unsearched) at ≡ Unsearched
+  unsearched_at zero at = refl
+  unsearched_at (suc count) zero = refl
+  unsearched_at (suc count) (suc at) = unsearched_at count at
+
+  none_yet : (refutations : List Refutation) → AreNew c routes aim refutations → (route : Route)
+      → NoneRefutes (searches_with aim.budget routes refutations) aim.kind aim.dir route
+  none_yet refutations new route index refutation here refutes =
+      all_at (λ (r : Refutation). ¬ IsAimedAt aim r) refutations index refutation new.none here
+      (record { of_kind = refutes.of_kind; of_direction = refutes.of_direction })
+
+  walked_not : (refutations : List Refutation) → AreNew c routes aim refutations
+      → IsWalked c routes aim 0 (replicate (length routes) Unsearched) refutations
+  walked_not refutations new = record {
+    are_refutations = new.are_refutations;
+    are_short =
+        λ index refutation here aimed.
+        absurd (all_at (λ (r : Refutation). ¬ IsAimedAt aim r) refutations index refutation new.none here aimed);
+    standing = record {
+      one_each = length-replicate (length routes) Unsearched;
+      stands =
+          λ at route here.
+          (let P : Outcome → Type 0 =
+          λ o. Stands c (searches_with aim.budget routes refutations) aim.kind aim.dir route o in
+          subst P (sym (unsearched_at (length routes) at)) (none_yet refutations new route));
+    };
+  }
+
+  module _ (needed : List Bool) (order : List Entry) (is_order : IsOrder routes order) where
+    pub halfway_none : (outcomes : List Outcome) (refutations : List Refutation) → AreNew c routes aim refutations
+        → outcomes ≡ replicate (length routes) Unsearched → IsHalfway c routes needed aim order 0 outcomes refutations
+    halfway_none outcomes refutations new none = record {
+      longest = 0;
+      walked =
+          let P : List Outcome → Type 0 = λ o. IsWalked c routes aim 0 o refutations in
+          subst P (sym none) (walked_not refutations new);
+      rising = is_order.rising;
+      settled = λ place entry before here need. absurd (omega arith);
+    }
+
+    module _ (index : ℕ) (entry : Entry) (outcomes : List Outcome) (refutations : List Refutation)
+        (half : IsHalfway c routes needed aim order index outcomes refutations) (within : index < length order)
+        (is : entry ≡ get_or order index entry) where
+      -- the entry at this index, and those behind it
+      rest : drop index order ≡ entry ∷ drop (index + 1) order
+      rest = drop-cons order index entry within ∙ (λ i. sym is i ∷ drop (sym (add-one index) i) order)
+
+      its_rising : AreRising half.longest (entry ∷ drop (index + 1) order)
+      its_rising = subst (AreRising half.longest) rest half.rising
+
+      here : slice_get order index ≡ Some entry
+      here = slice_get-get_or order index entry within ∙ ap Some (sym is)
+
+      pub entry_of : IsEntryOf routes entry
+      entry_of = all_at (IsEntryOf routes) order index entry is_order.of_paths here
+
+      pub walked_up : IsWalked c routes aim entry.steps outcomes refutations
+      walked_up = walked_longer half.longest entry.steps outcomes refutations its_rising.0 half.walked
+
+      pub halfway_more : (outcomes' : List Outcome) (refutations' : List Refutation)
+          → IsWalked c routes aim entry.steps outcomes' refutations'
+          → (slice_index_or needed entry.at false ≡ true → is_settled (outcome_at outcomes' entry.at) ≡ true)
+          → KeepSettled outcomes outcomes' → IsHalfway c routes needed aim order (index + 1) outcomes' refutations'
+      halfway_more outcomes' refutations' walked own kept = record {
+        longest = entry.steps;
+        walked = walked;
+        rising = its_rising.1;
+        settled =
+            λ place other before there need.
+            ⊎_elim
+            (λ (less : place < index).
+            let of = all_at (IsEntryOf routes) order place other is_order.of_paths there in
+            let one_each = half.walked.standing.one_each in
+            let inside : other.at < length routes = slice_get_within routes other.at of.route of.is_listed in
+            kept other.at (omega (arith, inside, one_each)) (half.settled place other less there need))
+            (λ (last : index ≤ place).
+            let same : place ≡ index = omega arith in
+            let P : ℕ → Type 0 = λ n. slice_get order n ≡ Some other in
+            let its : other ≡ entry = same_item order index other entry (subst P same there) here in
+            let Q : Entry → Type 0 = λ e. is_settled (outcome_at outcomes' e.at) ≡ true in
+            let R : Entry → Type 0 = λ e. slice_index_or needed e.at false ≡ true in
+            subst Q (sym its) (own (subst R its need)))
+            (cases_lt place index);
+      }
+
+    -- where all entries are done, all paths are
+    pub passed : (outcomes : List Outcome) (refutations : List Refutation)
+        → IsHalfway c routes needed aim order (length order) outcomes refutations
+        → IsPassed c routes needed aim outcomes refutations
+    passed outcomes refutations half = record {
+      are_refutations = half.walked.are_refutations;
+      standing = half.walked.standing;
+      settled =
+          λ at inside need.
+          (let among = is_order.whole at inside in
+          let P : ℕ → Type 0 = λ n. is_settled (outcome_at outcomes n) ≡ true in
+          let Q : ℕ → Type 0 = λ n. slice_index_or needed n false ≡ true in
+          subst P among.is_of
+          (half.settled among.place among.entry (slice_get_within order among.place among.entry among.is_entry) among.is_entry
+          (subst Q (sym among.is_of) need)));
+    }

@@ -1,0 +1,38 @@
+-- How a scope stands while the pins of a path are entered (this project's own).
+use Rattle.std.specs.Prelude.{◌≡◌, ⊤, ℕ, [], map, take, Option, Some, None}
+use Rattle.pd_base.specs.Route.{Route}
+use Rattle.netlist.specs.Circuit.{Circuit}
+use Rattle.netlist.specs.Paths.{IsPath}
+use Rattle.hull_laws.specs.Nodes.{ClosesAtNode}
+use Rattle.implication.specs.declared.assumption.Beginning.{Beginning}
+use Rattle.implication.specs.declared.assumption.Assumption.TheVariants.{Entered}
+use Rattle.implication.specs.Standing.{Standing, IsOpenIn}
+use Rattle.state_sets.specs.FourStates.{four_states}
+
+-- the scope began at the source of the path, and nothing was assumed or entered; no conflict stands
+pub record IsAtSource (standing : Standing) (path : Route) : Type 0 where
+  pub is_path : IsPath standing.net path
+  pub begun : Beginning
+  pub began : standing.beginning ≡ Some begun
+  pub source : begun.source ≡ path.source
+  pub nothing : standing.assumptions ≡ []
+  pub free : standing.conflict ≡ None
+  pub left_open : IsOpenIn four_states standing
+
+-- so many pins of the path were entered since, no conflict stands, and each line has some state left
+pub record HasEntered (old new : Standing) (path : Route) (count : ℕ) : Type 0 where
+  pub net : new.net ≡ old.net
+  pub beginning : new.beginning ≡ old.beginning
+  pub entered : new.assumptions ≡ map Entered (take count path.steps)
+  pub free : new.conflict ≡ None
+  pub left_open : IsOpenIn four_states new
+
+-- the start of the path closes, for the kind and the direction with which the scope began
+abbrev pub ClosesFrom : Circuit → Option Beginning → Route → Type 0
+ClosesFrom c None path = ⊤
+ClosesFrom c (Some begun) path = ClosesAtNode c begun.kind path begun.direction []
+
+-- no scope is open any more on the engine, and its circuit is the same
+pub record IsAtRest (old new : Standing) : Type 0 where
+  pub net : new.net ≡ old.net
+  pub idle : new.beginning ≡ None

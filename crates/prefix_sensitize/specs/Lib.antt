@@ -1,0 +1,6 @@
+pub mod Prefixes
+pub mod Order
+pub mod Entering
+pub mod Walks
+pub mod Refuting
+pub mod Gathering

@@ -1,0 +1,38 @@
+// The order in which paths are searched: from fewer steps to more, so that no path is searched before one that is a prefix of it.
+ghost use Rattle.std.specs.Prelude.{IfOk};
+ghost use Rattle.prefix_sensitize.specs.Order.{AreEntries, IsOrder};
+
+use pd_base::{OutOfMemory, Path};
+use std::alloc::Global;
+
+/// A path in the order of searches.
+#[derive(Clone, Copy, Debug)]
+pub(crate) struct Entry {
+    /// How many steps it has.
+    pub(crate) steps: usize,
+    /// Its index in the list of paths.
+    pub(crate) at: usize,
+}
+
+// The order of these paths.
+pub(crate) fn order_of(alloc: Global, paths: &[Path]) -> Result<Vec<Entry>, OutOfMemory>
+    ensures { IfOk result (λ order. IsOrder paths.now order.items) }
+{
+    let mut order = entries_of(alloc, paths)?;
+    order.sort_unstable_by_key(|entry| entry.steps);
+    Ok(order)
+}
+
+// The entries of these paths, in the order of the list.
+fn entries_of(alloc: Global, paths: &[Path]) -> Result<Vec<Entry>, OutOfMemory>
+    ensures { IfOk result (λ entries. AreEntries paths.now entries.items) }
+{
+    let mut entries = Vec::with_capacity(alloc, paths.len())?;
+    for (at, path) in paths.iter().enumerate() {
+        entries.push(Entry {
+            steps: path.steps().len(),
+            at,
+        })?;
+    }
+    Ok(entries)
+}

@@ -1,0 +1,170 @@
+// All searches for the first paths of a circuit, and the run that their findings make.
+ghost use Rattle.std.specs.Prelude.{◌≡◌, ◌+◌, ◌*◌, ◌<◌, ◌≤◌, ◌^◌, None, length, IfOk, OnOk};
+ghost use Rattle.delay_annotation.specs.Annotation.{delays_of, Fits};
+ghost use Rattle.netlist.specs.Order.{AreFirst};
+ghost use Rattle.good_runs.specs.GoodRun.{IsGoodRun};
+ghost use Rattle.refutation_check.specs.Lawful.{IsLawfulRun, greatest_path_number, most_steps};
+ghost use Rattle.prefix_sensitize.specs.Entering.{IsAtRest};
+ghost use Rattle.prefix_sensitize.specs.Order.{IsOrder};
+ghost use Rattle.prefix_sensitize.specs.Walks.{AreListed, IsBudget, AreRefutations, searches_with};
+ghost use Rattle.prefix_sensitize.specs.Gathering.{AreSearchedFor, AreNewFor, IsGrownFor};
+
+use crate::gathering::{pair_kinds, pair_ways, untested};
+use crate::order::{Entry, order_of};
+use crate::passes::pass;
+use crate::visiting::Aim;
+use delay_annotation::Delays;
+use implication::{Engine, HasNetlist};
+use netlist::Netlist;
+use pd_base::{Direction, Kind, OutOfMemory, Path, Steps};
+use refutation_check::Run;
+use state_sets::FourStates;
+use std::alloc::Global;
+use verdict_runs::{Findings, Outcomes, Refutation, verdict_run};
+
+/// A good run for the first `count` paths of a circuit, which are given, and a budget of splits for each search. For each
+/// transition, a robust and then a nonrobust test of each path is searched for, from fewer steps to more; no nonrobust one where
+/// a robust one was found, and none where a refutation was found for a prefix of the path. Counts each pin that is entered.
+/// `OutOfMemory` comes where a growth was refused.
+pub fn sensitize_all<L>(
+    alloc: Global,
+    net: &Netlist,
+    delays: &Delays,
+    paths: Vec<Path>,
+    count: u32,
+    budget: u32,
+    steps: &mut Steps<L>,
+) -> Result<Run, OutOfMemory>
+    requires fits { Fits net.now delays.now }
+    requires first { AreFirst net.now (delays_of delays.now) count paths.items }
+    requires count { count ≤ greatest_path_number }
+    requires budget { IsBudget budget }
+    requires steps { steps.old ≤ 2 ^ 63 }
+    ensures good { IfOk result (λ run. IsGoodRun net.now (delays_of delays.now) count budget run) }
+    ensures lawful { IfOk result (λ run. IsLawfulRun net.now run) }
+{
+    // a netlist has few levels, and so its paths have few steps
+    let _ = net.sources();
+    let mut engine = Engine::new(alloc, net)?;
+    let searched = search_all(alloc, &mut engine, paths.as_slice(), budget, steps)?;
+    let paths = pair_ways(alloc, paths, searched.rises, searched.falls)?;
+    let findings = Findings {
+        count,
+        budget,
+        paths,
+        refutations: searched.refutations,
+    };
+    verdict_run(alloc, net, delays, findings)
+}
+
+// What the searches for some paths found.
+#[derive(Drop)]
+struct Searched {
+    rises: Vec<Outcomes>,
+    falls: Vec<Outcomes>,
+    refutations: Vec<Refutation>,
+}
+
+// Searches for all tests of these paths.
+fn search_all<N: HasNetlist, L>(
+    alloc: Global,
+    engine: &mut Engine<FourStates, N>,
+    paths: &[Path],
+    budget: u32,
+    steps: &mut Steps<L>,
+) -> Result<Searched, OutOfMemory>
+    requires idle { engine.old.beginning ≡ None }
+    requires listed { AreListed engine.old.net paths.now }
+    requires budget { IsBudget budget }
+    requires steps { steps.old ≤ 2 ^ 63 }
+    ensures rises { IfOk result (λ s. AreSearchedFor engine.old.net budget paths.now Direction.Rise s.rises.items s.refutations.items) }
+    ensures falls { IfOk result (λ s. AreSearchedFor engine.old.net budget paths.now Direction.Fall s.falls.items s.refutations.items) }
+    ensures refutations { IfOk result (λ s. AreRefutations engine.old.net (searches_with budget paths.now s.refutations.items)) }
+{
+    let order = order_of(alloc, paths)?;
+    let order = order.as_slice();
+    let mut refutations = Vec::new(alloc);
+    let rises = search_for(
+        alloc,
+        engine,
+        paths,
+        order,
+        Direction::Rise,
+        budget,
+        &mut refutations,
+        steps,
+    )?;
+    let falls = search_for(
+        alloc,
+        engine,
+        paths,
+        order,
+        Direction::Fall,
+        budget,
+        &mut refutations,
+        steps,
+    )?;
+    Ok(Searched {
+        rises,
+        falls,
+        refutations,
+    })
+}
+
+// Searches for the robust tests of a transition, and then for nonrobust ones where there is none.
+fn search_for<N: HasNetlist, L>(
+    alloc: Global,
+    engine: &mut Engine<FourStates, N>,
+    paths: &[Path],
+    order: &[Entry],
+    dir: Direction,
+    budget: u32,
+    refutations: &mut Vec<Refutation>,
+    steps: &mut Steps<L>,
+) -> Result<Vec<Outcomes>, OutOfMemory>
+    requires idle { engine.old.beginning ≡ None }
+    requires listed { AreListed engine.old.net paths.now }
+    requires order { IsOrder paths.now order.now }
+    requires budget { IsBudget budget }
+    requires fresh { AreNewFor engine.old.net budget paths.now dir refutations.old.items }
+    requires room { steps.old + 2 * (length order.now * most_steps) < 2 ^ 64 }
+    ensures rest { OnOk result (IsAtRest engine.old engine.new) }
+    ensures searched { IfOk result (λ outcomes. AreSearchedFor engine.old.net budget paths.now dir outcomes.items refutations.new.items) }
+    ensures refutations { OnOk result (AreRefutations engine.old.net (searches_with budget paths.now refutations.new.items)) }
+    ensures grown { OnOk result (IsGrownFor dir refutations.old.items refutations.new.items) }
+    ensures steps { OnOk result (steps.new ≤ steps.old + 2 * (length order.now * most_steps)) }
+{
+    let aim = Aim {
+        kind: Kind::Robust,
+        dir,
+        budget,
+    };
+    let all = vec![in alloc; true; paths.len()]?;
+    let robust = pass(
+        alloc,
+        engine,
+        paths,
+        order,
+        all.as_slice(),
+        aim,
+        refutations,
+        steps,
+    )?;
+    let aim = Aim {
+        kind: Kind::Nonrobust,
+        dir,
+        budget,
+    };
+    let some = untested(alloc, robust.as_slice())?;
+    let nonrobust = pass(
+        alloc,
+        engine,
+        paths,
+        order,
+        some.as_slice(),
+        aim,
+        refutations,
+        steps,
+    )?;
+    pair_kinds(alloc, robust, nonrobust)
+}
