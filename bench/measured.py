@@ -24,8 +24,17 @@ def be_the_one_who_waits():
 
 
 def run(words):
-    """Runs the program words[0] with the other words. A shell starts it and ends at once, since the peak of a process that
-    Python itself starts is at least Python's own."""
+    """Runs the program words[0] with the other words, again where the shell that starts it has waited for it."""
+    while True:
+        try:
+            return run_once(words)
+        except ChildProcessError:
+            continue
+
+
+def run_once(words):
+    """Runs the program once. A shell starts it and ends at once, since the peak of a process that Python itself starts is at
+    least Python's own. A run that ends before the shell does may be the shell's to wait for."""
     with tempfile.TemporaryFile() as err:
         shell = subprocess.run(
             ["sh", "-c", '"$@" >/dev/null & echo $!', "sh", *words],
