@@ -11,7 +11,7 @@ use Rattle.call_endings.specs.declared.netlist_refusal.NetlistRefusal.TheVariant
 use Rattle.call_endings.specs.declared.delays_refusal.DelaysRefusal.{DelaysRefusal}
 use Rattle.call_endings.specs.declared.delays_refusal.DelaysRefusal.TheVariants.{Header, Fields, UnknownGate, BadPin, BadNumber}
 use Rattle.call_endings.specs.declared.refusal.Refusal.{Refusal}
-use Rattle.call_endings.specs.declared.refusal.Refusal.TheVariants.{Words, TooLong, Netlist, Delays as NoDelays, PathText, TestText, NotBuilt}
+use Rattle.call_endings.specs.declared.refusal.Refusal.TheVariants.{Words, TooLong, Netlist, Delays as NoDelays, PathText, TestText}
 use Rattle.call_endings.specs.declared.ending.Ending.{Ending}
 use Rattle.call_endings.specs.declared.ending.Ending.TheVariants.{Done, Refused, ReadFault, WriteFault, OutFault, NoMemory}
 use Rattle.call_endings.specs.declared.status.Status.{Status}
@@ -72,7 +72,6 @@ refusal_line (Netlist reason) = line (codes "netlist: " ++ netlist_reason reason
 refusal_line (NoDelays reason) = line (codes "delays: " ++ delays_reason reason)
 refusal_line (PathText product) = line (codes "size: path text " ++ decimal product)
 refusal_line (TestText product) = line (codes "size: test text " ++ decimal product)
-refusal_line (NotBuilt role) = line (codes "not built: " ++ role_word role)
 
 -- the line on err for an ending; `Done` has none
 abbrev pub line_of : Ending → List ℕ
@@ -91,7 +90,6 @@ refusal_status (Netlist reason) = exit.Netlist
 refusal_status (NoDelays reason) = exit.Delays
 refusal_status (PathText product) = exit.Size
 refusal_status (TestText product) = exit.Size
-refusal_status (NotBuilt role) = exit.NotBuilt
 
 -- the status of an ending
 abbrev pub status_of : Ending → Status
@@ -112,7 +110,6 @@ number_of exit.ReadFault = 5
 number_of exit.WriteFault = 6
 number_of exit.NoMemory = 7
 number_of exit.Size = 8
-number_of exit.NotBuilt = 9
 
 -- the text of these pieces, one behind another
 abbrev pub pieces_text : List (Bor (List ℕ)) → List ℕ

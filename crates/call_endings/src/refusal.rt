@@ -17,6 +17,4 @@ pub enum Refusal {
     PathText(u64),
     /// The texts of the tests may be too long: the product that bounds them.
     TestText(u64),
-    /// This input has a form that is not built yet.
-    NotBuilt(Role),
 }

@@ -21,8 +21,6 @@ pub enum Status {
     NoMemory = 7,
     /// An input has more bytes than are read of it, or the texts may be too long.
     Size = 8,
-    /// An input has a form that is not built yet.
-    NotBuilt = 9,
 }
 
 impl Status {

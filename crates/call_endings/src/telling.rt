@@ -48,7 +48,6 @@ fn refused_status(refusal: &Refusal) -> Status
         Refusal::TooLong(_) | Refusal::PathText(_) | Refusal::TestText(_) => Status::Size,
         Refusal::Netlist(_) => Status::Netlist,
         Refusal::Delays(_) => Status::Delays,
-        Refusal::NotBuilt(_) => Status::NotBuilt,
     }
 }
 
@@ -79,7 +78,6 @@ fn write_refusal<E: Sink>(refusal: &Refusal, err: &mut E) -> Result<(), FileFaul
         Refusal::Delays(reason) => write_delays_refusal(*reason, err),
         Refusal::PathText(product) => write_product(err, b"path text ", *product),
         Refusal::TestText(product) => write_product(err, b"test text ", *product),
-        Refusal::NotBuilt(role) => write_pieces(err, &[b"not built: ", word(*role), b"\n"]),
     }
 }
 

@@ -5,7 +5,7 @@ use Rattle.pd_io.specs.Folder.{Folder}
 use Rattle.pd_io.specs.Seen.{FilesSeen, SinkSeen, Outside, seen_of}
 use Rattle.pd_io.proofs.Tellings.{tells_chain}
 use Rattle.call_endings.specs.declared.refusal.Refusal.{Refusal}
-use Rattle.call_endings.specs.declared.refusal.Refusal.TheVariants.{Words, TooLong, Netlist, Delays, PathText, TestText, NotBuilt}
+use Rattle.call_endings.specs.declared.refusal.Refusal.TheVariants.{Words, TooLong, Netlist, Delays, PathText, TestText}
 use Rattle.call_endings.specs.declared.ending.Ending.{Ending}
 use Rattle.call_endings.specs.declared.ending.Ending.TheVariants.{Done, Refused, ReadFault, WriteFault, OutFault, NoMemory}
 use Rattle.call_endings.specs.declared.status.Status.{Status}
@@ -30,7 +30,6 @@ refused_is_not_done (Netlist reason) same = cc
 refused_is_not_done (Delays reason) same = cc
 refused_is_not_done (PathText product) same = cc
 refused_is_not_done (TestText product) same = cc
-refused_is_not_done (NotBuilt role) same = cc
 
 -- no ending but `Done` has its status
 done_alone : (ending : Ending) → (ending ≡ Done → ⊥) → status_of ending ≡ exit.Done → ⊥

@@ -4,7 +4,7 @@ use Rattle.pd_io.specs.Counts.{Rose}
 use Rattle.pd_io.specs.Seen.{Outside, seen_of}
 use Rattle.call_endings.specs.declared.role.Role.{Role}
 use Rattle.call_endings.specs.declared.refusal.Refusal.{Refusal}
-use Rattle.call_endings.specs.declared.refusal.Refusal.TheVariants.{Words, TooLong, Netlist, Delays, PathText, TestText, NotBuilt}
+use Rattle.call_endings.specs.declared.refusal.Refusal.TheVariants.{Words, TooLong, Netlist, Delays, PathText, TestText}
 use Rattle.call_endings.specs.declared.ending.Ending.{Ending}
 use Rattle.call_endings.specs.declared.ending.Ending.TheVariants.{Done, Refused, ReadFault, WriteFault, OutFault, NoMemory}
 use Rattle.call_endings.specs.declared.status.Status.{Status}
@@ -40,7 +40,6 @@ refusal_is_no_read (Netlist reason) same = cc
 refusal_is_no_read (Delays reason) same = cc
 refusal_is_no_read (PathText product) same = cc
 refusal_is_no_read (TestText product) same = cc
-refusal_is_no_read (NotBuilt role) same = cc
 
 -- and none that of a failed write
 refusal_is_no_write : (refusal : Refusal) → refusal_status refusal ≡ exit.WriteFault → ⊥
@@ -50,7 +49,6 @@ refusal_is_no_write (Netlist reason) same = cc
 refusal_is_no_write (Delays reason) same = cc
 refusal_is_no_write (PathText product) same = cc
 refusal_is_no_write (TestText product) same = cc
-refusal_is_no_write (NotBuilt role) same = cc
 
 -- status 5: a read of the file of this role failed, nothing was written, and out is as it was
 pub record HasFailedRead (work : Work) (old new : Outside) : Type 0 where

@@ -3,7 +3,7 @@
 use Rattle.std.specs.Prelude.{ℕ, List, [], ◌∷◌}
 use Rattle.call_endings.specs.declared.role.Role.{Role}
 use Rattle.call_endings.specs.declared.refusal.Refusal.{Refusal}
-use Rattle.call_endings.specs.declared.refusal.Refusal.TheVariants.{Words, TooLong, Netlist, Delays, PathText, TestText, NotBuilt}
+use Rattle.call_endings.specs.declared.refusal.Refusal.TheVariants.{Words, TooLong, Netlist, Delays, PathText, TestText}
 
 -- what is required of the words, or of the inputs that were read so far
 pub data Requirement : Type 0 where
@@ -19,8 +19,6 @@ pub data Requirement : Type 0 where
   ShortPathText : Requirement
   -- so is the one that bounds the texts of the tests
   ShortTestText : Requirement
-  -- the input of this role has the form that is built today
-  BuiltForm : Role → Requirement
 
 -- the requirement that a refusal speaks of
 abbrev pub requirement_of : Refusal → Requirement
@@ -30,7 +28,6 @@ requirement_of (Netlist reason) = SpellsCircuit
 requirement_of (Delays reason) = SpellsDelays
 requirement_of (PathText product) = ShortPathText
 requirement_of (TestText product) = ShortTestText
-requirement_of (NotBuilt role) = BuiltForm role
 
 -- a stage of a command before it writes
 pub data Stage : Type 0 where

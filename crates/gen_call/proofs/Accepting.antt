@@ -6,24 +6,19 @@ use Rattle.bench_reader.specs.Circuits.{HasCircuit}
 use Rattle.bench_reader.proofs.Answering.{one_circuit}
 use Rattle.bench_reader.proofs.LawfulCircuits.{is_circuit}
 use Rattle.delay_reader.specs.DelayFile.{HasDelays}
-use Rattle.single_pin_run.specs.SinglePins.{HasSinglePins}
 use Rattle.call_words.specs.Words.{GenCall}
 use Rattle.call_endings.specs.declared.delays_refusal.DelaysRefusal.{DelaysRefusal}
 use Rattle.call_endings.specs.declared.role.Role.{Role}
 use Rattle.call_endings.specs.declared.role.Role.TheVariants as role
 use Rattle.call_endings.specs.declared.refusal.Refusal.TheVariants as refused
-use Rattle.call_work.specs.Work.{WithinLimit, SpellsCircuit, SpellsDelays, ShortPathText, ShortTestText, BuiltForm}
+use Rattle.call_work.specs.Work.{WithinLimit, SpellsCircuit, SpellsDelays, ShortPathText, ShortTestText}
 use Rattle.call_work.specs.Passing.{Accepts}
 use Rattle.call_inputs.specs.declared.judging.TheConstants.{INPUT_LIMIT}
 use Rattle.gen_call.specs.declared.sizes.TheConstants.{MOST_PATH_TEXT, MOST_TEST_TEXT}
-use Rattle.gen_call.specs.Gen.{gen_work, HasNoDelays, HasOtherCircuit, IsOverProduct, IsUnbuiltInput}
+use Rattle.gen_call.specs.Gen.{gen_work, HasNoDelays, IsOverProduct}
 use Rattle.call_inputs.specs.Reasons.{HasNoDelaysFor}
 use Rattle.gen_call.specs.Sizes.{path_text_product, test_text_product}
 use Rattle.call_inputs.proofs.ToldReasons.{has_a_circuit, gives_delays}
-
--- roles of one requirement are one role
-role_of_form : (of other : Role) → BuiltForm of ≡ BuiltForm other → of ≡ other
-role_of_form of other same = cc
 
 module _ (call : GenCall) where
   -- NET is within the limit
@@ -34,7 +29,6 @@ module _ (call : GenCall) where
   accepts_net_size net within (refused.Delays reason) same refuses = refuses
   accepts_net_size net within (refused.PathText product) same refuses = refuses
   accepts_net_size net within (refused.TestText product) same refuses = refuses
-  accepts_net_size net within (refused.NotBuilt of) same refuses = refuses
 
   -- NET has a circuit
   pub accepts_circuit : (net : List ℕ) (c : Circuit) → HasCircuit net c → Accepts (gen_work call) SpellsCircuit (net ∷ [])
@@ -44,7 +38,6 @@ module _ (call : GenCall) where
   accepts_circuit net c has (refused.Delays reason) same refuses = refuses
   accepts_circuit net c has (refused.PathText product) same refuses = refuses
   accepts_circuit net c has (refused.TestText product) same refuses = refuses
-  accepts_circuit net c has (refused.NotBuilt of) same refuses = refuses
 
   module _ (net delays : List ℕ) where
     -- DELAYS is within the limit
@@ -56,7 +49,6 @@ module _ (call : GenCall) where
     accepts_delays_size within (refused.Delays reason) same refuses = absurd cc
     accepts_delays_size within (refused.PathText product) same refuses = absurd cc
     accepts_delays_size within (refused.TestText product) same refuses = absurd cc
-    accepts_delays_size within (refused.NotBuilt of) same refuses = absurd cc
 
     -- DELAYS is refused for no reason
     pub accepts_delays : ((reason : DelaysRefusal) → ¬ HasNoDelays net delays reason)
@@ -67,7 +59,6 @@ module _ (call : GenCall) where
     accepts_delays gives (refused.Delays reason) same refuses = gives reason refuses
     accepts_delays gives (refused.PathText product) same refuses = absurd cc
     accepts_delays gives (refused.TestText product) same refuses = absurd cc
-    accepts_delays gives (refused.NotBuilt of) same refuses = absurd cc
 
     -- no product for the texts of the paths is over its limit
     pub accepts_path_text : ((product : ℕ) → ¬ IsOverProduct net (path_text_product call.paths) MOST_PATH_TEXT product)
@@ -78,7 +69,6 @@ module _ (call : GenCall) where
     accepts_path_text short (refused.Delays reason) same refuses = absurd cc
     accepts_path_text short (refused.PathText product) same refuses = short product refuses
     accepts_path_text short (refused.TestText product) same refuses = absurd cc
-    accepts_path_text short (refused.NotBuilt of) same refuses = absurd cc
 
     -- nor is one for the texts of the tests
     pub accepts_test_text : ((product : ℕ) → ¬ IsOverProduct net (test_text_product call.paths) MOST_TEST_TEXT product)
@@ -89,18 +79,6 @@ module _ (call : GenCall) where
     accepts_test_text short (refused.Delays reason) same refuses = absurd cc
     accepts_test_text short (refused.PathText product) same refuses = absurd cc
     accepts_test_text short (refused.TestText product) same refuses = short product refuses
-    accepts_test_text short (refused.NotBuilt of) same refuses = absurd cc
-
-    -- an input has the form that is built today
-    pub accepts_form : (of : Role) → ¬ IsUnbuiltInput of net → Accepts (gen_work call) (BuiltForm of) (net ∷ delays ∷ [])
-    accepts_form of has (refused.Words reason) same refuses = refuses
-    accepts_form of has (refused.TooLong other) same refuses = absurd cc
-    accepts_form of has (refused.Netlist reason) same refuses = refuses
-    accepts_form of has (refused.Delays reason) same refuses = absurd cc
-    accepts_form of has (refused.PathText product) same refuses = absurd cc
-    accepts_form of has (refused.TestText product) same refuses = absurd cc
-    accepts_form of has (refused.NotBuilt other) same refuses =
-        has (subst (λ (r : Role). IsUnbuiltInput r net) (role_of_form other of same) refuses)
 
 module _ (net : List ℕ) (c : Circuit) (has : HasCircuit net c) where
   -- a delay file that gives delays to the pins of NET's circuit is refused for no reason
@@ -117,7 +95,3 @@ module _ (net : List ℕ) (c : Circuit) (has : HasCircuit net c) where
       let same : product ≡ product_of c = it.is ∙ ap product_of (one_circuit net it.circuit c it.has has) in
       let over = it.over in
       omega arith
-
-  -- a text that has a circuit of one-pin gates has no other circuit
-  pub has_no_other : HasSinglePins c → ¬ HasOtherCircuit net
-  has_no_other single other = other.not_single (subst HasSinglePins (one_circuit net c other.circuit has other.has) single)

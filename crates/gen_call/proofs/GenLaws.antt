@@ -1,11 +1,10 @@
--- Which inputs `gen` accepts: circuits of one-pin gates with their delays, within the limits.
+-- Which inputs `gen` accepts: circuits with their delays, within the limits.
 use Rattle.std.proofs.Common.{ℕ, ◌≤◌, List, [], ◌∷◌, length, Some, refl}
 use Rattle.pd_io.specs.Folder.{Folder, bytes_at}
 use Rattle.netlist.specs.Circuit.{Circuit}
 use Rattle.bench_reader.specs.Circuits.{HasCircuit}
 use Rattle.netlist.specs.Waves.{Delays}
 use Rattle.delay_reader.specs.DelayFile.{HasDelays}
-use Rattle.single_pin_run.specs.SinglePins.{HasSinglePins}
 use Rattle.call_words.specs.Words.{GenCall}
 use Rattle.call_endings.specs.declared.role.Role.TheVariants as role
 use Rattle.call_work.specs.Calls.{HasAcceptedInputs}
@@ -13,7 +12,7 @@ use Rattle.call_inputs.specs.declared.judging.TheConstants.{INPUT_LIMIT}
 use Rattle.gen_call.specs.declared.sizes.TheConstants.{MOST_PATH_TEXT, MOST_TEST_TEXT}
 use Rattle.gen_call.specs.Gen.{gen_work}
 use Rattle.gen_call.specs.Sizes.{path_text_product, test_text_product}
-use Rattle.gen_call.proofs.Accepting.{accepts_net_size, accepts_circuit, accepts_delays_size, accepts_delays, accepts_path_text, accepts_test_text, accepts_form, has_delays, is_within, has_no_other}
+use Rattle.gen_call.proofs.Accepting.{accepts_net_size, accepts_circuit, accepts_delays_size, accepts_delays, accepts_path_text, accepts_test_text, has_delays, is_within}
 
 module _ (call : GenCall) (told : Folder) where
   -- the bytes under the name of NET
@@ -24,12 +23,12 @@ module _ (call : GenCall) (told : Folder) where
   abbrev delays : List ℕ
   delays = bytes_at told.held call.delays
 
-  -- NET of one-pin gates and DELAYS, which gives delays to their pins, are accepted where they are within their limits, and the
+  -- NET, which has a circuit, and DELAYS, which gives delays to its pins, are accepted where they are within their limits, and the
   -- texts are short
-  pub built_is_accepted : (c : Circuit) (given : Delays) → length net ≤ INPUT_LIMIT → HasCircuit net c
+  pub circuit_is_accepted : (c : Circuit) (given : Delays) → length net ≤ INPUT_LIMIT → HasCircuit net c
       → length delays ≤ INPUT_LIMIT → HasDelays c delays given → path_text_product call.paths c ≤ MOST_PATH_TEXT
-      → test_text_product call.paths c ≤ MOST_TEST_TEXT → HasSinglePins c → HasAcceptedInputs (gen_work call) (Some told)
-  built_is_accepted c given within has delays_within gives short_paths short_tests single = record {
+      → test_text_product call.paths c ≤ MOST_TEST_TEXT → HasAcceptedInputs (gen_work call) (Some told)
+  circuit_is_accepted c given within has delays_within gives short_paths short_tests = record {
     told = tt;
     inputs = net ∷ delays ∷ [];
     passed = (
@@ -52,7 +51,7 @@ module _ (call : GenCall) (told : Folder) where
                   (
                     accepts_test_text call net delays
                         (λ product. is_within net c has (test_text_product call.paths) MOST_TEST_TEXT product short_tests),
-                    (accepts_form call net delays role.Net (has_no_other net c has single), refl),
+                    refl,
                   ),
                 ),
               ),

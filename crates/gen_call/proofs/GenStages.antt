@@ -7,14 +7,13 @@ use Rattle.netlist.specs.Circuit.{Circuit}
 use Rattle.bench_reader.specs.Circuits.{HasCircuit}
 use Rattle.netlist.specs.Waves.{Delays}
 use Rattle.delay_reader.specs.DelayFile.{HasDelays}
-use Rattle.single_pin_run.specs.SinglePins.{HasSinglePins}
 use Rattle.call_words.specs.Words.{GenCall}
 use Rattle.call_endings.specs.declared.role.Role.{Role}
 use Rattle.call_endings.specs.declared.role.Role.TheVariants as role
 use Rattle.call_endings.specs.declared.refusal.Refusal.TheVariants as refused
 use Rattle.call_endings.specs.declared.ending.Ending.{Ending}
 use Rattle.call_endings.specs.declared.ending.Ending.TheVariants.{NoMemory}
-use Rattle.call_work.specs.Work.{Stage, Read, Require, WithinLimit, SpellsCircuit, SpellsDelays, ShortPathText, ShortTestText, BuiltForm, Products}
+use Rattle.call_work.specs.Work.{Stage, Read, Require, WithinLimit, SpellsCircuit, SpellsDelays, ShortPathText, ShortTestText, Products}
 use Rattle.call_work.specs.Passing.{HasBytes, HasPassed}
 use Rattle.call_work.specs.Stopping.{Stops}
 use Rattle.call_work.specs.Inputs.{ReadsInput}
@@ -27,7 +26,7 @@ use Rattle.call_inputs.specs.Judging as judging
 use Rattle.gen_call.specs.Judging.{IsRefusedFor}
 use Rattle.gen_call.specs.Gen.{gen_work, gen_stages, GivesProductsOf}
 use Rattle.gen_call.specs.Sizes.{path_text_product, test_text_product}
-use Rattle.gen_call.proofs.Accepting.{accepts_net_size, accepts_circuit, accepts_delays_size, accepts_delays, accepts_path_text, accepts_test_text, accepts_form, has_delays, is_within, has_no_other}
+use Rattle.gen_call.proofs.Accepting.{accepts_net_size, accepts_circuit, accepts_delays_size, accepts_delays, accepts_path_text, accepts_test_text, has_delays, is_within}
 
 -- an input that was read whole is within the limit
 pub read_is_within : (name : List ℕ) (read : Vec ℕ Global) (old new : FilesSeen) → ReadsInput INPUT_LIMIT name (Some read) old new
@@ -161,47 +160,29 @@ module _ (call : GenCall) where
             -- they are short
             module _ (short_tests : test_text_product call.paths c ≤ MOST_TEST_TEXT) where
               -- short texts of the tests were required
-              tests_short : HasPassed (gen_work call)
-                  (reads ++ Require SpellsDelays ∷ Require ShortPathText ∷ Require ShortTestText ∷ []) both old new
-              tests_short =
+              all_passed : HasPassed (gen_work call) (gen_stages call) both old new
+              all_passed =
                   then_required (gen_work call) ShortTestText paths_short
                   (accepts_test_text call net.items delays.items
                   (λ product. is_within net.items c has (test_text_product call.paths) MOST_TEST_TEXT product short_tests))
 
-              -- some gate of NET's circuit has several pins
-              pub other_net : (ending : Ending) → IsRefusedFor (refused.NotBuilt role.Net) (¬ HasSinglePins c) ending
-                  → Stops (gen_work call) ending old new
-              other_net ending it =
-                  subst (λ (e : Ending). Stops (gen_work call) e old new) (sym it.is_refusal)
-                  (stops_refused (gen_work call) (refused.NotBuilt role.Net) tests_short (_, refl)
-                  (record { circuit = c; has = has; not_single = it.because }))
+              -- memory ran out while the texts were made
+              pub no_texts : Stops (gen_work call) NoMemory old new
+              no_texts = stops_for_memory (gen_work call) all_passed ([], refl)
 
-              -- each gate has one pin
-              module _ (single : HasSinglePins c) where
-                -- the form was required
-                all_passed : HasPassed (gen_work call) (gen_stages call) both old new
-                all_passed =
-                    then_required (gen_work call) (BuiltForm role.Net) tests_short
-                    (accepts_form call net.items delays.items role.Net (has_no_other net.items c has single))
-
-                -- memory ran out while the texts were made
-                pub no_texts : Stops (gen_work call) NoMemory old new
-                no_texts = stops_for_memory (gen_work call) all_passed ([], refl)
-
-                -- the texts were made
-                pub has_texts : (products : Products) → GivesProductsOf call c given products
-                    → IsPrepared (gen_work call) products old new
-                has_texts products made = record {
-                  inputs = both;
-                  passed = all_passed;
-                  gives = record {
-                    circuit = c;
-                    has = has;
-                    single = single;
-                    delays = given;
-                    has_delays = gives;
-                    path_text = short_paths;
-                    test_text = short_tests;
-                    products_of_run = made;
-                  };
-                }
+              -- the texts were made
+              pub has_texts : (products : Products) → GivesProductsOf call c given products
+                  → IsPrepared (gen_work call) products old new
+              has_texts products made = record {
+                inputs = both;
+                passed = all_passed;
+                gives = record {
+                  circuit = c;
+                  has = has;
+                  delays = given;
+                  has_delays = gives;
+                  path_text = short_paths;
+                  test_text = short_tests;
+                  products_of_run = made;
+                };
+              }

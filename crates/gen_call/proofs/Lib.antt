@@ -3,4 +3,5 @@ pub mod FewLines
 pub mod GenLaws
 pub mod GenStages
 pub mod GenTexts
+pub mod Headline
 pub mod Products

@@ -1,15 +1,13 @@
--- The command `gen`: its stages, what it refuses, and what it gives; today for circuits whose gates have one pin each. Where a
--- call ends with status 0, its three files hold the texts of one run: it lists the first paths by nonincreasing length, each
--- once, with a robust test for each transition, and each test samples a wrong value under every delay assignment that makes its
--- path late (this project's own).
+-- The command `gen`: its stages, what it refuses, and what it gives. Where a call ends with status 0, its three files hold the
+-- texts of one good run: it lists the first paths by nonincreasing length, each once, with one verdict for each transition, and each
+-- test, refutation and spent budget is one; what its verdicts promise is said in Headline.antt (this project's own).
 use Rattle.std.specs.Prelude.{◌≡◌, ℕ, ◌<◌, ◌≤◌, List, [], ◌∷◌, length}
 use Rattle.netlist.specs.Circuit.{Circuit}
 use Rattle.netlist.specs.Waves.{Delays}
 use Rattle.refutation_check.specs.declared.run.Run.{Run}
-use Rattle.refutation_check.specs.RobustRun.{IsRobustRun}
+use Rattle.good_runs.specs.GoodRun.{IsGoodRun}
 use Rattle.bench_reader.specs.Circuits.{HasCircuit}
 use Rattle.delay_reader.specs.DelayFile.{HasDelays}
-use Rattle.single_pin_run.specs.SinglePins.{HasSinglePins}
 use Rattle.pattern_writer.specs.TestsText.{tests_text}
 use Rattle.verdict_report.specs.ReportText.{report_text}
 use Rattle.verdict_report.specs.ProofsText.{proofs_text}
@@ -20,19 +18,19 @@ use Rattle.call_endings.specs.declared.role.Role.{Role}
 use Rattle.call_endings.specs.declared.role.Role.TheVariants as role
 use Rattle.call_endings.specs.declared.refusal.Refusal.{Refusal}
 use Rattle.call_endings.specs.declared.refusal.Refusal.TheVariants as refused
-use Rattle.call_work.specs.Work.{Work, Stage, Read, Require, WithinLimit, SpellsCircuit, SpellsDelays, ShortPathText, ShortTestText, BuiltForm, Due, Products}
+use Rattle.call_work.specs.Work.{Work, Stage, Read, Require, WithinLimit, SpellsCircuit, SpellsDelays, ShortPathText, ShortTestText, Due, Products}
 use Rattle.call_inputs.specs.declared.judging.TheConstants.{INPUT_LIMIT}
 use Rattle.gen_call.specs.declared.sizes.TheConstants.{MOST_PATH_TEXT, MOST_TEST_TEXT}
 use Rattle.call_inputs.specs.Reasons.{HasNoCircuitFor, HasNoDelaysFor}
+use Rattle.gen_call.specs.Headline.{AllPromise}
 use Rattle.gen_call.specs.Sizes.{path_text_product, test_text_product}
 
--- NET is read, and has to have a circuit; then DELAYS is read, and has to give delays; then the texts have to be short; and at
--- last NET has to have the form that is built today
+-- NET is read, and has to have a circuit; then DELAYS is read, and has to give delays; then the texts have to be short
 abbrev pub gen_stages : GenCall → List Stage
 gen_stages call =
     Read role.Net call.net ∷ Require (WithinLimit role.Net) ∷ Require SpellsCircuit
     ∷ Read role.Delays call.delays ∷ Require (WithinLimit role.Delays) ∷ Require SpellsDelays
-    ∷ Require ShortPathText ∷ Require ShortTestText ∷ Require (BuiltForm role.Net) ∷ []
+    ∷ Require ShortPathText ∷ Require ShortTestText ∷ []
 
 -- of this input the text has more bytes than the limit
 pub record IsOverLimit (input : Role) (text : List ℕ) (of : Role) : Type 0 where
@@ -52,17 +50,6 @@ pub record IsOverProduct (net : List ℕ) (product_of : Circuit → ℕ) (limit 
   pub is : product ≡ product_of circuit
   pub over : limit < product
 
--- the text has a circuit, of which not every gate has one pin
-pub record HasOtherCircuit (net : List ℕ) : Type 0 where
-  pub circuit : Circuit
-  pub has : HasCircuit net circuit
-  pub not_single : ¬ HasSinglePins circuit
-
--- the input of this role does not have the form that is built today: gates of one pin
-abbrev pub IsUnbuiltInput : Role → List ℕ → Type 0
-IsUnbuiltInput role.Net net = HasOtherCircuit net
-IsUnbuiltInput other net = ⊥
-
 -- what gen refuses once NET is read
 abbrev pub RefusesNet : List ℕ → Refusal → Type 0
 RefusesNet net (refused.TooLong of) = IsOverLimit role.Net net of
@@ -75,7 +62,6 @@ RefusesBoth paths net delays (refused.TooLong of) = IsOverLimit role.Delays dela
 RefusesBoth paths net delays (refused.Delays reason) = HasNoDelays net delays reason
 RefusesBoth paths net delays (refused.PathText product) = IsOverProduct net (path_text_product paths) MOST_PATH_TEXT product
 RefusesBoth paths net delays (refused.TestText product) = IsOverProduct net (test_text_product paths) MOST_TEST_TEXT product
-RefusesBoth paths net delays (refused.NotBuilt of) = IsUnbuiltInput of net
 RefusesBoth paths net delays refusal = ⊥
 
 -- what gen refuses for so many paths of the inputs that were read so far
@@ -98,18 +84,18 @@ gen_products call c run = record {
   out = summary_text run;
 }
 
--- the products are the texts of one run, which lists the first paths, each with a robust test for each transition
+-- the products are the texts of one good run for the paths and the budget that are asked for; its verdicts keep their promises
 pub record GivesProductsOf (call : GenCall) (c : Circuit) (delays : Delays) (products : Products) : Type 0 where
   pub run : Run
-  pub robust : IsRobustRun c delays call.paths run
+  pub good : IsGoodRun c delays call.paths call.budget run
+  pub promises : AllPromise c call.budget run
   pub texts : products ≡ gen_products call c run
 
--- NET has this circuit, whose gates have one pin each, DELAYS gives these delays to its pins, the texts are short, and the
--- products are those of a run for them
+-- NET has this circuit, DELAYS gives these delays to its pins, the texts are short, and the products are those of a good run for
+-- them
 pub record GivesRun (call : GenCall) (net delay_file : List ℕ) (products : Products) : Type 0 where
   pub circuit : Circuit
   pub has : HasCircuit net circuit
-  pub single : HasSinglePins circuit
   pub delays : Delays
   pub has_delays : HasDelays circuit delay_file delays
   pub path_text : path_text_product call.paths circuit ≤ MOST_PATH_TEXT

@@ -1,3 +1,4 @@
 pub mod Gen
+pub mod Headline
 pub mod Judging
 pub mod Sizes

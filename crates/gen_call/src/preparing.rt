@@ -7,10 +7,10 @@ ghost use Rattle.call_work.specs.Preparing.{Prepares};
 ghost use Rattle.call_work.specs.Texts.{dues_of, products_of};
 ghost use Rattle.delay_annotation.specs.Annotation.{Fits, delays_of};
 ghost use Rattle.gen_call.specs.Gen.{GivesProductsOf, gen_files, gen_work};
+ghost use Rattle.good_runs.specs.GoodRun.{IsGoodRun};
 ghost use Rattle.netlist.specs.Lawful.{IsCircuit};
-ghost use Rattle.single_pin_run.specs.SinglePins.{HasSinglePins};
+ghost use Rattle.refutation_check.specs.Lawful.{IsLawfulRun};
 
-use crate::judging::try_net;
 use crate::sizes::{sizes_of, try_path_text, try_test_text};
 use call_endings::{Ending, Role};
 use call_inputs::{delays_in, netlist_of, read_within};
@@ -18,16 +18,17 @@ use call_words::GenCommand;
 use call_work::{DueFile, Texts};
 use delay_annotation::Delays;
 use netlist::Netlist;
+use path_lister::first_paths;
 use pattern_writer::tests_text;
-use pd_base::OutOfMemory;
+use pd_base::{OutOfMemory, Steps};
 use pd_io::Files;
-use single_pin_run::single_pin_run;
+use prefix_sensitize::sensitize_all;
+use refutation_check::Run;
 use std::alloc::Global;
 use verdict_report::{proofs_text, report_text, summary_text};
 
 /// Reads NET, which has to have a circuit, and DELAYS, which has to give delays to its pins; requires that the texts can't grow
-/// too long, and of NET the form that is built today; and makes the texts of the three files and of the summary on out. Nothing
-/// is written.
+/// too long; and makes the texts of the three files and of the summary on out, which are those of a good run. Nothing is written.
 pub fn prepare_gen<'a, F: Files>(
     alloc: Global,
     command: &GenCommand<'a>,
@@ -44,11 +45,10 @@ pub fn prepare_gen<'a, F: Files>(
     let sizes = sizes_of(&netlist, command.paths);
     try_path_text(sizes)?;
     try_test_text(sizes)?;
-    try_net(&netlist)?;
     Ok(texts_of(alloc, command, &netlist, &delays)?)
 }
 
-// The texts of the run of a circuit whose gates have one pin each.
+// The texts of a good run for the paths and the budget that are asked for.
 fn texts_of<'a>(
     alloc: Global,
     command: &GenCommand<'a>,
@@ -56,19 +56,44 @@ fn texts_of<'a>(
     delays: &Delays,
 ) -> Result<Texts<'a>, OutOfMemory>
     requires circuit { IsCircuit net.now }
-    requires single { HasSinglePins net.now }
     requires fits { Fits net.now delays.now }
     requires numbers { HasGenNumbers (gen_call_of command.now) }
     ensures { IfOk result
         (λ texts. GivesProductsOf (gen_call_of command.now) net.now (delays_of delays.now) (products_of texts)) }
 {
-    let run = single_pin_run(alloc, net, delays, command.paths)?;
+    let run = run_of(alloc, net, delays, command)?;
     let tests = tests_text(alloc, net, run.tests.as_slice())?;
     let report = report_text(alloc, net, &run)?;
     let proofs = proofs_text(alloc, &run)?;
     let out = summary_text(alloc, &run)?;
     let files = files_of(alloc, command, tests, report, proofs)?;
     Ok(Texts { files, out })
+}
+
+// A good run for the paths and the budget that are asked for.
+fn run_of(
+    alloc: Global,
+    net: &Netlist,
+    delays: &Delays,
+    command: &GenCommand,
+) -> Result<Run, OutOfMemory>
+    requires fits { Fits net.now delays.now }
+    requires numbers { HasGenNumbers (gen_call_of command.now) }
+    ensures good { IfOk result
+        (λ run. IsGoodRun net.now (delays_of delays.now) command.now.paths command.now.budget run) }
+    ensures lawful { IfOk result (λ run. IsLawfulRun net.now run) }
+{
+    let paths = first_paths(alloc, net, delays, command.paths)?;
+    let mut steps = Steps::start(());
+    sensitize_all(
+        alloc,
+        net,
+        delays,
+        paths,
+        command.paths,
+        command.budget,
+        &mut steps,
+    )
 }
 
 // The files that are due, in the order in which they are written.

@@ -1,3 +1,2 @@
 pub mod Forests
-pub mod LawfulRuns
 pub mod Preorders

@@ -1,4 +1,3 @@
 pub mod Lawful
-pub mod RobustRun
 pub mod Trees
 pub mod Verdicts

@@ -1,5 +1,5 @@
 //! What a run consists of: listed paths with their verdicts, tests, and proofs with trees of case splits; and which runs
-//! the three files can spell (specs/Lawful.antt). No tree is checked against a circuit yet.
+//! the three files can spell (specs/Lawful.antt). Which trees refute is said in tree_laws.
 //! Stands on pd_base and netlist. The layers above use `Run` and its parts, and the predicates of specs/.
 #![tactic(auto)]
 

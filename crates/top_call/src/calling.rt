@@ -14,13 +14,13 @@ use std::alloc::Global;
 /// Does what the words ask for. The words are those behind the program's own name.
 ///
 /// `gen NET DELAYS TESTS REPORT PROOFS` reads the first two files and writes the other three, then a summary on out. At status 0
-/// the three files hold the texts of one run: it lists the first paths of NET's circuit by nonincreasing length, each once, with
-/// a robust test for each transition, and each test samples a wrong value under every delay assignment that makes its path
-/// late (`gen_work` in the crate gen_call).
+/// the three files hold the texts of one good run: it lists the first paths of NET's circuit by nonincreasing length, each once, with
+/// one verdict for each transition. A robust test samples a wrong value under every delay assignment that makes its path late; a
+/// nonrobust one does where its side pins have settled, too; the refutation of an untestable fault excludes every pair of vectors; and
+/// an aborted fault spent its budget (`gen_work` in the crate gen_call).
 ///
 /// Inputs of more than 33,554,432 bytes are refused, and so are a netlist that has no circuit, a delay file that gives its pins
-/// no delays, and a circuit whose texts might grow too long. What is not built yet is refused too: circuits with a gate of
-/// several pins.
+/// no delays, and a circuit whose texts might grow too long.
 ///
 /// Only the files of the command are read or written. Where the status isn't 0, a line on err says why.
 pub fn run<F: Files, O: Sink, E: Sink>(

@@ -10,7 +10,7 @@ use Rattle.call_endings.specs.declared.refusal.Refusal.TheVariants as refused
 use Rattle.gen_call.specs.declared.sizes.TheConstants.{MOST_PATH_TEXT, MOST_TEST_TEXT}
 use Rattle.call_inputs.specs.Judging.{FailsDelays, FailsNet}
 use Rattle.gen_call.specs.Judging.{IsRefusedFor}
-use Rattle.gen_call.proofs.GenStages.{net_unread, delays_unread, no_netlist, no_delays, long_paths, long_tests, other_net, no_texts, has_texts}
+use Rattle.gen_call.proofs.GenStages.{net_unread, delays_unread, no_netlist, no_delays, long_paths, long_tests, no_texts, has_texts}
 use Rattle.gen_call.proofs.preparing.prepare_gen.Goals as goal
 
 pub returns-in_err-net : goal.returns-in_err-net
@@ -71,22 +71,6 @@ returns-in_err-try_test_text g c =
     (subst (λ (n : ℕ). IsRefusedFor (refused.TestText n) (MOST_TEST_TEXT < n) c.in_err-try_test_text.field-0.0)
     c.sizes_of-sizes.ensures.test_text c.in_err-try_test_text.ensures.refused))
 
-pub returns-in_err-try_net : goal.returns-in_err-try_net
-returns-in_err-try_net g c =
-    let p = err_from_is_err_and c.from_residual-in_err-try_net.result c.from_residual-in_err-try_net.ensures.1 in
-    let has = subst (λ (text : List ℕ). HasCircuit text c.in_ok-netlist.netlist) c.as_slice.ensures.value
-    c.in_ok-netlist.ensures.circuit in
-    let gives = subst (λ (text : List ℕ). HasDelays c.in_ok-netlist.netlist text (delays_of c.in_ok-delays.delays))
-    c.as_slice-2.ensures.value c.in_ok-delays.ensures.delays in
-    let short_paths = subst (λ (n : ℕ). n ≤ MOST_PATH_TEXT) c.sizes_of-sizes.ensures.path_text
-    c.in_ok-try_path_text.ensures.within in
-    let short_tests = subst (λ (n : ℕ). n ≤ MOST_TEST_TEXT) c.sizes_of-sizes.ensures.test_text
-    c.in_ok-try_test_text.ensures.within in
-    rw (p.1, p.2) (other_net (gen_call_of c.args.command.now) c.in_ok-net.net _ _ c.in_ok-net.ensures.read
-    c.in_ok-netlist.netlist has c.in_ok-delay_file.delay_file _ c.in_ok-delay_file.ensures.read
-    (delays_of c.in_ok-delays.delays) gives short_paths short_tests _
-    c.in_err-try_net.ensures.refused)
-
 pub returns-in_err-texts_of : goal.returns-in_err-texts_of
 returns-in_err-texts_of g c =
     let p = err_from_is_err_and c.from_residual-in_err-texts_of.result c.from_residual-in_err-texts_of.ensures.1 in
@@ -100,8 +84,7 @@ returns-in_err-texts_of g c =
     c.in_ok-try_test_text.ensures.within in
     rw (p.1, p.2) (no_texts (gen_call_of c.args.command.now) c.in_ok-net.net _ _ c.in_ok-net.ensures.read
     c.in_ok-netlist.netlist has c.in_ok-delay_file.delay_file _ c.in_ok-delay_file.ensures.read
-    (delays_of c.in_ok-delays.delays) gives short_paths short_tests
-    c.in_ok-try_net.ensures.single)
+    (delays_of c.in_ok-delays.delays) gives short_paths short_tests)
 
 pub returns : goal.returns
 returns g c =
@@ -115,8 +98,7 @@ returns g c =
     c.in_ok-try_test_text.ensures.within in
     has_texts (gen_call_of c.args.command.now) c.in_ok-net.net _ _ c.in_ok-net.ensures.read
     c.in_ok-netlist.netlist has c.in_ok-delay_file.delay_file _ c.in_ok-delay_file.ensures.read
-    (delays_of c.in_ok-delays.delays) gives short_paths short_tests
-    c.in_ok-try_net.ensures.single _ c.in_ok-texts_of.ensures
+    (delays_of c.in_ok-delays.delays) gives short_paths short_tests _ c.in_ok-texts_of.ensures
 
 pub texts_of-requires-clause-circuit : goal.texts_of-requires-clause-circuit
 texts_of-requires-clause-circuit g c = is_circuit c.as_slice.result.now c.in_ok-netlist.netlist c.in_ok-netlist.ensures.circuit

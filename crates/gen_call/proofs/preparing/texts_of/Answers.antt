@@ -1,26 +1,20 @@
 -- The run is lawful in all three files, its circuit's names call for no quotes, and the products are those of the run.
 use Rattle.std.proofs.Common.{List, sym, subst, ap, ◌∙◌}
-use Rattle.delay_annotation.specs.Annotation.{delays_of}
 use Rattle.pattern_writer.specs.TestsText.{tests_text}
 use Rattle.pd_base.specs.declared.test.Test.{Test}
 use Rattle.refutation_check.specs.Lawful.{AreLawfulTests}
-use Rattle.refutation_check.proofs.LawfulRuns.{robust_is_lawful}
 use Rattle.call_words.specs.Commands.{gen_call_of}
+use Rattle.gen_call.proofs.Headline.{good_run_promises}
 use Rattle.gen_call.proofs.GenTexts.{has_plain_names, products_of_run}
 use Rattle.gen_call.proofs.preparing.texts_of.Goals as goal
 
 pub tests_text-requires : goal.tests_text-requires
 tests_text-requires c =
-    let lawful = robust_is_lawful c.args.net.now (delays_of c.args.delays.now) c.args.command.now.paths c.in_ok-run.run'
-    c.requires.numbers.few_paths c.in_ok-run.ensures.run in
     let P : List Test → Type 0 = AreLawfulTests c.args.net.now in
-    subst P (sym c.as_slice.ensures) lawful.tests
+    subst P (sym c.as_slice.ensures) c.in_ok-run.ensures.lawful.tests
 
 pub report_text-requires-clause-lawful : goal.report_text-requires-clause-lawful
-report_text-requires-clause-lawful c =
-    let lawful = robust_is_lawful c.args.net.now (delays_of c.args.delays.now) c.args.command.now.paths c.in_ok-run.run'
-    c.requires.numbers.few_paths c.in_ok-run.ensures.run in
-    lawful.report
+report_text-requires-clause-lawful c = c.in_ok-run.ensures.lawful.report
 
 pub report_text-requires-clause-names : goal.report_text-requires-clause-names
 report_text-requires-clause-names c = has_plain_names c.args.net.now c.requires.circuit
@@ -28,7 +22,8 @@ report_text-requires-clause-names c = has_plain_names c.args.net.now c.requires.
 pub returns : goal.returns
 returns c = record {
   run = c.in_ok-run.run';
-  robust = c.in_ok-run.ensures.run;
+  good = c.in_ok-run.ensures.good;
+  promises = good_run_promises c.args.net.now c.requires.circuit _ _ _ c.in_ok-run.run' c.in_ok-run.ensures.good;
   texts = products_of_run (gen_call_of c.args.command.now) c.args.net.now c.in_ok-run.run' _ _ _ _ _ c.in_ok-files.ensures
       (c.in_ok-tests.ensures ∙ ap (tests_text c.args.net.now) c.as_slice.ensures) c.in_ok-report.ensures
       c.in_ok-proofs.ensures c.in_ok-out.ensures;

@@ -1,3 +1,0 @@
-mod ListedPaths
-mod NoSides
-mod PathTests
