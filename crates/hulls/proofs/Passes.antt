@@ -19,7 +19,7 @@ use Rattle.state_sets.specs.Hulls.{Narrowing, condition_at, IsNarrowingOf, IsAtR
 use Rattle.state_sets.specs.Hulls.Narrowing.{at_gate, along_link}
 use Rattle.hull_laws.specs.Sweeps.{KeepsRests, total}
 use Rattle.hull_laws.proofs.Sweeps.{keeps_none, keeps_on, keeps_one, none_emptied, kept_total}
-use Rattle.hulls.specs.Sweeps.{RestsAt, IsSweep, IsWholeSweep, IsEmptying}
+use Rattle.hulls.specs.Sweeps.{RestsAt, IsSweep, IsWholeSweep, IsKept, IsEmptying}
 
 module _ (a : StateAlgebra) (c : Circuit) (kind : Kind) (steps : List PinRef) where
   abbrev Narrowings : Narrowing → Type 0
@@ -75,6 +75,28 @@ module _ (a : StateAlgebra) (c : Circuit) (kind : Kind) (steps : List PinRef) wh
     none_empty = sweep.none_empty;
     falls = sweep.falls;
     rests = λ no. rests_everywhere order is new (sweep.rests no);
+  }
+
+  -- nothing narrowed keeps all
+  pub kept_none : (labels : List StateSet) → IsLabelling a.count c labels → HasNoEmptySet c labels → IsKept a c kind steps labels labels
+  kept_none labels is some = record { keeps = keeps_none a c Narrowings labels is; none_empty = some; no_more = omega arith }
+
+  -- so does one sweep after another
+  pub kept_on : (gates : List GateId) (old mid new : List StateSet) (changed : Bool) → IsKept a c kind steps old mid
+      → IsSweep a c kind steps gates mid new changed → IsKept a c kind steps old new
+  kept_on gates old mid new changed before after = record {
+    keeps = keeps_on a c Narrowings old mid new before.keeps after.keeps;
+    none_empty = after.none_empty;
+    no_more = omega (arith, before.no_more, not_more mid new before.keeps.labelling after.keeps);
+  }
+
+  -- and a line emptied behind it
+  pub kept_emptying : (old mid new : List StateSet) (line : ℕ) → IsKept a c kind steps old mid → IsEmptying a c kind steps mid new line
+      → IsEmptying a c kind steps old new line
+  kept_emptying old mid new line before after = record {
+    keeps = keeps_on a c Narrowings old mid new before.keeps after.keeps;
+    in_circuit = after.in_circuit;
+    none = after.none;
   }
 
   -- a line emptied behind a sweep

@@ -1,5 +1,5 @@
 -- What stands while labels are narrowed gate by gate (this project's own).
-use Rattle.std.specs.Prelude.{◌≡◌, ℕ, ◌<◌, Bool, true, false, List, All}
+use Rattle.std.specs.Prelude.{◌≡◌, ℕ, ◌<◌, ◌≤◌, Bool, true, false, List, All}
 use Rattle.pd_base.specs.declared.ids.GateId.{GateId}
 use Rattle.pd_base.specs.declared.ids.PinRef.{PinRef}
 use Rattle.pd_base.specs.declared.fault.Kind.{Kind}
@@ -33,6 +33,12 @@ pub record IsWholeSweep (a : StateAlgebra) (c : Circuit) (kind : Kind) (steps : 
   pub none_empty : HasNoEmptySet c new
   pub falls : changed ≡ true → total new < total old
   pub rests : changed ≡ false → IsAtRest a c (IsNarrowingOf c kind steps) new
+
+-- narrowings at some gates lost no labels at rest, left each line some state, and gave no line more states than it had
+pub record IsKept (a : StateAlgebra) (c : Circuit) (kind : Kind) (steps : List PinRef) (old new : List StateSet) : Type 0 where
+  pub keeps : KeepsRests a c (IsNarrowingOf c kind steps) old new
+  pub none_empty : HasNoEmptySet c new
+  pub no_more : total new ≤ total old
 
 -- narrowings left no state at this line
 pub record IsEmptying (a : StateAlgebra) (c : Circuit) (kind : Kind) (steps : List PinRef) (old new : List StateSet) (line : ℕ) : Type 0 where

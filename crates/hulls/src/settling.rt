@@ -1,4 +1,5 @@
-// Labels are narrowed at all gates in rank order, sweep after sweep, until a sweep changes nothing or a line has no state left.
+// Labels are narrowed at all gates in rank order and back again, sweep after sweep, until a sweep changes nothing or a line has no
+// state left. What a gate's line tells of its pins goes down to the sources in one sweep back.
 ghost use Rattle.std.specs.Prelude.{◌≡◌, ◌<◌, ◌∷◌, [], length, IfSome, IfNone, MatchResult};
 ghost use Rattle.netlist.specs.Circuit.{gate_count, line_count};
 ghost use Rattle.netlist.specs.Lawful.{ReadsLines};
@@ -7,7 +8,7 @@ ghost use Rattle.state_sets.specs.Labellings.{label_at, IsLabelling};
 ghost use Rattle.state_sets.specs.Hulls.{IsNarrowingOf, IsHull, IsEmptied, HasAt, HasNoEmptySet};
 ghost use Rattle.hull_laws.specs.Sweeps.{KeepsRests};
 ghost use Rattle.hulls.specs.Conditions.{IsEnteredOn};
-ghost use Rattle.hulls.specs.Sweeps.{IsSweep, IsWholeSweep, IsEmptying};
+ghost use Rattle.hulls.specs.Sweeps.{IsSweep, IsWholeSweep, IsKept, IsEmptying};
 
 use crate::Conditions;
 use narrowing::{NarrowScratch, narrow};
@@ -39,6 +40,10 @@ pub fn settle<A: Algebra>(
         match sweep(net, labels, conditions, scratch) {
             Ok(true) => {}
             Ok(false) => return None,
+            Err(line) => return Some(line),
+        }
+        match sweep_back(net, labels, conditions, scratch) {
+            Ok(()) => {}
             Err(line) => return Some(line),
         }
     }
@@ -79,6 +84,27 @@ fn sweep<A: Algebra>(
         changed |= narrow_at(net, labels, conditions, *gate, scratch)?;
     }
     Ok(changed)
+}
+
+// Narrows at each gate once, those of the highest ranks first. Fails at a line that has no state left.
+fn sweep_back<A: Algebra>(
+    net: &Netlist,
+    labels: &mut Labels<A>,
+    conditions: &Conditions,
+    scratch: &mut NarrowScratch,
+) -> Result<(), LineId>
+    requires labelling { IsLabelling A.algebra.count net.now labels.old }
+    requires none_empty { HasNoEmptySet net.now labels.old }
+    requires circuit { ReadsLines net.now }
+    requires conditions { IsEnteredOn net.now conditions.now }
+    ensures { MatchResult result
+        (λ done. IsKept A.algebra net.now conditions.now.kind conditions.now.steps labels.old labels.new)
+        (λ line. IsEmptying A.algebra net.now conditions.now.kind conditions.now.steps labels.old labels.new line.0) }
+{
+    for gate in net.order().iter().rev() {
+        narrow_at(net, labels, conditions, *gate, scratch)?;
+    }
+    Ok(())
 }
 
 // Narrows at one gate, and tells the same.

@@ -14,12 +14,34 @@ returns-in-Some-clause-emptied g c =
 
 pub sweeps-preserved : goal.sweeps-preserved
 sweeps-preserved g c =
-    let net = c.args.net.now in let on = c.args.conditions.now in
+    let a = g.A.Algebra.algebra in let net = c.args.net.now in let on = c.args.conditions.now in
+    let Narrowings = IsNarrowingOf net on.kind on.steps in
     record {
-      keeps = keeps_on g.A.Algebra.algebra net (IsNarrowingOf net on.kind on.steps) c.args.labels.now c.sweeps.labels c.sweep.new.labels
-          c.sweeps.invariant.keeps c.in-Ok-true.ensures.keeps;
-      none_empty = c.in-Ok-true.ensures.none_empty;
+      keeps = keeps_on a net Narrowings c.args.labels.now c.sweep.new.labels c.sweep_back.new.labels
+          (keeps_on a net Narrowings c.args.labels.now c.sweeps.labels c.sweep.new.labels c.sweeps.invariant.keeps c.in-Ok-true.ensures.keeps)
+          c.in-Ok.ensures.keeps;
+      none_empty = c.in-Ok.ensures.none_empty;
     }
+
+pub returns-in-Err-sweep_back-clause-keeps : goal.returns-in-Err-sweep_back-clause-keeps
+returns-in-Err-sweep_back-clause-keeps g c =
+    let a = g.A.Algebra.algebra in let net = c.args.net.now in let on = c.args.conditions.now in
+    let Narrowings = IsNarrowingOf net on.kind on.steps in
+    keeps_on a net Narrowings c.args.labels.now c.sweep.new.labels c.sweep_back.new.labels
+    (keeps_on a net Narrowings c.args.labels.now c.sweeps.labels c.sweep.new.labels c.sweeps.invariant.keeps c.in-Ok-true.ensures.keeps)
+    c.in-Err-sweep_back.ensures.keeps
+
+pub returns-in-Err-sweep_back-clause-emptied : goal.returns-in-Err-sweep_back-clause-emptied
+returns-in-Err-sweep_back-clause-emptied g c =
+    let a = g.A.Algebra.algebra in let net = c.args.net.now in let on = c.args.conditions.now in
+    let Narrowings = IsNarrowingOf net on.kind on.steps in (
+      c.in-Err-sweep_back.ensures.in_circuit,
+      emptied_of_kept a net Narrowings c.args.labels.now c.sweep_back.new.labels
+          (keeps_on a net Narrowings c.args.labels.now c.sweep.new.labels c.sweep_back.new.labels
+          (keeps_on a net Narrowings c.args.labels.now c.sweeps.labels c.sweep.new.labels c.sweeps.invariant.keeps c.in-Ok-true.ensures.keeps)
+          c.in-Err-sweep_back.ensures.keeps)
+          c.in-Err-sweep_back.line.0 c.in-Err-sweep_back.ensures.none,
+    )
 
 pub returns-in-Ok-false-clause-keeps : goal.returns-in-Ok-false-clause-keeps
 returns-in-Ok-false-clause-keeps g c =
