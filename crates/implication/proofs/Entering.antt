@@ -2,7 +2,7 @@
 use Rattle.std.proofs.Common.{◌≡◌, ◌≢◌, ℕ, zero, suc, ◌+◌, ◌-◌, ◌<◌, ◌≤◌, ◌==◌, false, List, [], ◌∷◌, ◌++◌, length, take, get_or, None, All, refl, sym, ap, ◌∙◌, subst, arith}
 use Rattle.std.proofs.lemmas.Bool.{ne_eqb}
 use Rattle.std.proofs.lemmas.List.Elements.{All-nil, All-cons}
-use Rattle.std.proofs.lemmas.List.{length_push, take_more}
+use Rattle.std.proofs.lemmas.List.{length_push, take_more, take_all}
 use Rattle.std.proofs.lemmas.Option.{slice_get_within}
 use Rattle.pd_base.specs.declared.ids.PinRef.{PinRef}
 use Rattle.pd_base.specs.declared.fault.Kind.{Kind}
@@ -170,3 +170,28 @@ entered_on c line list connects steps room is = record {
   gates = room.gates;
   steps = let P : List PinRef → Type 0 = λ xs. All (IsPinOf c) xs in subst P (sym is) (pins_of c line (entered_pins list) connects);
 }
+
+-- a list that is not empty is what stands before its last entry, and that
+pub whole_list : (list : List Assumption) (else_ : Assumption) → 1 ≤ length list
+    → take (length list - 1) list ++ get_or list (length list - 1) else_ ∷ [] ≡ list
+whole_list list else_ some =
+    sym (take_more list (length list - 1) else_ (omega (arith, some))) ∙ take_all (length list - 1 + 1) list (omega (arith, some))
+
+-- the step of the last entry is entered behind those before it, under a kind of test
+module _ (first old new : Steps) (kind : Kind) (of_kind : old ≡ record first { kind = kind }) (list : List Assumption) (else_ : Assumption)
+    (is : new ≡ record old { steps = old.steps ++ entered_pins (get_or list (length list - 1) else_ ∷ []) }) where
+  pub last_kind : new.kind ≡ kind
+  last_kind = ap (λ (s : Steps). s.kind) is ∙ ap (λ (s : Steps). s.kind) of_kind
+
+  pub last_room : (c : Circuit) → HasStepRoom c first → HasStepRoom c new
+  last_room c room = record {
+    gates = ap (λ (s : Steps). s.gates) is ∙ ap (λ (s : Steps). s.gates) of_kind ∙ room.gates;
+    levels = ap (λ (s : Steps). s.room) is ∙ ap (λ (s : Steps). s.room) of_kind ∙ room.levels;
+  }
+
+  pub last_stepped : 1 ≤ length list → first.steps ≡ entered_pins (take (length list - 1) list) → new.steps ≡ entered_pins list
+  last_stepped some done =
+      let last = get_or list (length list - 1) else_ in
+      ap (λ (s : Steps). s.steps) is ∙ ap (λ (s : Steps). s.steps ++ entered_pins (last ∷ [])) of_kind
+      ∙ ap (λ before. before ++ entered_pins (last ∷ [])) done ∙ sym (entered_append (take (length list - 1) list) (last ∷ []))
+      ∙ ap entered_pins (whole_list list else_ some)

@@ -14,13 +14,14 @@ use Rattle.state_sets.specs.States.{AreWithin, both_sets, no_states}
 use Rattle.state_sets.specs.StateAlgebra.{StateAlgebra}
 use Rattle.state_sets.specs.Labellings.{label_at}
 use Rattle.state_sets.specs.Starts.{MayStart}
-use Rattle.state_sets.specs.Hulls.{Narrowing, HasAt, IsHull, IsEmptied, IsNarrowingOf, HasNoEmptySet}
-use Rattle.hull_laws.proofs.Hulls.{Allows, hull_of_same, emptied_if_wider, widens_by_states, not_closing}
+use Rattle.state_sets.specs.Hulls.{Narrowing, HasAt, IsHull, IsEmptied, IsNarrowingOf, IsRestAmong, HasNoEmptySet}
+use Rattle.hull_laws.proofs.Hulls.{Allows, hull_of_same, emptied_if_wider, widens_by_states, widens_by_steps, not_closing}
 use Rattle.implication.specs.declared.assumption.Beginning.{Beginning}
 use Rattle.implication.specs.declared.assumption.Assumption.{Assumption}
 use Rattle.implication.specs.declared.assumption.Assumption.TheVariants.{Entered, Assumed}
 use Rattle.implication.specs.Assumptions.{entered_pins, MayUnder, IsLetBy, IsHullUnder, IsEmptiedUnder, ClosesUnder}
 use Rattle.implication.specs.Kept.{AreCutBy, IsAboutSource, IsSettled, AreLabelsUnder}
+use Rattle.implication.proofs.Entering.{entered_append}
 use Rattle.narrowing.proofs.Cuts.{has_after_cut, had_before_cut, kept_by_cut}
 
 -- what holds of all holds of the first ones, and of the rest
@@ -109,6 +110,24 @@ module _ (a : StateAlgebra) (c : Circuit) (begun : Beginning) (assumptions : Lis
   abbrev Narrowings : Narrowing → Type 0
   Narrowings = IsNarrowingOf c begun.kind (entered_pins assumptions)
 
+  -- labels settled from such a start are the labels under the assumptions, if its hull and its emptied lines are those under them
+  pub settled_from : (start : List StateSet)
+      → ((hull : List StateSet) → IsHull a c Narrowings (HasAt a.count start) hull → IsHullUnder a c begun assumptions hull)
+      → ((line : ℕ) → IsEmptied a c Narrowings (HasAt a.count start) line → IsEmptiedUnder a c begun assumptions line)
+      → (kind : Kind) (steps : List PinRef) → kind ≡ begun.kind → steps ≡ entered_pins assumptions
+      → (labels : List StateSet) (answer : Option LineId)
+      → IfNone answer (IsHull a c (IsNarrowingOf c kind steps) (HasAt a.count start) labels) → IfNone answer (HasNoEmptySet c labels)
+      → IfSome answer (λ line. (line.0 < line_count c) × IsEmptied a c (IsNarrowingOf c kind steps) (HasAt a.count start) line.0)
+      → AreLabelsUnder a c begun assumptions labels answer
+  settled_from start hulls empties kind steps same_kind same_steps labels None hull none_empty emptied =
+      let P : Kind → Type 0 = λ k. IsHull a c (IsNarrowingOf c k steps) (HasAt a.count start) labels in
+      let Q : List PinRef → Type 0 = λ s. IsHull a c (IsNarrowingOf c begun.kind s) (HasAt a.count start) labels in
+      record { hull = hulls labels (subst Q same_steps (subst P same_kind hull)); none_empty = none_empty }
+  settled_from start hulls empties kind steps same_kind same_steps labels (Some line) hull none_empty emptied =
+      let P : Kind → Type 0 = λ k. IsEmptied a c (IsNarrowingOf c k steps) (HasAt a.count start) line.0 in
+      let Q : List PinRef → Type 0 = λ s. IsEmptied a c (IsNarrowingOf c begun.kind s) (HasAt a.count start) line.0 in
+      (emptied.0, empties line.0 (subst Q same_steps (subst P same_kind emptied.1)))
+
   module _ (launched cut : List StateSet)
       (start : (line : ℕ) (state : State) → HasAt a.count launched line state
       ↔ ((line < line_count c) × (state.0 < a.count) × MayStart a c begun.source.0 begun.direction line state))
@@ -139,14 +158,7 @@ module _ (a : StateAlgebra) (c : Circuit) (begun : Beginning) (assumptions : Lis
         → IfNone answer (IsHull a c (IsNarrowingOf c kind steps) (HasAt a.count cut) labels) → IfNone answer (HasNoEmptySet c labels)
         → IfSome answer (λ line. (line.0 < line_count c) × IsEmptied a c (IsNarrowingOf c kind steps) (HasAt a.count cut) line.0)
         → AreLabelsUnder a c begun assumptions labels answer
-    settled_under kind steps same_kind same_steps labels None hull none_empty emptied =
-        let P : Kind → Type 0 = λ k. IsHull a c (IsNarrowingOf c k steps) (HasAt a.count cut) labels in
-        let Q : List PinRef → Type 0 = λ s. IsHull a c (IsNarrowingOf c begun.kind s) (HasAt a.count cut) labels in
-        record { hull = hull_under labels (subst Q same_steps (subst P same_kind hull)); none_empty = none_empty }
-    settled_under kind steps same_kind same_steps labels (Some line) hull none_empty emptied =
-        let P : Kind → Type 0 = λ k. IsEmptied a c (IsNarrowingOf c k steps) (HasAt a.count cut) line.0 in
-        let Q : List PinRef → Type 0 = λ s. IsEmptied a c (IsNarrowingOf c begun.kind s) (HasAt a.count cut) line.0 in
-        (emptied.0, emptied_under line.0 (subst Q same_steps (subst P same_kind emptied.1)))
+    settled_under = settled_from cut hull_under emptied_under
 
   -- where each line has some state in the hull, the assumptions do not close
   pub open_if_settled : (labels : List StateSet) → IsSettled a c begun assumptions labels → ¬ ClosesUnder a c begun assumptions
@@ -156,3 +168,66 @@ module _ (a : StateAlgebra) (c : Circuit) (begun : Beginning) (assumptions : Lis
   pub closes_if_emptied : (line : ℕ) → line < line_count c → IsEmptiedUnder a c begun assumptions line
       → ClosesUnder a c begun assumptions
   closes_if_emptied line within emptied = record { line = line; in_circuit = within; emptied = emptied }
+
+-- Labels under some assumptions, cut by one more and settled, are the labels under all.
+module _ (a : StateAlgebra) (c : Circuit) (begun : Beginning) (before : List Assumption) (entry : Assumption) (old cut : List StateSet)
+    (settled : IsSettled a c begun before old) (cuts : AreCutBy a.count (entry ∷ []) old cut) where
+  abbrev More : ℕ → State → Type 0
+  More = MayUnder a c begun (before ++ entry ∷ [])
+
+  abbrev Then : Narrowing → Type 0
+  Then = IsNarrowingOf c begun.kind (entered_pins (before ++ entry ∷ []))
+
+  -- what lines may be in under all, they may be in under those before
+  may_before : (line : ℕ) (state : State) → More line state → MayUnder a c begun before line state
+  may_before line state may =
+      record { start = may.start; assumed = all_front (IsLetBy a.count line state) before (entry ∷ []) may.assumed }
+
+  -- labels at rest under all are at rest under those before
+  rest_before : (labels : List StateSet) → IsRestAmong a c Then More labels
+      → IsRestAmong a c (IsNarrowingOf c begun.kind (entered_pins before)) (MayUnder a c begun before) labels
+  rest_before labels is =
+      let P : List PinRef → Type 0 = λ s. IsRestAmong a c (IsNarrowingOf c begun.kind s) (MayUnder a c begun before) labels in
+      widens_by_steps a c begun.kind (entered_pins before) (entered_pins (entry ∷ [])) (MayUnder a c begun before) labels
+      (subst P (entered_append before (entry ∷ [])) (record {
+        labelling = is.labelling;
+        rest = is.rest;
+        among = λ line state has. may_before line state (is.among line state has);
+      }))
+
+  -- so they lie in the old labels, and in those that are cut
+  into_cut : (labels : List StateSet) → IsRestAmong a c Then More labels → IsRestAmong a c Then (HasAt a.count cut) labels
+  into_cut labels is = record {
+    labelling = is.labelling;
+    rest = is.rest;
+    among = λ line state has. (cuts line state).1 (
+      settled.hull.greatest labels (rest_before labels is) line state has,
+      all_back (IsLetBy a.count line state) before (entry ∷ []) (is.among line state has).assumed,
+    );
+  }
+
+  -- and the states that are left there are such as the lines may be in
+  out_of_cut : (labels : List StateSet) → IsRestAmong a c Then (HasAt a.count cut) labels → IsRestAmong a c Then More labels
+  out_of_cut labels is = record {
+    labelling = is.labelling;
+    rest = is.rest;
+    among = λ line state has.
+        let both = (cuts line state).0 (is.among line state has) in
+        let may = settled.hull.rest.among line state both.0 in record {
+          start = may.start;
+          assumed = All-push (IsLetBy a.count line state) before entry may.assumed (all_head (IsLetBy a.count line state) entry [] both.1);
+        };
+  }
+
+  pub hull_more : (hull : List StateSet) → IsHull a c Then (HasAt a.count cut) hull → IsHullUnder a c begun (before ++ entry ∷ []) hull
+  hull_more hull is = record { rest = out_of_cut hull is.rest; greatest = λ other among. is.greatest other (into_cut other among) }
+
+  pub emptied_more : (line : ℕ) → IsEmptied a c Then (HasAt a.count cut) line → IsEmptiedUnder a c begun (before ++ entry ∷ []) line
+  emptied_more line emptied labels among = emptied labels (into_cut labels among)
+
+  pub settled_more : (kind : Kind) (steps : List PinRef) → kind ≡ begun.kind → steps ≡ entered_pins (before ++ entry ∷ [])
+      → (labels : List StateSet) (answer : Option LineId)
+      → IfNone answer (IsHull a c (IsNarrowingOf c kind steps) (HasAt a.count cut) labels) → IfNone answer (HasNoEmptySet c labels)
+      → IfSome answer (λ line. (line.0 < line_count c) × IsEmptied a c (IsNarrowingOf c kind steps) (HasAt a.count cut) line.0)
+      → AreLabelsUnder a c begun (before ++ entry ∷ []) labels answer
+  settled_more = settled_from a c begun (before ++ entry ∷ []) cut hull_more emptied_more

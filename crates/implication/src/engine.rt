@@ -1,5 +1,5 @@
 // The engine: a netlist, what is assumed of it, and the labels that follow. It keeps the list of assumptions and one buffer of labels,
-// which are computed again from the start at each change.
+// which are narrowed on at each assumption, and computed from the start where some are taken back.
 ghost use Rattle.std.specs.Prelude.{◌≡◌, ◌≢◌, ◌<◌, ◌≤◌, ◌∷◌, ◌++◌, [], List, length, Some, None, Ok, Err, IfOk, IfErr, OnOk, OnErr, IfSome, IfNone, IsSome};
 ghost use Rattle.netlist.specs.Circuit.{source_count, line_count};
 ghost use Rattle.netlist.specs.Lawful.{IsCircuit};
@@ -13,7 +13,7 @@ ghost use Rattle.implication.specs.Moves.{with_entered, with_assumed, grown, clo
 ghost use Rattle.implication.specs.Clients.{Extends};
 ghost use Rattle.implication.specs.Kept.{IsListFrom, most_assumptions};
 
-use crate::labelling::label_lines;
+use crate::labelling::{label_lines, label_more};
 use crate::left::left_of;
 use crate::{Assumption, Beginning, Conflict, HasNetlist, Origin};
 use hulls::Conditions;
@@ -211,7 +211,7 @@ impl<A: Algebra, N: HasNetlist> Engine<A, N> {
         self.add(Assumption::Entered(pin))
     }
 
-    // Adds an entry, and computes the labels anew.
+    // Adds an entry, and narrows the labels on.
     fn add(&mut self, entry: Assumption) -> Result<(), Conflict>
         requires begun { IsSome self.old.beginning }
         requires free { self.old.conflict ≡ None }
@@ -226,7 +226,7 @@ impl<A: Algebra, N: HasNetlist> Engine<A, N> {
             return Ok(());
         };
         self.assumptions.push_reserved(entry);
-        let emptied = label_lines(
+        let emptied = label_more(
             self.net.netlist(),
             begun,
             self.assumptions.as_slice(),

@@ -1,13 +1,13 @@
-// The labels under a list of assumptions, computed from the start: the source launches its transition, each assumption about a
-// source cuts it, and what is left is narrowed under the conditions at the pins entered.
-ghost use Rattle.std.specs.Prelude.{◌≡◌, ◌<◌, ◌≤◌, ◌∷◌, ◌++◌, List, [], length, All, take};
+// The labels under a list of assumptions. From the start: the source launches its transition, each assumption about a source cuts it,
+// and what is left is narrowed under the conditions at the pins entered. Or from the labels under all of them but the last.
+ghost use Rattle.std.specs.Prelude.{◌≡◌, ◌-◌, ◌<◌, ◌≤◌, ◌∷◌, ◌++◌, List, [], length, All, take};
 ghost use Rattle.netlist.specs.Circuit.{line_count, source_count, gate_count};
 ghost use Rattle.state_sets.specs.States.{AreWithin};
 ghost use Rattle.state_sets.specs.Labellings.{IsLabelling};
 ghost use Rattle.netlist.specs.Lawful.{IsCircuit};
 ghost use Rattle.netlist.specs.Paths.{Connects};
 ghost use Rattle.implication.specs.Assumptions.{entered_pins};
-ghost use Rattle.implication.specs.Kept.{AreAssumptions, AreLabelsUnder, AreCutBy, HasStepRoom, CanStep, IsAboutSource};
+ghost use Rattle.implication.specs.Kept.{AreAssumptions, AreLabelsUnder, IsSettled, AreCutBy, HasStepRoom, CanStep, IsAboutSource};
 
 use crate::{Assumption, Beginning};
 use hulls::{Conditions, launch, settle};
@@ -37,6 +37,33 @@ pub(crate) fn label_lines<A: Algebra>(
     set_steps(net, begun, assumptions, conditions);
     launch(labels, net, begun.source, begun.direction);
     cut_sources(net, assumptions, labels);
+    settle(net, labels, conditions, scratch)
+}
+
+// The same, where the labels and the conditions are those under all assumptions but the last: what it cuts is narrowed on from there.
+pub(crate) fn label_more<A: Algebra>(
+    net: &Netlist,
+    begun: Beginning,
+    assumptions: &[Assumption],
+    labels: &mut Labels<A>,
+    conditions: &mut Conditions,
+    scratch: &mut NarrowScratch,
+) -> Option<LineId>
+    requires circuit { IsCircuit net.now }
+    requires assumptions { AreAssumptions A.algebra.count net.now begun assumptions.now }
+    requires some { 1 ≤ length assumptions.now }
+    requires before { IsSettled A.algebra net.now begun (take (length assumptions.now - 1) assumptions.now) labels.old }
+    requires room { HasStepRoom net.now conditions.old }
+    requires steps { conditions.old.steps ≡ entered_pins (take (length assumptions.now - 1) assumptions.now) }
+    ensures answer { AreLabelsUnder A.algebra net.now begun assumptions.now labels.new result }
+    ensures labels { length labels.new ≡ line_count net.now }
+    ensures room { HasStepRoom net.now conditions.new }
+    ensures steps { conditions.new.steps ≡ entered_pins assumptions.now }
+{
+    let entry = assumptions[assumptions.len() - 1];
+    conditions.set_kind(begun.kind);
+    set_step(entry, conditions);
+    cut_source(entry, labels);
     settle(net, labels, conditions, scratch)
 }
 

@@ -21,10 +21,10 @@ invariant_of-self g c =
     kept_added g.A.Algebra.algebra (g.N.HasNetlist.circuit c.self.inside.net) c.self.inside.beginning c.self.inside.assumptions.items
     c.self.inside.conflict c.self.inside.closings c.self.inside.labels c.self.inside.conditions (vec_capacity c.self.inside.assumptions)
     c.self.invariant c.in-Some.begun c.in-Some.is c.netlist.result.now c.netlist.ensures
-    c.as_slice.result.now c.push_reserved.new.self.items c.as_slice.ensures.value c.label_lines-emptied.result c.self.inside.closings
-    c.label_lines-emptied.new.labels c.label_lines-emptied.new.conditions (vec_capacity c.push_reserved.new.self)
-    c.push_reserved.ensures.capacity c.label_lines-emptied.ensures.answer c.label_lines-emptied.ensures.labels
-    c.label_lines-emptied.ensures.room c.label_lines-emptied.ensures.steps c.args.entry
+    c.as_slice.result.now c.push_reserved.new.self.items c.as_slice.ensures.value c.label_more-emptied.result c.self.inside.closings
+    c.label_more-emptied.new.labels c.label_more-emptied.new.conditions (vec_capacity c.push_reserved.new.self)
+    c.push_reserved.ensures.capacity c.label_more-emptied.ensures.answer c.label_more-emptied.ensures.labels
+    c.label_more-emptied.ensures.room c.label_more-emptied.ensures.steps c.args.entry
     (ap (λ (s : Standing). s.conflict) c.self.view_is ∙ c.requires.free) c.push_reserved.ensures.items
     (subst P (sym c.self.view_is) c.requires.fits)
 
@@ -34,10 +34,10 @@ invariant_of-self-in-Some-emptied g c =
     kept_added g.A.Algebra.algebra (g.N.HasNetlist.circuit c.self.inside.net) c.self.inside.beginning c.self.inside.assumptions.items
     c.self.inside.conflict c.self.inside.closings c.self.inside.labels c.self.inside.conditions (vec_capacity c.self.inside.assumptions)
     c.self.invariant c.in-Some.begun c.in-Some.is c.netlist.result.now c.netlist.ensures
-    c.as_slice.result.now c.push_reserved.new.self.items c.as_slice.ensures.value c.label_lines-emptied.result
+    c.as_slice.result.now c.push_reserved.new.self.items c.as_slice.ensures.value c.label_more-emptied.result
     c.saturating_add-self-inside.result
-    c.label_lines-emptied.new.labels c.label_lines-emptied.new.conditions (vec_capacity c.push_reserved.new.self)
-    c.push_reserved.ensures.capacity c.label_lines-emptied.ensures.answer c.label_lines-emptied.ensures.labels
-    c.label_lines-emptied.ensures.room c.label_lines-emptied.ensures.steps c.args.entry
+    c.label_more-emptied.new.labels c.label_more-emptied.new.conditions (vec_capacity c.push_reserved.new.self)
+    c.push_reserved.ensures.capacity c.label_more-emptied.ensures.answer c.label_more-emptied.ensures.labels
+    c.label_more-emptied.ensures.room c.label_more-emptied.ensures.steps c.args.entry
     (ap (λ (s : Standing). s.conflict) c.self.view_is ∙ c.requires.free) c.push_reserved.ensures.items
     (subst P (sym c.self.view_is) c.requires.fits)
