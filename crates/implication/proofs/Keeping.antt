@@ -1,5 +1,5 @@
 -- What an engine keeps, after an assumption more and after some were taken back.
-use Rattle.std.proofs.Common.{◌≡◌, ◌≢◌, ℕ, ◌-◌, ◌<◌, ◌≤◌, ◌==◌, nat_eq, nat_lt, ⊎_elim, Bool, true, false, List, [], ◌∷◌, ◌++◌, length, take, bit_and, Option, Some, None, IsSome, if◌then◌else◌, refl, sym, ap, ◌∙◌, subst, arith}
+use Rattle.std.proofs.Common.{◌≡◌, ◌≢◌, ℕ, ◌<◌, ◌≤◌, ◌==◌, nat_eq, nat_lt, ⊎_elim, Bool, true, false, List, [], ◌∷◌, ◌++◌, length, take, bit_and, Option, Some, None, IsSome, if◌then◌else◌, refl, sym, ap, ◌∙◌, subst, arith}
 use Rattle.std.proofs.lemmas.Bool.{cases_lt, lt-ltb, eqb-false, ne_eqb, false≢true}
 use Rattle.std.proofs.lemmas.List.{length_push, take-append-le, take-take, length-take-le}
 use Rattle.std.proofs.Math.Seq.{take-append_seam}
@@ -18,7 +18,7 @@ use Rattle.implication.specs.declared.assumption.Assumption.TheVariants.{Entered
 use Rattle.implication.specs.Assumptions.{entered_pins, left_of, ClosesUnder}
 use Rattle.implication.specs.Standing.{Standing, end_from}
 use Rattle.implication.specs.Moves.{with_assumed, back_at}
-use Rattle.implication.specs.Kept.{AreAssumptions, IsListFrom, IsSettled, AreLabelsUnder, StandsOpen, StandsFrom, HasStepRoom, IsKept, most_assumptions}
+use Rattle.implication.specs.Kept.{AreAssumptions, IsListFrom, AreLabelsUnder, StandsOpen, StandsFrom, HasStepRoom, IsKept, most_assumptions}
 use Rattle.implication.proofs.Lists.{list_taken, list_with_pin, list_with_set, list_fits}
 use Rattle.implication.proofs.Labels.{open_if_settled, closes_if_emptied}
 
@@ -114,12 +114,6 @@ module _ (a : StateAlgebra) (c : Circuit) where
         answer = under;
       }
 
--- all of a list that grew by one, but the last
-all_but_last : (list : List Assumption) (entry : Assumption) → take (length (list ++ entry ∷ []) - 1) (list ++ entry ∷ []) ≡ list
-all_but_last list entry =
-    let e : length (list ++ entry ∷ []) - 1 ≡ length list = omega (arith, length_push list entry) in
-    ap (λ n. take n (list ++ entry ∷ [])) e ∙ take-append_seam list (entry ∷ [])
-
 -- what an engine keeps where its list of assumptions is now another one
 kept_now : (a : StateAlgebra) (c seen : Circuit) (beginning : Option Beginning) (begun : Beginning) (list now : List Assumption)
     (answer : Option LineId) (closings closings' : ℕ) (conflict : Option LineId) (labels labels' : List StateSet) (steps steps' : Steps)
@@ -201,21 +195,6 @@ module _ (a : StateAlgebra) (c : Circuit) (beginning : Option Beginning) (list :
                 let R : List Assumption → Type 0 = λ x. StandsOpen a c begun x answer labels' steps'.steps in
                 kept_now a c seen beginning begun list now answer closings closings' conflict labels labels' steps steps' capacity capacity'
                 kept is circuits room (subst R (sym cut) open_) one_each step_room
-
-      -- all but the last of a list that grew by one are what stood before, with the labels and steps of then
-      module _ (read : List Assumption) (entry : Assumption) (grown : read ≡ list ++ entry ∷ []) where
-        but_last : take (length read - 1) read ≡ list
-        but_last = ap (λ xs. take (length xs - 1) xs) grown ∙ all_but_last list entry
-
-        pub settled_before : conflict ≡ None → IsSettled a seen begun (take (length read - 1) read) labels
-        settled_before free =
-            let P : Option LineId → Type 0 = λ x. AreLabelsUnder a c begun list labels x in
-            let Q : Circuit → Type 0 = λ x. IsSettled a x begun list labels in
-            let R : List Assumption → Type 0 = λ xs. IsSettled a seen begun xs labels in
-            subst R (sym but_last) (subst Q (sym circuits) (subst P free stands_of.answer))
-
-        pub stepped_before : steps.steps ≡ entered_pins (take (length read - 1) read)
-        stepped_before = stands_of.entered ∙ ap entered_pins (sym but_last)
 
       -- the first assumptions are a list as scopes make it
       pub are_taken : (read now : List Assumption) → read ≡ now → (mark : ℕ) → now ≡ take mark list
