@@ -48,7 +48,7 @@ fn write_paths(rt: HostRuntime, net: &Netlist, delays: &Delays, paths: &[Path]) 
 }
 
 // Appends the line of a path.
-#[tactic(auto, using(crate::proofs::Nameable::path_is_nameable))]
+#[tactic(auto, using(refutation_check::proofs::Nameable::path_is_nameable))]
 fn push_line(
     alloc: Global,
     text: &mut Vec<u8>,

@@ -21,7 +21,7 @@ use Rattle.refutation_check.specs.Lawful.{AreNumbered, IsLawfulProof, IsLawfulRu
 use Rattle.refutation_check.specs.Trees.{Cases, preorder}
 use Rattle.refutation_check.specs.Trees.Cases.{closed, waiting, by_value, by_steadiness}
 use Rattle.refutation_check.specs.Verdicts.{verdicts_of}
-use Rattle.verdict_runs.proofs.Nameable.{path_is_nameable}
+use Rattle.refutation_check.proofs.Nameable.{path_is_nameable}
 use Rattle.tree_laws.specs.Refutations.{RefutesBelow, below}
 use Rattle.tree_laws.specs.Spent.{IsSpentBelow}
 use Rattle.good_runs.specs.Faults.{IsNumber}

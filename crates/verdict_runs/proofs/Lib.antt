@@ -4,7 +4,6 @@ mod Books
 mod Citing
 mod GoodRuns
 mod LawfulRuns
-mod Nameable
 mod ListedPaths
 mod Naming
 mod ObservedBits
