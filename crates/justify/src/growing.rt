@@ -50,9 +50,11 @@ impl Growth {
         })
     }
 
-    // What becomes of an open node at which a pair was tried: a leaf that waits, if no split is left of the budget, else a split.
+    // What becomes of an open node at which a pair was tried: a leaf that waits, if no split is left of the budget, else a split,
+    // which is the lead if that may be chosen.
     pub(crate) fn extend(
         &mut self,
+        lead: Option<Split>,
         sets: &[StateSet],
         marks: &[bool],
         mark: ScopeMark,
@@ -69,7 +71,7 @@ impl Growth {
             self.nodes.push(Node::Waiting)?;
             return Ok(());
         }
-        let Some(split) = choose(sets, marks) else {
+        let Some(split) = choose(lead, sets, marks) else {
             unreachable!()
         };
         self.split(split, mark)?;

@@ -15,6 +15,7 @@ ghost use Rattle.justify.specs.Scoping.{IsStart, IsUnderWay};
 ghost use Rattle.justify.specs.Tests.{IsFitTest};
 
 use crate::Found;
+use crate::backtrace::backtrace;
 use crate::desk::{Desk, make_desk};
 use crate::ending::end;
 use crate::growing::{Growth, Place};
@@ -41,7 +42,6 @@ pub fn search<N: HasNetlist>(
 ) -> Result<Found, OutOfMemory>
     requires prefix { IsPrefix (standing scope.old).net path.now }
     requires start { IsStart path.now dir kind (standing scope.old) }
-    requires left_open { IsOpenIn four_states (standing scope.old) }
     requires some_budget { 1 ≤ budget }
     requires budget { budget ≤ 1000000 }
     ensures found { IfOk result (IsFound (standing scope.old).net kind path.now dir budget) }
@@ -49,6 +49,10 @@ pub fn search<N: HasNetlist>(
     ensures scope { IsSameScope scope.old scope.new }
     ensures restored { IsRestored (standing scope.old) (standing scope.new) }
 {
+    // no conflict stands, so each line has some state
+    if scope.conflict().is_some() {
+        unreachable!()
+    }
     let mark = scope.mark();
     let found = find(alloc, scope, path, dir, kind, budget);
     scope.back_to(mark);
@@ -169,7 +173,9 @@ fn visit<N: HasNetlist>(
     if test.is_some() {
         return Ok(test);
     }
+    let lead = backtrace(scope, desk.marks.as_slice());
     growth.extend(
+        lead,
         desk.sets.as_slice(),
         desk.marks.as_slice(),
         scope.mark(),

@@ -57,7 +57,7 @@ pub(crate) fn way_to_split(set: StateSet) -> Option<bool>
 }
 
 // Whether a set has a state of each half of a split.
-fn has_both_halves(set: StateSet, steadiness: bool) -> bool
+pub(crate) fn has_both_halves(set: StateSet, steadiness: bool) -> bool
     requires { IsWithin 4 set }
     ensures { IsTrue result ↔ (HasInHalf set steadiness false × HasInHalf set steadiness true) }
 {

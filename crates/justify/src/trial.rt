@@ -20,6 +20,7 @@ ghost use Rattle.justify.specs.Scoping.{beginning_of, IsAtNode, IsNode, AreOfSou
 ghost use Rattle.justify.specs.Tests.{IsFitTest};
 ghost use Rattle.justify.specs.Desks.{IsDesk};
 
+use crate::blame::blamed;
 use crate::desk::Desk;
 use crate::pairing::read_pair;
 use crate::states::least;
@@ -60,8 +61,14 @@ pub(crate) fn try_pair<N: HasNetlist>(
     if meets(scope.net(), path, dir, kind, &pair, &mut desk.scratch) {
         return Ok(Some(pair));
     }
+    let first = blamed(alloc, scope, &pair)?;
     let mark = scope.mark();
-    let conflict = walk(scope, desk.sets.as_slice(), desk.marks.as_slice());
+    let conflict = walk(
+        scope,
+        desk.sets.as_slice(),
+        first.as_slice(),
+        desk.marks.as_slice(),
+    );
     if !conflict {
         unreachable!()
     }
@@ -84,8 +91,41 @@ fn read_sources<N: HasNetlist>(scope: &Scope<FourStates, N>, sets: &mut [StateSe
     }
 }
 
-// Assumes of source after source that it is in the least state of its set, if it is marked, until a conflict comes.
-fn walk<N: HasNetlist>(scope: &mut Scope<FourStates, N>, sets: &[StateSet], marks: &[bool]) -> bool
+// Assumes of source after source that it is in the least state of its set, if it is marked, until a conflict comes: of the sources
+// with a first mark first, and then of all.
+fn walk<N: HasNetlist>(
+    scope: &mut Scope<FourStates, N>,
+    sets: &[StateSet],
+    first: &[bool],
+    marks: &[bool],
+) -> bool
+    requires sets { length sets.now ≡ source_count (standing scope.old).net }
+    requires few { length sets.now < 2 ^ 32 }
+    requires first { length sets.now ≤ length first.now }
+    requires marks { length sets.now ≤ length marks.now }
+    requires free { IsFree (standing scope.old) }
+    requires left_open { IsOpenIn four_states (standing scope.old) }
+    ensures scope { IsSameScope scope.old scope.new }
+    ensures extends { Extends (standing scope.old) (standing scope.new) }
+    ensures counted { IsTrue result → risen (standing scope.old).closings ≤ (standing scope.new).closings }
+    ensures pinned { result ≡ false → IsPinned (standing scope.old) (standing scope.new) }
+    ensures only { result ≡ false → (begun : Beginning) → (standing scope.old).beginning ≡ Some begun → (source : ℕ)
+        → source < length sets.now → IsTrue (is_marked marks.now source)
+        → IsOnlyUnder (standing scope.old).net begun (standing scope.new).assumptions source (least_of (label_at sets.now source)) }
+{
+    let conflict = pin_marked(scope, sets, first);
+    if conflict {
+        return true;
+    }
+    pin_marked(scope, sets, marks)
+}
+
+// The same of the sources with these marks.
+fn pin_marked<N: HasNetlist>(
+    scope: &mut Scope<FourStates, N>,
+    sets: &[StateSet],
+    marks: &[bool],
+) -> bool
     requires sets { length sets.now ≡ source_count (standing scope.old).net }
     requires few { length sets.now < 2 ^ 32 }
     requires marks { length sets.now ≤ length marks.now }

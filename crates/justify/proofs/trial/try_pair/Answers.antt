@@ -21,7 +21,7 @@ unreachable-requires g c =
     c.in_ok-pair.ensures
     (λ meets. false≢true (sym c.if-meets.false ∙ c.meets.ensures.meets.1 (subst P (sym c.net.ensures) meets)))
     c.requires.below (standing c.walk-conflict.new.scope) c.walk-conflict.ensures.extends (c.walk-conflict.ensures.pinned c.if-not-conflict.true)
-    c.as_slice-3.result.now c.as_slice-4.result.now c.as_slice-3.ensures.value c.as_slice-4.ensures.value
+    c.as_slice-3.result.now c.as_slice-5.result.now c.as_slice-3.ensures.value c.as_slice-5.ensures.value
     (c.walk-conflict.ensures.only c.if-not-conflict.true)
 
 pub returns-clause-failed : goal.returns-clause-failed

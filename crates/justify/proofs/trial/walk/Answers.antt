@@ -1,27 +1,21 @@
-use Rattle.std.proofs.Common.{◌∙◌, arith}
+-- What was assumed first stays assumed.
+use Rattle.std.proofs.Common.{◌∙◌, subst}
+use Rattle.netlist.specs.Circuit.{Circuit}
 use Rattle.implication.specs.Scopes.{standing}
 use Rattle.implication.proofs.Restoring.{extends_trans}
-use Rattle.justify.proofs.Resting.{pinned_trans}
-use Rattle.justify.proofs.Walking.{pinned_more}
+use Rattle.state_sets.specs.Labellings.{label_at}
+use Rattle.justify.specs.Scoping.{IsOnlyUnder}
+use Rattle.justify.specs.Reading.{least_of}
 use Rattle.justify.proofs.trial.walk.Goals as goal
 
-pub loop-source-preserved : goal.loop-source-preserved
-loop-source-preserved g c =
-    let first = standing c.args.scope.now in
-    let middle = standing c.loop-source.scope in
-    let last = standing c.pin_down.new.scope in
-    let before = c.loop-source.invariant in
-    let pinned = c.pin_down.ensures.pinned c.if-pin_down.false in
-    record {
-      scope = record {
-        engine = c.pin_down.ensures.scope.engine ∙ before.scope.engine;
-        origin = c.pin_down.ensures.scope.origin ∙ before.scope.origin;
-      };
-      extends = extends_trans first middle last before.extends c.pin_down.ensures.extends;
-      pinned = pinned_trans first middle last before.extends.net before.pinned pinned;
-      only = pinned_more first middle last c.args.sets.now c.args.marks.now c.loop-source.source before.extends.net before.extends.beginning
-          pinned before.only (c.pin_down.ensures.only c.if-pin_down.false);
-    }
+pub returns-clause-extends : goal.returns-clause-extends
+returns-clause-extends g c =
+    extends_trans (standing c.args.scope.now) (standing c.pin_marked-conflict.new.scope) (standing c.pin_marked.new.scope)
+    c.pin_marked-conflict.ensures.extends c.pin_marked.ensures.extends
 
 pub returns-clause-only : goal.returns-clause-only
-returns-clause-only g c = λ no begun is source inside. c.loop-source.invariant.only begun is source (omega arith)
+returns-clause-only g c = λ no begun is source inside marked.
+    let P : Circuit → Type 0 = λ net.
+    IsOnlyUnder net begun (standing c.pin_marked.new.scope).assumptions source (least_of (label_at c.args.sets.now source)) in
+    subst P c.pin_marked-conflict.ensures.extends.net
+    (c.pin_marked.ensures.only no begun (c.pin_marked-conflict.ensures.extends.beginning ∙ is) source inside marked)

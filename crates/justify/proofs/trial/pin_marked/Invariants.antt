@@ -3,7 +3,7 @@ use Rattle.implication.specs.Clients.{Extends}
 use Rattle.implication.specs.Scopes.{IsSameScope, standing}
 use Rattle.justify.specs.Scoping.{IsPinned}
 use Rattle.justify.proofs.Walking.{ArePinned}
-use Rattle.justify.proofs.trial.walk.Given as goal
+use Rattle.justify.proofs.trial.pin_marked.Given as goal
 
 abbrev pub invariant-loop-source : goal.invariant-loop-source
 invariant-loop-source g l = record {
