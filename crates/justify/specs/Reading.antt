@@ -32,3 +32,9 @@ pub record IsRead (sets : List StateSet) (marks : List Bool) (pair : Vectors) : 
   pub second_fits : length pair.second ≡ length sets
   pub first : (source : ℕ) → source < length sets → bit_of pair.first source ≡ first_read sets marks source
   pub second : (source : ℕ) → source < length sets → bit_of pair.second source ≡ second_read sets marks source
+
+-- a proposed pair: read off some sets of so many sources
+pub record IsProposal (sources : ℕ) (marks : List Bool) (pair : Vectors) : Type 0 where
+  pub sets : List StateSet
+  pub places : length sets ≡ sources
+  pub read : IsRead sets marks pair

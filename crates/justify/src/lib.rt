@@ -12,6 +12,7 @@ mod desk;
 mod ending;
 mod growing;
 mod pairing;
+mod proposing;
 mod searching;
 mod states;
 mod trial;

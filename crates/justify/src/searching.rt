@@ -19,6 +19,7 @@ use crate::backtrace::backtrace;
 use crate::desk::{Desk, make_desk};
 use crate::ending::end;
 use crate::growing::{Growth, Place};
+use crate::proposing::try_proposed;
 use crate::trial::try_pair;
 use implication::{HasNetlist, Scope};
 use pd_base::{Direction, Kind, OutOfMemory, Pair, Path};
@@ -168,6 +169,10 @@ fn visit<N: HasNetlist>(
     if !enter(scope, place) {
         growth.nodes.push(Node::Closed)?;
         return Ok(None);
+    }
+    let proposed = try_proposed(alloc, scope, path, dir, kind, desk)?;
+    if proposed.is_some() {
+        return Ok(proposed);
     }
     let test = try_pair(alloc, scope, path, dir, kind, desk)?;
     if test.is_some() {

@@ -1,0 +1,68 @@
+// A pair that is proposed at a node before its trial: by any means, since evaluation alone judges it. Here the sources of the support
+// are steady at 1 where their labels let them, and else in the least states that they have.
+ghost use Rattle.std.specs.Prelude.{◌≡◌, ◌<◌, ◌≤◌, length, IfOk, IfSome};
+ghost use Rattle.netlist.specs.Circuit.{source_count};
+ghost use Rattle.netlist.specs.Lawful.{IsCircuit};
+ghost use Rattle.netlist.specs.Paths.{IsPrefix};
+ghost use Rattle.implication.specs.Scopes.{standing};
+ghost use Rattle.justify.specs.Desks.{IsDesk};
+ghost use Rattle.justify.specs.Reading.{IsProposal};
+ghost use Rattle.justify.specs.Tests.{IsFitTest};
+
+use crate::desk::Desk;
+use crate::pairing::read_pair;
+use implication::{HasNetlist, Scope};
+use path_model::meets;
+use pd_base::{Direction, Kind, LineId, OutOfMemory, Pair, Path};
+use state_sets::{FourStates, State, StateSet};
+use std::alloc::Global;
+
+// The proposed pair, if it is a test.
+pub(crate) fn try_proposed<N: HasNetlist>(
+    alloc: Global,
+    scope: &Scope<FourStates, N>,
+    path: &Path,
+    dir: Direction,
+    kind: Kind,
+    desk: &mut Desk,
+) -> Result<Option<Pair>, OutOfMemory>
+    requires prefix { IsPrefix (standing scope.now).net path.now }
+    requires desk { IsDesk (standing scope.now).net path.now desk.old }
+    ensures desk { IsDesk (standing scope.now).net path.now desk.new }
+    ensures test { IfOk result (λ found. IfSome found (IsFitTest (standing scope.now).net kind path.now dir)) }
+{
+    let Some(pair) = propose(alloc, scope, desk.marks.as_slice())? else {
+        return Ok(None);
+    };
+    if meets(scope.net(), path, dir, kind, &pair, &mut desk.scratch) {
+        return Ok(Some(pair));
+    }
+    Ok(None)
+}
+
+// A pair for a node, or none. Sources that are not marked are 0 under both vectors.
+fn propose<N: HasNetlist>(
+    alloc: Global,
+    scope: &Scope<FourStates, N>,
+    marks: &[bool],
+) -> Result<Option<Pair>, OutOfMemory>
+    requires { source_count (standing scope.now).net ≤ length marks.now }
+    ensures circuit { IsCircuit (standing scope.now).net }
+    ensures pair { IfOk result (λ proposed. IfSome proposed (IsProposal (source_count (standing scope.now).net) marks.now)) }
+{
+    let sources = scope.net().sources();
+    let mut sets = vec![in alloc; StateSet::EMPTY; sources as usize]?;
+    for source in 0..sources {
+        sets[source as usize] = preferred(scope.label(LineId(source)));
+    }
+    Ok(Some(read_pair(alloc, sets.as_slice(), marks)?))
+}
+
+// Of a set the state of which a source is in the proposed pair alone, or all if that is its least one.
+fn preferred(set: StateSet) -> StateSet {
+    if set.holds(State(1)) {
+        StateSet::only(State(1))
+    } else {
+        set
+    }
+}
