@@ -1,18 +1,17 @@
-// A pair that is proposed at a node before its trial: by any means, since evaluation alone judges it. Here the sources of the support
+// A pair that is proposed at a node before it is split: by any means, since evaluation alone judges it. Here the sources of the support
 // are steady at 1 where their labels let them, and else in the least states that they have.
 ghost use Rattle.std.specs.Prelude.{◌≡◌, ◌<◌, ◌≤◌, length, IfOk, IfSome};
-ghost use Rattle.netlist.specs.Circuit.{source_count};
+ghost use Rattle.netlist.specs.Circuit.{source_count, line_count};
 ghost use Rattle.netlist.specs.Lawful.{IsCircuit};
 ghost use Rattle.netlist.specs.Paths.{IsPrefix};
 ghost use Rattle.implication.specs.Scopes.{standing};
-ghost use Rattle.justify.specs.Desks.{IsDesk};
 ghost use Rattle.justify.specs.Reading.{IsProposal};
+ghost use Rattle.justify.specs.Scoping.{IsCone};
 ghost use Rattle.justify.specs.Tests.{IsFitTest};
 
-use crate::desk::Desk;
 use crate::pairing::read_pair;
 use implication::{HasNetlist, Scope};
-use path_model::meets;
+use path_model::{Scratch, meets};
 use pd_base::{Direction, Kind, LineId, OutOfMemory, Pair, Path};
 use state_sets::{FourStates, State, StateSet};
 use std::alloc::Global;
@@ -24,17 +23,19 @@ pub(crate) fn try_proposed<N: HasNetlist>(
     path: &Path,
     dir: Direction,
     kind: Kind,
-    desk: &mut Desk,
+    marks: &[bool],
+    scratch: &mut Scratch,
 ) -> Result<Option<Pair>, OutOfMemory>
     requires prefix { IsPrefix (standing scope.now).net path.now }
-    requires desk { IsDesk (standing scope.now).net path.now desk.old }
-    ensures desk { IsDesk (standing scope.now).net path.now desk.new }
+    requires cone { IsCone (standing scope.now).net path.now marks.now }
+    requires scratch { scratch.old ≡ line_count (standing scope.now).net }
+    ensures scratch { scratch.new ≡ scratch.old }
     ensures test { IfOk result (λ found. IfSome found (IsFitTest (standing scope.now).net kind path.now dir)) }
 {
-    let Some(pair) = propose(alloc, scope, desk.marks.as_slice())? else {
+    let Some(pair) = propose(alloc, scope, marks)? else {
         return Ok(None);
     };
-    if meets(scope.net(), path, dir, kind, &pair, &mut desk.scratch) {
+    if meets(scope.net(), path, dir, kind, &pair, scratch) {
         return Ok(Some(pair));
     }
     Ok(None)

@@ -170,13 +170,21 @@ fn visit<N: HasNetlist>(
         growth.nodes.push(Node::Closed)?;
         return Ok(None);
     }
-    let proposed = try_proposed(alloc, scope, path, dir, kind, desk)?;
-    if proposed.is_some() {
-        return Ok(proposed);
-    }
     let test = try_pair(alloc, scope, path, dir, kind, desk)?;
     if test.is_some() {
         return Ok(test);
+    }
+    let proposed = try_proposed(
+        alloc,
+        scope,
+        path,
+        dir,
+        kind,
+        desk.marks.as_slice(),
+        &mut desk.scratch,
+    )?;
+    if proposed.is_some() {
+        return Ok(proposed);
     }
     let lead = backtrace(scope, desk.marks.as_slice());
     growth.extend(

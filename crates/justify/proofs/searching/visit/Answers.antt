@@ -58,6 +58,6 @@ returns-clause-growing g c =
     (reverse c.args.growth.now.places.items) c.args.growth.now.nodes.items c.args.growth.now.splits c.requires.growing)
     (standing c.enter.new.scope) (c.enter.ensures.entered c.if-not-enter.false)
     (standing c.try_pair.new.scope) c.try_pair.ensures.restored c.try_pair.new.desk c.try_pair.ensures.desk
-    (from_none c.in_ok-test.test (sym c.is_some-2.ensures ∙ c.if-is_some-2.false) c.in_ok-test.ensures.failed)
-    c.mark.result c.mark.ensures c.as_slice-2.result.now c.as_slice-3.result.now c.as_slice-2.ensures.value c.as_slice-3.ensures.value
+    (from_none c.in_ok-test.test (sym c.is_some.ensures ∙ c.if-is_some.false) c.in_ok-test.ensures.failed)
+    c.mark.result c.mark.ensures c.as_slice-3.result.now c.as_slice-4.result.now c.as_slice-3.ensures.value c.as_slice-4.ensures.value
     c.in_ok-extend.ensures
