@@ -1,4 +1,5 @@
 pub mod States
+pub mod Narrows
 pub mod Walking
 pub mod Told
 pub mod Checking

@@ -2,7 +2,7 @@
 use Rattle.std.proofs.Common.{◌≡◌, ◌≢◌, ℕ, zero, suc, ◌<◌, ◌≤◌, ◌^◌, ◌↔◌, Bool, false, not, sym, ap, ◌∙◌, subst, ⊎_elim, arith, eqb}
 use Rattle.std.specs.Prelude.{IsTrue, bit_and}
 use Rattle.std.specs.Int.{bit_at, trailing_zeros, w8}
-use Rattle.std.proofs.lemmas.Bool.{cases_lt, false≢true}
+use Rattle.std.proofs.lemmas.Bool.{cases_eq, cases_lt, false≢true}
 use Rattle.std.proofs.lemmas.Nat.Bits.{bit_at-trailing_zeros, bit_at_above}
 use Rattle.state_sets.specs.declared.state.State.{State}
 use Rattle.state_sets.specs.declared.state.StateSet.{StateSet}
@@ -37,6 +37,11 @@ neither_holds Q set state bit not = (λ has. absurd (omega (arith, has.bit, bit)
 pub not_zero : (n : ℕ) (r : Bool) → r ≡ eqb n 0 → r ≡ false → 0 < n
 not_zero zero r is differs = absurd (false≢true (sym differs ∙ is))
 not_zero (suc n) r is differs = omega arith
+
+-- numbers that are not told to differ are the same
+pub not_told : (a b : ℕ) (r : Bool) → r ≡ not (eqb a b) → r ≡ false → a ≡ b
+not_told a b r is told =
+    ⊎_elim (λ (same : a ≡ b). same) (λ (differ : a ≢ b). absurd (false≢true (sym told ∙ ne_told r a b is differ))) (cases_eq a b)
 
 -- the least state of a set is that of its lowest bit
 module _ (set : StateSet) (small : set.0 < 2 ^ 4) (some : 0 < set.0) where

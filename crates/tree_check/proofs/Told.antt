@@ -1,8 +1,7 @@
 -- What the labels of a node and of its trial tell, once they are narrowed to their hull.
-use Rattle.std.proofs.Common.{◌≡◌, ℕ, ◌<◌, ◌≤◌, ◌^◌, ◌↔◌, Bool, true, false, List, length, Option, Some, None, refl, sym, ap, ◌∙◌, subst, ⊎_elim, arith}
-use Rattle.std.specs.Prelude.{IsTrue, nat_lt, slice_index_or, IfSome, IfNone, is_some}
+use Rattle.std.proofs.Common.{◌≡◌, ℕ, ◌<◌, ◌≤◌, ◌↔◌, Bool, true, false, List, length, Option, Some, None, refl, sym, ap, ◌∙◌, subst, ◌⊎◌, inl, inr, ⊎_elim, arith}
+use Rattle.std.specs.Prelude.{IsTrue, slice_index_or, IfSome, IfNone, is_some}
 use Rattle.std.proofs.lemmas.Bool.{cases_lt, false≢true}
-use Rattle.std.proofs.lemmas.List.{get_or_default}
 use Rattle.pd_base.specs.Route.{Route}
 use Rattle.pd_base.specs.declared.ids.LineId.{LineId}
 use Rattle.pd_base.specs.declared.ids.PinRef.{PinRef}
@@ -11,214 +10,144 @@ use Rattle.pd_base.specs.declared.fault.Kind.{Kind}
 use Rattle.netlist.specs.Circuit.{Circuit, source_count, line_count}
 use Rattle.state_sets.specs.declared.state.State.{State}
 use Rattle.state_sets.specs.declared.state.StateSet.{StateSet}
-use Rattle.state_sets.specs.States.{Has, no_states, all_states}
+use Rattle.state_sets.specs.States.{Has}
 use Rattle.state_sets.specs.Labellings.{label_at, IsLabelling}
 use Rattle.state_sets.specs.FourStates.{four_states}
-use Rattle.state_sets.specs.Hulls.{IsNarrowingOf, IsHull, IsEmptied, HasAt, HasNoEmptySet, Closes}
+use Rattle.state_sets.specs.Hulls.{IsNarrowingOf, IsHull, IsEmptied, IsRestAmong, HasAt, HasNoEmptySet, Closes}
 use Rattle.hull_laws.specs.declared.half.Half.{Half}
 use Rattle.hull_laws.specs.Nodes.{MayBe, IsNodeHull, ClosesAtNode}
-use Rattle.hull_laws.proofs.Hulls.{Allows, hull_once, hull_of_same, closes_if_wider, widens_by_states, not_closing}
-use Rattle.narrowing.proofs.Sets.{all_have}
+use Rattle.hull_laws.proofs.Sets.{has_in_circuit}
+use Rattle.hull_laws.proofs.Hulls.{Widens, hull_once, closes_if_wider, not_closing}
 use Rattle.tree_laws.specs.Spent.{MayTry, IsOpen, IsDue, HasInHalf}
-use Rattle.tree_check.specs.NodeLabels.{placed, IsTried, IsTriedSource}
+use Rattle.tree_check.specs.TrialLabels.{IsTried, IsTriedSource}
+use Rattle.tree_laws.specs.Faults.{IsRightInSpent}
+use Rattle.refutation_check.specs.declared.tree.Node.{Node}
 use Rattle.tree_check.specs.Judged.{IsNode, IsJudged, IsConeOf, ClosesAtTrial}
 
--- what is placed at a source, and at the line of a gate
-pub placed_source : (sets : List StateSet) (line : ℕ) → line < length sets → placed sets line ≡ label_at sets line
-placed_source sets line inside = let test : nat_lt line (length sets) ≡ true = grind arith in rw test refl
+module _ (c : Circuit) (kind : Kind) (prefix : Route) (direction : Direction) (halves : List Half) where
+  -- the labels of the trial of a node with this hull
+  module _ (hull : List StateSet) (is_hull : IsNodeHull c kind prefix direction halves hull) (cone : List Bool)
+      (is_cone : IsConeOf c prefix cone) (sources : ℕ) (sources_are : sources ≡ source_count c)
+      (labels : List StateSet) (is : IsLabelling 4 c labels)
+      (are : (line : ℕ) → line < length labels → IsTried sources cone line (label_at hull line) (label_at labels line)) where
+    -- a line is that of a source in the cone, or not
+    tried_or_not : (line : ℕ) → IsTriedSource sources cone line ⊎ (IsTriedSource sources cone line → ⊥)
+    tried_or_not line =
+        ⊎_elim
+        (λ (inside : line < sources). by inside (slice_index_or cone line false) refl)
+        (λ (past : sources ≤ line). inr (λ tried. omega (arith, tried.0)))
+        (cases_lt line sources)
+      where
+        by : line < sources → (mark : Bool) → slice_index_or cone line false ≡ mark
+            → IsTriedSource sources cone line ⊎ (IsTriedSource sources cone line → ⊥)
+        by inside true marked = inl (inside, marked)
+        by inside false unmarked = inr (λ tried. false≢true (sym unmarked ∙ tried.1))
 
-pub placed_gate : (sets : List StateSet) (line : ℕ) → length sets ≤ line → placed sets line ≡ all_states 4
-placed_gate sets line past = let test : nat_lt line (length sets) ≡ false = grind arith in rw test refl
+    -- what a line of the trial's labels has it has in the hull, and a source of the support has the least alone
+    tried_in_hull : (line : ℕ) (state : State) → line < length labels → Has 4 (label_at labels line) state
+        → Has 4 (label_at hull line) state
+    tried_in_hull line state inside has =
+        ⊎_elim
+        (λ (tried : IsTriedSource sources cone line). (((are line inside).source tried state).0 has).has)
+        (λ (other : IsTriedSource sources cone line → ⊥).
+        subst (λ (s : StateSet). Has 4 s state) ((are line inside).other other) has)
+        (tried_or_not line)
 
-module _ (c : Circuit) (prefix : Route) (direction : Direction) (halves : List Half) (steps : List PinRef) (sets : List StateSet)
-    (node : IsNode c steps sets prefix direction halves) where
-  abbrev At : ℕ → State → Type 0
-  At = MayBe four_states c prefix.source.0 direction halves
-
-  -- the line of a gate may be in every state
-  gate_free : (line : ℕ) → source_count c ≤ line → (state : State) → At line state
-  gate_free line past state = record {
-    start = record {
-      own = λ same. let inside = node.source in absurd (omega arith);
-      other = λ inside differs. tt;
-    };
-    cut = λ k d within same. let inside = node.left.on_sources k d within in absurd (omega arith);
-  }
-
-  -- the set that is placed at a line has the states that the line may be in
-  pub placed_exactly : (line : ℕ) (state : State) → state.0 < 4 → Has 4 (placed sets line) state ↔ At line state
-  placed_exactly line state few =
-      ⊎_elim
-      (λ (inside : line < length sets).
-      let e = placed_source sets line inside in
-      let exactly = node.left.exactly line (omega (arith, node.left.one_each)) state few in (
-        λ has. exactly.0 (subst (λ (s : StateSet). Has 4 s state) e has),
-        λ may. subst (λ (s : StateSet). Has 4 s state) (sym e) (exactly.1 may),
-      ))
-      (λ (past : length sets ≤ line).
-      let e = placed_gate sets line past in (
-        λ has. gate_free line (omega (arith, node.left.one_each)) state,
-        λ may. subst (λ (s : StateSet). Has 4 s state) (sym e) (all_have 4 state few),
-      ))
-      (cases_lt line (length sets))
-
-  -- and is within the four states
-  pub placed_within : (line : ℕ) → (placed sets line).0 < 2 ^ 4
-  placed_within line =
-      ⊎_elim
-      (λ (inside : line < length sets).
-      subst (λ (s : StateSet). s.0 < 2 ^ 4) (sym (placed_source sets line inside)) (node.left.within line no_states inside))
-      (λ (past : length sets ≤ line). subst (λ (s : StateSet). s.0 < 2 ^ 4) (sym (placed_gate sets line past)) (omega arith))
-      (cases_lt line (length sets))
-
-  module _ (kind : Kind) where
-    -- each node's hull is that of its steps
-    abbrev Of : List PinRef → (ℕ → State → Type 0) → List StateSet → Type 0
-    Of some_steps May hull = IsHull four_states c (IsNarrowingOf c kind some_steps) May hull
-
-    -- it closes, or it does not and this is its hull
-    abbrev Told : (ℕ → State → Type 0) → List StateSet → Bool → Type 0
-    Told May new true = Closes four_states c (IsNarrowingOf c kind prefix.steps) May
-    Told May new false = Of prefix.steps May new × HasNoEmptySet c new
-
-    -- labels in which each line has what it may be in, narrowed to their hull, tell of what lines may be in
-    told_of : (May : ℕ → State → Type 0) (labels new : List StateSet) → Allows four_states c (HasAt 4 labels) May
-        → Allows four_states c May (HasAt 4 labels) → (answer : Option LineId)
-        → IfNone answer (Of steps (HasAt 4 labels) new) → IfNone answer (HasNoEmptySet c new)
-        → IfSome answer (λ line. (line.0 < line_count c) × IsEmptied four_states c (IsNarrowingOf c kind steps) (HasAt 4 labels) line.0)
-        → Told May new (is_some answer)
-    told_of May labels new there back None hull some emptied = (
-      let P : List PinRef → Type 0 = λ s. Of s May new in
-          subst P (sym node.steps_are) (hull_of_same four_states c (IsNarrowingOf c kind steps) (HasAt 4 labels) May there back new hull),
-      some,
-    )
-    told_of May labels new there back (Some line) hull some emptied =
-        let P : List PinRef → Type 0 = λ s. Closes four_states c (IsNarrowingOf c kind s) May in
-        subst P (sym node.steps_are)
-        (closes_if_wider four_states c (IsNarrowingOf c kind steps) (IsNarrowingOf c kind steps) May (HasAt 4 labels)
-        (widens_by_states four_states c (IsNarrowingOf c kind steps) May (HasAt 4 labels) back)
-        (record { line = line.0; in_circuit = emptied.0; emptied = emptied.1 }))
-
-    -- the labels that are placed at a node
-    module _ (labels : List StateSet) (lines : length labels ≡ line_count c)
-        (are : (line : ℕ) → line < length labels → label_at labels line ≡ placed sets line) where
-      pub placed_labelling : IsLabelling 4 c labels
-      placed_labelling = record {
-        one_each = lines;
-        within = λ line d inside.
-            subst (λ (s : StateSet). s.0 < 2 ^ 4) (sym (get_or_default labels line d no_states inside ∙ are line inside)) (placed_within line);
-      }
-
-      -- tell of it
-      pub node_tells : (new : List StateSet) (answer : Option LineId)
-          → IfNone answer (Of steps (HasAt 4 labels) new) → IfNone answer (HasNoEmptySet c new)
-          → IfSome answer (λ line. (line.0 < line_count c) × IsEmptied four_states c (IsNarrowingOf c kind steps) (HasAt 4 labels) line.0)
-          → IsJudged c kind prefix direction halves new (is_some answer)
-      node_tells new answer hull some emptied =
-          same (is_some answer) (told_of At labels new there back answer hull some emptied)
-        where
-          there : Allows four_states c (HasAt 4 labels) At
-          there line state in_circuit few has =
-              (placed_exactly line state few).0
-              (subst (λ (s : StateSet). Has 4 s state) (are line (omega arith)) has)
-
-          back : Allows four_states c At (HasAt 4 labels)
-          back line state in_circuit few may =
-              subst (λ (s : StateSet). Has 4 s state) (sym (are line (omega arith))) ((placed_exactly line state few).1 may)
-
-          same : (b : Bool) → Told At new b → IsJudged c kind prefix direction halves new b
-          same true is = is
-          same false is = is
-
-    -- the labels of its trial
-    module _ (hull : List StateSet) (is_hull : IsNodeHull c kind prefix direction halves hull) (cone : List Bool)
-        (is_cone : IsConeOf c prefix cone) (labels : List StateSet) (lines : length labels ≡ line_count c)
-        (are : (line : ℕ) → line < length labels → IsTried sets cone line (label_at hull line) (label_at labels line)) where
-      tried_exactly : (line : ℕ) → line < length labels → (state : State) → state.0 < 4
-          → Has 4 (label_at labels line) state ↔ MayTry c prefix direction halves hull line state
-      tried_exactly line inside state few =
+    -- labels at rest among the states of the trial lie in its labels
+    trial_widens : Widens four_states c (IsNarrowingOf c kind prefix.steps) (MayTry c prefix direction halves hull)
+        (IsNarrowingOf c kind prefix.steps) (HasAt 4 labels)
+    trial_widens other among = record {
+      labelling = among.labelling;
+      rest = among.rest;
+      among = λ line state has.
+          let inside = has_in_circuit 4 c other among.labelling line state has in
+          let may = among.among line state has in
+          let in_hull = is_hull.greatest other (record {
+            labelling = among.labelling;
+            rest = among.rest;
+            among = λ l s h. (among.among l s h).at_node;
+          }) line state has in
           ⊎_elim
-          (λ (is_source : line < length sets). at_source is_source (slice_index_or cone line false) refl)
-          (λ (past : length sets ≤ line). elsewhere (λ is. omega (arith, is.0)))
-          (cases_lt line (length sets))
-        where
-          elsewhere : (IsTriedSource sets cone line → ⊥)
-              → Has 4 (label_at labels line) state ↔ MayTry c prefix direction halves hull line state
-          elsewhere other =
-              let e = (are line inside).other other in (
-                λ has. record {
-                  at_node = (placed_exactly line state few).0 (subst (λ (s : StateSet). Has 4 s state) e has);
-                  least = λ support. absurd (other (
-                    omega (arith, support.is_source, node.left.one_each),
-                    (is_cone line support.is_source).1 support,
-                  ));
-                },
-                λ may. subst (λ (s : StateSet). Has 4 s state) (sym e) ((placed_exactly line state few).1 may.at_node),
-              )
+          (λ (tried : IsTriedSource sources cone line).
+          ((are line (omega (arith, is.one_each))).source tried state).1
+          (may.least ((is_cone line (omega (arith, tried.0))).0 tried.1)))
+          (λ (not : IsTriedSource sources cone line → ⊥).
+          subst (λ (s : StateSet). Has 4 s state) (sym ((are line (omega (arith, is.one_each))).other not)) in_hull)
+          (tried_or_not line);
+    }
 
-          at_source : line < length sets → (mark : Bool) → slice_index_or cone line false ≡ mark
-              → Has 4 (label_at labels line) state ↔ MayTry c prefix direction halves hull line state
-          at_source is_source true marked =
-              let exactly = (are line inside).source (is_source, marked) state in
-              let support = (is_cone line (omega (arith, node.left.one_each))).0 marked in (
-                λ has. record {
-                  at_node = is_hull.rest.among line state (exactly.0 has).has;
-                  least = λ s. exactly.0 has;
-                },
-                λ may. exactly.1 (may.least support),
-              )
-          at_source is_source false unmarked = elsewhere (λ is. false≢true (sym unmarked ∙ is.1))
+    -- and the other way
+    trial_narrows : Widens four_states c (IsNarrowingOf c kind prefix.steps) (HasAt 4 labels)
+        (IsNarrowingOf c kind prefix.steps) (MayTry c prefix direction halves hull)
+    trial_narrows other among = record {
+      labelling = among.labelling;
+      rest = among.rest;
+      among = λ line state has.
+          let tried = among.among line state has in
+          let inside : line < length labels = let i = has_in_circuit 4 c labels is line state tried in omega (arith, is.one_each) in
+          record {
+            at_node = is_hull.rest.among line state (tried_in_hull line state inside tried);
+            least = λ support.
+                ((are line inside).source (omega (arith, support.is_source), (is_cone line support.is_source).1 support) state).0 tried;
+          };
+    }
 
-      -- tell of it
-      pub trial_tells : (new : List StateSet) (answer : Option LineId)
-          → IfNone answer (Of steps (HasAt 4 labels) new) → IfNone answer (HasNoEmptySet c new)
-          → IfSome answer (λ line. (line.0 < line_count c) × IsEmptied four_states c (IsNarrowingOf c kind steps) (HasAt 4 labels) line.0)
-          → IsTrue (is_some answer) ↔ ClosesAtTrial c kind prefix direction halves hull
-      trial_tells new answer is_new some emptied =
-          same (is_some answer) (told_of (MayTry c prefix direction halves hull) labels new there back answer is_new some emptied)
-        where
-          there : Allows four_states c (HasAt 4 labels) (MayTry c prefix direction halves hull)
-          there line state in_circuit few has = (tried_exactly line (omega arith) state few).0 has
-
-          back : Allows four_states c (MayTry c prefix direction halves hull) (HasAt 4 labels)
-          back line state in_circuit few may = (tried_exactly line (omega arith) state few).1 may
-
-          same : (b : Bool) → Told (MayTry c prefix direction halves hull) new b
-              → IsTrue b ↔ ClosesAtTrial c kind prefix direction halves hull
-          same true is = (λ yes. is, λ closes. refl)
-          same false is = (
-            λ yes. absurd (false≢true yes),
-            λ closes. absurd (not_closing four_states c (IsNarrowingOf c kind prefix.steps) (MayTry c prefix direction halves hull) new is.0 is.1 closes),
-          )
-
-    -- a node with this hull, and its trial, is open or not
-    pub not_open : ClosesAtNode c kind prefix direction halves → (hull : List StateSet) → IsOpen c kind prefix direction halves hull → ⊥
-    not_open closes hull open_here =
-        not_closing four_states c (IsNarrowingOf c kind prefix.steps) At hull open_here.is_hull open_here.none_empty closes
-
-    pub open_tells : (hull : List StateSet) → IsNodeHull c kind prefix direction halves hull → HasNoEmptySet c hull
-        → (r : Bool) → IsTrue r ↔ ClosesAtTrial c kind prefix direction halves hull
-        → IsTrue r ↔ IsOpen c kind prefix direction halves hull
-    open_tells hull is_hull some r tells = (
-      λ yes. record { is_hull = is_hull; none_empty = some; trial = tells.0 yes },
-      λ open_here. tells.1 open_here.trial,
+    -- tell of it, narrowed to their hull
+    pub trial_tells : (steps : List PinRef) → prefix.steps ≡ steps → (new : List StateSet) (answer : Option LineId)
+        → IfNone answer (IsHull four_states c (IsNarrowingOf c kind steps) (HasAt 4 labels) new) → IfNone answer (HasNoEmptySet c new)
+        → IfSome answer (λ line. (line.0 < line_count c)
+        × IsEmptied four_states c (IsNarrowingOf c kind steps) (HasAt 4 labels) line.0)
+        → IsTrue (is_some answer) ↔ ClosesAtTrial c kind prefix direction halves hull
+    trial_tells steps steps_are new None is_new some never = (
+      λ yes. absurd (false≢true yes),
+      λ closes.
+          absurd (not_closing four_states c (IsNarrowingOf c kind prefix.steps) (HasAt 4 labels) new
+          (subst (λ (s : List PinRef). IsHull four_states c (IsNarrowingOf c kind s) (HasAt 4 labels) new) (sym steps_are) is_new) some
+          (closes_if_wider four_states c (IsNarrowingOf c kind prefix.steps) (IsNarrowingOf c kind prefix.steps) (HasAt 4 labels)
+          (MayTry c prefix direction halves hull) trial_narrows closes)),
+    )
+    trial_tells steps steps_are new (Some line) never never_empty emptied = (
+      λ yes.
+          closes_if_wider four_states c (IsNarrowingOf c kind prefix.steps) (IsNarrowingOf c kind prefix.steps)
+          (MayTry c prefix direction halves hull) (HasAt 4 labels) trial_widens (record {
+            line = line.0;
+            in_circuit = emptied.0;
+            emptied = subst (λ (s : List PinRef). IsEmptied four_states c (IsNarrowingOf c kind s) (HasAt 4 labels) line.0)
+                (sym steps_are) emptied.1;
+          }),
+      λ closes. refl,
     )
 
-    -- there is one hull only
-    pub same_open : (hull other : List StateSet) → IsNodeHull c kind prefix direction halves hull
-        → IsOpen c kind prefix direction halves other → hull ≡ other
-    same_open hull other is_hull open_there =
-        hull_once four_states c (IsNarrowingOf c kind prefix.steps) At hull is_hull other open_there.is_hull
+  -- a node that closes is not open
+  pub not_open : ClosesAtNode c kind prefix direction halves → (hull : List StateSet) → IsOpen c kind prefix direction halves hull → ⊥
+  not_open closes hull open_here =
+      not_closing four_states c (IsNarrowingOf c kind prefix.steps) (MayBe four_states c prefix.source.0 direction halves) hull
+      open_here.is_hull open_here.none_empty closes
+
+  -- a node with this hull is open just where its trial closes
+  pub open_tells : (hull : List StateSet) → IsNodeHull c kind prefix direction halves hull → HasNoEmptySet c hull
+      → (r : Bool) → IsTrue r ↔ ClosesAtTrial c kind prefix direction halves hull
+      → IsTrue r ↔ IsOpen c kind prefix direction halves hull
+  open_tells hull is_hull some r tells = (
+    λ yes. record { is_hull = is_hull; none_empty = some; trial = tells.0 yes },
+    λ open_here. tells.1 open_here.trial,
+  )
+
+  -- there is one hull only
+  pub same_open : (hull other : List StateSet) → IsNodeHull c kind prefix direction halves hull
+      → IsOpen c kind prefix direction halves other → hull ≡ other
+  same_open hull other is_hull open_there =
+      hull_once four_states c (IsNarrowingOf c kind prefix.steps) (MayBe four_states c prefix.source.0 direction halves) hull is_hull
+      other open_there.is_hull
 
 -- what a function answers that judges a node and then tries it
-module _ (c : Circuit) (kind : Kind) (path : Route) (direction : Direction) (halves : List Half) (steps : List PinRef)
-    (sets : List StateSet) (node : IsNode c steps sets path direction halves) where
+module _ (c : Circuit) (kind : Kind) (path : Route) (direction : Direction) (halves : List Half) where
   -- a node that closes is not open
   pub closing_not_open : (r : Bool) (labels : List StateSet) → r ≡ true → IsJudged c kind path direction halves labels r
       → IsTrue false ↔ ((hull : List StateSet) × IsOpen c kind path direction halves hull)
   closing_not_open true labels is_true closes = (
     λ never. absurd (false≢true never),
-    λ open_here. absurd (not_open c path direction halves steps sets node kind closes open_here.0 open_here.1),
+    λ open_here. absurd (not_open c kind path direction halves closes open_here.0 open_here.1),
   )
   closing_not_open false labels is_true closes = absurd (false≢true is_true)
 
@@ -228,10 +157,10 @@ module _ (c : Circuit) (kind : Kind) (path : Route) (direction : Direction) (hal
       → IsTrue tried ↔ ((other : List StateSet) × IsOpen c kind path direction halves other)
   tried_open true tried hull never judged tells = absurd (false≢true (sym never))
   tried_open false tried hull is judged tells =
-      let open_here = open_tells c path direction halves steps sets node kind hull judged.0 judged.1 tried (tells judged.0) in (
+      let open_here = open_tells c kind path direction halves hull judged.0 judged.1 tried (tells judged.0) in (
         λ yes. (hull, open_here.0 yes),
         λ other. open_here.1 (subst (IsOpen c kind path direction halves)
-            (sym (same_open c path direction halves steps sets node kind hull other.0 judged.0 other.1)) other.1),
+            (sym (same_open c kind path direction halves hull other.0 judged.0 other.1)) other.1),
       )
 
   -- a split at a node that closes is not due
@@ -239,7 +168,7 @@ module _ (c : Circuit) (kind : Kind) (path : Route) (direction : Direction) (hal
       → IsJudged c kind path direction halves labels r → IsTrue false ↔ IsDue c kind path direction halves steadiness source
   closing_not_due steadiness source true labels is_true closes = (
     λ never. absurd (false≢true never),
-    λ due. absurd (not_open c path direction halves steps sets node kind closes due.hull due.is_open),
+    λ due. absurd (not_open c kind path direction halves closes due.hull due.is_open),
   )
   closing_not_due steadiness source false labels is_true closes = absurd (false≢true is_true)
 
@@ -263,7 +192,7 @@ module _ (c : Circuit) (kind : Kind) (path : Route) (direction : Direction) (hal
     λ due.
         let same : label_at due.hull source ≡ set =
         ap (λ (h : List StateSet). label_at h source)
-        (sym (same_open c path direction halves steps sets node kind hull due.hull judged.0 due.is_open)) ∙ sym at in
+        (sym (same_open c kind path direction halves hull due.hull judged.0 due.is_open)) ∙ sym at in
         let first = subst (λ (s : StateSet). HasInHalf s steadiness false) same due.in_first in
         let second = subst (λ (s : StateSet). HasInHalf s steadiness true) same due.in_second in
         absurd (false≢true (sym lacks ∙ tells.1 (first, second))),
@@ -289,7 +218,7 @@ module _ (c : Circuit) (kind : Kind) (path : Route) (direction : Direction) (hal
           in_second = subst (λ (s : StateSet). HasInHalf s steadiness true) at parts.1;
         },
     λ due.
-        let same = sym (same_open c path direction halves steps sets node kind hull due.hull judged.0 due.is_open) in
+        let same = sym (same_open c kind path direction halves hull due.hull judged.0 due.is_open) in
         (trial judged.0).1 (subst (ClosesAtTrial c kind path direction halves) same due.is_open.trial),
   )
 
@@ -302,3 +231,15 @@ module _ (c : Circuit) (kind : Kind) (path : Route) (direction : Direction) (hal
     λ closes. absurd (not_closing four_states c (IsNarrowingOf c kind path.steps) (MayBe four_states c path.source.0 direction halves)
         labels judged.0 judged.1 closes),
   )
+
+-- what is told of each node with these labels: whether it closes, and whether it is as a spent tree asks
+module _ (c : Circuit) (kind : Kind) (steps : List PinRef) (labels : List StateSet) where
+  abbrev pub JudgesNode : List StateSet → Bool → Type 0
+  JudgesNode new closes =
+      (path : Route) (direction : Direction) (halves : List Half) → IsNode c kind steps labels path direction halves
+      → IsJudged c kind path direction halves new closes
+
+  abbrev pub TellsOfNode : List Bool → Node → Bool → Type 0
+  TellsOfNode cone node is =
+      (path : Route) (direction : Direction) (halves : List Half) → IsNode c kind steps labels path direction halves → IsConeOf c path cone
+      → IsTrue is ↔ IsRightInSpent c kind path direction halves node

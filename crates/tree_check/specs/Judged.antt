@@ -11,14 +11,13 @@ use Rattle.state_sets.specs.Hulls.{IsNarrowingOf, HasNoEmptySet, Closes}
 use Rattle.hull_laws.specs.declared.half.Half.{Half}
 use Rattle.hull_laws.specs.Nodes.{IsNodeHull, ClosesAtNode}
 use Rattle.tree_laws.specs.Spent.{IsInSupport, MayTry}
-use Rattle.tree_check.specs.Walks.{AreLeft}
+use Rattle.tree_check.specs.Walks.{NarrowsToHull}
 
--- a node below these halves, of a tree for a prefix with these steps, at which the sources have these sets
-pub record IsNode (c : Circuit) (steps : List PinRef) (sets : List StateSet) (prefix : Route) (direction : Direction)
+-- a node below these halves, of a tree for a prefix with these steps, to whose hull these labels narrow
+pub record IsNode (c : Circuit) (kind : Kind) (steps : List PinRef) (labels : List StateSet) (prefix : Route) (direction : Direction)
     (halves : List Half) : Type 0 where
-  pub source : prefix.source.0 < source_count c
   pub steps_are : prefix.steps ≡ steps
-  pub left : AreLeft c prefix.source.0 direction halves sets
+  pub narrows : NarrowsToHull c kind prefix direction halves labels
 
 -- the node closes, or it does not and these are its hull
 abbrev pub IsJudged : Circuit → Kind → Route → Direction → List Half → List StateSet → Bool → Type 0

@@ -1,4 +1,4 @@
 pub mod Walks
-pub mod NodeLabels
+pub mod TrialLabels
 pub mod Judged
 pub mod Answers

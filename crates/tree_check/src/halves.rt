@@ -1,13 +1,12 @@
-// The states of one half of a split, and those that launch a transition.
+// The states of one half of a split, and the least state of a set.
 ghost use Rattle.std.specs.Prelude.{◌≡◌, ◌<◌, ◌↔◌, IsTrue};
 ghost use Rattle.state_sets.specs.States.{Has, IsWithin};
 ghost use Rattle.state_sets.specs.FourStates.{four_states};
-ghost use Rattle.state_sets.specs.Starts.{IsInHalf, IsLaunching, IsLeast};
+ghost use Rattle.state_sets.specs.Starts.{IsInHalf, IsLeast};
 ghost use Rattle.state_sets.specs.declared.state.State.{State};
 ghost use Rattle.tree_laws.specs.Spent.{HasInHalf};
 
 use hull_laws::Half;
-use pd_base::Direction;
 use state_sets::{State, StateSet};
 
 // The states of a half.
@@ -20,17 +19,6 @@ pub(crate) fn states_of(half: Half) -> StateSet
         (false, true) => StateSet(0b1010),
         (true, false) => StateSet(0b0011),
         (true, true) => StateSet(0b1100),
-    }
-}
-
-// The states in which a source launches the transition.
-pub(crate) fn launching(dir: Direction) -> StateSet
-    ensures within { IsWithin 4 result }
-    ensures exactly { (state : State) → state.0 < 4 → Has 4 result state ↔ IsLaunching four_states dir state }
-{
-    match dir {
-        Direction::Rise => StateSet(0b1000),
-        Direction::Fall => StateSet(0b0100),
     }
 }
 

@@ -1,69 +1,72 @@
-// Whether a node of a tree closes, and what a spent tree asks of it. Each hull is narrowed from the start, which the halves above the
-// node have cut.
-ghost use Rattle.std.specs.Prelude.{◌≡◌, ◌↔◌, true, false, List, length, IsTrue};
+// Whether a node of a tree closes, and what a spent tree asks of it. The hull at a node is narrowed from what the walk brought: its
+// parent's labels, cut to a half.
+ghost use Rattle.std.specs.Prelude.{◌≡◌, ◌↔◌, true, false, List, length, IsTrue, IfOk};
 ghost use Rattle.pd_base.specs.Route.{Route};
 ghost use Rattle.pd_base.specs.declared.fault.Direction.{Direction};
-ghost use Rattle.netlist.specs.Circuit.{line_count, source_count};
+ghost use Rattle.netlist.specs.Circuit.{line_count};
 ghost use Rattle.state_sets.specs.declared.state.StateSet.{StateSet};
-ghost use Rattle.state_sets.specs.States.{AreWithin};
 ghost use Rattle.state_sets.specs.Labellings.{IsLabelling};
 ghost use Rattle.hull_laws.specs.declared.half.Half.{Half};
 ghost use Rattle.hull_laws.specs.Nodes.{IsNodeHull};
 ghost use Rattle.hulls.specs.Conditions.{IsEnteredOn};
 ghost use Rattle.tree_laws.specs.Spent.{HasInHalf, IsOpen, IsDue};
+ghost use Rattle.tree_check.specs.Walks.{IsNearer};
 ghost use Rattle.tree_check.specs.Judged.{IsNode, IsJudged, IsConeOf, ClosesAtTrial};
 
 use crate::halves::has_in_half;
 use crate::labels::{place, place_trial};
+use crate::walk::Walk;
 use hull_laws::Half;
 use hulls::{Conditions, settle};
 use narrowing::NarrowScratch;
 use netlist::Netlist;
-use pd_base::LineId;
+use pd_base::OutOfMemory;
 use state_sets::{FourStates, Labels, StateSet};
 
-// Whether the node closes at which the sources have these sets. If not, its hull is in the labels.
+// Whether the node closes at which the walk stands. If not, the walk then has its hull.
 pub(crate) fn node_closes(
     net: &Netlist,
     conditions: &Conditions,
-    sets: &[StateSet],
+    walk: &mut Walk,
     labels: &mut Labels<FourStates>,
     scratch: &mut NarrowScratch,
-) -> bool
+) -> Result<bool, OutOfMemory>
     requires conditions { IsEnteredOn net.now conditions.now }
+    requires walk { IsLabelling 4 net.now walk.old.labels.items }
     requires lines { length labels.old ≡ line_count net.now }
-    requires sources { length sets.now ≡ source_count net.now }
-    requires within { AreWithin 4 sets.now }
-    ensures labelling { IsLabelling 4 net.now labels.new }
-    ensures judged { (prefix : Route) (direction : Direction) (halves : List Half)
-        → IsNode net.now conditions.now.steps sets.now prefix direction halves
-        → IsJudged net.now conditions.now.kind prefix direction halves labels.new result }
+    ensures walk { IfOk result (λ closes. IsLabelling 4 net.now walk.new.labels.items) }
+    ensures labels { IfOk result (λ closes. IsLabelling 4 net.now labels.new) }
+    ensures nearer { IfOk result (λ closes. IsNearer net.now conditions.now.kind conditions.now.steps
+        walk.old.labels.items walk.old.trail.items walk.new.labels.items walk.new.trail.items) }
+    ensures judged { IfOk result (λ closes. (prefix : Route) (direction : Direction) (halves : List Half)
+        → IsNode net.now conditions.now.kind conditions.now.steps walk.old.labels.items prefix direction halves
+        → IsJudged net.now conditions.now.kind prefix direction halves walk.new.labels.items closes) }
 {
-    place(labels, sets);
+    place(labels, walk.labels.as_slice());
     let emptied = settle(net, labels, conditions, scratch);
-    emptied.is_some()
+    walk.keep(net, labels)?;
+    Ok(emptied.is_some())
 }
 
-// Whether the trial closes of the node whose hull is in the labels.
+// Whether the trial closes of the node with this hull.
 pub(crate) fn trial_closes(
     net: &Netlist,
     conditions: &Conditions,
     cone: &[bool],
-    sets: &[StateSet],
+    hull: &[StateSet],
     labels: &mut Labels<FourStates>,
     scratch: &mut NarrowScratch,
 ) -> bool
     requires conditions { IsEnteredOn net.now conditions.now }
     requires cone { length cone.now ≡ line_count net.now }
-    requires within { AreWithin 4 sets.now }
+    requires hull { IsLabelling 4 net.now hull.now }
     requires labelling { IsLabelling 4 net.now labels.old }
     ensures labelling { IsLabelling 4 net.now labels.new }
-    ensures tried { (path : Route) (direction : Direction) (halves : List Half)
-        → IsNode net.now conditions.now.steps sets.now path direction halves
-        → IsNodeHull net.now conditions.now.kind path direction halves labels.old → IsConeOf net.now path cone.now
-        → IsTrue result ↔ ClosesAtTrial net.now conditions.now.kind path direction halves labels.old }
+    ensures tried { (path : Route) (direction : Direction) (halves : List Half) → path.steps ≡ conditions.now.steps
+        → IsNodeHull net.now conditions.now.kind path direction halves hull.now → IsConeOf net.now path cone.now
+        → IsTrue result ↔ ClosesAtTrial net.now conditions.now.kind path direction halves hull.now }
 {
-    place_trial(labels, sets, cone);
+    place_trial(labels, hull, cone, net.sources());
     settle(net, labels, conditions, scratch).is_some()
 }
 
@@ -72,24 +75,32 @@ pub(crate) fn is_open(
     net: &Netlist,
     conditions: &Conditions,
     cone: &[bool],
-    sets: &[StateSet],
+    walk: &mut Walk,
     labels: &mut Labels<FourStates>,
     scratch: &mut NarrowScratch,
-) -> bool
+) -> Result<bool, OutOfMemory>
     requires conditions { IsEnteredOn net.now conditions.now }
     requires cone { length cone.now ≡ line_count net.now }
+    requires walk { IsLabelling 4 net.now walk.old.labels.items }
     requires lines { length labels.old ≡ line_count net.now }
-    requires sources { length sets.now ≡ source_count net.now }
-    requires within { AreWithin 4 sets.now }
-    ensures labelling { IsLabelling 4 net.now labels.new }
-    ensures open { (path : Route) (direction : Direction) (halves : List Half)
-        → IsNode net.now conditions.now.steps sets.now path direction halves → IsConeOf net.now path cone.now
-        → IsTrue result ↔ ((hull : List StateSet) × IsOpen net.now conditions.now.kind path direction halves hull) }
+    ensures labels { IfOk result (λ is. length labels.new ≡ line_count net.now) }
+    ensures nearer { IfOk result (λ is. IsNearer net.now conditions.now.kind conditions.now.steps
+        walk.old.labels.items walk.old.trail.items walk.new.labels.items walk.new.trail.items) }
+    ensures open { IfOk result (λ is. (path : Route) (direction : Direction) (halves : List Half)
+        → IsNode net.now conditions.now.kind conditions.now.steps walk.old.labels.items path direction halves → IsConeOf net.now path cone.now
+        → IsTrue is ↔ ((hull : List StateSet) × IsOpen net.now conditions.now.kind path direction halves hull)) }
 {
-    if node_closes(net, conditions, sets, labels, scratch) {
-        return false;
+    if node_closes(net, conditions, walk, labels, scratch)? {
+        return Ok(false);
     }
-    trial_closes(net, conditions, cone, sets, labels, scratch)
+    Ok(trial_closes(
+        net,
+        conditions,
+        cone,
+        walk.labels.as_slice(),
+        labels,
+        scratch,
+    ))
 }
 
 // Whether a split is due: the number is tried before a label is looked up.
@@ -97,32 +108,40 @@ pub(crate) fn is_due(
     net: &Netlist,
     conditions: &Conditions,
     cone: &[bool],
-    sets: &[StateSet],
+    walk: &mut Walk,
     labels: &mut Labels<FourStates>,
     scratch: &mut NarrowScratch,
     source: u32,
     steadiness: bool,
-) -> bool
+) -> Result<bool, OutOfMemory>
     requires conditions { IsEnteredOn net.now conditions.now }
     requires cone { length cone.now ≡ line_count net.now }
+    requires walk { IsLabelling 4 net.now walk.old.labels.items }
     requires lines { length labels.old ≡ line_count net.now }
-    requires sources { length sets.now ≡ source_count net.now }
-    requires within { AreWithin 4 sets.now }
-    ensures lines { length labels.new ≡ line_count net.now }
-    ensures due { (path : Route) (direction : Direction) (halves : List Half)
-        → IsNode net.now conditions.now.steps sets.now path direction halves → IsConeOf net.now path cone.now
-        → IsTrue result ↔ IsDue net.now conditions.now.kind path direction halves steadiness source }
+    ensures labels { IfOk result (λ is. length labels.new ≡ line_count net.now) }
+    ensures nearer { IfOk result (λ is. IsNearer net.now conditions.now.kind conditions.now.steps
+        walk.old.labels.items walk.old.trail.items walk.new.labels.items walk.new.trail.items) }
+    ensures due { IfOk result (λ is. (path : Route) (direction : Direction) (halves : List Half)
+        → IsNode net.now conditions.now.kind conditions.now.steps walk.old.labels.items path direction halves → IsConeOf net.now path cone.now
+        → IsTrue is ↔ IsDue net.now conditions.now.kind path direction halves steadiness source) }
 {
     if source >= net.sources() || !cone[source as usize] {
-        return false;
+        return Ok(false);
     }
-    if node_closes(net, conditions, sets, labels, scratch) {
-        return false;
+    if node_closes(net, conditions, walk, labels, scratch)? {
+        return Ok(false);
     }
-    if !has_both_halves(labels.get(LineId(source)), source, steadiness) {
-        return false;
+    if !has_both_halves(walk.labels[source as usize], source, steadiness) {
+        return Ok(false);
     }
-    trial_closes(net, conditions, cone, sets, labels, scratch)
+    Ok(trial_closes(
+        net,
+        conditions,
+        cone,
+        walk.labels.as_slice(),
+        labels,
+        scratch,
+    ))
 }
 
 // Whether a set has a state of each half of a split.

@@ -3,31 +3,32 @@ ghost use Rattle.std.specs.Prelude.{◌≡◌, ◌↔◌, List, length, IfOk, Is
 ghost use Rattle.pd_base.specs.Pair.{Vectors};
 ghost use Rattle.pd_base.specs.Route.{Route};
 ghost use Rattle.pd_base.specs.declared.fault.Direction.{Direction};
-ghost use Rattle.netlist.specs.Circuit.{line_count, source_count};
+ghost use Rattle.netlist.specs.Circuit.{line_count};
 ghost use Rattle.netlist.specs.Conditions.{Meets};
 ghost use Rattle.netlist.specs.Paths.{IsPrefix, IsPrefixOf};
-ghost use Rattle.state_sets.specs.States.{AreWithin};
+ghost use Rattle.state_sets.specs.Labellings.{IsLabelling};
 ghost use Rattle.hull_laws.specs.declared.half.Half.{Half};
 ghost use Rattle.hulls.specs.Conditions.{IsEnteredOn};
 ghost use Rattle.tree_laws.specs.Refutations.{IsRefutation};
 ghost use Rattle.tree_laws.specs.Faults.{IsRightInRefutation};
+ghost use Rattle.tree_check.specs.Walks.{IsNearer};
 ghost use Rattle.tree_check.specs.Judged.{IsNode};
 ghost use Rattle.tree_check.specs.Answers.{TellsOfRefutation};
 
 use crate::TreeCheck;
 use crate::judging::node_closes;
 use crate::walk::Walk;
-use hulls::{Conditions, enter_all};
+use hulls::{Conditions, enter_all, launch};
 use narrowing::NarrowScratch;
 use netlist::Netlist;
 use pd_base::{Direction, Kind, OutOfMemory, Path};
 use refutation_check::{Node, Tree};
-use state_sets::{FourStates, Labels, StateSet};
+use state_sets::{FourStates, Labels};
 use std::alloc::Global;
 
 /// Whether a tree refutes the conditions of a kind of test for a prefix and a transition. No names the first node in preorder that
 /// is at fault: an open leaf, a closed leaf whose node does not close, or a split on a number that is no source. It fails only where
-/// memory runs out, of which it takes a few bytes for each line and for each half above a node.
+/// memory runs out, of which it takes some bytes for each line and for each half above a node.
 pub fn check_tree(
     alloc: Global,
     net: &Netlist,
@@ -47,17 +48,18 @@ pub fn check_tree(
     let mut conditions = Conditions::new(alloc, net, kind)?;
     enter_all(&mut conditions, net, prefix);
     let mut labels = Labels::full(alloc, net)?;
+    launch(&mut labels, net, prefix.source(), dir);
+    let mut walk = Walk::new(alloc, labels.as_slice())?;
     let mut scratch = NarrowScratch::new(alloc, net)?;
-    let mut walk = Walk::new(alloc, net, prefix.source(), dir)?;
     for (place, node) in tree.nodes().iter().enumerate() {
         if !refutes_at(
             net,
             &conditions,
             *node,
-            walk.sets.as_slice(),
+            &mut walk,
             &mut labels,
             &mut scratch,
-        ) {
+        )? {
             return Ok(TreeCheck::No(place as u32));
         }
         walk.pass(*node)?;
@@ -65,27 +67,29 @@ pub fn check_tree(
     Ok(TreeCheck::Yes)
 }
 
-// Whether a node is as a refutation asks.
+// Whether a node is as a refutation asks. The walk then has its hull, or labels from which nothing is left.
 fn refutes_at(
     net: &Netlist,
     conditions: &Conditions,
     node: Node,
-    sets: &[StateSet],
+    walk: &mut Walk,
     labels: &mut Labels<FourStates>,
     scratch: &mut NarrowScratch,
-) -> bool
+) -> Result<bool, OutOfMemory>
     requires conditions { IsEnteredOn net.now conditions.now }
+    requires walk { IsLabelling 4 net.now walk.old.labels.items }
     requires lines { length labels.old ≡ line_count net.now }
-    requires sources { length sets.now ≡ source_count net.now }
-    requires within { AreWithin 4 sets.now }
-    ensures lines { length labels.new ≡ line_count net.now }
-    ensures right { (prefix : Route) (direction : Direction) (halves : List Half)
-        → IsNode net.now conditions.now.steps sets.now prefix direction halves
-        → IsTrue result ↔ IsRightInRefutation net.now conditions.now.kind prefix direction halves node }
+    ensures labels { IfOk result (λ is. length labels.new ≡ line_count net.now) }
+    ensures nearer { IfOk result (λ is. IsNearer net.now conditions.now.kind conditions.now.steps
+        walk.old.labels.items walk.old.trail.items walk.new.labels.items walk.new.trail.items) }
+    ensures right { IfOk result (λ is. (prefix : Route) (direction : Direction) (halves : List Half)
+        → IsNode net.now conditions.now.kind conditions.now.steps walk.old.labels.items prefix direction halves
+        → IsTrue is ↔ IsRightInRefutation net.now conditions.now.kind prefix direction halves node) }
 {
-    match node {
-        Node::Closed => node_closes(net, conditions, sets, labels, scratch),
+    let closes = node_closes(net, conditions, walk, labels, scratch)?;
+    Ok(match node {
+        Node::Closed => closes,
         Node::Waiting => false,
         Node::Value(source) | Node::Steadiness(source) => source < net.sources(),
-    }
+    })
 }

@@ -2,14 +2,15 @@
 ghost use Rattle.std.specs.Prelude.{◌≡◌, ◌<◌, ◌↔◌, List, length, Contains, IfOk, IsTrue};
 ghost use Rattle.pd_base.specs.Route.{Route};
 ghost use Rattle.pd_base.specs.declared.fault.Direction.{Direction};
-ghost use Rattle.netlist.specs.Circuit.{line_count, source_count};
+ghost use Rattle.netlist.specs.Circuit.{line_count};
 ghost use Rattle.netlist.specs.Paths.{IsPrefix, end_of};
-ghost use Rattle.state_sets.specs.States.{AreWithin};
+ghost use Rattle.state_sets.specs.Labellings.{IsLabelling};
 ghost use Rattle.hull_laws.specs.declared.half.Half.{Half};
 ghost use Rattle.hulls.specs.Conditions.{IsEnteredOn};
 ghost use Rattle.tree_laws.specs.Spent.{IsSpent};
 ghost use Rattle.tree_laws.specs.Bounds.{IsBelowBound};
 ghost use Rattle.tree_laws.specs.Faults.{IsRightInSpent};
+ghost use Rattle.tree_check.specs.Walks.{IsNearer};
 ghost use Rattle.tree_check.specs.Judged.{IsNode, IsConeOf};
 ghost use Rattle.tree_check.specs.Answers.{TellsOfSpent};
 
@@ -17,19 +18,19 @@ use crate::TreeCheck;
 use crate::judging::{is_due, is_open, node_closes};
 use crate::walk::Walk;
 use fan_in::support;
-use hulls::{Conditions, enter_all};
+use hulls::{Conditions, enter_all, launch};
 use narrowing::NarrowScratch;
 use netlist::Netlist;
 use pd_base::{Direction, Kind, LineId, OutOfMemory, Path};
 use refutation_check::{Node, Tree};
-use state_sets::{FourStates, Labels, StateSet};
+use state_sets::{FourStates, Labels};
 use std::alloc::Global;
 
 /// Whether a tree shows that a budget was spent on a path and a transition under the conditions of a kind of test. No(0) where it has
 /// more or fewer splits than the budget, or no open leaf. Else No names the first node in preorder that breaks a rule: a closed leaf
 /// whose node does not close; an open leaf or a split whose node closes, or whose trial does not; a split on a source outside the
 /// support, or on one that has no state of some half in the hull. After Yes the budget is below four to the power of the number of
-/// sources in the support but one. It fails only where memory runs out, of which it takes a few bytes for each line and for each half
+/// sources in the support but one. It fails only where memory runs out, of which it takes some bytes for each line and for each half
 /// above a node.
 pub fn check_spent(
     alloc: Global,
@@ -52,18 +53,19 @@ pub fn check_spent(
     enter_all(&mut conditions, net, path);
     let cone = cone_of(alloc, net, path)?;
     let mut labels = Labels::full(alloc, net)?;
+    launch(&mut labels, net, path.source(), dir);
+    let mut walk = Walk::new(alloc, labels.as_slice())?;
     let mut scratch = NarrowScratch::new(alloc, net)?;
-    let mut walk = Walk::new(alloc, net, path.source(), dir)?;
     for (place, node) in tree.nodes().iter().enumerate() {
         if !is_right_at(
             net,
             &conditions,
             cone.as_slice(),
             *node,
-            walk.sets.as_slice(),
+            &mut walk,
             &mut labels,
             &mut scratch,
-        ) {
+        )? {
             return Ok(TreeCheck::No(place as u32));
         }
         walk.pass(*node)?;
@@ -71,32 +73,33 @@ pub fn check_spent(
     Ok(TreeCheck::Yes)
 }
 
-// Whether a node is as a spent tree asks.
+// Whether a node is as a spent tree asks. Where it is, the walk then has its hull, or labels from which nothing is left.
 fn is_right_at(
     net: &Netlist,
     conditions: &Conditions,
     cone: &[bool],
     node: Node,
-    sets: &[StateSet],
+    walk: &mut Walk,
     labels: &mut Labels<FourStates>,
     scratch: &mut NarrowScratch,
-) -> bool
+) -> Result<bool, OutOfMemory>
     requires conditions { IsEnteredOn net.now conditions.now }
     requires cone { length cone.now ≡ line_count net.now }
+    requires walk { IsLabelling 4 net.now walk.old.labels.items }
     requires lines { length labels.old ≡ line_count net.now }
-    requires sources { length sets.now ≡ source_count net.now }
-    requires within { AreWithin 4 sets.now }
-    ensures lines { length labels.new ≡ line_count net.now }
-    ensures right { (path : Route) (direction : Direction) (halves : List Half)
-        → IsNode net.now conditions.now.steps sets.now path direction halves → IsConeOf net.now path cone.now
-        → IsTrue result ↔ IsRightInSpent net.now conditions.now.kind path direction halves node }
+    ensures labels { IfOk result (λ is. length labels.new ≡ line_count net.now) }
+    ensures nearer { IfOk result (λ is. IsNearer net.now conditions.now.kind conditions.now.steps
+        walk.old.labels.items walk.old.trail.items walk.new.labels.items walk.new.trail.items) }
+    ensures right { IfOk result (λ is. (path : Route) (direction : Direction) (halves : List Half)
+        → IsNode net.now conditions.now.kind conditions.now.steps walk.old.labels.items path direction halves → IsConeOf net.now path cone.now
+        → IsTrue is ↔ IsRightInSpent net.now conditions.now.kind path direction halves node) }
 {
     match node {
-        Node::Closed => node_closes(net, conditions, sets, labels, scratch),
-        Node::Waiting => is_open(net, conditions, cone, sets, labels, scratch),
-        Node::Value(source) => is_due(net, conditions, cone, sets, labels, scratch, source, false),
+        Node::Closed => node_closes(net, conditions, walk, labels, scratch),
+        Node::Waiting => is_open(net, conditions, cone, walk, labels, scratch),
+        Node::Value(source) => is_due(net, conditions, cone, walk, labels, scratch, source, false),
         Node::Steadiness(source) => is_due(
-            net, conditions, cone, sets, labels, scratch, source, true,
+            net, conditions, cone, walk, labels, scratch, source, true,
         ),
     }
 }

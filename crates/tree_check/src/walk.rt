@@ -1,77 +1,108 @@
-// Where a walk over a tree in preorder stands: the halves above the node, and what they leave each source. What a half takes away
-// is given back when the walk leaves it.
-ghost use Rattle.std.specs.Prelude.{◌≡◌, ◌<◌, [], false, length, reverse, OnOk, IfOk};
-ghost use Rattle.netlist.specs.Circuit.{source_count};
-ghost use Rattle.tree_check.specs.Walks.{AreOn, IsAt, halves_above, IsBelow, GoesOnFrom, IsOn, Passes};
+// Where a walk over a tree in preorder stands: the labels at the node, and a trail of the halves that lead down to it and of what
+// lines lost on the way. When the walk leaves a half, it gives back what was lost below, so each child starts from its parent's
+// labels. A line loses states only a few times on one way down, so a trail is short however large the tree is.
+ghost use Rattle.std.specs.Prelude.{◌≡◌, ◌<◌, [], false, length, reverse, slice_set, OnOk, IfOk};
+ghost use Rattle.netlist.specs.Circuit.{line_count};
+ghost use Rattle.tree_check.specs.Walks.{AreOn, IsNoted, IsBelow, GoesOnFrom, IsOn, Passes};
 
-use crate::halves::{launching, states_of};
+use crate::halves::states_of;
 use hull_laws::Half;
 use netlist::Netlist;
-use pd_base::{Direction, LineId, OutOfMemory};
+use pd_base::{LineId, OutOfMemory};
 use refutation_check::Node;
-use state_sets::{FourStates, StateSet, every_state};
+use state_sets::{FourStates, Labels, StateSet};
 use std::alloc::Global;
 
-// A half above the node, and what its source might be in before it.
+// One entry of a trail.
 #[derive(Clone, Copy, Debug)]
-pub(crate) struct HalfAbove {
-    pub(crate) half: Half,
-    pub(crate) before: StateSet,
+pub(crate) enum Entry {
+    // The walk went down into a half.
+    Into(Half),
+    // A line lost states. This is its number, and the set that it had.
+    Narrowed(u32, StateSet),
 }
 
-// The halves above the node, from the root down, and by source the states that they leave it.
+// The labels at the node, and the trail from the root down.
 #[derive(Debug, Drop)]
 pub(crate) struct Walk {
-    pub(crate) sets: Vec<StateSet>,
-    pub(crate) above: Vec<HalfAbove>,
+    pub(crate) labels: Vec<StateSet>,
+    pub(crate) trail: Vec<Entry>,
 }
 
 impl Walk {
-    // At the root of a tree for a prefix from this source and this transition.
-    pub(crate) fn new(
-        alloc: Global,
-        net: &Netlist,
-        source: LineId,
-        dir: Direction,
-    ) -> Result<Walk, OutOfMemory>
-        requires { source.0 < source_count net.now }
-        ensures { IfOk result (λ walk. IsAt net.now source.0 dir walk.sets.items walk.above.items × (halves_above walk.above.items ≡ [])) }
+    // At the root of a tree, with these labels.
+    pub(crate) fn new(alloc: Global, labels: &[StateSet]) -> Result<Walk, OutOfMemory>
+        ensures labels { IfOk result (λ walk. walk.labels.items ≡ labels.now) }
+        ensures root { IfOk result (λ walk. walk.trail.items ≡ []) }
     {
-        let mut sets = vec![in alloc; every_state::<FourStates>(); net.sources() as usize]?;
-        sets[source.0 as usize] = launching(dir);
+        let mut copied = Vec::new(alloc);
+        copied.extend_from_slice(labels)?;
         Ok(Walk {
-            sets,
-            above: Vec::new(alloc),
+            labels: copied,
+            trail: Vec::new(alloc),
         })
+    }
+
+    // Gives a line another set, and notes the one that it had.
+    fn narrow_line(&mut self, line: u32, set: StateSet) -> Result<(), OutOfMemory>
+        requires { line < length self.old.labels.items }
+        ensures set { OnOk result (self.new.labels.items ≡ slice_set self.old.labels.items line set) }
+        ensures noted { OnOk result (IsNoted self.old.labels.items self.old.trail.items self.new.labels.items self.new.trail.items) }
+    {
+        let before = self.labels[line as usize];
+        if before != set {
+            self.trail.push(Entry::Narrowed(line, before))?;
+            self.labels[line as usize] = set;
+        }
+        Ok(())
+    }
+
+    // Gives each line the set that it has in these labels.
+    pub(crate) fn keep(
+        &mut self,
+        net: &Netlist,
+        labels: &Labels<FourStates>,
+    ) -> Result<(), OutOfMemory>
+        requires lines { length self.old.labels.items ≡ line_count net.now }
+        requires labels { length labels.now ≡ line_count net.now }
+        ensures kept { OnOk result (self.new.labels.items ≡ labels.now) }
+        ensures noted { OnOk result (IsNoted self.old.labels.items self.old.trail.items self.new.labels.items self.new.trail.items) }
+    {
+        for line in 0..net.lines() {
+            self.narrow_line(line, labels.get(LineId(line)))?;
+        }
+        Ok(())
     }
 
     // Goes down into a half of a split.
     pub(crate) fn enter(&mut self, half: Half) -> Result<(), OutOfMemory>
-        requires { half.source < length self.old.sets.items }
-        ensures { OnOk result (IsBelow half self.old.sets.items self.old.above.items self.new.sets.items self.new.above.items) }
+        requires { half.source < length self.old.labels.items }
+        ensures { OnOk result (IsBelow half self.old.labels.items self.old.trail.items self.new.labels.items self.new.trail.items) }
     {
-        let at = half.source as usize;
-        let before = self.sets[at];
-        self.above.push(HalfAbove { half, before })?;
-        self.sets[at] = before.intersect(states_of(half));
+        self.trail.push(Entry::Into(half))?;
+        let cut = self.labels[half.source as usize].intersect(states_of(half));
+        self.narrow_line(half.source, cut)?;
         Ok(())
     }
 
     // Goes on behind a leaf: up to the deepest split whose first half the walk is in, and down into its second half. Where there is
     // none, the tree is at its end.
     pub(crate) fn turn(&mut self) -> Result<(), OutOfMemory>
-        requires { AreOn (length self.old.sets.items) (reverse self.old.above.items) }
-        ensures { OnOk result (GoesOnFrom self.old.sets.items self.old.above.items self.new.sets.items self.new.above.items) }
+        requires { AreOn (length self.old.labels.items) (reverse self.old.trail.items) }
+        ensures { OnOk result (GoesOnFrom self.old.labels.items self.old.trail.items self.new.labels.items self.new.trail.items) }
     {
-        'up: while let Some(top) = self.above.pop() {
-            let HalfAbove { half, before } = top;
-            self.sets[half.source as usize] = before;
-            if !half.second {
-                return self.enter(Half {
-                    source: half.source,
-                    steadiness: half.steadiness,
-                    second: true,
-                });
+        'up: while let Some(last) = self.trail.pop() {
+            match last {
+                Entry::Narrowed(line, before) => self.labels[line as usize] = before,
+                Entry::Into(half) => {
+                    if !half.second {
+                        return self.enter(Half {
+                            source: half.source,
+                            steadiness: half.steadiness,
+                            second: true,
+                        });
+                    }
+                }
             }
         }
         Ok(())
@@ -79,9 +110,9 @@ impl Walk {
 
     // Goes on behind a node: down into the first half of a split, or round behind a leaf.
     pub(crate) fn pass(&mut self, node: Node) -> Result<(), OutOfMemory>
-        requires on { AreOn (length self.old.sets.items) (reverse self.old.above.items) }
-        requires split { IsOn (length self.old.sets.items) node }
-        ensures { OnOk result (Passes node self.old.sets.items self.old.above.items self.new.sets.items self.new.above.items) }
+        requires on { AreOn (length self.old.labels.items) (reverse self.old.trail.items) }
+        requires split { IsOn (length self.old.labels.items) node }
+        ensures { OnOk result (Passes node self.old.labels.items self.old.trail.items self.new.labels.items self.new.trail.items) }
     {
         match node {
             Node::Closed | Node::Waiting => self.turn(),

@@ -5,11 +5,12 @@ use Rattle.tree_check.proofs.Told.{trial_tells}
 use Rattle.tree_check.proofs.judging.trial_closes.Goals as goal
 
 pub returns-clause-tried : goal.returns-clause-tried
-returns-clause-tried c path direction halves node is_hull is_cone =
-    subst (λ (b : Bool). IsTrue b ↔ ClosesAtTrial c.args.net.now c.args.conditions.now.kind path direction halves c.args.labels.now)
+returns-clause-tried c path direction halves steps_are is_hull is_cone =
+    subst (λ (b : Bool). IsTrue b ↔ ClosesAtTrial c.args.net.now c.args.conditions.now.kind path direction halves c.args.hull.now)
     (sym c.is_some.ensures)
-    (trial_tells c.args.net.now path direction halves c.args.conditions.now.steps c.args.sets.now node c.args.conditions.now.kind
-    c.args.labels.now is_hull c.args.cone.now is_cone
-    c.place_trial.new.labels (c.place_trial.ensures.lines ∙ c.requires.labelling.one_each)
+    (trial_tells c.args.net.now c.args.conditions.now.kind path direction halves c.args.hull.now is_hull c.args.cone.now is_cone
+    c.sources.result c.sources.ensures.count c.place_trial.new.labels
+    (record { one_each = c.place_trial.ensures.lines ∙ c.requires.labelling.one_each; within = c.place_trial.ensures.within })
     (λ line inside. c.place_trial.ensures.tried line (subst (λ n. line < n) c.place_trial.ensures.lines inside))
-    c.settle.new.labels c.settle.result c.settle.ensures.hull c.settle.ensures.none_empty c.settle.ensures.emptied)
+    c.args.conditions.now.steps steps_are c.settle.new.labels c.settle.result c.settle.ensures.hull c.settle.ensures.none_empty
+    c.settle.ensures.emptied)

@@ -7,6 +7,6 @@ use Rattle.tree_check.proofs.refutation.check_tree.Given as goal
 abbrev pub invariant-loop-place : goal.invariant-loop-place
 invariant-loop-place l = record {
   lines : length l.labels ≡ line_count l.net;
-  checked : HasChecked (IsRightInRefutation l.net l.fn.kind l.prefix l.fn.dir) l.net l.prefix.source.0 l.fn.dir l.node-items l.place
-      l.walk.sets.items l.walk.above.items;
+  checked : HasChecked (IsRightInRefutation l.net l.fn.kind l.prefix l.fn.dir) l.net l.fn.kind l.prefix l.fn.dir l.node-items l.place
+      l.walk.labels.items l.walk.trail.items;
 }

@@ -1,27 +1,23 @@
-use Rattle.std.proofs.Common.{List, [], length, get_or, refl, sym, ap, ◌∙◌, subst}
-use Rattle.std.proofs.lemmas.List.{length-replicate}
+use Rattle.std.proofs.Common.{List, [], get_or, refl, sym, ap, ◌∙◌, subst, arith}
 use Rattle.std.proofs.lemmas.Bool.{false≢true}
-use Rattle.pd_base.specs.declared.ids.LineId.{LineId}
 use Rattle.pd_base.specs.declared.fault.Kind.{Kind}
-use Rattle.state_sets.specs.declared.state.StateSet.{StateSet}
-use Rattle.state_sets.specs.States.{AreWithin}
 use Rattle.hull_laws.specs.declared.half.Half.{Half}
 use Rattle.refutation_check.specs.declared.tree.Node.{Node}
 use Rattle.refutation_check.specs.declared.tree.Node.TheVariants.{Closed}
 use Rattle.refutation_check.specs.Trees.{IsTree}
 use Rattle.hulls.specs.Conditions.{Entered}
-use Rattle.tree_laws.specs.Faults.{IsRightInSpent, IsFirstFaultOf}
-use Rattle.tree_laws.specs.Spent.{IsSpent}
 use Rattle.refutation_check.specs.declared.tree.Node.TheVariants.{Waiting}
 use Rattle.refutation_check.specs.Trees.{split_count}
 use Rattle.std.specs.List.{Contains}
+use Rattle.tree_laws.specs.Faults.{IsRightInSpent, IsFirstFaultOf}
 use Rattle.tree_laws.specs.Faults.IsFaultOfSpent.{other_splits, none_open, at_node}
+use Rattle.tree_laws.specs.Spent.{IsSpent}
 use Rattle.tree_laws.proofs.Faults.{right_spent, fault_spent_not}
 use Rattle.tree_laws.proofs.Bound.{spent_below_bound}
 use Rattle.tree_check.specs.Judged.{IsConeOf}
+use Rattle.tree_check.proofs.Walking.{starts}
+use Rattle.tree_check.proofs.Checking.{checked_none, checked_on, checked_labelling, checked_nearer, checked_fault, checked_all, checked_right, checked_behind, spent_on}
 use Rattle.tree_check.proofs.spent.check_spent.Goals.{then-splits-budget-via-then-splits-budget, then-splits-budget-via-else-splits-budget+then-not-has_open}
-use Rattle.tree_check.specs.Walks.{IsAt}
-use Rattle.tree_check.proofs.Checking.{checked_none, checked_count, checked_within, checked_on, checked_fault, checked_more, checked_all, checked_right, spent_on}
 use Rattle.tree_check.proofs.spent.check_spent.Goals as goal
 
 pub returns-then-splits-budget-clause-tells : goal.returns-then-splits-budget-clause-tells
@@ -34,89 +30,96 @@ returns-then-splits-budget-clause-tells c =
 
 pub loop-place-init : goal.loop-place-init
 loop-place-init c = record {
-  lines = ap (length {A = StateSet}) c.in_ok-labels.ensures ∙ length-replicate _ _;
-  checked = checked_none (IsRightInSpent c.args.net.now c.args.kind c.args.path.now c.args.dir) c.args.net.now c.args.path.now.source.0
-      c.args.dir c.nodes-node-items.result.now c.in_ok-walk.walk.sets.items c.in_ok-walk.walk.above.items
-      (subst (λ (l : LineId). IsAt c.args.net.now l.0 c.args.dir c.in_ok-walk.walk.sets.items c.in_ok-walk.walk.above.items)
-      c.source.ensures c.in_ok-walk.ensures.0)
-      c.in_ok-walk.ensures.1;
+  lines = c.launch.ensures.labelling.one_each;
+  checked = checked_none (IsRightInSpent c.args.net.now c.args.kind c.args.path.now c.args.dir) c.args.net.now c.args.kind c.args.path.now c.args.dir
+      c.nodes-node-items.result.now
+      c.in_ok-walk.walk.labels.items c.in_ok-walk.walk.trail.items
+      (starts c.args.net.now c.args.kind c.args.path.now c.args.dir c.source.result c.source.ensures c.launch.new.labels
+      c.in_ok-walk.walk.labels.items c.in_ok-walk.walk.trail.items c.launch.ensures.labelling c.launch.ensures.start
+      (c.in_ok-walk.ensures.labels ∙ c.as_slice.ensures) c.in_ok-walk.ensures.root)
+      c.in_ok-walk.ensures.root;
 }
 
-pub is_right_at-requires-clause-sources : goal.is_right_at-requires-clause-sources
-is_right_at-requires-clause-sources c =
-    ap (length {A = StateSet}) c.as_slice-in-loop-place.ensures.value
-    ∙ checked_count (IsRightInSpent c.args.net.now c.args.kind c.args.path.now c.args.dir) c.args.net.now c.args.path.now.source.0
-    c.args.dir c.nodes-node-items.result.now c.loop-place.place c.loop-place.walk.sets.items c.loop-place.walk.above.items
-    c.loop-place.invariant.checked
-
-pub is_right_at-requires-clause-within : goal.is_right_at-requires-clause-within
-is_right_at-requires-clause-within c =
-    subst (AreWithin 4) (sym c.as_slice-in-loop-place.ensures.value)
-    (checked_within (IsRightInSpent c.args.net.now c.args.kind c.args.path.now c.args.dir) c.args.net.now c.args.path.now.source.0
-    c.args.dir c.nodes-node-items.result.now c.loop-place.place c.loop-place.walk.sets.items c.loop-place.walk.above.items
-    c.loop-place.invariant.checked)
-
-pub returns-then-not-is_right_at-clause-tells : goal.returns-then-not-is_right_at-clause-tells
-returns-then-not-is_right_at-clause-tells c =
+pub returns-then-not-branch-clause-tells : goal.returns-then-not-branch-clause-tells
+returns-then-not-branch-clause-tells c =
     at_node (sym c.splits.ensures ∙ c.if-splits-budget.false)
     (subst (λ (nodes : List Node). Contains nodes Waiting) c.nodes.ensures.nodes (c.has_open.ensures.0 c.if-not-has_open.false))
     (subst (λ (nodes : List Node). IsFirstFaultOf (IsRightInSpent c.args.net.now c.args.kind c.args.path.now c.args.dir) nodes c.loop-place.place) c.nodes-node-items.ensures.nodes
-    (checked_fault (IsRightInSpent c.args.net.now c.args.kind c.args.path.now c.args.dir) c.args.net.now c.args.path.now.source.0
-    c.args.dir c.nodes-node-items.result.now c.loop-place.place c.loop-place.walk.sets.items c.loop-place.walk.above.items
+    (checked_fault (IsRightInSpent c.args.net.now c.args.kind c.args.path.now c.args.dir) c.args.net.now c.args.kind c.args.path.now c.args.dir
+    c.nodes-node-items.result.now c.loop-place.place c.loop-place.walk.labels.items c.loop-place.walk.trail.items
     c.loop-place.invariant.checked
     (get_or c.nodes-node-items.result.now c.loop-place.place Closed) Closed c.loop-place-test.true refl
-    (λ is_right. false≢true (sym c.if-not-is_right_at.true ∙ (checked_right (IsRightInSpent c.args.net.now c.args.kind c.args.path.now c.args.dir) c.args.net.now c.args.path.now c.args.dir
-    c.nodes-node-items.result.now c.loop-place.place c.loop-place.walk.sets.items c.loop-place.walk.above.items c.loop-place.invariant.checked
+    (λ is_right. false≢true (sym c.if-not-branch.true ∙ (checked_right (IsRightInSpent c.args.net.now c.args.kind c.args.path.now c.args.dir) c.args.net.now c.args.kind c.args.path.now c.args.dir
+    c.nodes-node-items.result.now c.loop-place.place c.loop-place.walk.labels.items c.loop-place.walk.trail.items
+    c.loop-place.invariant.checked
     (λ (k : Kind) (h : List Half). IsRightInSpent c.args.net.now k c.args.path.now c.args.dir h (get_or c.nodes-node-items.result.now c.loop-place.place Closed))
-    c.args.kind c.enter_all.new.conditions.kind c.enter_all.new.conditions.steps c.as_slice-in-loop-place.result.now c.is_right_at.result c.as_slice-in-loop-place.ensures.value
+    c.enter_all.new.conditions.kind c.enter_all.new.conditions.steps c.in_ok-is_right_at.field-0
     (ap (λ (e : Entered). e.kind) c.enter_all.ensures.steps ∙ ap (λ (e : Entered). e.kind) c.in_ok-conditions.ensures.empty)
-    (ap (λ (e : Entered). e.steps) c.enter_all.ensures.steps) c.requires.source
-    (λ halves is_node. c.is_right_at.ensures.right c.args.path.now c.args.dir halves is_node
-    (subst (IsConeOf c.args.net.now c.args.path.now) (sym c.as_slice.ensures.value) c.in_ok-cone.ensures.exactly))).1 is_right))
+    (ap (λ (e : Entered). e.steps) c.enter_all.ensures.steps)
+    (λ halves is_node. c.in_ok-is_right_at.ensures.right c.args.path.now c.args.dir halves is_node
+    (subst (IsConeOf c.args.net.now c.args.path.now) (sym c.as_slice-in-loop-place.ensures.value) c.in_ok-cone.ensures.exactly))).1 is_right))
     (subst IsTree (sym c.nodes-node-items.ensures.nodes) c.nodes-node-items.ensures.tree)))
 
-pub returns-then-not-is_right_at-clause-exactly : goal.returns-then-not-is_right_at-clause-exactly
-returns-then-not-is_right_at-clause-exactly c = (
+pub returns-then-not-branch-clause-exactly : goal.returns-then-not-branch-clause-exactly
+returns-then-not-branch-clause-exactly c = (
   λ e. cc,
-  λ all. absurd (fault_spent_not c.args.net.now c.args.kind c.args.path.now c.args.dir c.args.budget c.args.tree.now c.loop-place.place (returns-then-not-is_right_at-clause-tells c) all),
+  λ all. absurd (fault_spent_not c.args.net.now c.args.kind c.args.path.now c.args.dir c.args.budget c.args.tree.now c.loop-place.place (returns-then-not-branch-clause-tells c) all),
 )
 
 pub pass-requires-clause-on : goal.pass-requires-clause-on
 pass-requires-clause-on c =
-    checked_on (IsRightInSpent c.args.net.now c.args.kind c.args.path.now c.args.dir) c.args.net.now c.args.path.now.source.0
-    c.args.dir c.nodes-node-items.result.now c.loop-place.place c.loop-place.walk.sets.items c.loop-place.walk.above.items
-    c.loop-place.invariant.checked
+    checked_on (IsRightInSpent c.args.net.now c.args.kind c.args.path.now c.args.dir) c.args.net.now c.args.kind c.args.path.now c.args.dir
+    c.nodes-node-items.result.now c.loop-place.place c.is_right_at.new.walk.labels.items c.is_right_at.new.walk.trail.items
+    (checked_nearer (IsRightInSpent c.args.net.now c.args.kind c.args.path.now c.args.dir) c.args.net.now c.args.kind c.args.path.now c.args.dir
+    c.nodes-node-items.result.now c.loop-place.place c.loop-place.walk.labels.items c.loop-place.walk.trail.items
+    c.loop-place.invariant.checked c.enter_all.new.conditions.kind c.enter_all.new.conditions.steps
+    (ap (λ (e : Entered). e.kind) c.enter_all.ensures.steps ∙ ap (λ (e : Entered). e.kind) c.in_ok-conditions.ensures.empty)
+    (ap (λ (e : Entered). e.steps) c.enter_all.ensures.steps)
+    c.is_right_at.new.walk.labels.items c.is_right_at.new.walk.trail.items c.in_ok-is_right_at.ensures.nearer)
 
 pub pass-requires-clause-split : goal.pass-requires-clause-split
 pass-requires-clause-split c =
-    spent_on c.args.net.now c.args.kind c.args.path.now c.args.dir _ (get_or c.nodes-node-items.result.now c.loop-place.place Closed) _
-    (checked_count (IsRightInSpent c.args.net.now c.args.kind c.args.path.now c.args.dir) c.args.net.now c.args.path.now.source.0
-    c.args.dir c.nodes-node-items.result.now c.loop-place.place c.loop-place.walk.sets.items c.loop-place.walk.above.items
-    c.loop-place.invariant.checked)
-    ((checked_right (IsRightInSpent c.args.net.now c.args.kind c.args.path.now c.args.dir) c.args.net.now c.args.path.now c.args.dir
-    c.nodes-node-items.result.now c.loop-place.place c.loop-place.walk.sets.items c.loop-place.walk.above.items c.loop-place.invariant.checked
-    (λ (k : Kind) (h : List Half). IsRightInSpent c.args.net.now k c.args.path.now c.args.dir h (get_or c.nodes-node-items.result.now c.loop-place.place Closed))
-    c.args.kind c.enter_all.new.conditions.kind c.enter_all.new.conditions.steps c.as_slice-in-loop-place.result.now c.is_right_at.result c.as_slice-in-loop-place.ensures.value
+    let lines = (checked_labelling (IsRightInSpent c.args.net.now c.args.kind c.args.path.now c.args.dir) c.args.net.now c.args.kind c.args.path.now c.args.dir
+    c.nodes-node-items.result.now c.loop-place.place c.is_right_at.new.walk.labels.items c.is_right_at.new.walk.trail.items
+    (checked_nearer (IsRightInSpent c.args.net.now c.args.kind c.args.path.now c.args.dir) c.args.net.now c.args.kind c.args.path.now c.args.dir
+    c.nodes-node-items.result.now c.loop-place.place c.loop-place.walk.labels.items c.loop-place.walk.trail.items
+    c.loop-place.invariant.checked c.enter_all.new.conditions.kind c.enter_all.new.conditions.steps
     (ap (λ (e : Entered). e.kind) c.enter_all.ensures.steps ∙ ap (λ (e : Entered). e.kind) c.in_ok-conditions.ensures.empty)
-    (ap (λ (e : Entered). e.steps) c.enter_all.ensures.steps) c.requires.source
-    (λ halves is_node. c.is_right_at.ensures.right c.args.path.now c.args.dir halves is_node
-    (subst (IsConeOf c.args.net.now c.args.path.now) (sym c.as_slice.ensures.value) c.in_ok-cone.ensures.exactly))).0 c.if-not-is_right_at.false)
+    (ap (λ (e : Entered). e.steps) c.enter_all.ensures.steps)
+    c.is_right_at.new.walk.labels.items c.is_right_at.new.walk.trail.items c.in_ok-is_right_at.ensures.nearer)).one_each in
+    spent_on c.args.net.now c.args.kind c.args.path.now c.args.dir _ (get_or c.nodes-node-items.result.now c.loop-place.place Closed) _
+    (omega (arith, lines))
+    ((checked_right (IsRightInSpent c.args.net.now c.args.kind c.args.path.now c.args.dir) c.args.net.now c.args.kind c.args.path.now c.args.dir
+    c.nodes-node-items.result.now c.loop-place.place c.loop-place.walk.labels.items c.loop-place.walk.trail.items
+    c.loop-place.invariant.checked
+    (λ (k : Kind) (h : List Half). IsRightInSpent c.args.net.now k c.args.path.now c.args.dir h (get_or c.nodes-node-items.result.now c.loop-place.place Closed))
+    c.enter_all.new.conditions.kind c.enter_all.new.conditions.steps c.in_ok-is_right_at.field-0
+    (ap (λ (e : Entered). e.kind) c.enter_all.ensures.steps ∙ ap (λ (e : Entered). e.kind) c.in_ok-conditions.ensures.empty)
+    (ap (λ (e : Entered). e.steps) c.enter_all.ensures.steps)
+    (λ halves is_node. c.in_ok-is_right_at.ensures.right c.args.path.now c.args.dir halves is_node
+    (subst (IsConeOf c.args.net.now c.args.path.now) (sym c.as_slice-in-loop-place.ensures.value) c.in_ok-cone.ensures.exactly))).0 c.if-not-branch.false)
 
 pub loop-place-preserved : goal.loop-place-preserved
 loop-place-preserved c = record {
-  lines = c.is_right_at.ensures.lines;
-  checked = checked_more (IsRightInSpent c.args.net.now c.args.kind c.args.path.now c.args.dir) c.args.net.now c.args.path.now.source.0
-      c.args.dir c.nodes-node-items.result.now c.loop-place.place c.loop-place.walk.sets.items c.loop-place.walk.above.items
+  lines = c.in_ok-is_right_at.ensures.labels;
+  checked = checked_behind (IsRightInSpent c.args.net.now c.args.kind c.args.path.now c.args.dir) c.args.net.now c.args.kind c.args.path.now c.args.dir
+      c.nodes-node-items.result.now c.loop-place.place c.loop-place.walk.labels.items c.loop-place.walk.trail.items
       c.loop-place.invariant.checked
-      (get_or c.nodes-node-items.result.now c.loop-place.place Closed) Closed c.pass.new.self.sets.items c.pass.new.self.above.items c.loop-place-test.true refl
-      ((checked_right (IsRightInSpent c.args.net.now c.args.kind c.args.path.now c.args.dir) c.args.net.now c.args.path.now c.args.dir
-      c.nodes-node-items.result.now c.loop-place.place c.loop-place.walk.sets.items c.loop-place.walk.above.items c.loop-place.invariant.checked
-      (λ (k : Kind) (h : List Half). IsRightInSpent c.args.net.now k c.args.path.now c.args.dir h (get_or c.nodes-node-items.result.now c.loop-place.place Closed))
-      c.args.kind c.enter_all.new.conditions.kind c.enter_all.new.conditions.steps c.as_slice-in-loop-place.result.now c.is_right_at.result c.as_slice-in-loop-place.ensures.value
+      c.enter_all.new.conditions.kind c.enter_all.new.conditions.steps
       (ap (λ (e : Entered). e.kind) c.enter_all.ensures.steps ∙ ap (λ (e : Entered). e.kind) c.in_ok-conditions.ensures.empty)
-      (ap (λ (e : Entered). e.steps) c.enter_all.ensures.steps) c.requires.source
-      (λ halves is_node. c.is_right_at.ensures.right c.args.path.now c.args.dir halves is_node
-      (subst (IsConeOf c.args.net.now c.args.path.now) (sym c.as_slice.ensures.value) c.in_ok-cone.ensures.exactly))).0 c.if-not-is_right_at.false) c.in_ok-pass.ensures;
+      (ap (λ (e : Entered). e.steps) c.enter_all.ensures.steps)
+      c.is_right_at.new.walk.labels.items c.is_right_at.new.walk.trail.items c.in_ok-is_right_at.ensures.nearer
+      (get_or c.nodes-node-items.result.now c.loop-place.place Closed) Closed c.pass.new.self.labels.items c.pass.new.self.trail.items c.loop-place-test.true refl
+      ((checked_right (IsRightInSpent c.args.net.now c.args.kind c.args.path.now c.args.dir) c.args.net.now c.args.kind c.args.path.now c.args.dir
+      c.nodes-node-items.result.now c.loop-place.place c.loop-place.walk.labels.items c.loop-place.walk.trail.items
+      c.loop-place.invariant.checked
+      (λ (k : Kind) (h : List Half). IsRightInSpent c.args.net.now k c.args.path.now c.args.dir h (get_or c.nodes-node-items.result.now c.loop-place.place Closed))
+      c.enter_all.new.conditions.kind c.enter_all.new.conditions.steps c.in_ok-is_right_at.field-0
+      (ap (λ (e : Entered). e.kind) c.enter_all.ensures.steps ∙ ap (λ (e : Entered). e.kind) c.in_ok-conditions.ensures.empty)
+      (ap (λ (e : Entered). e.steps) c.enter_all.ensures.steps)
+      (λ halves is_node. c.in_ok-is_right_at.ensures.right c.args.path.now c.args.dir halves is_node
+      (subst (IsConeOf c.args.net.now c.args.path.now) (sym c.as_slice-in-loop-place.ensures.value) c.in_ok-cone.ensures.exactly))).0 c.if-not-branch.false)
+      c.in_ok-pass.ensures;
 }
 
 pub returns-clause-tells : goal.returns-clause-tells
@@ -130,8 +133,8 @@ returns-clause-tells c =
       waits = subst (λ (nodes : List Node). Contains nodes Waiting) (c.nodes.ensures.nodes ∙ sym c.nodes-node-items.ensures.nodes)
           (c.has_open.ensures.0 c.if-not-has_open.false);
       spent = right_spent c.args.net.now c.args.kind c.args.path.now c.args.dir tree.0 []
-          (checked_all (IsRightInSpent c.args.net.now c.args.kind c.args.path.now c.args.dir) c.args.net.now c.args.path.now.source.0
-          c.args.dir c.nodes-node-items.result.now c.loop-place.place c.loop-place.walk.sets.items c.loop-place.walk.above.items
+          (checked_all (IsRightInSpent c.args.net.now c.args.kind c.args.path.now c.args.dir) c.args.net.now c.args.kind c.args.path.now c.args.dir
+          c.nodes-node-items.result.now c.loop-place.place c.loop-place.walk.labels.items c.loop-place.walk.trail.items
           c.loop-place.invariant.checked c.loop-place-test.false tree);
     })
 

@@ -1,17 +1,19 @@
-use Rattle.std.proofs.Common.{sym, ◌∙◌, subst, List, set}
+use Rattle.std.proofs.Common.{List, ap, ◌∙◌, subst}
+use Rattle.std.specs.Prelude.{bit_and}
 use Rattle.std.proofs.lemmas.List.{get_or_default}
+use Rattle.state_sets.specs.declared.state.StateSet.{StateSet}
 use Rattle.state_sets.specs.States.{no_states}
-use Rattle.tree_check.specs.declared.walk.HalfAbove.{HalfAbove}
-use Rattle.tree_check.specs.Walks.{IsBelow}
+use Rattle.tree_check.specs.declared.walk.Entry.{Entry}
+use Rattle.tree_check.specs.Walks.{IsNoted}
 use Rattle.tree_check.proofs.Walking.{enters}
 use Rattle.tree_check.proofs.walk.Walk.enter.Goals as goal
 
 pub returns : goal.returns
 returns c =
-    subst (λ (above : List HalfAbove). IsBelow c.args.half c.args.self.now.sets.items c.args.self.now.above.items
-    (set c.args.self.now.sets.items c.args.half.source c.intersect.result) above)
-    (sym c.in_ok-push.ensures.items)
-    (enters c.args.half c.args.self.now.sets.items c.args.self.now.above.items c.states_of.result c.intersect.result
-    c.index-before.result.now c.requires
-    (c.index-before.ensures ∙ get_or_default c.args.self.now.sets.items c.args.half.source c.index-before.result.now no_states c.requires)
-    c.states_of.ensures.exactly c.intersect.ensures)
+    enters c.args.half c.args.self.now.labels.items c.args.self.now.trail.items c.states_of.result c.intersect-cut.result
+    c.narrow_line.new.self.labels.items c.narrow_line.new.self.trail.items c.requires c.states_of.ensures.exactly
+    (c.intersect-cut.ensures ∙ ap (λ (s : StateSet). bit_and s.0 c.states_of.result.0)
+    (c.index.ensures ∙ get_or_default c.args.self.now.labels.items c.args.half.source c.index.result.now no_states c.requires))
+    c.in_ok-narrow_line.ensures.set
+    (subst (λ (trail : List Entry). IsNoted c.args.self.now.labels.items trail c.narrow_line.new.self.labels.items
+    c.narrow_line.new.self.trail.items) c.in_ok-push.ensures.items c.in_ok-narrow_line.ensures.noted)

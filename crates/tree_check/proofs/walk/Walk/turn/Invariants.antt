@@ -3,7 +3,7 @@ use Rattle.tree_check.proofs.Walking.{GoesUp}
 use Rattle.tree_check.proofs.walk.Walk.turn.Given as goal
 
 abbrev pub invariant-up : goal.invariant-up
-invariant-up l = GoesUp l.fn.self.sets.items l.fn.self.above.items l.self.sets.items l.self.above.items
+invariant-up l = GoesUp l.fn.self.labels.items l.fn.self.trail.items l.self.labels.items l.self.trail.items
 
 abbrev pub decreases-up : goal.decreases-up
-decreases-up l = length l.self.above.items
+decreases-up l = length l.self.trail.items
