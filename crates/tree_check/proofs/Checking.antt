@@ -144,7 +144,8 @@ module _ (IsRight : List Half → Node → Type 0) (c : Circuit) (kind : Kind) (
       → HasChecked IsRight c kind prefix direction nodes (place + 1) next_labels next_trail
   checked_behind some_kind steps same_kind same_steps near_labels near_trail nearer node d next_labels next_trail inside is right passes =
       checked_more IsRight c kind prefix direction nodes place near_labels near_trail
-      (checked_nearer IsRight c kind prefix direction nodes place labels trail checked some_kind steps same_kind same_steps near_labels near_trail nearer)
+      (checked_nearer IsRight c kind prefix direction nodes place labels trail checked some_kind steps same_kind same_steps near_labels
+      near_trail nearer)
       node d next_labels next_trail inside is
       (subst (λ (hs : List Half). IsRight (halves_of hs) node) (sym nearer.halves) right) passes
 

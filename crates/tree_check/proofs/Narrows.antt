@@ -30,7 +30,7 @@ use Rattle.tree_check.specs.Judged.{IsNode, IsJudged}
 -- these are the states of a half
 abbrev pub IsStatesOf : Half → StateSet → Type 0
 IsStatesOf half states =
-    (state : State) → state.0 < 4 → Has 4 states state ↔ IsInHalf four_states half.steadiness half.second state
+    (state : State) → Has 4 states state ↔ ((state.0 < 4) × IsInHalf four_states half.steadiness half.second state)
 
 module _ (c : Circuit) (kind : Kind) (prefix : Route) (direction : Direction) where
   abbrev At : List Half → ℕ → State → Type 0
@@ -88,14 +88,16 @@ module _ (c : Circuit) (kind : Kind) (prefix : Route) (direction : Direction) wh
         ))
         (cases_eq line half.source)
       where
-        here : Has 4 (label_at Cut half.source) state ↔ (Has 4 (label_at labels half.source) state × IsCut four_states half.source state half)
+        here : Has 4 (label_at Cut half.source) state
+            ↔ (Has 4 (label_at labels half.source) state × IsCut four_states half.source state half)
         here =
             let e : label_at Cut half.source ≡ cut = get_or-set_same labels half.source cut no_states inside in (
               λ has.
-                  let both = both_have 4 (label_at labels half.source) states state cut is_cut (subst (λ (s : StateSet). Has 4 s state) e has) in
-                  (both.0, λ same. (states_are state few).0 both.1),
+                  let both = both_have 4 (label_at labels half.source) states state cut is_cut
+                  (subst (λ (s : StateSet). Has 4 s state) e has) in
+                  (both.0, λ same. ((states_are state).0 both.1).1),
               λ both. subst (λ (s : StateSet). Has 4 s state) (sym e)
-                  (has_both 4 (label_at labels half.source) states state cut is_cut both.0 ((states_are state few).1 (both.1 refl))),
+                  (has_both 4 (label_at labels half.source) states state cut is_cut both.0 ((states_are state).1 (few, both.1 refl))),
             )
 
     -- one half more cuts labels that narrow to the hull of a node to labels that narrow to that of its child

@@ -1,4 +1,4 @@
--- Sets of the four states: what holds of each state, the least state of a set, and whether a set has some state of a half.
+-- Sets of the four states: the least state of a set, and whether a set has some state of a half.
 use Rattle.std.proofs.Common.{◌≡◌, ◌≢◌, ℕ, zero, suc, ◌<◌, ◌≤◌, ◌^◌, ◌↔◌, Bool, false, not, sym, ap, ◌∙◌, subst, ⊎_elim, arith, eqb}
 use Rattle.std.specs.Prelude.{IsTrue, bit_and}
 use Rattle.std.specs.Int.{bit_at, trailing_zeros, w8}
@@ -12,26 +12,6 @@ use Rattle.state_sets.specs.Starts.{IsInHalf, IsLeast}
 use Rattle.state_sets.specs.FourLaws.{state_of}
 use Rattle.narrowing.proofs.Sets.{has_both, both_have, has_some, some_not_none, cut_within, only_has, only_this, only_within, ne_tells, ne_told}
 use Rattle.tree_laws.specs.Spent.{HasInHalf}
-
--- what holds of each holds of all
-pub by_four : (P : State → Type 0) → P (state_of 0) → P (state_of 1) → P (state_of 2) → P (state_of 3)
-    → (state : State) → state.0 < 4 → P state
-by_four P a b c d state few = by state.0 few
-  where
-    by : (n : ℕ) → n < 4 → P (state_of n)
-    by zero few = a
-    by (suc zero) few = b
-    by (suc (suc zero)) few = c
-    by (suc (suc (suc zero))) few = d
-    by (suc (suc (suc (suc n)))) few = absurd (omega arith)
-
--- the set has the state, and the fact holds
-pub both_hold : (Q : Type 0) (set : StateSet) (state : State) → state.0 < 4 → bit_at set.0 state.0 ≡ 1 → Q → Has 4 set state ↔ Q
-both_hold Q set state few bit q = (λ has. q, λ is. record { in_range = few; bit = bit })
-
--- neither does
-pub neither_holds : (Q : Type 0) (set : StateSet) (state : State) → bit_at set.0 state.0 ≡ 0 → (Q → ⊥) → Has 4 set state ↔ Q
-neither_holds Q set state bit not = (λ has. absurd (omega (arith, has.bit, bit)), λ is. absurd (not is))
 
 -- a number that is tested not to be 0 is greater
 pub not_zero : (n : ℕ) (r : Bool) → r ≡ eqb n 0 → r ≡ false → 0 < n
@@ -83,7 +63,7 @@ module _ (set : StateSet) (small : set.0 < 2 ^ 4) (some : 0 < set.0) where
 
 -- a set has some state of a half if what it shares with the half is not empty
 pub shares_half : (set states cut : StateSet) (steadiness second : Bool) (r : Bool)
-    → ((state : State) → state.0 < 4 → Has 4 states state ↔ IsInHalf four_states steadiness second state)
+    → ((state : State) → Has 4 states state ↔ ((state.0 < 4) × IsInHalf four_states steadiness second state))
     → states.0 < 2 ^ 4 → cut.0 ≡ bit_and set.0 states.0 → r ≡ not (eqb cut.0 0)
     → IsTrue r ↔ HasInHalf set steadiness second
 shares_half set states cut steadiness second r states_are small is_cut is = (
@@ -91,9 +71,9 @@ shares_half set states cut steadiness second r states_are small is_cut is = (
       let some : cut ≢ no_states = λ none. ne_tells r cut.0 0 is yes (ap (λ (s : StateSet). s.0) none) in
       let found = has_some 4 cut (omega arith) (cut_within 4 set states cut is_cut small) some in
       let both = both_have 4 set states found.0 cut is_cut found.1 in
-      (found.0, both.0, (states_are found.0 found.1.in_range).0 both.1),
+      (found.0, both.0, ((states_are found.0).0 both.1).1),
   λ found.
       let has = has_both 4 set states found.0 cut is_cut found.1
-      ((states_are found.0 found.1.in_range).1 found.2) in
+      ((states_are found.0).1 (found.1.in_range, found.2)) in
       ne_told r cut.0 0 is (λ e. some_not_none 4 cut found.0 has (ap (λ n. record { 0 = n }) e)),
 )

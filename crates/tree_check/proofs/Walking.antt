@@ -116,7 +116,8 @@ enters half labels trail states cut new_labels new_trail inside states_are is_cu
             subst (λ (hs : List Half). NarrowsToHull c kind prefix direction (halves_of hs) new_labels)
             (sym (noted.halves ∙ halves_more trail (Into half)))
             (subst (NarrowsToHull c kind prefix direction (halves_of (half ∷ halves_above trail))) (sym new_is)
-            (cut_narrows c kind prefix direction (halves_of (halves_above trail)) half labels is.narrows inside states cut states_are is_cut));
+            (cut_narrows c kind prefix direction (halves_of (halves_above trail)) half labels is.narrows inside states cut states_are
+            is_cut));
         back = noted.back c kind prefix direction lines
             (subst (GivesBack c kind prefix direction labels) (sym (deepest_first trail (Into half))) (at_line, is.narrows, is.back));
       };
@@ -217,6 +218,7 @@ pub up_all : (old_labels : List StateSet) (old_trail : List Entry) (labels : Lis
 up_all old_labels old_trail labels trail none up = record {
   goes = inl (up.turns_same ∙ ap (λ (t : List Entry). turns (halves_above t)) none);
   stays = λ c kind prefix direction at.
-      let back = subst (λ (t : List Entry). GivesBack c kind prefix direction labels (reverse t)) none (up.back c kind prefix direction at) in
+      let back = subst (λ (t : List Entry). GivesBack c kind prefix direction labels (reverse t)) none (up.back c kind prefix direction at)
+      in
       subst (λ (t : List Entry). IsAt c kind prefix direction labels t) (sym none) (record { narrows = back; back = back });
 }

@@ -87,7 +87,8 @@ pub(crate) fn is_open(
     ensures nearer { IfOk result (λ is. IsNearer net.now conditions.now.kind conditions.now.steps
         walk.old.labels.items walk.old.trail.items walk.new.labels.items walk.new.trail.items) }
     ensures open { IfOk result (λ is. (path : Route) (direction : Direction) (halves : List Half)
-        → IsNode net.now conditions.now.kind conditions.now.steps walk.old.labels.items path direction halves → IsConeOf net.now path cone.now
+        → IsNode net.now conditions.now.kind conditions.now.steps walk.old.labels.items path direction halves
+        → IsConeOf net.now path cone.now
         → IsTrue is ↔ ((hull : List StateSet) × IsOpen net.now conditions.now.kind path direction halves hull)) }
 {
     if node_closes(net, conditions, walk, labels, scratch)? {
@@ -122,8 +123,8 @@ pub(crate) fn is_due(
     ensures nearer { IfOk result (λ is. IsNearer net.now conditions.now.kind conditions.now.steps
         walk.old.labels.items walk.old.trail.items walk.new.labels.items walk.new.trail.items) }
     ensures due { IfOk result (λ is. (path : Route) (direction : Direction) (halves : List Half)
-        → IsNode net.now conditions.now.kind conditions.now.steps walk.old.labels.items path direction halves → IsConeOf net.now path cone.now
-        → IsTrue is ↔ IsDue net.now conditions.now.kind path direction halves steadiness source) }
+        → IsNode net.now conditions.now.kind conditions.now.steps walk.old.labels.items path direction halves
+        → IsConeOf net.now path cone.now → IsTrue is ↔ IsDue net.now conditions.now.kind path direction halves steadiness source) }
 {
     if source >= net.sources() || !cone[source as usize] {
         return Ok(false);

@@ -91,8 +91,8 @@ fn is_right_at(
     ensures nearer { IfOk result (λ is. IsNearer net.now conditions.now.kind conditions.now.steps
         walk.old.labels.items walk.old.trail.items walk.new.labels.items walk.new.trail.items) }
     ensures right { IfOk result (λ is. (path : Route) (direction : Direction) (halves : List Half)
-        → IsNode net.now conditions.now.kind conditions.now.steps walk.old.labels.items path direction halves → IsConeOf net.now path cone.now
-        → IsTrue is ↔ IsRightInSpent net.now conditions.now.kind path direction halves node) }
+        → IsNode net.now conditions.now.kind conditions.now.steps walk.old.labels.items path direction halves
+        → IsConeOf net.now path cone.now → IsTrue is ↔ IsRightInSpent net.now conditions.now.kind path direction halves node) }
 {
     match node {
         Node::Closed => node_closes(net, conditions, walk, labels, scratch),

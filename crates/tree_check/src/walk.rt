@@ -1,12 +1,12 @@
 // Where a walk over a tree in preorder stands: the labels at the node, and a trail of the halves that lead down to it and of what
 // lines lost on the way. When the walk leaves a half, it gives back what was lost below, so each child starts from its parent's
-// labels. A line loses states only a few times on one way down, so a trail is short however large the tree is.
+// labels. A line has few states to lose, so on one way down a trail notes only a few losses of each line, however deep the tree is.
 ghost use Rattle.std.specs.Prelude.{◌≡◌, ◌<◌, [], false, length, reverse, slice_set, OnOk, IfOk};
 ghost use Rattle.netlist.specs.Circuit.{line_count};
 ghost use Rattle.tree_check.specs.Walks.{AreOn, IsNoted, IsBelow, GoesOnFrom, IsOn, Passes};
 
-use crate::halves::states_of;
 use hull_laws::Half;
+use hulls::half_states;
 use netlist::Netlist;
 use pd_base::{LineId, OutOfMemory};
 use refutation_check::Node;
@@ -80,7 +80,8 @@ impl Walk {
         ensures { OnOk result (IsBelow half self.old.labels.items self.old.trail.items self.new.labels.items self.new.trail.items) }
     {
         self.trail.push(Entry::Into(half))?;
-        let cut = self.labels[half.source as usize].intersect(states_of(half));
+        let states = half_states::<FourStates>(half.steadiness, half.second);
+        let cut = self.labels[half.source as usize].intersect(states);
         self.narrow_line(half.source, cut)?;
         Ok(())
     }

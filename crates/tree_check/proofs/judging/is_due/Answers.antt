@@ -15,7 +15,8 @@ returns-then-source-sources-clause-due c path direction halves node is_cone =
     outside_not_due c.args.net.now c.args.conditions.now.kind path direction halves c.args.steadiness c.args.source c.args.cone.now is_cone
     (elim c.then-source-sources.branch [
       | then-source-sources-via-then-source-sources w ↦ (λ inside marked. omega (arith, w.if-source-sources.true, c.sources.ensures.count))
-      | then-source-sources-via-else-source-sources+then-not-cone-source w ↦ (λ inside marked. false≢true (sym w.if-not-cone-source.true ∙ marked))
+      | then-source-sources-via-else-source-sources+then-not-cone-source w ↦ (λ inside marked. false≢true (sym w.if-not-cone-source.true ∙
+          marked))
     ])
 
 pub returns-then-branch-clause-due : goal.returns-then-branch-clause-due

@@ -15,7 +15,8 @@ returns-clause-nearer c =
 pub returns-clause-judged : goal.returns-clause-judged
 returns-clause-judged c prefix direction halves node =
     subst (IsJudged c.args.net.now c.args.conditions.now.kind prefix direction halves c.keep.new.self.labels.items) (sym c.is_some.ensures)
-    (subst (λ (l : List StateSet). IsJudged c.args.net.now c.args.conditions.now.kind prefix direction halves l (is_some c.settle-emptied.result))
+    (subst (λ (l : List StateSet). IsJudged c.args.net.now c.args.conditions.now.kind prefix direction halves l (is_some
+    c.settle-emptied.result))
     (sym c.in_ok-keep.ensures.kept)
     (node_tells c.args.net.now c.args.conditions.now.kind c.args.conditions.now.steps c.place.new.labels c.settle-emptied.new.labels
     c.settle-emptied.result c.settle-emptied.ensures.hull c.settle-emptied.ensures.none_empty c.settle-emptied.ensures.emptied

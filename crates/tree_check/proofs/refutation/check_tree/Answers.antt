@@ -28,15 +28,19 @@ loop-place-init c = record {
 
 pub returns-then-not-branch-clause-tells : goal.returns-then-not-branch-clause-tells
 returns-then-not-branch-clause-tells c =
-    subst (λ (nodes : List Node). IsFirstFaultOf (IsRightInRefutation c.args.net.now c.args.kind c.args.prefix.now c.args.dir) nodes c.loop-place.place) c.nodes-node-items.ensures.nodes
-    (checked_fault (IsRightInRefutation c.args.net.now c.args.kind c.args.prefix.now c.args.dir) c.args.net.now c.args.kind c.args.prefix.now c.args.dir
+    subst (λ (nodes : List Node). IsFirstFaultOf (IsRightInRefutation c.args.net.now c.args.kind c.args.prefix.now c.args.dir) nodes
+    c.loop-place.place) c.nodes-node-items.ensures.nodes
+    (checked_fault (IsRightInRefutation c.args.net.now c.args.kind c.args.prefix.now c.args.dir) c.args.net.now c.args.kind
+    c.args.prefix.now c.args.dir
     c.nodes-node-items.result.now c.loop-place.place c.loop-place.walk.labels.items c.loop-place.walk.trail.items
     c.loop-place.invariant.checked
     (get_or c.nodes-node-items.result.now c.loop-place.place Closed) Closed c.loop-place-test.true refl
-    (λ is_right. false≢true (sym c.if-not-branch.true ∙ (checked_right (IsRightInRefutation c.args.net.now c.args.kind c.args.prefix.now c.args.dir) c.args.net.now c.args.kind c.args.prefix.now c.args.dir
+    (λ is_right. false≢true (sym c.if-not-branch.true ∙ (checked_right (IsRightInRefutation c.args.net.now c.args.kind c.args.prefix.now
+    c.args.dir) c.args.net.now c.args.kind c.args.prefix.now c.args.dir
     c.nodes-node-items.result.now c.loop-place.place c.loop-place.walk.labels.items c.loop-place.walk.trail.items
     c.loop-place.invariant.checked
-    (λ (k : Kind) (h : List Half). IsRightInRefutation c.args.net.now k c.args.prefix.now c.args.dir h (get_or c.nodes-node-items.result.now c.loop-place.place Closed))
+    (λ (k : Kind) (h : List Half). IsRightInRefutation c.args.net.now k c.args.prefix.now c.args.dir h (get_or
+    c.nodes-node-items.result.now c.loop-place.place Closed))
     c.enter_all.new.conditions.kind c.enter_all.new.conditions.steps c.in_ok-refutes_at.field-0
     (ap (λ (e : Entered). e.kind) c.enter_all.ensures.steps ∙ ap (λ (e : Entered). e.kind) c.in_ok-conditions.ensures.empty)
     (ap (λ (e : Entered). e.steps) c.enter_all.ensures.steps)
@@ -51,9 +55,11 @@ returns-then-not-branch-clause-exactly c = (
 
 pub pass-requires-clause-on : goal.pass-requires-clause-on
 pass-requires-clause-on c =
-    checked_on (IsRightInRefutation c.args.net.now c.args.kind c.args.prefix.now c.args.dir) c.args.net.now c.args.kind c.args.prefix.now c.args.dir
+    checked_on (IsRightInRefutation c.args.net.now c.args.kind c.args.prefix.now c.args.dir) c.args.net.now c.args.kind c.args.prefix.now
+    c.args.dir
     c.nodes-node-items.result.now c.loop-place.place c.refutes_at.new.walk.labels.items c.refutes_at.new.walk.trail.items
-    (checked_nearer (IsRightInRefutation c.args.net.now c.args.kind c.args.prefix.now c.args.dir) c.args.net.now c.args.kind c.args.prefix.now c.args.dir
+    (checked_nearer (IsRightInRefutation c.args.net.now c.args.kind c.args.prefix.now c.args.dir) c.args.net.now c.args.kind
+    c.args.prefix.now c.args.dir
     c.nodes-node-items.result.now c.loop-place.place c.loop-place.walk.labels.items c.loop-place.walk.trail.items
     c.loop-place.invariant.checked c.enter_all.new.conditions.kind c.enter_all.new.conditions.steps
     (ap (λ (e : Entered). e.kind) c.enter_all.ensures.steps ∙ ap (λ (e : Entered). e.kind) c.in_ok-conditions.ensures.empty)
@@ -62,20 +68,25 @@ pass-requires-clause-on c =
 
 pub pass-requires-clause-split : goal.pass-requires-clause-split
 pass-requires-clause-split c =
-    let lines = (checked_labelling (IsRightInRefutation c.args.net.now c.args.kind c.args.prefix.now c.args.dir) c.args.net.now c.args.kind c.args.prefix.now c.args.dir
+    let lines = (checked_labelling (IsRightInRefutation c.args.net.now c.args.kind c.args.prefix.now c.args.dir) c.args.net.now c.args.kind
+    c.args.prefix.now c.args.dir
     c.nodes-node-items.result.now c.loop-place.place c.refutes_at.new.walk.labels.items c.refutes_at.new.walk.trail.items
-    (checked_nearer (IsRightInRefutation c.args.net.now c.args.kind c.args.prefix.now c.args.dir) c.args.net.now c.args.kind c.args.prefix.now c.args.dir
+    (checked_nearer (IsRightInRefutation c.args.net.now c.args.kind c.args.prefix.now c.args.dir) c.args.net.now c.args.kind
+    c.args.prefix.now c.args.dir
     c.nodes-node-items.result.now c.loop-place.place c.loop-place.walk.labels.items c.loop-place.walk.trail.items
     c.loop-place.invariant.checked c.enter_all.new.conditions.kind c.enter_all.new.conditions.steps
     (ap (λ (e : Entered). e.kind) c.enter_all.ensures.steps ∙ ap (λ (e : Entered). e.kind) c.in_ok-conditions.ensures.empty)
     (ap (λ (e : Entered). e.steps) c.enter_all.ensures.steps)
     c.refutes_at.new.walk.labels.items c.refutes_at.new.walk.trail.items c.in_ok-refutes_at.ensures.nearer)).one_each in
-    refutation_on c.args.net.now c.args.kind c.args.prefix.now c.args.dir _ (get_or c.nodes-node-items.result.now c.loop-place.place Closed) _
+    refutation_on c.args.net.now c.args.kind c.args.prefix.now c.args.dir _ (get_or c.nodes-node-items.result.now c.loop-place.place
+    Closed) _
     (omega (arith, lines))
-    ((checked_right (IsRightInRefutation c.args.net.now c.args.kind c.args.prefix.now c.args.dir) c.args.net.now c.args.kind c.args.prefix.now c.args.dir
+    ((checked_right (IsRightInRefutation c.args.net.now c.args.kind c.args.prefix.now c.args.dir) c.args.net.now c.args.kind
+    c.args.prefix.now c.args.dir
     c.nodes-node-items.result.now c.loop-place.place c.loop-place.walk.labels.items c.loop-place.walk.trail.items
     c.loop-place.invariant.checked
-    (λ (k : Kind) (h : List Half). IsRightInRefutation c.args.net.now k c.args.prefix.now c.args.dir h (get_or c.nodes-node-items.result.now c.loop-place.place Closed))
+    (λ (k : Kind) (h : List Half). IsRightInRefutation c.args.net.now k c.args.prefix.now c.args.dir h (get_or
+    c.nodes-node-items.result.now c.loop-place.place Closed))
     c.enter_all.new.conditions.kind c.enter_all.new.conditions.steps c.in_ok-refutes_at.field-0
     (ap (λ (e : Entered). e.kind) c.enter_all.ensures.steps ∙ ap (λ (e : Entered). e.kind) c.in_ok-conditions.ensures.empty)
     (ap (λ (e : Entered). e.steps) c.enter_all.ensures.steps)
@@ -91,11 +102,14 @@ loop-place-preserved c = record {
       (ap (λ (e : Entered). e.kind) c.enter_all.ensures.steps ∙ ap (λ (e : Entered). e.kind) c.in_ok-conditions.ensures.empty)
       (ap (λ (e : Entered). e.steps) c.enter_all.ensures.steps)
       c.refutes_at.new.walk.labels.items c.refutes_at.new.walk.trail.items c.in_ok-refutes_at.ensures.nearer
-      (get_or c.nodes-node-items.result.now c.loop-place.place Closed) Closed c.pass.new.self.labels.items c.pass.new.self.trail.items c.loop-place-test.true refl
-      ((checked_right (IsRightInRefutation c.args.net.now c.args.kind c.args.prefix.now c.args.dir) c.args.net.now c.args.kind c.args.prefix.now c.args.dir
+      (get_or c.nodes-node-items.result.now c.loop-place.place Closed) Closed c.pass.new.self.labels.items c.pass.new.self.trail.items
+      c.loop-place-test.true refl
+      ((checked_right (IsRightInRefutation c.args.net.now c.args.kind c.args.prefix.now c.args.dir) c.args.net.now c.args.kind
+      c.args.prefix.now c.args.dir
       c.nodes-node-items.result.now c.loop-place.place c.loop-place.walk.labels.items c.loop-place.walk.trail.items
       c.loop-place.invariant.checked
-      (λ (k : Kind) (h : List Half). IsRightInRefutation c.args.net.now k c.args.prefix.now c.args.dir h (get_or c.nodes-node-items.result.now c.loop-place.place Closed))
+      (λ (k : Kind) (h : List Half). IsRightInRefutation c.args.net.now k c.args.prefix.now c.args.dir h (get_or
+      c.nodes-node-items.result.now c.loop-place.place Closed))
       c.enter_all.new.conditions.kind c.enter_all.new.conditions.steps c.in_ok-refutes_at.field-0
       (ap (λ (e : Entered). e.kind) c.enter_all.ensures.steps ∙ ap (λ (e : Entered). e.kind) c.in_ok-conditions.ensures.empty)
       (ap (λ (e : Entered). e.steps) c.enter_all.ensures.steps)
@@ -105,13 +119,15 @@ loop-place-preserved c = record {
 
 pub returns-clause-tells : goal.returns-clause-tells
 returns-clause-tells c =
-    subst (λ (nodes : List Node). IsRefutation c.args.net.now c.args.kind c.args.prefix.now c.args.dir nodes) c.nodes-node-items.ensures.nodes
+    subst (λ (nodes : List Node). IsRefutation c.args.net.now c.args.kind c.args.prefix.now c.args.dir nodes)
+    c.nodes-node-items.ensures.nodes
     (let tree = subst IsTree (sym c.nodes-node-items.ensures.nodes) c.nodes-node-items.ensures.tree in
     record {
       cases = tree.0;
       tree = tree.1;
       refutes = right_refutes c.args.net.now c.args.kind c.args.prefix.now c.args.dir tree.0 []
-          (checked_all (IsRightInRefutation c.args.net.now c.args.kind c.args.prefix.now c.args.dir) c.args.net.now c.args.kind c.args.prefix.now c.args.dir
+          (checked_all (IsRightInRefutation c.args.net.now c.args.kind c.args.prefix.now c.args.dir) c.args.net.now c.args.kind
+          c.args.prefix.now c.args.dir
           c.nodes-node-items.result.now c.loop-place.place c.loop-place.walk.labels.items c.loop-place.walk.trail.items
           c.loop-place.invariant.checked c.loop-place-test.false tree);
     })

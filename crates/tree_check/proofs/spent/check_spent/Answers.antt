@@ -44,20 +44,25 @@ pub returns-then-not-branch-clause-tells : goal.returns-then-not-branch-clause-t
 returns-then-not-branch-clause-tells c =
     at_node (sym c.splits.ensures ∙ c.if-splits-budget.false)
     (subst (λ (nodes : List Node). Contains nodes Waiting) c.nodes.ensures.nodes (c.has_open.ensures.0 c.if-not-has_open.false))
-    (subst (λ (nodes : List Node). IsFirstFaultOf (IsRightInSpent c.args.net.now c.args.kind c.args.path.now c.args.dir) nodes c.loop-place.place) c.nodes-node-items.ensures.nodes
-    (checked_fault (IsRightInSpent c.args.net.now c.args.kind c.args.path.now c.args.dir) c.args.net.now c.args.kind c.args.path.now c.args.dir
+    (subst (λ (nodes : List Node). IsFirstFaultOf (IsRightInSpent c.args.net.now c.args.kind c.args.path.now c.args.dir) nodes
+    c.loop-place.place) c.nodes-node-items.ensures.nodes
+    (checked_fault (IsRightInSpent c.args.net.now c.args.kind c.args.path.now c.args.dir) c.args.net.now c.args.kind c.args.path.now
+    c.args.dir
     c.nodes-node-items.result.now c.loop-place.place c.loop-place.walk.labels.items c.loop-place.walk.trail.items
     c.loop-place.invariant.checked
     (get_or c.nodes-node-items.result.now c.loop-place.place Closed) Closed c.loop-place-test.true refl
-    (λ is_right. false≢true (sym c.if-not-branch.true ∙ (checked_right (IsRightInSpent c.args.net.now c.args.kind c.args.path.now c.args.dir) c.args.net.now c.args.kind c.args.path.now c.args.dir
+    (λ is_right. false≢true (sym c.if-not-branch.true ∙ (checked_right (IsRightInSpent c.args.net.now c.args.kind c.args.path.now
+    c.args.dir) c.args.net.now c.args.kind c.args.path.now c.args.dir
     c.nodes-node-items.result.now c.loop-place.place c.loop-place.walk.labels.items c.loop-place.walk.trail.items
     c.loop-place.invariant.checked
-    (λ (k : Kind) (h : List Half). IsRightInSpent c.args.net.now k c.args.path.now c.args.dir h (get_or c.nodes-node-items.result.now c.loop-place.place Closed))
+    (λ (k : Kind) (h : List Half). IsRightInSpent c.args.net.now k c.args.path.now c.args.dir h (get_or c.nodes-node-items.result.now
+    c.loop-place.place Closed))
     c.enter_all.new.conditions.kind c.enter_all.new.conditions.steps c.in_ok-is_right_at.field-0
     (ap (λ (e : Entered). e.kind) c.enter_all.ensures.steps ∙ ap (λ (e : Entered). e.kind) c.in_ok-conditions.ensures.empty)
     (ap (λ (e : Entered). e.steps) c.enter_all.ensures.steps)
     (λ halves is_node. c.in_ok-is_right_at.ensures.right c.args.path.now c.args.dir halves is_node
-    (subst (IsConeOf c.args.net.now c.args.path.now) (sym c.as_slice-in-loop-place.ensures.value) c.in_ok-cone.ensures.exactly))).1 is_right))
+    (subst (IsConeOf c.args.net.now c.args.path.now) (sym c.as_slice-in-loop-place.ensures.value) c.in_ok-cone.ensures.exactly))).1
+    is_right))
     (subst IsTree (sym c.nodes-node-items.ensures.nodes) c.nodes-node-items.ensures.tree)))
 
 pub returns-then-not-branch-clause-exactly : goal.returns-then-not-branch-clause-exactly
@@ -70,7 +75,8 @@ pub pass-requires-clause-on : goal.pass-requires-clause-on
 pass-requires-clause-on c =
     checked_on (IsRightInSpent c.args.net.now c.args.kind c.args.path.now c.args.dir) c.args.net.now c.args.kind c.args.path.now c.args.dir
     c.nodes-node-items.result.now c.loop-place.place c.is_right_at.new.walk.labels.items c.is_right_at.new.walk.trail.items
-    (checked_nearer (IsRightInSpent c.args.net.now c.args.kind c.args.path.now c.args.dir) c.args.net.now c.args.kind c.args.path.now c.args.dir
+    (checked_nearer (IsRightInSpent c.args.net.now c.args.kind c.args.path.now c.args.dir) c.args.net.now c.args.kind c.args.path.now
+    c.args.dir
     c.nodes-node-items.result.now c.loop-place.place c.loop-place.walk.labels.items c.loop-place.walk.trail.items
     c.loop-place.invariant.checked c.enter_all.new.conditions.kind c.enter_all.new.conditions.steps
     (ap (λ (e : Entered). e.kind) c.enter_all.ensures.steps ∙ ap (λ (e : Entered). e.kind) c.in_ok-conditions.ensures.empty)
@@ -79,9 +85,11 @@ pass-requires-clause-on c =
 
 pub pass-requires-clause-split : goal.pass-requires-clause-split
 pass-requires-clause-split c =
-    let lines = (checked_labelling (IsRightInSpent c.args.net.now c.args.kind c.args.path.now c.args.dir) c.args.net.now c.args.kind c.args.path.now c.args.dir
+    let lines = (checked_labelling (IsRightInSpent c.args.net.now c.args.kind c.args.path.now c.args.dir) c.args.net.now c.args.kind
+    c.args.path.now c.args.dir
     c.nodes-node-items.result.now c.loop-place.place c.is_right_at.new.walk.labels.items c.is_right_at.new.walk.trail.items
-    (checked_nearer (IsRightInSpent c.args.net.now c.args.kind c.args.path.now c.args.dir) c.args.net.now c.args.kind c.args.path.now c.args.dir
+    (checked_nearer (IsRightInSpent c.args.net.now c.args.kind c.args.path.now c.args.dir) c.args.net.now c.args.kind c.args.path.now
+    c.args.dir
     c.nodes-node-items.result.now c.loop-place.place c.loop-place.walk.labels.items c.loop-place.walk.trail.items
     c.loop-place.invariant.checked c.enter_all.new.conditions.kind c.enter_all.new.conditions.steps
     (ap (λ (e : Entered). e.kind) c.enter_all.ensures.steps ∙ ap (λ (e : Entered). e.kind) c.in_ok-conditions.ensures.empty)
@@ -89,15 +97,18 @@ pass-requires-clause-split c =
     c.is_right_at.new.walk.labels.items c.is_right_at.new.walk.trail.items c.in_ok-is_right_at.ensures.nearer)).one_each in
     spent_on c.args.net.now c.args.kind c.args.path.now c.args.dir _ (get_or c.nodes-node-items.result.now c.loop-place.place Closed) _
     (omega (arith, lines))
-    ((checked_right (IsRightInSpent c.args.net.now c.args.kind c.args.path.now c.args.dir) c.args.net.now c.args.kind c.args.path.now c.args.dir
+    ((checked_right (IsRightInSpent c.args.net.now c.args.kind c.args.path.now c.args.dir) c.args.net.now c.args.kind c.args.path.now
+    c.args.dir
     c.nodes-node-items.result.now c.loop-place.place c.loop-place.walk.labels.items c.loop-place.walk.trail.items
     c.loop-place.invariant.checked
-    (λ (k : Kind) (h : List Half). IsRightInSpent c.args.net.now k c.args.path.now c.args.dir h (get_or c.nodes-node-items.result.now c.loop-place.place Closed))
+    (λ (k : Kind) (h : List Half). IsRightInSpent c.args.net.now k c.args.path.now c.args.dir h (get_or c.nodes-node-items.result.now
+    c.loop-place.place Closed))
     c.enter_all.new.conditions.kind c.enter_all.new.conditions.steps c.in_ok-is_right_at.field-0
     (ap (λ (e : Entered). e.kind) c.enter_all.ensures.steps ∙ ap (λ (e : Entered). e.kind) c.in_ok-conditions.ensures.empty)
     (ap (λ (e : Entered). e.steps) c.enter_all.ensures.steps)
     (λ halves is_node. c.in_ok-is_right_at.ensures.right c.args.path.now c.args.dir halves is_node
-    (subst (IsConeOf c.args.net.now c.args.path.now) (sym c.as_slice-in-loop-place.ensures.value) c.in_ok-cone.ensures.exactly))).0 c.if-not-branch.false)
+    (subst (IsConeOf c.args.net.now c.args.path.now) (sym c.as_slice-in-loop-place.ensures.value) c.in_ok-cone.ensures.exactly))).0
+    c.if-not-branch.false)
 
 pub loop-place-preserved : goal.loop-place-preserved
 loop-place-preserved c = record {
@@ -109,22 +120,27 @@ loop-place-preserved c = record {
       (ap (λ (e : Entered). e.kind) c.enter_all.ensures.steps ∙ ap (λ (e : Entered). e.kind) c.in_ok-conditions.ensures.empty)
       (ap (λ (e : Entered). e.steps) c.enter_all.ensures.steps)
       c.is_right_at.new.walk.labels.items c.is_right_at.new.walk.trail.items c.in_ok-is_right_at.ensures.nearer
-      (get_or c.nodes-node-items.result.now c.loop-place.place Closed) Closed c.pass.new.self.labels.items c.pass.new.self.trail.items c.loop-place-test.true refl
-      ((checked_right (IsRightInSpent c.args.net.now c.args.kind c.args.path.now c.args.dir) c.args.net.now c.args.kind c.args.path.now c.args.dir
+      (get_or c.nodes-node-items.result.now c.loop-place.place Closed) Closed c.pass.new.self.labels.items c.pass.new.self.trail.items
+      c.loop-place-test.true refl
+      ((checked_right (IsRightInSpent c.args.net.now c.args.kind c.args.path.now c.args.dir) c.args.net.now c.args.kind c.args.path.now
+      c.args.dir
       c.nodes-node-items.result.now c.loop-place.place c.loop-place.walk.labels.items c.loop-place.walk.trail.items
       c.loop-place.invariant.checked
-      (λ (k : Kind) (h : List Half). IsRightInSpent c.args.net.now k c.args.path.now c.args.dir h (get_or c.nodes-node-items.result.now c.loop-place.place Closed))
+      (λ (k : Kind) (h : List Half). IsRightInSpent c.args.net.now k c.args.path.now c.args.dir h (get_or c.nodes-node-items.result.now
+      c.loop-place.place Closed))
       c.enter_all.new.conditions.kind c.enter_all.new.conditions.steps c.in_ok-is_right_at.field-0
       (ap (λ (e : Entered). e.kind) c.enter_all.ensures.steps ∙ ap (λ (e : Entered). e.kind) c.in_ok-conditions.ensures.empty)
       (ap (λ (e : Entered). e.steps) c.enter_all.ensures.steps)
       (λ halves is_node. c.in_ok-is_right_at.ensures.right c.args.path.now c.args.dir halves is_node
-      (subst (IsConeOf c.args.net.now c.args.path.now) (sym c.as_slice-in-loop-place.ensures.value) c.in_ok-cone.ensures.exactly))).0 c.if-not-branch.false)
+      (subst (IsConeOf c.args.net.now c.args.path.now) (sym c.as_slice-in-loop-place.ensures.value) c.in_ok-cone.ensures.exactly))).0
+      c.if-not-branch.false)
       c.in_ok-pass.ensures;
 }
 
 pub returns-clause-tells : goal.returns-clause-tells
 returns-clause-tells c =
-    subst (λ (nodes : List Node). IsSpent c.args.net.now c.args.kind c.args.path.now c.args.dir c.args.budget nodes) c.nodes-node-items.ensures.nodes
+    subst (λ (nodes : List Node). IsSpent c.args.net.now c.args.kind c.args.path.now c.args.dir c.args.budget nodes)
+    c.nodes-node-items.ensures.nodes
     (let tree = subst IsTree (sym c.nodes-node-items.ensures.nodes) c.nodes-node-items.ensures.tree in
     record {
       cases = tree.0;
@@ -133,7 +149,8 @@ returns-clause-tells c =
       waits = subst (λ (nodes : List Node). Contains nodes Waiting) (c.nodes.ensures.nodes ∙ sym c.nodes-node-items.ensures.nodes)
           (c.has_open.ensures.0 c.if-not-has_open.false);
       spent = right_spent c.args.net.now c.args.kind c.args.path.now c.args.dir tree.0 []
-          (checked_all (IsRightInSpent c.args.net.now c.args.kind c.args.path.now c.args.dir) c.args.net.now c.args.kind c.args.path.now c.args.dir
+          (checked_all (IsRightInSpent c.args.net.now c.args.kind c.args.path.now c.args.dir) c.args.net.now c.args.kind c.args.path.now
+          c.args.dir
           c.nodes-node-items.result.now c.loop-place.place c.loop-place.walk.labels.items c.loop-place.walk.trail.items
           c.loop-place.invariant.checked c.loop-place-test.false tree);
     })

@@ -10,9 +10,9 @@ use Rattle.tree_check.proofs.walk.Walk.enter.Goals as goal
 
 pub returns : goal.returns
 returns c =
-    enters c.args.half c.args.self.now.labels.items c.args.self.now.trail.items c.states_of.result c.intersect-cut.result
-    c.narrow_line.new.self.labels.items c.narrow_line.new.self.trail.items c.requires c.states_of.ensures.exactly
-    (c.intersect-cut.ensures ∙ ap (λ (s : StateSet). bit_and s.0 c.states_of.result.0)
+    enters c.args.half c.args.self.now.labels.items c.args.self.now.trail.items c.half_states-states.result c.intersect-cut.result
+    c.narrow_line.new.self.labels.items c.narrow_line.new.self.trail.items c.requires c.half_states-states.ensures.means
+    (c.intersect-cut.ensures ∙ ap (λ (s : StateSet). bit_and s.0 c.half_states-states.result.0)
     (c.index.ensures ∙ get_or_default c.args.self.now.labels.items c.args.half.source c.index.result.now no_states c.requires))
     c.in_ok-narrow_line.ensures.set
     (subst (λ (trail : List Entry). IsNoted c.args.self.now.labels.items trail c.narrow_line.new.self.labels.items

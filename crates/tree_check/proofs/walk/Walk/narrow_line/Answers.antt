@@ -18,7 +18,8 @@ returns-in_ok-push-clause-noted c =
 pub returns-else-ne-clause-set : goal.returns-else-ne-clause-set
 returns-else-ne-clause-set c =
     let set_of : ℕ → StateSet = λ n. record { 0 = n } in
-    let same : c.index.result.now ≡ c.args.set = ap set_of (not_told c.index.result.now.0 c.args.set.0 c.ne.result c.ne.ensures c.if-ne.false) in
+    let same : c.index.result.now ≡ c.args.set = ap set_of (not_told c.index.result.now.0 c.args.set.0 c.ne.result c.ne.ensures
+    c.if-ne.false) in
     sym (ap (set c.args.self.now.labels.items c.args.line)
     (sym same ∙ c.index.ensures ∙ get_or_default c.args.self.now.labels.items c.args.line c.index.result.now no_states c.requires)
     ∙ set-get_or c.args.self.now.labels.items c.args.line no_states)
