@@ -7,7 +7,7 @@ use Rattle.pd_base.specs.Route.{Route}
 use Rattle.pd_base.specs.declared.ids.PinRef.{PinRef}
 use Rattle.pd_base.specs.declared.fault.Direction.{Direction}
 use Rattle.pd_base.specs.declared.fault.Kind.{Kind}
-use Rattle.netlist.specs.Circuit.{Circuit, source_count, line_count}
+use Rattle.netlist.specs.Circuit.{Circuit, source_count}
 use Rattle.state_sets.specs.declared.state.StateSet.{StateSet}
 use Rattle.state_sets.specs.Labellings.{IsLabelling}
 use Rattle.hull_laws.specs.declared.half.Half.{Half}

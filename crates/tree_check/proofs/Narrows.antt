@@ -1,5 +1,5 @@
 -- Labels that narrow to the hull at a node: at the root, below a half more, nearer to the hull, and what is told of their hull.
-use Rattle.std.proofs.Common.{◌≡◌, ◌≢◌, ℕ, ◌<◌, ◌^◌, ◌↔◌, ◌++◌, ⊎_elim, Bool, true, false, List, [], ◌∷◌, length, set, Option, Some, None, refl, sym, ◌∙◌, subst, arith}
+use Rattle.std.proofs.Common.{◌≡◌, ◌≢◌, ℕ, ◌<◌, ◌^◌, ◌↔◌, ◌++◌, ⊎_elim, List, [], ◌∷◌, length, set, Option, Some, None, refl, sym, ◌∙◌, subst, arith}
 use Rattle.std.specs.Prelude.{bit_and, IfSome, IfNone, is_some}
 use Rattle.std.proofs.lemmas.List.{length-set, get_or-set_same, get_or-set_other}
 use Rattle.std.proofs.lemmas.List.Elements.{All-set, All-nil}
@@ -14,10 +14,10 @@ use Rattle.netlist.specs.Circuit.{Circuit, line_count}
 use Rattle.state_sets.specs.declared.state.State.{State}
 use Rattle.state_sets.specs.declared.state.StateSet.{StateSet}
 use Rattle.state_sets.specs.States.{Has, no_states}
-use Rattle.state_sets.specs.Labellings.{label_at, IsLabelling, LiesIn}
+use Rattle.state_sets.specs.Labellings.{label_at, IsLabelling}
 use Rattle.state_sets.specs.FourStates.{four_states}
 use Rattle.state_sets.specs.Starts.{MayStart, IsInHalf}
-use Rattle.state_sets.specs.Hulls.{IsNarrowingOf, IsHull, IsEmptied, IsRestAmong, HasAt, HasNoEmptySet, Closes}
+use Rattle.state_sets.specs.Hulls.{IsNarrowingOf, IsHull, IsEmptied, IsRestAmong, HasAt, HasNoEmptySet}
 use Rattle.hull_laws.specs.declared.half.Half.{Half}
 use Rattle.hull_laws.specs.Nodes.{MayBe, IsCut}
 use Rattle.hull_laws.specs.Sweeps.{KeepsRests}

@@ -13,7 +13,7 @@ use Rattle.state_sets.specs.declared.state.StateSet.{StateSet}
 use Rattle.state_sets.specs.States.{Has}
 use Rattle.state_sets.specs.Labellings.{label_at, IsLabelling}
 use Rattle.state_sets.specs.FourStates.{four_states}
-use Rattle.state_sets.specs.Hulls.{IsNarrowingOf, IsHull, IsEmptied, IsRestAmong, HasAt, HasNoEmptySet, Closes}
+use Rattle.state_sets.specs.Hulls.{IsNarrowingOf, IsHull, IsEmptied, HasAt, HasNoEmptySet}
 use Rattle.hull_laws.specs.declared.half.Half.{Half}
 use Rattle.hull_laws.specs.Nodes.{MayBe, IsNodeHull, ClosesAtNode}
 use Rattle.hull_laws.proofs.Sets.{has_in_circuit}

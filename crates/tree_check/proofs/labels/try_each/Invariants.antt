@@ -1,4 +1,4 @@
-use Rattle.std.proofs.Common.{◌≡◌, ℕ, ◌<◌}
+use Rattle.std.proofs.Common.{ℕ, ◌<◌}
 use Rattle.state_sets.specs.States.{AreWithin}
 use Rattle.state_sets.specs.Labellings.{label_at}
 use Rattle.tree_check.specs.TrialLabels.{IsTried}
