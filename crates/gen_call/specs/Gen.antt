@@ -5,6 +5,7 @@ use Rattle.std.specs.Prelude.{◌≡◌, ℕ, ◌<◌, ◌≤◌, List, [], ◌�
 use Rattle.netlist.specs.Circuit.{Circuit}
 use Rattle.netlist.specs.Waves.{Delays}
 use Rattle.refutation_check.specs.declared.run.Run.{Run}
+use Rattle.refutation_check.specs.Lawful.{IsLawfulRun}
 use Rattle.good_runs.specs.GoodRun.{IsGoodRun}
 use Rattle.bench_reader.specs.Circuits.{HasCircuit}
 use Rattle.delay_reader.specs.DelayFile.{HasDelays}
@@ -84,10 +85,12 @@ gen_products call c run = record {
   out = summary_text run;
 }
 
--- the products are the texts of one good run for the paths and the budget that are asked for; its verdicts keep their promises
+-- the products are the texts of one good run for the paths and the budget that are asked for, which the files can spell: its tests
+-- are numbered in the order of the report, and each proof where it is first named; its verdicts keep their promises
 pub record GivesProductsOf (call : GenCall) (c : Circuit) (delays : Delays) (products : Products) : Type 0 where
   pub run : Run
   pub good : IsGoodRun c delays call.paths call.budget run
+  pub lawful : IsLawfulRun c run
   pub promises : AllPromise c call.budget run
   pub texts : products ≡ gen_products call c run
 

@@ -1,5 +1,5 @@
 -- What the verdicts of a run tell of their faults (path delay testing under transport delay; states and trees are this project's own).
-use Rattle.std.specs.Prelude.{◌≡◌, ℕ, ◌-◌, ◌≤◌, ◌^◌, true, List, [], length}
+use Rattle.std.specs.Prelude.{◌≡◌, ◌⊎◌, ℕ, ◌-◌, ◌≤◌, ◌^◌, true, List, [], length}
 use Rattle.pd_base.specs.Pair.{Vectors}
 use Rattle.pd_base.specs.Route.{Route}
 use Rattle.pd_base.specs.declared.test.Test.{Test}
@@ -24,18 +24,31 @@ use Rattle.refutation_check.specs.Verdicts.{is_robust, is_untestable}
 use Rattle.good_runs.specs.Faults.{IsNumber, IsFault}
 use Rattle.good_runs.specs.Truth.{IsTruth}
 
+-- the proof of this number has a tree that spent exactly the budget on a test of this kind
+abbrev pub HasSpentBudget : Circuit → ℕ → Run → Kind → Route → Direction → ℕ → Type 0
+HasSpentBudget c budget run kind path direction number =
+    (proof : Proof) × IsNumber run.proofs number proof × IsSpent c kind path direction budget proof.tree
+
+-- why no robust test was found: no pair of vectors is one, or the budget was spent on one, as the proof of this number shows
+abbrev pub FoundNoRobustTest : Circuit → ℕ → Run → Route → Direction → ℕ → Type 0
+FoundNoRobustTest c budget run path direction number =
+    ((pair : Vectors) → ¬ Meets kinds.Robust c path direction pair)
+    ⊎ HasSpentBudget c budget run kinds.Robust path direction number
+
 -- A robust verdict: its test samples a wrong value under every delay assignment that makes the path late. A nonrobust one: it does
--- where the path's sides have settled, too. Untestable: no pair of vectors meets the conditions, of either kind. Aborted: the tree
--- of its nonrobust proof spent exactly the budget.
+-- where the path's sides have settled, too; and why no robust test was found. Untestable: no pair of vectors meets the conditions, of
+-- either kind. Aborted: why no robust test was found, and the tree of its nonrobust proof spent exactly the budget.
 abbrev pub TellsOf : Circuit → ℕ → Run → Route → Direction → Verdict → Type 0
 TellsOf c budget run path direction (Robust number) =
     (test : Test) → IsNumber run.tests number test → Detects c path test.pair
 TellsOf c budget run path direction (Nonrobust number proof) =
-    (test : Test) → IsNumber run.tests number test → DetectsSettled c path test.pair
+    ((test : Test) → IsNumber run.tests number test → DetectsSettled c path test.pair)
+    × FoundNoRobustTest c budget run path direction proof
 TellsOf c budget run path direction (Untestable proof) =
     (kind : Kind) (pair : Vectors) → ¬ Meets kind c path direction pair
 TellsOf c budget run path direction (Aborted robust nonrobust) =
-    (proof : Proof) × IsNumber run.proofs nonrobust proof × IsSpent c kinds.Nonrobust path direction budget proof.tree
+    FoundNoRobustTest c budget run path direction robust
+    × HasSpentBudget c budget run kinds.Nonrobust path direction nonrobust
 
 -- the start of a path does not close for the robust kind, and neither does its trial
 pub record IsOpenStart (c : Circuit) (path : Route) (direction : Direction) : Type 0 where

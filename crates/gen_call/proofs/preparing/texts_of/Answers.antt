@@ -23,6 +23,7 @@ pub returns : goal.returns
 returns c = record {
   run = c.in_ok-run.run';
   good = c.in_ok-run.ensures.good;
+  lawful = c.in_ok-run.ensures.lawful;
   promises = good_run_promises c.args.net.now c.requires.circuit _ _ _ c.in_ok-run.run' c.in_ok-run.ensures.good;
   texts = products_of_run (gen_call_of c.args.command.now) c.args.net.now c.in_ok-run.run' _ _ _ _ _ c.in_ok-files.ensures
       (c.in_ok-tests.ensures ∙ ap (tests_text c.args.net.now) c.as_slice.ensures) c.in_ok-report.ensures
