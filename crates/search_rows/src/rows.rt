@@ -1,0 +1,102 @@
+// The rows. How they were worked out: a search goes through its tree in preorder. At each node it tries the pair that takes, at each
+// source of the path's support, the least state left, in the order S0, S1, N0, N1 (S is steady, and the digit is the second
+// vector's); a source outside is 0. Where the pair fails, and the budget has a split left, the node is split at the first source of
+// the support that has two states left, by value if both values are left, else by steadiness. Each closed leaf and each pair that
+// failed counts a conflict, so a tree counts its nodes.
+use crate::answers::Answer::{Refuted, Spent, Test};
+use crate::answers::Row;
+use crate::playing::play;
+use pd_base::Direction::{Fall, Rise};
+use pd_base::Kind::{Nonrobust, Robust};
+use refutation_check::Node::{self, Closed as X, Steadiness as H, Value as V, Waiting as O};
+use std::test::Fail;
+
+// g is the conjunction of all clauses over b, c and d, so no pair sets it to 1. A node closes once b and c have their values: then two
+// clauses ask for d and for its inversion. With the value of b alone none does, and its steadiness decides nothing.
+const EIGHT: &str = "INPUT(a)\nINPUT(b)\nINPUT(c)\nINPUT(d)\nOUTPUT(y)\n\
+    nb = NOT(b)\nnc = NOT(c)\nnd = NOT(d)\n\
+    c0 = OR(b, c, d)\nc1 = OR(b, c, nd)\nc2 = OR(b, nc, d)\nc3 = OR(b, nc, nd)\n\
+    c4 = OR(nb, c, d)\nc5 = OR(nb, c, nd)\nc6 = OR(nb, nc, d)\nc7 = OR(nb, nc, nd)\n\
+    g = AND(c0, c1, c2, c3, c4, c5, c6, c7)\ny = AND(a, g)\n";
+
+// Without the last clause g is 1 at b = c = d = 1 alone, where the search comes last.
+const SEVEN: &str = "INPUT(a)\nINPUT(b)\nINPUT(c)\nINPUT(d)\nOUTPUT(y)\n\
+    nb = NOT(b)\nnc = NOT(c)\nnd = NOT(d)\n\
+    c0 = OR(b, c, d)\nc1 = OR(b, c, nd)\nc2 = OR(b, nc, d)\nc3 = OR(b, nc, nd)\n\
+    c4 = OR(nb, c, d)\nc5 = OR(nb, c, nd)\nc6 = OR(nb, nc, d)\n\
+    g = AND(c0, c1, c2, c3, c4, c5, c6)\ny = AND(a, g)\n";
+
+// From c, the pair with a and b steady at 0 fails, and with a ending at 0 the one with b steady at 1 is a test. From a, b is to be
+// steady and c to end at 1, and the first pair is a test.
+const PARITY: &str = "INPUT(a)\nINPUT(b)\nINPUT(c)\nOUTPUT(y)\nx = XOR(a, b)\ny = AND(x, c)\n";
+
+// Source 7 is outside the support of 22. With 3 rising, 6 is to end at 1, 2 to be steady at 1, and 10 to end at 1, so 1 ends at 0.
+// With 3 falling, 6 is to be steady at 1, 2 to end at 1, and 10 to be steady at 1, so 1 is steady at 0.
+const C17: &str = "INPUT(1)\nINPUT(2)\nINPUT(3)\nINPUT(6)\nINPUT(7)\nOUTPUT(22)\nOUTPUT(23)\n\
+    10 = NAND(1, 3)\n11 = NAND(3, 6)\n16 = NAND(2, 11)\n19 = NAND(11, 7)\n\
+    22 = NAND(10, 16)\n23 = NAND(16, 19)\n";
+
+const THROUGH_16: &str = "3 11:0 16:1 22:1";
+
+// Trees in preorder: V and H split a source by value and by steadiness, X is closed, O was left open.
+const ONE: &[Node] = &[V(1), O, O];
+
+const TWO: &[Node] = &[V(1), H(1), O, O, O];
+
+const FIVE: &[Node] = &[V(1), H(1), V(2), X, X, V(2), X, X, H(1), O, O];
+
+const WHOLE: &[Node] = &[
+    V(1),
+    H(1),
+    V(2),
+    X,
+    X,
+    V(2),
+    X,
+    X,
+    H(1),
+    V(2),
+    X,
+    X,
+    V(2),
+    X,
+    X,
+];
+
+#[test]
+fn searches_end_as_worked_out_by_hand(rt: HostRuntime) -> Result<(), Fail> {
+    let rows = [
+        (EIGHT, "a y:0", Rise, Nonrobust, 1, Spent(ONE), 3),
+        (EIGHT, "a y:0", Rise, Nonrobust, 2, Spent(TWO), 5),
+        (EIGHT, "a y:0", Rise, Nonrobust, 5, Spent(FIVE), 11),
+        (EIGHT, "a y:0", Rise, Nonrobust, 7, Refuted(WHOLE), 15),
+        (EIGHT, "a y:0", Rise, Nonrobust, 64, Refuted(WHOLE), 15),
+        (EIGHT, "a y:0", Fall, Robust, 2, Spent(TWO), 5),
+        (EIGHT, "a y:0", Fall, Robust, 64, Refuted(WHOLE), 15),
+        (SEVEN, "a y:0", Rise, Nonrobust, 5, Spent(FIVE), 11),
+        (SEVEN, "a y:0", Rise, Nonrobust, 6, Test("0111", "1111"), 11),
+        (PARITY, "c y:1", Rise, Nonrobust, 1, Test("010", "011"), 1),
+        (PARITY, "c y:1", Fall, Robust, 1, Test("011", "010"), 1),
+        (PARITY, "a x:0 y:0", Rise, Robust, 1, Test("001", "101"), 0),
+        (C17, THROUGH_16, Rise, Robust, 1, Test("01010", "01110"), 0),
+        (C17, THROUGH_16, Fall, Robust, 1, Test("01110", "01010"), 0),
+    ];
+    for (net, path, dir, kind, budget, answer, conflicts) in rows {
+        let came = play(
+            rt.alloc(),
+            Row {
+                net,
+                path,
+                dir,
+                kind,
+                budget,
+                answer,
+            },
+        )?;
+        assert!(rt; came.as_said, "{path} {budget}");
+        assert!(rt; came.accepted, "{path} {budget}");
+        assert!(rt; came.restored, "{path} {budget}");
+        assert_eq!(rt; came.conflicts, conflicts, "{path} {budget}");
+    }
+    Ok(())
+}
