@@ -17,7 +17,10 @@ pub at_start : (old begun now : Standing) (source : LineId) (path : Route) (dire
     → HasBegun (record { source = source; direction = direction; kind = kind }) old begun → source ≡ path.source
     → begun.conflict ≡ None → now ≡ grown begun (begun.assumptions ++ map Entered path.steps) → IsStart path direction kind now
 at_start old begun now source path direction kind has same free entered = record {
-  beginning = ap (λ (s : Standing). s.beginning) entered ∙ has.beginning ∙ (λ i. Some (record { source = same i; direction = direction; kind = kind }));
+  beginning =
+      ap (λ (s : Standing). s.beginning) entered
+      ∙ has.beginning
+      ∙ (λ i. Some (record { source = same i; direction = direction; kind = kind }));
   entered =
       ap (λ (s : Standing). s.assumptions) entered
       ∙ ap (λ (list : List Assumption). list ++ map Entered path.steps) has.nothing;
