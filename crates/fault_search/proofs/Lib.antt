@@ -1,6 +1,6 @@
 pub mod Places
-pub mod Begins
-pub mod Refuted
-pub mod Pins
-pub mod Writing
-pub mod Visits
+mod Begins
+mod Refuted
+mod Pins
+mod Writing
+mod Visits

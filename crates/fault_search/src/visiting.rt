@@ -16,11 +16,14 @@ use std::alloc::Global;
 use verdict_runs::{Outcome, Refutation};
 
 /// Searches for a test of the path of this entry, unless none is needed, or its outcome is known already: it was searched, or a
-/// refutation applies to it. No path with more steps was searched for this aim before, and no scope is open. After it the path's
-/// outcome, if it is needed, is known: a test, a tree that spent exactly the budget, or a refutation, which is new, names the first
-/// listed path that has this one as a prefix, and becomes the outcome of each path that has it. What was settled stays so, what
-/// stood of the other paths still stands, the scope is left, and at most as many steps are counted as a path may have.
-/// `OutOfMemory` comes only where memory is refused; of the outcomes, the refutations and the engine nothing is promised then.
+/// refutation applies to it. No scope is open, and no path with more steps was searched for this aim before.
+///
+/// Afterwards the path, if it needs an outcome, has one: a test, a tree that spent exactly the budget, or a refutation that applies
+/// to it. A refutation that is found here is added to the list, names the first listed path that has this one as a prefix, and
+/// settles each listed path that has it. A path that had an outcome has one still, each outcome is as it is promised, and no
+/// refutation for this aim applies to a path without one. The scope is left, and no more steps are counted than a path may have.
+///
+/// `OutOfMemory` comes where a growth was refused; of outcomes, refutations and the engine nothing is promised then.
 pub fn visit<N: HasNetlist, L>(
     alloc: Global,
     engine: &mut Engine<FourStates, N>,
