@@ -18,10 +18,11 @@ use Rattle.verdict_runs.specs.declared.findings.Outcome.TheVariants.{Unsearched,
 use Rattle.verdict_runs.specs.declared.findings.Outcomes.{Outcomes}
 use Rattle.verdict_runs.specs.declared.findings.Refutation.{Refutation}
 use Rattle.verdict_runs.specs.Findings.{IsOutcome, NoneRefutes, is_test}
-use Rattle.prefix_sensitize.specs.declared.visiting.Aim.{Aim}
+use Rattle.fault_search.specs.declared.targets.Aim.{Aim}
 use Rattle.prefix_sensitize.specs.Gathering.{AreNewFor, AreSearchedFor, IsGrownFor, both_kinds}
-use Rattle.prefix_sensitize.specs.Walks.{AreNew, AreRefutations, IsAimedAt, IsGrown, IsPassed, outcome_at, searches_with}
-use Rattle.prefix_sensitize.proofs.Places.{in_either, in_first}
+use Rattle.fault_search.specs.Walks.{AreRefutations, IsAimedAt, IsGrown, outcome_at, searches_with}
+use Rattle.prefix_sensitize.specs.Passes.{AreNew, IsPassed}
+use Rattle.fault_search.proofs.Places.{in_either, in_first}
 use Rattle.prefix_sensitize.proofs.Walking.{settled_outcome}
 
 -- the refutation is for this kind and transition

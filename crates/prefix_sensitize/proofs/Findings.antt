@@ -16,8 +16,8 @@ use Rattle.verdict_runs.specs.declared.findings.Outcomes.{Outcomes}
 use Rattle.verdict_runs.specs.declared.findings.SearchedPath.{SearchedPath}
 use Rattle.verdict_runs.specs.Findings.{AreFindings, AreSearches, IsSearched}
 use Rattle.prefix_sensitize.specs.Gathering.{AreSearchedFor, both_ways}
-use Rattle.prefix_sensitize.specs.Walks.{AreListed, AreRefutations, searches_with}
-use Rattle.prefix_sensitize.proofs.Places.{all_from}
+use Rattle.fault_search.specs.Walks.{AreListed, AreRefutations, searches_with}
+use Rattle.fault_search.proofs.Places.{all_from}
 
 -- no more paths than were asked for
 few_full : (c : Circuit) (count : ℕ) (routes : List Route) → IsFull c count routes → length routes ≤ count

@@ -1,9 +1,4 @@
-pub mod Places
-pub mod Begins
-pub mod Refuted
 pub mod Ordering
-pub mod Pins
 pub mod Walking
-pub mod Visits
 pub mod BothKinds
 pub mod Findings

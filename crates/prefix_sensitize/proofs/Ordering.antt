@@ -5,9 +5,10 @@ use Rattle.std.specs.List.Sorted.{IsPermutation, IsNonDecreasingBy}
 use Rattle.std.proofs.lemmas.List.Sorted.{All-permutation, Contains-permutation, length_permutation}
 use Rattle.std.proofs.lemmas.Option.{slice_get_read, slice_get_within, get_or_from_slice_get}
 use Rattle.pd_base.specs.Route.{Route}
-use Rattle.prefix_sensitize.specs.declared.order.Entry.{Entry}
-use Rattle.prefix_sensitize.specs.Order.{AreEntries, AreRising, IsAmong, IsEntryOf, IsOrder}
-use Rattle.prefix_sensitize.proofs.Places.{some_item}
+use Rattle.fault_search.specs.declared.targets.Entry.{Entry}
+use Rattle.fault_search.specs.Entries.{IsEntryOf}
+use Rattle.prefix_sensitize.specs.Order.{AreEntries, AreRising, IsAmong, IsOrder}
+use Rattle.fault_search.proofs.Places.{some_item}
 
 -- the number of steps by which entries are sorted
 abbrev pub steps_of : Entry → ℕ

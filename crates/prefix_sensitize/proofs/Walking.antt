@@ -1,8 +1,8 @@
 -- A walk over the paths from fewer steps to more: what is known before it, after each path, and at its end.
-use Rattle.std.proofs.Common.{◌≡◌, ◌≢◌, ⊎_elim, ℕ, zero, suc, ◌+◌, ◌<◌, ◌≤◌, Bool, true, false, true≢false, List, [], ◌∷◌, ◌++◌, length, drop, get_or, replicate, set, Some, refl, sym, ap, subst, ◌∙◌, append_assoc, append-nil, arith, add-one, get_or-set_same, get_or-set_other}
+use Rattle.std.proofs.Common.{◌≡◌, ⊎_elim, ℕ, zero, suc, ◌+◌, ◌<◌, ◌≤◌, Bool, true, false, true≢false, List, [], ◌∷◌, ◌++◌, length, drop, get_or, replicate, Some, refl, sym, ap, subst, ◌∙◌, append_assoc, append-nil, arith, add-one}
 use Rattle.std.specs.Prelude.{slice_get, slice_index_or}
-use Rattle.std.proofs.lemmas.Bool.{cases_eq, cases_lt}
-use Rattle.std.proofs.lemmas.List.{length-set, length-replicate}
+use Rattle.std.proofs.lemmas.Bool.{cases_lt}
+use Rattle.std.proofs.lemmas.List.{length-replicate}
 use Rattle.std.proofs.lemmas.List.Elements.{All-append, All-nil}
 use Rattle.std.proofs.lemmas.Option.{slice_get-get_or, slice_get_within}
 use Rattle.std.proofs.Math.Seq.{drop-cons}
@@ -14,11 +14,13 @@ use Rattle.verdict_runs.specs.declared.findings.Outcome.{Outcome}
 use Rattle.verdict_runs.specs.declared.findings.Outcome.TheVariants.{Unsearched, Tested, Refuted, Spent}
 use Rattle.verdict_runs.specs.declared.findings.Refutation.{Refutation}
 use Rattle.verdict_runs.specs.Findings.{IsOutcome, NoneRefutes, Searches}
-use Rattle.prefix_sensitize.specs.declared.order.Entry.{Entry}
-use Rattle.prefix_sensitize.specs.declared.visiting.Aim.{Aim}
-use Rattle.prefix_sensitize.specs.Order.{AreRising, IsEntryOf, IsOrder}
-use Rattle.prefix_sensitize.specs.Walks.{AreNew, IsAimedAt, IsGrown, IsPassed, IsHalfway, IsWalked, KeepSettled, Stands, is_settled, outcome_at, searches_with}
-use Rattle.prefix_sensitize.proofs.Places.{all_at, same_item}
+use Rattle.fault_search.specs.declared.targets.Entry.{Entry}
+use Rattle.fault_search.specs.declared.targets.Aim.{Aim}
+use Rattle.fault_search.specs.Entries.{IsEntryOf}
+use Rattle.prefix_sensitize.specs.Order.{AreRising, IsOrder}
+use Rattle.fault_search.specs.Walks.{IsAimedAt, IsGrown, IsWalked, KeepSettled, Stands, is_settled, outcome_at, searches_with}
+use Rattle.prefix_sensitize.specs.Passes.{AreNew, IsPassed, IsHalfway}
+use Rattle.fault_search.proofs.Places.{all_at, same_item}
 
 -- nothing is added
 pub grown_not : (aim : Aim) (refutations : List Refutation) → IsGrown aim refutations refutations
@@ -46,57 +48,7 @@ settled_outcome c searches kind direction route (Tested pair) stands settled = s
 settled_outcome c searches kind direction route (Refuted index) stands settled = stands
 settled_outcome c searches kind direction route (Spent tree) stands settled = stands
 
--- an outcome that is not settled is that no search was run
-pub unsettled : (outcome : Outcome) → is_settled outcome ≡ false → outcome ≡ Unsearched
-unsettled Unsearched not = refl
-unsettled (Tested pair) not = absurd (true≢false not)
-unsettled (Refuted index) not = absurd (true≢false not)
-unsettled (Spent tree) not = absurd (true≢false not)
-
 module _ (c : Circuit) (routes : List Route) (aim : Aim) where
-  -- one outcome is written
-  module _ (longest at : ℕ) (was is : List Outcome) (refutations : List Refutation) (outcome : Outcome)
-      (walked : IsWalked c routes aim longest was refutations) (inside : at < length routes) (written : is ≡ set was at outcome) where
-    its_place : at < length was
-    its_place = omega (arith, inside, walked.standing.one_each)
-
-    written_at : outcome_at is at ≡ outcome
-    written_at =
-        ap (λ (list : List Outcome). outcome_at list at) written ∙ get_or-set_same was at outcome Unsearched its_place
-
-    elsewhere : (other : ℕ) → other ≢ at → outcome_at is other ≡ outcome_at was other
-    elsewhere other apart =
-        ap (λ (list : List Outcome). outcome_at list other) written ∙ get_or-set_other was at other outcome Unsearched apart
-
-    pub walked_with : ((route : Route) → slice_get routes at ≡ Some route
-        → Stands c (searches_with aim.budget routes refutations) aim.kind aim.dir route outcome)
-        → IsWalked c routes aim longest is refutations
-    walked_with stands = record {
-      are_refutations = walked.are_refutations;
-      are_short = walked.are_short;
-      standing = record {
-        one_each = ap length written ∙ length-set was at outcome ∙ walked.standing.one_each;
-        stands =
-            λ other route here.
-            (let P : Outcome → Type 0 =
-            λ o. Stands c (searches_with aim.budget routes refutations) aim.kind aim.dir route o in
-            ⊎_elim
-            (λ (same : other ≡ at).
-            let Q : ℕ → Type 0 = λ n. slice_get routes n ≡ Some route in
-            subst P (sym (ap (outcome_at is) same ∙ written_at)) (stands route (subst Q same here)))
-            (λ (apart : other ≡ at → ⊥). subst P (sym (elsewhere other apart)) (walked.standing.stands other route here))
-            (cases_eq other at));
-      };
-    }
-
-    pub settled_with : is_settled outcome ≡ true → is_settled (outcome_at is at) ≡ true
-    settled_with settled = ap is_settled written_at ∙ settled
-
-    pub kept_with : is_settled outcome ≡ true → KeepSettled was is
-    kept_with settled other within before =
-        ⊎_elim (λ (same : other ≡ at). ap is_settled (ap (outcome_at is) same) ∙ settled_with settled)
-        (λ (apart : other ≡ at → ⊥). ap is_settled (elsewhere other apart) ∙ before) (cases_eq other at)
-
   -- paths with more steps may come
   walked_longer : (longest longer : ℕ) (outcomes : List Outcome) (refutations : List Refutation) → longest ≤ longer
       → IsWalked c routes aim longest outcomes refutations → IsWalked c routes aim longer outcomes refutations

@@ -9,7 +9,7 @@ use Rattle.verdict_runs.specs.declared.findings.Outcomes.{Outcomes}
 use Rattle.verdict_runs.specs.declared.findings.Refutation.{Refutation}
 use Rattle.verdict_runs.specs.declared.findings.SearchedPath.{SearchedPath}
 use Rattle.verdict_runs.specs.Findings.{AreOutcomes}
-use Rattle.prefix_sensitize.specs.Walks.{AreRefutations, searches_with}
+use Rattle.fault_search.specs.Walks.{AreRefutations, searches_with}
 
 -- the outcomes of the robust and of the nonrobust searches, path by path
 abbrev pub both_kinds : List Outcome → List Outcome → List Outcomes

@@ -1,6 +1,3 @@
-pub mod Prefixes
 pub mod Order
-pub mod Entering
-pub mod Walks
-pub mod Refuting
+pub mod Passes
 pub mod Gathering

@@ -1,13 +1,8 @@
 -- Paths in the order from fewer steps to more (this project's own).
 use Rattle.std.specs.Prelude.{◌≡◌, ⊤, ℕ, ◌<◌, ◌≤◌, List, [], ◌∷◌, length, slice_get, Some, All}
 use Rattle.pd_base.specs.Route.{Route}
-use Rattle.prefix_sensitize.specs.declared.order.Entry.{Entry}
-
--- the entry is of a path, and has the number of its steps
-pub record IsEntryOf (routes : List Route) (entry : Entry) : Type 0 where
-  pub route : Route
-  pub is_listed : slice_get routes entry.at ≡ Some route
-  pub counts : entry.steps ≡ length route.steps
+use Rattle.fault_search.specs.declared.targets.Entry.{Entry}
+use Rattle.fault_search.specs.Entries.{IsEntryOf}
 
 -- there is an entry for each path, in the order of the list
 pub record AreEntries (routes : List Route) (entries : List Entry) : Type 0 where

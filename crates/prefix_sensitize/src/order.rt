@@ -2,17 +2,9 @@
 ghost use Rattle.std.specs.Prelude.{IfOk};
 ghost use Rattle.prefix_sensitize.specs.Order.{AreEntries, IsOrder};
 
+use fault_search::Entry;
 use pd_base::{OutOfMemory, Path};
 use std::alloc::Global;
-
-/// A path in the order of searches.
-#[derive(Clone, Copy, Debug)]
-pub(crate) struct Entry {
-    /// How many steps it has.
-    pub(crate) steps: usize,
-    /// Its index in the list of paths.
-    pub(crate) at: usize,
-}
 
 // The order of these paths.
 pub(crate) fn order_of(alloc: Global, paths: &[Path]) -> Result<Vec<Entry>, OutOfMemory>

@@ -1,12 +1,12 @@
 // The searches for the tests of one kind and transition.
 ghost use Rattle.std.specs.Prelude.{◌≡◌, ◌+◌, ◌*◌, ◌<◌, ◌≤◌, ◌^◌, None, length, replicate, IfOk, OnOk};
 ghost use Rattle.refutation_check.specs.Lawful.{most_steps};
-ghost use Rattle.prefix_sensitize.specs.Entering.{IsAtRest};
+ghost use Rattle.fault_search.specs.Entering.{IsAtRest};
 ghost use Rattle.prefix_sensitize.specs.Order.{IsOrder};
-ghost use Rattle.prefix_sensitize.specs.Walks.{AreListed, IsBudget, IsPassed, AreNew, IsGrown};
+ghost use Rattle.fault_search.specs.Walks.{AreListed, IsBudget, IsGrown};
+ghost use Rattle.prefix_sensitize.specs.Passes.{IsPassed, AreNew};
 
-use crate::order::Entry;
-use crate::visiting::{Aim, visit};
+use fault_search::{Aim, Entry, visit};
 use implication::{Engine, HasNetlist};
 use pd_base::{OutOfMemory, Path, Steps};
 use state_sets::FourStates;

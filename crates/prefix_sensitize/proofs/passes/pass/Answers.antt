@@ -4,8 +4,9 @@ use Rattle.std.proofs.lemmas.List.{get_or_default}
 use Rattle.std.proofs.Math.Seq.{take-append_seam}
 use Rattle.netlist.specs.Circuit.{Circuit}
 use Rattle.verdict_runs.specs.declared.findings.Outcome.{Outcome}
-use Rattle.prefix_sensitize.specs.declared.order.Entry.{Entry}
-use Rattle.prefix_sensitize.specs.Walks.{IsHalfway, IsWalked, KeepSettled}
+use Rattle.fault_search.specs.declared.targets.Entry.{Entry}
+use Rattle.fault_search.specs.Walks.{IsWalked, KeepSettled}
+use Rattle.prefix_sensitize.specs.Passes.{IsHalfway}
 use Rattle.prefix_sensitize.proofs.Walking.{grown_not, grown_on, halfway_more, halfway_none, passed, walked_up}
 use Rattle.prefix_sensitize.proofs.passes.pass.Goals as goal
 

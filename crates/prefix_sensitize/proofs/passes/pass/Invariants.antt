@@ -1,7 +1,8 @@
 use Rattle.std.proofs.Common.{◌+◌, ◌*◌, ◌≤◌}
 use Rattle.refutation_check.specs.Lawful.{most_steps}
-use Rattle.prefix_sensitize.specs.Entering.{IsAtRest}
-use Rattle.prefix_sensitize.specs.Walks.{IsGrown, IsHalfway}
+use Rattle.fault_search.specs.Entering.{IsAtRest}
+use Rattle.fault_search.specs.Walks.{IsGrown}
+use Rattle.prefix_sensitize.specs.Passes.{IsHalfway}
 use Rattle.prefix_sensitize.proofs.passes.pass.Given as goal
 
 -- the walk has come to this entry

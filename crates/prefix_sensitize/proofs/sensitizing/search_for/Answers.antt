@@ -8,7 +8,7 @@ use Rattle.verdict_runs.specs.declared.findings.Outcomes.{Outcomes}
 use Rattle.verdict_runs.specs.Findings.{is_test}
 use Rattle.pd_base.specs.declared.fault.Kind.TheVariants.{Nonrobust}
 use Rattle.prefix_sensitize.specs.Gathering.{AreSearchedFor, IsGrownFor, both_kinds}
-use Rattle.prefix_sensitize.specs.Walks.{IsPassed}
+use Rattle.prefix_sensitize.specs.Passes.{IsPassed}
 use Rattle.prefix_sensitize.proofs.BothKinds.{grown_for, searched_for}
 use Rattle.prefix_sensitize.proofs.sensitizing.search_for.Goals as goal
 

@@ -6,7 +6,7 @@ use Rattle.netlist.specs.Circuit.{Circuit}
 use Rattle.delay_annotation.specs.Annotation.{delays_of}
 use Rattle.implication.specs.Standing.{Standing}
 use Rattle.prefix_sensitize.specs.Gathering.{AreSearchedFor}
-use Rattle.prefix_sensitize.specs.Walks.{AreListed, AreRefutations, searches_with}
+use Rattle.fault_search.specs.Walks.{AreListed, AreRefutations, searches_with}
 use Rattle.prefix_sensitize.proofs.Findings.{are_findings, listed_first}
 use Rattle.prefix_sensitize.proofs.sensitizing.sensitize_all.Goals as goal
 

@@ -1,0 +1,6 @@
+pub mod Places
+mod Begins
+mod Refuted
+mod Pins
+mod Writing
+mod Visits

@@ -1,0 +1,5 @@
+pub mod Prefixes
+pub mod Entering
+pub mod Entries
+pub mod Walks
+pub mod Refuting
