@@ -2,12 +2,12 @@
 //! measured_inputs and hulls, and is no part of the product. The program `measure` uses `hull`, `sweep` and `evaluate`.
 #![tactic(auto)]
 
-mod evaluate;
-mod hull;
+mod evaluating;
+mod hull_lines;
 mod prefix;
 mod question;
-mod sweep;
+mod sweeping;
 
-pub use evaluate::evaluate;
-pub use hull::hull;
-pub use sweep::sweep;
+pub use evaluating::evaluate;
+pub use hull_lines::hull;
+pub use sweeping::sweep;

@@ -1,5 +1,5 @@
 // What is narrowed: a netlist by the conditions of a prefix.
-ghost use Rattle.std.specs.Prelude.{◌<◌};
+ghost use Rattle.std.specs.Prelude.{◌<◌, IfOk};
 ghost use Rattle.netlist.specs.Circuit.{line_count};
 ghost use Rattle.netlist.specs.Paths.{IsPrefix};
 
@@ -17,7 +17,6 @@ pub struct Question {
     pub prefix: Path,
     pub direction: Direction,
     pub kind: Kind,
-    ghost leads: { IsPrefix net prefix },
 }
 
 /// What five words ask for: the file NET, the source and the steps, the direction and the kind.
@@ -25,7 +24,9 @@ pub fn question_of<F: Files>(
     alloc: Global,
     files: &mut F,
     words: [&str; 5],
-) -> Result<Question, Stop> {
+) -> Result<Question, Stop>
+    ensures { IfOk result (λ question. IsPrefix question.net question.prefix) }
+{
     let [net, source, steps, direction, kind] = words;
     let direction = direction_of(direction)?;
     let kind = kind_of(kind)?;

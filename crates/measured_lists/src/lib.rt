@@ -2,6 +2,6 @@
 //! the product. The program `measure` uses `list`.
 #![tactic(auto)]
 
-mod list;
+mod listing;
 
-pub use list::list;
+pub use listing::list;

@@ -3,11 +3,11 @@
 #![tactic(auto)]
 
 mod question;
-mod replay;
-mod sort;
+mod replaying;
+mod sorting;
 mod vectors;
-mod waves;
+mod wave_lines;
 
-pub use replay::replay;
-pub use sort::sort;
-pub use waves::waves;
+pub use replaying::replay;
+pub use sorting::sort;
+pub use wave_lines::waves;

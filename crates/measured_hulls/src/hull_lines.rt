@@ -2,6 +2,7 @@
 // prefix, or where the start closes a line that has none.
 ghost use Rattle.std.specs.Prelude.{◌≡◌, ◌<◌, length};
 ghost use Rattle.netlist.specs.Circuit.{line_count};
+ghost use Rattle.netlist.specs.Paths.{IsPrefix};
 
 use crate::question::{Question, question_of, write_empty};
 use hulls::Hull;
@@ -34,7 +35,9 @@ pub fn hull<F: Files, S: Sink>(
 }
 
 // Writes the lines of a hull.
-fn write_hull<S: Sink>(alloc: Global, out: &mut S, question: &Question) -> Result<(), Stop> {
+fn write_hull<S: Sink>(alloc: Global, out: &mut S, question: &Question) -> Result<(), Stop>
+    requires { IsPrefix question.now.net question.now.prefix }
+{
     let net = &question.net;
     match hulls::hull(
         alloc,

@@ -2,6 +2,7 @@
 // more, each time is one sweep over all gates.
 ghost use Rattle.std.specs.Prelude.{◌<◌, IfOk, IfSome};
 ghost use Rattle.netlist.specs.Circuit.{line_count};
+ghost use Rattle.netlist.specs.Paths.{IsPrefix};
 ghost use Rattle.state_sets.specs.FourStates.{four_states};
 ghost use Rattle.state_sets.specs.Labellings.{IsLabelling};
 ghost use Rattle.hulls.specs.Conditions.{IsEnteredOn};
@@ -43,6 +44,7 @@ pub fn sweep<F: Files, S: Sink>(
 
 // Narrows the hull. Gives a line that has no state, if there is one.
 fn sweep_hull(alloc: Global, question: &Question, times: u32) -> Result<Option<LineId>, OutOfMemory>
+    requires { IsPrefix question.now.net question.now.prefix }
     ensures { IfOk result (λ empty. IfSome empty (λ line. line.0 < line_count question.now.net)) }
 {
     let net = &question.net;
@@ -66,7 +68,8 @@ fn sweep_labels(
     mut labels: Labels<FourStates>,
     times: u32,
 ) -> Result<Option<LineId>, OutOfMemory>
-    requires { IsLabelling four_states.count question.now.net labels }
+    requires prefix { IsPrefix question.now.net question.now.prefix }
+    requires labelling { IsLabelling four_states.count question.now.net labels }
     ensures { IfOk result (λ empty. IfSome empty (λ line. line.0 < line_count question.now.net)) }
 {
     let net = &question.net;

@@ -2,7 +2,7 @@
 ghost use Rattle.std.specs.Prelude.{◌≡◌, length};
 ghost use Rattle.netlist.specs.Circuit.{line_count};
 
-use crate::question::{question_of, replayed};
+use crate::question::{Question, question_of, replayed};
 use itoa::Buffer;
 use measured_inputs::{Stop, write};
 use netlist::Netlist;
@@ -28,9 +28,14 @@ pub fn waves<F: Files, S: Sink>(
         second.as_str(),
     ];
     let question = question_of(alloc, files, words)?;
-    let waves = replayed(alloc, &question)?;
-    let text = lines_of(alloc, &question.net, waves.as_slice())?;
+    let text = text_of(alloc, &question)?;
     write(out, text.as_slice())
+}
+
+// The lines of the waves.
+fn text_of(alloc: Global, question: &Question) -> Result<Vec<u8>, Stop> {
+    let waves = replayed(alloc, question)?;
+    Ok(lines_of(alloc, &question.net, waves.as_slice())?)
 }
 
 // A line for each of the waves.
