@@ -1,5 +1,5 @@
-//! The subcommand `list` of `measure`, by the lister of the product. Stands on measured_inputs and path_lister, and is no part of
-//! the product. The program `measure` uses `list`.
+//! The subcommand `list` of `measure`, by the lister of the product. Stands on measured_inputs and path_lister, and is no part
+//! of the product. The program `measure` uses `list`.
 #![tactic(auto)]
 
 mod listing;

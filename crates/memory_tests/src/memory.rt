@@ -1,5 +1,5 @@
-// The objects in memory: with ample memory their calls succeed, and exactly those fail that are planned to. What a row tries is one
-// function, whose answer the test asserts.
+// The objects in memory: with ample memory their calls succeed, and exactly those fail that are planned to. What a row tries
+// is one function, whose answer the test asserts.
 ghost use Rattle.std.specs.Prelude.{◌<◌};
 
 use memory_files::{FileCall, MOST_AT_ONCE, MemoryFiles, MemorySink, SteadyFiles, SteadySink};
