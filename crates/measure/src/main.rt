@@ -1,24 +1,15 @@
 //! The program `measure`, which the scripts of bench/ run: calls of the product's libraries, each in a process of its own. It is
-//! no part of the product. A subcommand is one file here, and all of them read their inputs by inputs.rt, as the product does.
-//! What refuses an input is told by the product's line on err. Stands on call_inputs, and on the crates whose calls it makes.
+//! no part of the product. What refuses an input is told by the product's line on err. Stands on system_files, and on the crates
+//! of its subcommands: measured_lists, measured_waves and measured_hulls.
 #![tactic(auto)]
 
-mod evaluate;
-mod hull;
-mod inputs;
-mod list;
-mod output;
-mod prefix;
-mod replay;
-mod sort;
-mod stop;
-mod sweep;
-mod vectors;
-mod waves;
-
-use std::io;
+use measured_hulls::{evaluate, hull, sweep};
+use measured_inputs::Stop;
+use measured_lists::list;
+use measured_waves::{replay, sort, waves};
 use std::process::ExitCode;
-use stop::Stop;
+use std::{env, io};
+use system_files::{StdFiles, StdSink};
 
 // What the program is called with.
 const USAGE: &str = "measure: list NET DELAYS PATHS
@@ -33,7 +24,7 @@ fn main(rt: HostRuntime) -> ExitCode {
     match measure(rt) {
         Ok(()) => ExitCode::SUCCESS,
         Err(stop) => {
-            stop.tell(rt, USAGE);
+            stop.tell(&mut StdSink::new(rt.stderr()), USAGE);
             ExitCode::FAILURE
         }
     }
@@ -51,9 +42,9 @@ fn measure(rt: HostRuntime) -> Result<(), Stop> {
 }
 
 // The words behind the program's own name.
-fn arguments<R: std::env::Env + AllocGlobal>(rt: &R) -> io::Result<Vec<String>> {
+fn arguments<R: env::Env + AllocGlobal>(rt: &R) -> io::Result<Vec<String>> {
     let mut arguments = Vec::new(rt.alloc());
-    for argument in std::env::args(rt)?.skip(1) {
+    for argument in env::args(rt)?.skip(1) {
         arguments.push(argument)?;
     }
     Ok(arguments)
@@ -61,14 +52,17 @@ fn arguments<R: std::env::Env + AllocGlobal>(rt: &R) -> io::Result<Vec<String>> 
 
 // Calls the subcommand of this name.
 fn call(rt: HostRuntime, name: &str, words: &[String]) -> Result<(), Stop> {
+    let alloc = rt.alloc();
+    let files = &mut StdFiles::new(alloc, rt);
+    let out = &mut StdSink::new(rt.stdout());
     match name {
-        "list" => list::list(rt, words),
-        "waves" => waves::waves(rt, words),
-        "replay" => replay::replay(rt, words),
-        "sort" => sort::sort(rt, words),
-        "hull" => hull::hull(rt, words),
-        "sweep" => sweep::sweep(rt, words),
-        "evaluate" => evaluate::evaluate(rt, words),
+        "list" => list(alloc, files, out, words),
+        "waves" => waves(alloc, files, out, words),
+        "replay" => replay(alloc, files, out, words),
+        "sort" => sort(alloc, out, words),
+        "hull" => hull(alloc, files, out, words),
+        "sweep" => sweep(alloc, files, out, words),
+        "evaluate" => evaluate(alloc, files, out, words),
         _ => Err(Stop::Words),
     }
 }
