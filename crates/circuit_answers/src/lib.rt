@@ -3,7 +3,7 @@
 #![tactic(auto)]
 
 mod circuits;
-mod values;
+mod lines;
 
 pub use circuits::{facts, text};
-pub use values::{steadiness, support_of, values};
+pub use lines::{steadiness, support_of, values};
