@@ -32,7 +32,7 @@ pub fn asked(alloc: Global, subject: &Subject, word: &str, row: &str) -> Result<
         // whether the sides of a path have settled: the time, both vectors, and the path
         "settled" => wave_answers::sides(alloc, net, delays, row),
         // the five values of all lines where the sources have these
-        "five" => state_answers::values(alloc, net, row),
+        "five" => circuit_answers::five_values(alloc, net, row),
         // the hull below these halves: transition, kind, and for each half a split, as in a tree, and behind a dot 1 or 2
         "hull" => tree_answers::hull_at(alloc, net, prefix, row),
         // whether a tree refutes: transition, kind, and its nodes

@@ -1,5 +1,5 @@
 // The five values of the lines of a netlist.
-ghost use Rattle.std.specs.Prelude.{◌≡◌, vec_len, IfOk};
+ghost use Rattle.std.specs.Prelude.{◌≡◌, length, vec_len, IfOk};
 ghost use Rattle.netlist.specs.Circuit.{source_count};
 
 use five_valued::{Five, simulate};
@@ -8,10 +8,9 @@ use row_texts::Trouble;
 use std::alloc::Global;
 
 /// The values of all lines, by line number, where the sources have those that the words spell, in their order.
-pub fn values(alloc: Global, net: &Netlist, words: &str) -> Result<String, Trouble> {
+pub fn five_values(alloc: Global, net: &Netlist, words: &str) -> Result<String, Trouble> {
     let partial = sources(alloc, net, words)?;
-    let mut values = vec![in alloc; Five::XX; net.lines() as usize]?;
-    simulate(net, partial.as_slice(), values.as_mut_slice());
+    let values = simulated(alloc, net, partial.as_slice())?;
     let mut text = String::from_str(alloc, " ")?;
     for value in values.as_slice() {
         text.push(' ')?;
@@ -19,6 +18,15 @@ pub fn values(alloc: Global, net: &Netlist, words: &str) -> Result<String, Troub
     }
     text.push('\n')?;
     Ok(text)
+}
+
+// The values of all lines. It promises nothing, so that the answers are not proved over again under the contract of `simulate`.
+fn simulated(alloc: Global, net: &Netlist, partial: &[Five]) -> Result<Vec<Five>, Trouble>
+    requires { length partial.now ≡ source_count net.now }
+{
+    let mut values = vec![in alloc; Five::XX; net.lines() as usize]?;
+    simulate(net, partial, values.as_mut_slice());
+    Ok(values)
 }
 
 // One value for each source.
