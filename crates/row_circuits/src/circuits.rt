@@ -1,9 +1,10 @@
-// Netlists and vectors of rows.
-ghost use Rattle.std.specs.Prelude.{◌≡◌, vec_len, IfOk};
-ghost use Rattle.netlist.specs.Circuit.{source_count};
+// Netlists, names of their lines, and vectors of rows.
+ghost use Rattle.std.specs.Prelude.{◌≡◌, ◌<◌, length, vec_len, IfOk};
+ghost use Rattle.netlist.specs.Circuit.{line_count, source_count};
 
 use bench_reader::read_bench;
 use netlist::Netlist;
+use pd_base::{LineId, Pair};
 use row_texts::{Trouble, spelled_out};
 use std::alloc::Global;
 
@@ -20,6 +21,22 @@ pub fn read(alloc: Global, row: &str) -> Result<Option<Netlist>, Trouble> {
         Ok(net) => Ok(Some(net)),
         Err(_) => Ok(None),
     }
+}
+
+/// The name of a line.
+pub fn name(net: &Netlist, line: LineId) -> Result<&str, Trouble>
+    requires { line.0 < line_count net.now }
+{
+    str::from_utf8(net.name(line)).map_err(|_| Trouble::NoText)
+}
+
+/// A pair of vectors with one bit for each source.
+pub fn pair(alloc: Global, net: &Netlist, first: &str, second: &str) -> Result<Pair, Trouble>
+    ensures { IfOk result (λ pair. length pair.first ≡ source_count net.now) }
+{
+    let first = vector(alloc, net, first)?;
+    let second = vector(alloc, net, second)?;
+    Ok(Pair::new(first, second))
 }
 
 /// A vector with one bit for each source.

@@ -1,4 +1,4 @@
-// Signs of a row that stand for bytes, `\n` for LF and so on; and numbers in a row.
+// Signs of a row that stand for bytes, `\n` for LF and so on; and words and numbers in a row.
 use crate::Trouble;
 use std::alloc::{AllocError, Global};
 
@@ -45,6 +45,11 @@ pub fn shown(alloc: Global, text: &str) -> Result<String, AllocError> {
         }
     }
     Ok(shown)
+}
+
+/// The first word, and what stands behind the space after it.
+pub fn parted(row: &str) -> Result<(&str, &str), Trouble> {
+    row.split_once(' ').ok_or(Trouble::NoRow)
 }
 
 /// The number that a part of a row spells.

@@ -1,0 +1,105 @@
+// What rows speak of, and the rows that say so. A row is a word, a space, and what the word asks for; `\n` stands there for LF, and
+// so on. A line that is empty or begins with `#` is for the reader. A question is to the last netlist and its delays.
+use crate::questions::asked;
+use netlist::Netlist;
+use row_circuits::read;
+use row_texts::{Trouble, spelled_out};
+use std::alloc::Global;
+
+/// What rows speak of.
+#[derive(Drop)]
+pub struct Subject {
+    /// The last netlist, if it was not refused.
+    pub net: Option<Netlist>,
+    /// The text of its delay file; without one each pin has a delay of one unit.
+    pub delays: Option<String>,
+    /// Whether a delay file prints nothing.
+    pub quiet: bool,
+    /// The text of a prefix, below which trees stand.
+    pub prefix: String,
+}
+
+impl Subject {
+    /// Nothing yet.
+    pub fn new(alloc: Global) -> Subject {
+        Subject {
+            net: None,
+            delays: None,
+            quiet: false,
+            prefix: String::new(alloc),
+        }
+    }
+
+    // From now on questions are to the netlist of this text, with unit delays.
+    fn take(&mut self, alloc: Global, text: &str) -> Result<(), Trouble> {
+        self.net = read(alloc, text)?;
+        self.delays = None;
+        Ok(())
+    }
+}
+
+/// What came of a row.
+pub fn answer(alloc: Global, subject: &mut Subject, line: &str) -> Result<String, Trouble> {
+    if line.is_empty() || line.starts_with('#') {
+        return Ok(String::new(alloc));
+    }
+    let (word, rest) = line.split_once(' ').unwrap_or((line, ""));
+    match word {
+        // the canonical text of the netlist of this text, or that it is refused
+        "text" => text(alloc, rest),
+        // the same, and what else is said of it; from now on questions are to this netlist, with unit delays
+        "net" => {
+            subject.take(alloc, rest)?;
+            facts(alloc, subject)
+        }
+        _ => {
+            if set(alloc, subject, word, rest)? {
+                Ok(String::new(alloc))
+            } else {
+                asked(alloc, subject, word, rest)
+            }
+        }
+    }
+}
+
+// Takes a row that only says what later rows speak of. Tells whether it is one.
+fn set(alloc: Global, subject: &mut Subject, word: &str, rest: &str) -> Result<bool, Trouble> {
+    match word {
+        // the netlist of this text, with unit delays
+        "use" => subject.take(alloc, rest)?,
+        // unit delays
+        "unit" => subject.delays = None,
+        // this delay file; where it is to print what it says, it is a question too
+        "delays" => {
+            subject.delays = Some(spelled_out(alloc, rest)?);
+            return Ok(subject.quiet);
+        }
+        // no delay file prints what it says
+        "quiet" => subject.quiet = true,
+        // this prefix
+        "prefix" => subject.prefix = spelled_out(alloc, rest)?,
+        _ => return Ok(false),
+    }
+    Ok(true)
+}
+
+// The canonical text of the netlist of a text.
+fn text(alloc: Global, text: &str) -> Result<String, Trouble> {
+    match read(alloc, text)? {
+        Some(net) => circuit_answers::text(alloc, &net),
+        None => refused(alloc),
+    }
+}
+
+// What is said of the last netlist.
+fn facts(alloc: Global, subject: &Subject) -> Result<String, Trouble> {
+    match subject.net.as_ref() {
+        Some(net) => circuit_answers::facts(alloc, net),
+        None => refused(alloc),
+    }
+}
+
+// That a netlist is refused.
+fn refused(alloc: Global) -> Result<String, Trouble> {
+    Ok(String::from_str(alloc, "  refused\n")?)
+}
