@@ -4,13 +4,13 @@
 #![tactic(auto)]
 
 mod choice;
+#[cfg(test)]
 mod leaving;
+#[cfg(test)]
 mod marking;
+#[cfg(test)]
 mod nesting;
 #[cfg(test)]
 mod two_ways;
 
 pub use choice::Choice;
-pub use leaving::assume_both;
-pub use marking::keep_agreeing;
-pub use nesting::walk;

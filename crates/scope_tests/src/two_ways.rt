@@ -1,9 +1,10 @@
 // A source that reaches a gate in two ways, as a test: y = AND(a, n) with n = BUFF(a). With a falling, n falls too, so no side pin of y
 // ends at 1.
 ghost use Rattle.std.specs.Prelude.{◌≡◌, ◌<◌, IfSome};
-ghost use Rattle.netlist.specs.Circuit.{line_count};
+ghost use Rattle.netlist.specs.Circuit.{gate_count, source_count};
 ghost use Rattle.netlist.specs.Pins.{IsPinOn};
-ghost use Rattle.implication.specs.Scopes.{standing};
+ghost use Rattle.implication.specs.Scopes.{IsSameScope, standing};
+ghost use Rattle.implication.specs.Clients.{Extends};
 
 use bench_reader::read_bench;
 use implication::{Engine, HasNetlist, Scope};
@@ -29,49 +30,73 @@ fn all_have<N: HasNetlist>(scope: &Scope<FourStates, N>, set: StateSet) -> bool
     true
 }
 
-// The first pin of a gate, if it is on this line.
+// The first pin of a gate, if it reads this line.
 fn first_pin(net: &Netlist, line: LineId, gate: GateId) -> Option<PinRef>
-    requires { line.0 < line_count net.now }
+    requires { gate.0 < gate_count net.now }
     ensures { IfSome result (λ pin. IsPinOn net.now pin line.0) }
 {
-    for pin in net.fanout(line) {
-        if pin.gate == gate && pin.pin == 0 {
-            return Some(*pin);
-        }
+    match net.pins(gate).get(0) {
+        Some(read) if *read == line => Some(PinRef { gate, pin: 0 }),
+        _ => None,
     }
-    None
+}
+
+// Whether a falls without a conflict, and with it all lines, until y is entered: then a conflict stands, which an assumption does not
+// change, and there was no other.
+fn falls_into_a_conflict(engine: &mut Engine<FourStates, Netlist>) -> bool
+    requires idle { engine.old.beginning ≡ None }
+    requires source { 0 < source_count engine.old.net }
+    requires gates { 1 < gate_count engine.old.net }
+    ensures idle { engine.new.beginning ≡ None }
+    ensures net { engine.new.net ≡ engine.old.net }
+{
+    let mut scope = Scope::begin(engine, LineId(0), Direction::Fall, Kind::Nonrobust);
+    let begins = scope.conflict().is_none() && all_have(&scope, FALLS);
+    let mut inner = scope.engine.scope();
+    let ends = meets_its_conflict(&mut inner);
+    inner.close();
+    scope.close();
+    begins && ends
+}
+
+// Whether the pin of y on a leads to the first conflict, which stays.
+fn meets_its_conflict(scope: &mut Scope<FourStates, Netlist>) -> bool
+    requires source { 0 < source_count (standing scope.old).net }
+    requires gates { 1 < gate_count (standing scope.old).net }
+    ensures scope { IsSameScope scope.old scope.new }
+    ensures extends { Extends (standing scope.old) (standing scope.new) }
+{
+    let Some(pin) = first_pin(scope.net(), scope.last_line(), GateId(1)) else {
+        return false;
+    };
+    let mut steps = Steps::start(());
+    let Err(conflict) = scope.enter(pin, &mut steps) else {
+        return false;
+    };
+    steps.count() == 1 && scope.assume(LineId(0), RISES) == Err(conflict) && scope.closings() == 1
+}
+
+// Whether a rises without a conflict, and with it all lines.
+fn rises_freely(engine: &mut Engine<FourStates, Netlist>) -> bool
+    requires idle { engine.old.beginning ≡ None }
+    requires source { 0 < source_count engine.old.net }
+{
+    let scope = Scope::begin(engine, LineId(0), Direction::Rise, Kind::Nonrobust);
+    scope.conflict().is_none() && all_have(&scope, RISES)
 }
 
 #[test]
-fn falls_into_a_conflict_and_rises_freely(rt: HostRuntime) {
+fn a_signal_that_falls_by_two_ways_closes_its_path(rt: HostRuntime) {
     let text = b"INPUT(a)\nOUTPUT(y)\nn = BUFF(a)\ny = AND(a, n)\n";
     let Ok(net) = read_bench(rt.alloc(), text) else {
         panic!(rt; "a netlist");
     };
     assert_eq!(rt; net.sources(), 1);
+    assert_eq!(rt; net.gates(), 2);
     assert_eq!(rt; net.lines(), 3);
     let Ok(mut engine) = Engine::<FourStates, Netlist>::new(rt.alloc(), net) else {
         panic!(rt; "room for an engine");
     };
-    let mut scope = Scope::begin(&mut engine, LineId(0), Direction::Fall, Kind::Nonrobust);
-    assert!(rt; scope.conflict().is_none());
-    assert!(rt; all_have(&scope, FALLS));
-
-    let mut inner = scope.engine.scope();
-    let Some(pin) = first_pin(inner.net(), inner.last_line(), GateId(1)) else {
-        panic!(rt; "y reads a");
-    };
-    let mut steps = Steps::start(());
-    let Err(conflict) = inner.enter(pin, &mut steps) else {
-        panic!(rt; "a conflict");
-    };
-    assert_eq!(rt; steps.count(), 1);
-    assert!(rt; inner.assume(LineId(0), RISES) == Err(conflict));
-    assert_eq!(rt; inner.closings(), 1);
-    inner.close();
-    scope.close();
-
-    let scope = Scope::begin(&mut engine, LineId(0), Direction::Rise, Kind::Nonrobust);
-    assert!(rt; scope.conflict().is_none());
-    assert!(rt; all_have(&scope, RISES));
+    assert!(rt; falls_into_a_conflict(&mut engine));
+    assert!(rt; rises_freely(&mut engine));
 }
