@@ -15,21 +15,17 @@ const FOLDER: &str = ".";
 #[test]
 fn real_files_are_written_and_read(rt: HostRuntime) -> Result<(), Fail> {
     let text = vec![in rt.alloc(); 7u8; 9000]?;
-    let mut files = StdFiles::new(rt.alloc(), &rt);
-    write_whole(&mut files, "name", text.as_slice())?;
-    assert!(rt; is_read_up_to_its_length(&rt, &mut files, text.as_slice())?);
+    assert!(rt; is_written_and_read(&rt, text.as_slice())?);
     Ok(())
 }
 
-// Whether the file that has this text of 9,000 bytes is read, and is too long for less.
-fn is_read_up_to_its_length(
-    rt: &HostRuntime,
-    files: &mut StdFiles<&HostRuntime>,
-    text: &[u8],
-) -> Result<bool, ReadFault> {
-    let again = read_whole(rt.alloc(), files, "name", 9000)?;
-    let over = read_whole(rt.alloc(), files, "name", 8999);
-    Ok(again.as_slice() == text && matches!(over, Err(ReadFault::TooLong)))
+// Whether a file is written with this text of 9,000 bytes, read again, and too long for less.
+fn is_written_and_read(rt: &HostRuntime, text: &[u8]) -> Result<bool, ReadFault> {
+    let mut files = StdFiles::new(rt.alloc(), rt);
+    let written = write_whole(&mut files, "name", text).is_ok();
+    let again = read_whole(rt.alloc(), &mut files, "name", 9000)?;
+    let over = read_whole(rt.alloc(), &mut files, "name", 8999);
+    Ok(written && again.as_slice() == text && matches!(over, Err(ReadFault::TooLong)))
 }
 
 #[test]
