@@ -8,24 +8,22 @@ ghost use Rattle.implication.specs.Standing.{IsOpenIn};
 ghost use Rattle.implication.specs.Moves.{back_at, risen, start_at};
 ghost use Rattle.implication.specs.Scopes.{IsSameScope, standing};
 ghost use Rattle.implication.specs.Clients.{IsRestored};
-ghost use Rattle.justify.specs.Desks.{IsDesk};
+ghost use Rattle.pair_trial.specs.Desks.{IsDesk};
+ghost use Rattle.pair_trial.specs.Tests.{IsFitTest};
+ghost use Rattle.tree_growth.specs.UnderWay.{IsUnderWay};
+ghost use Rattle.tree_growth.specs.Growths.{IsGrowing};
 ghost use Rattle.justify.specs.Answers.{IsFound, CountsConflicts, HasCounted};
-ghost use Rattle.justify.specs.Growths.{IsEntered, IsShut, IsGrowing};
-ghost use Rattle.justify.specs.Scoping.{IsStart, IsUnderWay};
-ghost use Rattle.justify.specs.Tests.{IsFitTest};
+ghost use Rattle.justify.specs.Scoping.{IsStart};
 
 use crate::Found;
-use crate::backtrace::backtrace;
-use crate::desk::{Desk, make_desk};
 use crate::ending::end;
-use crate::growing::{Growth, Place};
-use crate::proposing::try_proposed;
-use crate::trial::try_pair;
 use implication::{HasNetlist, Scope};
+use pair_trial::{Desk, make_desk, try_pair, try_proposed};
 use pd_base::{Direction, Kind, OutOfMemory, Pair, Path};
 use refutation_check::Node;
 use state_sets::FourStates;
 use std::alloc::Global;
+use tree_growth::{Growth, Place, backtrace, enter};
 
 /// Searches for a test of a kind for a path and a transition, on a scope that has begun with these and has entered the path's pins.
 /// At each node of the tree of cases a pair is tried, and a node that it fails at is split, as long as the budget lasts, which is a
@@ -195,26 +193,4 @@ fn visit<N: HasNetlist>(
         budget,
     )?;
     Ok(None)
-}
-
-// Goes back to the mark of a place, and assumes its set. Where a conflict comes, that is taken back.
-fn enter<N: HasNetlist>(scope: &mut Scope<FourStates, N>, place: Place) -> bool
-    requires start { start_at scope.old.origin ≤ place.mark.at }
-    requires now { place.mark.at ≤ length (standing scope.old).assumptions }
-    requires source { place.source.0 < source_count (standing scope.old).net }
-    requires set { IsWithin 4 place.set }
-    requires begun { IsSome (standing scope.old).beginning }
-    requires free { (standing scope.old).conflict ≡ None }
-    requires left_open { IsOpenIn four_states (back_at (standing scope.old) place.mark.at) }
-    ensures scope { IsSameScope scope.old scope.new }
-    ensures entered { IsTrue result → IsEntered place (standing scope.old) (standing scope.new) }
-    ensures later { (standing scope.old).closings ≤ (standing scope.new).closings }
-    ensures shut { result ≡ false → IsShut place (standing scope.old) (standing scope.new) }
-{
-    scope.back_to(place.mark);
-    if scope.assume(place.source, place.set).is_ok() {
-        return true;
-    }
-    scope.back_to(place.mark);
-    false
 }

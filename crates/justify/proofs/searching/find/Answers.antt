@@ -3,7 +3,7 @@ use Rattle.pd_base.specs.declared.ids.LineId.{LineId}
 use Rattle.netlist.specs.Circuit.{Circuit}
 use Rattle.state_sets.specs.States.{all_states}
 use Rattle.implication.specs.Scopes.{standing}
-use Rattle.justify.specs.declared.growing.Place.{Place}
+use Rattle.tree_growth.specs.declared.growing.Place.{Place}
 use Rattle.justify.specs.Answers.{IsFound}
 use Rattle.justify.proofs.Starting.{start_end_within, start_desk, start_growing}
 use Rattle.justify.proofs.Ended.{at_none, end_is_tree, end_few, end_found, end_counts}
