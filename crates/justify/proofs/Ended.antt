@@ -1,7 +1,7 @@
 -- A search whose tree is whole: what it answers, and how many conflicts were counted.
-use Rattle.std.proofs.Common.{◌≡◌, ℕ, ◌+◌, ◌-◌, ◌*◌, ◌<◌, ◌≤◌, ◌^◌, inl, inr, ⊎_elim, false, List, [], ◌∷◌, length, Option, Some, None, Result, Ok, Err, sym, ap, ◌∙◌, subst, arith}
-use Rattle.std.specs.Prelude.{is_some, IfOk, IfNone, count_by}
-use Rattle.std.proofs.lemmas.Bool.{cases_lt, false≢true}
+use Rattle.std.proofs.Common.{◌≡◌, ℕ, ◌+◌, ◌-◌, ◌*◌, ◌<◌, ◌≤◌, ◌^◌, inl, inr, ⊎_elim, List, [], ◌∷◌, length, Option, None, Result, Ok, Err, sym, ap, ◌∙◌, subst, arith}
+use Rattle.std.specs.Prelude.{IfOk, IfNone, count_by}
+use Rattle.std.proofs.lemmas.Bool.{cases_lt}
 use Rattle.std.proofs.lemmas.List.Sums.{count_by-le-length}
 use Rattle.pd_base.specs.Route.{Route}
 use Rattle.pd_base.specs.declared.fault.Direction.{Direction}
@@ -26,11 +26,6 @@ use Rattle.tree_growth.specs.Growths.{AreStacked, IsGrowing}
 -- what holds of no value
 pub at_none : {T : Type 0} {X : Type 0} (value : Option T) → value ≡ None → IfNone value X → X
 at_none {T} {X} value none holds = let P : Option T → Type 0 = λ v. IfNone v X in subst P none holds
-
--- what holds where there is no value
-pub from_none : {T : Type 0} {X : Type 0} (value : Option T) → is_some value ≡ false → IfNone value X → X
-from_none None none holds = holds
-from_none (Some value) none holds = absurd (false≢true (sym none))
 
 -- one conflict more was counted
 pub counted_more : (n : ℕ) (first middle last : Standing) → HasCounted n first middle → risen middle.closings ≤ last.closings

@@ -32,7 +32,7 @@ use Rattle.tree_growth.specs.declared.growing.Place.{Place}
 use Rattle.tree_growth.specs.Growths.{IsNodeWith, IsPlace, IsGrowing}
 use Rattle.tree_growth.specs.UnderWay.{IsUnderWay}
 use Rattle.justify.specs.Scoping.{IsStart}
-use Rattle.tree_growth.proofs.Visiting.{free_at, growing_same}
+use Rattle.tree_growth.proofs.Visits.{free_at, growing_same}
 
 -- the pins of steps that were entered are the steps
 entered_all : (steps : List PinRef) → entered_pins (map (λ step. Entered step) steps) ≡ steps

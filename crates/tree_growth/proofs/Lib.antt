@@ -1,3 +1,3 @@
 mod HalfStates
 pub mod Placing
-pub mod Visiting
+pub mod Visits

@@ -1,4 +1,4 @@
-// The choice of a split. Any source of the support will do whose label has a state of each half: the one that backtracing.rt leads to,
+// The choice of a split. Any source of the support will do whose label has a state of each half: the one that backtrace.rt leads to,
 // else the first that has both last values, else the first that can be steady or not.
 ghost use Rattle.std.specs.Prelude.{◌≡◌, ◌<◌, ◌≤◌, ◌^◌, ℕ, true, false, IsTrue, IfSome, IfNone, length};
 ghost use Rattle.state_sets.specs.States.{Has, IsWithin, AreWithin};
@@ -10,13 +10,11 @@ ghost use Rattle.tree_growth.specs.Choices.{IsChoice};
 use crate::halves::{has_both_halves, way_to_split};
 use state_sets::StateSet;
 
-/// A split of the cases at a source, by steadiness or by the last value.
+// A split of the cases at a source, by steadiness or by the last value.
 #[derive(Clone, Copy, Debug, PartialEq, Eq)]
-pub struct Split {
-    /// The number of the source.
-    pub source: u32,
-    /// Whether the halves are steady and not steady. Else they are the last values 0 and 1.
-    pub steadiness: bool,
+pub(crate) struct Split {
+    pub(crate) source: u32,
+    pub(crate) steadiness: bool,
 }
 
 // A split at a marked source, of which each half has a state in the source's set: this one, if it is such. There is none where each

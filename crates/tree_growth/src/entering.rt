@@ -12,9 +12,8 @@ use crate::Place;
 use implication::{HasNetlist, Scope};
 use state_sets::FourStates;
 
-/// Goes back to the mark of a place, and assumes its set. True says that the scope stands at the node there, and each line has some
-/// state left. Else a conflict came, which was counted: the set is taken back, and the scope stands at the mark.
-pub fn enter<N: HasNetlist>(scope: &mut Scope<FourStates, N>, place: Place) -> bool
+// Goes back to the mark of a place, and assumes its set. Where a conflict comes, that is taken back.
+pub(crate) fn enter<N: HasNetlist>(scope: &mut Scope<FourStates, N>, place: Place) -> bool
     requires start { start_at scope.old.origin ≤ place.mark.at }
     requires now { place.mark.at ≤ length (standing scope.old).assumptions }
     requires source { place.source.0 < source_count (standing scope.old).net }

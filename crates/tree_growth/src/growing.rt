@@ -57,10 +57,9 @@ impl Growth {
         })
     }
 
-    /// What becomes of an open node at which a pair was tried: a leaf that waits, if no split is left of the budget, else a split,
-    /// which is the lead if that may be chosen; the places of its two halves are due next, the first half first. The one error is that
-    /// memory ran out, and then nothing is said of the growth.
-    pub fn extend(
+    // What becomes of an open node at which a pair was tried: a leaf that waits, if no split is left of the budget, else a split,
+    // which is the lead if that may be chosen.
+    pub(crate) fn extend(
         &mut self,
         lead: Option<Split>,
         sets: &[StateSet],

@@ -20,8 +20,11 @@ struct Lead {
     steadiness: bool,
 }
 
-/// The split that justifies a line among those that are marked, as far as one is seen. It is a hint: nothing is said of where it leads.
-pub fn backtrace<N: HasNetlist>(scope: &Scope<FourStates, N>, marks: &[bool]) -> Option<Split>
+// The split that justifies a line among those that are marked, as far as one is seen.
+pub(crate) fn backtrace<N: HasNetlist>(
+    scope: &Scope<FourStates, N>,
+    marks: &[bool],
+) -> Option<Split>
     requires { length marks.now ≡ line_count (standing scope.now).net }
 {
     let gate = unjustified(scope, marks)?;

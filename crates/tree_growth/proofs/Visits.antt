@@ -1,5 +1,7 @@
 -- A visit of the next place on a scope: how the scope stands there, and how the tree grows by what was found.
-use Rattle.std.proofs.Common.{◌≡◌, ℕ, ◌+◌, ◌<◌, ◌≤◌, Bool, true, false, List, [], ◌∷◌, ◌++◌, length, take, reverse, Option, None, nat_lt, if◌then◌else◌, refl, sym, ap, ◌∙◌, subst, arith}
+use Rattle.std.proofs.Common.{◌≡◌, ℕ, ◌+◌, ◌<◌, ◌≤◌, Bool, true, false, List, [], ◌∷◌, ◌++◌, length, take, reverse, Option, Some, None, nat_lt, if◌then◌else◌, refl, sym, ap, ◌∙◌, subst, arith}
+use Rattle.std.specs.Prelude.{is_some, IfNone}
+use Rattle.std.proofs.lemmas.Bool.{false≢true}
 use Rattle.std.proofs.lemmas.List.{take-take, length-take, length_push, reverse-append}
 use Rattle.pd_base.specs.Route.{Route}
 use Rattle.pd_base.specs.declared.fault.Direction.{Direction}
@@ -39,6 +41,11 @@ free_at standing mark free = by (nat_lt mark (length standing.assumptions))
     by : (b : Bool) → (if b then None else standing.conflict) ≡ None
     by true = refl
     by false = free
+
+-- what holds where there is no value
+pub from_none : {T : Type 0} {X : Type 0} (value : Option T) → is_some value ≡ false → IfNone value X → X
+from_none None none holds = holds
+from_none (Some value) none holds = absurd (false≢true (sym none))
 
 -- the places, the last one first
 pub reverse_push : {X : Type 0} (xs ys : List X) (x : X) → ys ≡ xs ++ x ∷ [] → reverse ys ≡ x ∷ reverse xs

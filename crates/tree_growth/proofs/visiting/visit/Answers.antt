@@ -1,9 +1,8 @@
 use Rattle.std.proofs.Common.{◌∙◌, sym, reverse}
 use Rattle.implication.specs.Scopes.{standing}
 use Rattle.tree_growth.proofs.Placing.{next_place}
-use Rattle.tree_growth.proofs.Visiting.{shut_under_way, shut_growing, entered_at_node, entered_below, last_under_way, extended_growing}
-use Rattle.justify.proofs.Ended.{from_none}
-use Rattle.justify.proofs.searching.visit.Goals as goal
+use Rattle.tree_growth.proofs.Visits.{shut_under_way, shut_growing, entered_at_node, entered_below, last_under_way, extended_growing, from_none}
+use Rattle.tree_growth.proofs.visiting.visit.Goals as goal
 
 pub returns-then-not-enter-clause-under_way : goal.returns-then-not-enter-clause-under_way
 returns-then-not-enter-clause-under_way g c =
