@@ -1,6 +1,7 @@
 -- A search whose tree is whole: what it answers, and how many conflicts were counted.
 use Rattle.std.proofs.Common.{◌≡◌, ℕ, ◌+◌, ◌-◌, ◌*◌, ◌<◌, ◌≤◌, ◌^◌, inl, inr, ⊎_elim, List, [], ◌∷◌, length, Option, None, Result, Ok, Err, sym, ap, ◌∙◌, subst, arith}
 use Rattle.std.specs.Prelude.{IfOk, IfNone, count_by}
+use Rattle.std.proofs.lemmas.Bool.{cases_lt}
 use Rattle.std.proofs.lemmas.List.Sums.{count_by-le-length}
 use Rattle.pd_base.specs.Route.{Route}
 use Rattle.pd_base.specs.declared.fault.Direction.{Direction}
@@ -14,16 +15,27 @@ use Rattle.tree_laws.specs.Spent.{IsSpent}
 use Rattle.search_laws.specs.Growing.{Grows}
 use Rattle.search_laws.proofs.Ending.{grown_is_tree, grown_length, grown_refutes, grown_spent}
 use Rattle.implication.specs.declared.assumption.Assumption.{Assumption}
+use Rattle.implication.specs.Moves.{risen}
 use Rattle.implication.specs.Standing.{Standing}
 use Rattle.justify.specs.declared.answer.Found.{Found}
 use Rattle.justify.specs.declared.answer.Found.TheVariants.{Test, Refuted, Spent}
 use Rattle.justify.specs.Answers.{IsFound, HasCounted, CountsConflicts, is_closed}
 use Rattle.justify.specs.Ends.{IsEnd}
-use Rattle.justify.specs.Growths.{AreStacked, IsGrowing}
+use Rattle.tree_growth.specs.Growths.{AreStacked, IsGrowing}
 
 -- what holds of no value
 pub at_none : {T : Type 0} {X : Type 0} (value : Option T) → value ≡ None → IfNone value X → X
 at_none {T} {X} value none holds = let P : Option T → Type 0 = λ v. IfNone v X in subst P none holds
+
+-- one conflict more was counted
+pub counted_more : (n : ℕ) (first middle last : Standing) → HasCounted n first middle → risen middle.closings ≤ last.closings
+    → HasCounted (n + 1) first last
+counted_more n first middle last counted later = ⊎_elim
+    (λ (less : middle.closings + 1 < 2 ^ 64 - 1). ⊎_elim
+    (λ (so_many : first.closings + n ≤ middle.closings). inl (omega arith))
+    (λ (all : 2 ^ 64 - 1 ≤ middle.closings). absurd (omega arith)) counted)
+    (λ (more : 2 ^ 64 - 1 ≤ middle.closings + 1). inr (omega arith))
+    (cases_lt (middle.closings + 1) (2 ^ 64 - 1))
 
 module _ (c : Circuit) (path : Route) (direction : Direction) (kind : Kind) (budget : ℕ) (list : List Assumption) (nodes : List Node) (n : ℕ)
     (growing : IsGrowing c path direction kind budget list [] nodes n) where

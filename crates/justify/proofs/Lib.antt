@@ -1,11 +1,2 @@
-pub mod Sets
-pub mod Lists
-pub mod Assuming
-pub mod Resting
-pub mod Nodes
-pub mod Walking
-pub mod Tried
-pub mod Placing
-pub mod Visiting
-pub mod Starting
-pub mod Ended
+mod Starting
+mod Ended

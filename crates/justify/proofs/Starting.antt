@@ -23,14 +23,16 @@ use Rattle.implication.specs.Assumptions.{entered_pins, IsLetBy}
 use Rattle.implication.specs.Clients.{IsRestored}
 use Rattle.implication.specs.Moves.{back_at}
 use Rattle.implication.specs.Standing.{Standing, IsOpenIn, end_of_scope, end_from}
-use Rattle.justify.specs.declared.desk.Desk.{Desk}
-use Rattle.justify.specs.declared.growing.Growth.{Growth}
-use Rattle.justify.specs.declared.growing.Place.{Place}
-use Rattle.justify.specs.Desks.{IsDesk, IsDeskFor}
-use Rattle.justify.specs.Growths.{IsPlace, IsGrowing}
-use Rattle.justify.specs.Scoping.{beginning_of, IsStart, IsUnderWay, IsNodeWith}
-use Rattle.justify.proofs.Resting.{open_under}
-use Rattle.justify.proofs.Visiting.{free_at, growing_same}
+use Rattle.pair_trial.specs.declared.desk.Desk.{Desk}
+use Rattle.pair_trial.specs.Desks.{IsDesk, IsDeskFor}
+use Rattle.pair_trial.specs.Nodes.{beginning_of}
+use Rattle.pair_trial.proofs.Resting.{open_under}
+use Rattle.tree_growth.specs.declared.growing.Growth.{Growth}
+use Rattle.tree_growth.specs.declared.growing.Place.{Place}
+use Rattle.tree_growth.specs.Growths.{IsNodeWith, IsPlace, IsGrowing}
+use Rattle.tree_growth.specs.UnderWay.{IsUnderWay}
+use Rattle.justify.specs.Scoping.{IsStart}
+use Rattle.tree_growth.proofs.Visits.{free_at, growing_same}
 
 -- the pins of steps that were entered are the steps
 entered_all : (steps : List PinRef) → entered_pins (map (λ step. Entered step) steps) ≡ steps

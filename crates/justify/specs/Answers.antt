@@ -10,9 +10,9 @@ use Rattle.refutation_check.specs.Trees.{split_count}
 use Rattle.tree_laws.specs.Refutations.{IsRefutation}
 use Rattle.tree_laws.specs.Spent.{IsSpent}
 use Rattle.implication.specs.Standing.{Standing}
+use Rattle.pair_trial.specs.Tests.{IsFitTest}
 use Rattle.justify.specs.declared.answer.Found.{Found}
 use Rattle.justify.specs.declared.answer.Found.TheVariants.{Test, Refuted, Spent}
-use Rattle.justify.specs.Tests.{IsFitTest}
 
 -- a test; a refutation of the conditions for the whole path, with at most so many splits; or a tree that spent exactly this budget
 abbrev pub IsFound : Circuit → Kind → Route → Direction → ℕ → Found → Type 0

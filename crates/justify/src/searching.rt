@@ -1,31 +1,26 @@
 // The search itself: depth first, one node after another in preorder, each with its assumptions on the scope.
-ghost use Rattle.std.specs.Prelude.{◌≡◌, ◌+◌, ◌*◌, ◌-◌, ◌<◌, ◌≤◌, ◌∷◌, ◌++◌, [], ℕ, true, false, None, Some, Ok, IsSome, IsTrue, IfOk, IfSome, IfNone, OnOk, length, reverse};
-ghost use Rattle.netlist.specs.Circuit.{source_count};
+ghost use Rattle.std.specs.Prelude.{◌≡◌, ◌≤◌, [], IfOk, IfSome, IfNone, length, reverse};
 ghost use Rattle.netlist.specs.Paths.{IsPrefix};
-ghost use Rattle.state_sets.specs.States.{IsWithin};
 ghost use Rattle.state_sets.specs.FourStates.{four_states};
 ghost use Rattle.implication.specs.Standing.{IsOpenIn};
-ghost use Rattle.implication.specs.Moves.{back_at, risen, start_at};
+ghost use Rattle.implication.specs.Moves.{start_at};
 ghost use Rattle.implication.specs.Scopes.{IsSameScope, standing};
 ghost use Rattle.implication.specs.Clients.{IsRestored};
-ghost use Rattle.justify.specs.Desks.{IsDesk};
+ghost use Rattle.pair_trial.specs.Desks.{IsDesk};
+ghost use Rattle.pair_trial.specs.Tests.{IsFitTest};
+ghost use Rattle.tree_growth.specs.UnderWay.{IsUnderWay};
+ghost use Rattle.tree_growth.specs.Growths.{IsGrowing};
 ghost use Rattle.justify.specs.Answers.{IsFound, CountsConflicts, HasCounted};
-ghost use Rattle.justify.specs.Growths.{IsEntered, IsShut, IsGrowing};
-ghost use Rattle.justify.specs.Scoping.{IsStart, IsUnderWay};
-ghost use Rattle.justify.specs.Tests.{IsFitTest};
+ghost use Rattle.justify.specs.Scoping.{IsStart};
 
 use crate::Found;
-use crate::backtrace::backtrace;
-use crate::desk::{Desk, make_desk};
 use crate::ending::end;
-use crate::growing::{Growth, Place};
-use crate::proposing::try_proposed;
-use crate::trial::try_pair;
 use implication::{HasNetlist, Scope};
+use pair_trial::{Desk, make_desk};
 use pd_base::{Direction, Kind, OutOfMemory, Pair, Path};
-use refutation_check::Node;
 use state_sets::FourStates;
 use std::alloc::Global;
+use tree_growth::{Growth, visit};
 
 /// Searches for a test of a kind for a path and a transition, on a scope that has begun with these and has entered the path's pins.
 /// At each node of the tree of cases a pair is tried, and a node that it fails at is split, as long as the budget lasts, which is a
@@ -133,88 +128,4 @@ fn grow<N: HasNetlist>(
         }
     }
     Ok(None)
-}
-
-// Visits a place: adds the node that stands there, and the places below it. A test is the answer as soon as one is found.
-fn visit<N: HasNetlist>(
-    alloc: Global,
-    scope: &mut Scope<FourStates, N>,
-    path: &Path,
-    dir: Direction,
-    kind: Kind,
-    budget: u32,
-    desk: &mut Desk,
-    growth: &mut Growth,
-    place: Place,
-) -> Result<Option<Pair>, OutOfMemory>
-    requires prefix { IsPrefix (standing scope.old).net path.now }
-    requires under_way { IsUnderWay path.now dir kind (standing scope.old) }
-    requires origin { start_at scope.old.origin ≤ length path.now.steps }
-    requires desk { IsDesk (standing scope.old).net path.now desk.old }
-    requires growing { IsGrowing (standing scope.old).net path.now dir kind budget (standing scope.old).assumptions
-        (place ∷ reverse growth.old.places.items) growth.old.nodes.items growth.old.splits }
-    ensures scope { IsSameScope scope.old scope.new }
-    ensures under_way { IsUnderWay path.now dir kind (standing scope.new) }
-    ensures net { (standing scope.new).net ≡ (standing scope.old).net }
-    ensures later { (standing scope.old).closings ≤ (standing scope.new).closings }
-    ensures desk { IsDesk (standing scope.new).net path.now desk.new }
-    ensures test { IfOk result (λ test. IfSome test (IsFitTest (standing scope.old).net kind path.now dir)) }
-    ensures counted { IfOk result (λ test. IfNone test (risen (standing scope.old).closings ≤ (standing scope.new).closings)) }
-    ensures one_more { IfOk result (λ test. IfNone test (length growth.new.nodes.items ≡ length growth.old.nodes.items + 1)) }
-    ensures left { IfOk result (λ test. IfNone test (2 * (budget - growth.new.splits) + length growth.new.places.items
-        ≤ 2 * (budget - growth.old.splits) + length growth.old.places.items)) }
-    ensures growing { IfOk result (λ test. IfNone test (IsGrowing (standing scope.new).net path.now dir kind budget
-        (standing scope.new).assumptions (reverse growth.new.places.items) growth.new.nodes.items growth.new.splits)) }
-{
-    if !enter(scope, place) {
-        growth.nodes.push(Node::Closed)?;
-        return Ok(None);
-    }
-    let test = try_pair(alloc, scope, path, dir, kind, desk)?;
-    if test.is_some() {
-        return Ok(test);
-    }
-    let proposed = try_proposed(
-        alloc,
-        scope,
-        path,
-        dir,
-        kind,
-        desk.marks.as_slice(),
-        &mut desk.scratch,
-    )?;
-    if proposed.is_some() {
-        return Ok(proposed);
-    }
-    let lead = backtrace(scope, desk.marks.as_slice());
-    growth.extend(
-        lead,
-        desk.sets.as_slice(),
-        desk.marks.as_slice(),
-        scope.mark(),
-        budget,
-    )?;
-    Ok(None)
-}
-
-// Goes back to the mark of a place, and assumes its set. Where a conflict comes, that is taken back.
-fn enter<N: HasNetlist>(scope: &mut Scope<FourStates, N>, place: Place) -> bool
-    requires start { start_at scope.old.origin ≤ place.mark.at }
-    requires now { place.mark.at ≤ length (standing scope.old).assumptions }
-    requires source { place.source.0 < source_count (standing scope.old).net }
-    requires set { IsWithin 4 place.set }
-    requires begun { IsSome (standing scope.old).beginning }
-    requires free { (standing scope.old).conflict ≡ None }
-    requires left_open { IsOpenIn four_states (back_at (standing scope.old) place.mark.at) }
-    ensures scope { IsSameScope scope.old scope.new }
-    ensures entered { IsTrue result → IsEntered place (standing scope.old) (standing scope.new) }
-    ensures later { (standing scope.old).closings ≤ (standing scope.new).closings }
-    ensures shut { result ≡ false → IsShut place (standing scope.old) (standing scope.new) }
-{
-    scope.back_to(place.mark);
-    if scope.assume(place.source, place.set).is_ok() {
-        return true;
-    }
-    scope.back_to(place.mark);
-    false
 }

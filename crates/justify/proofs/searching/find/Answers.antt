@@ -1,10 +1,11 @@
-use Rattle.std.proofs.Common.{◌∷◌, [], List, ap, ◌∙◌, subst}
+use Rattle.std.proofs.Common.{◌∷◌, [], List, length, ap, ◌∙◌, subst}
 use Rattle.pd_base.specs.declared.ids.LineId.{LineId}
 use Rattle.netlist.specs.Circuit.{Circuit}
 use Rattle.state_sets.specs.States.{all_states}
 use Rattle.implication.specs.Scopes.{standing}
-use Rattle.justify.specs.declared.growing.Place.{Place}
-use Rattle.justify.specs.Answers.{IsFound}
+use Rattle.tree_growth.specs.declared.growing.Place.{Place}
+use Rattle.tree_growth.specs.Growths.{IsGrowing}
+use Rattle.justify.specs.Answers.{IsFound, HasCounted}
 use Rattle.justify.proofs.Starting.{start_end_within, start_desk, start_growing}
 use Rattle.justify.proofs.Ended.{at_none, end_is_tree, end_few, end_found, end_counts}
 use Rattle.justify.proofs.searching.find.Goals as goal
@@ -29,13 +30,15 @@ pub end-requires-clause-whole : goal.end-requires-clause-whole
 end-requires-clause-whole g c =
     let now = standing c.grow.new.scope in
     end_is_tree now.net c.args.path.now c.args.dir c.args.kind c.args.budget now.assumptions c.grow.new.growth.nodes.items c.grow.new.growth.splits
-    (at_none c.in_ok-test.test c.in-None.is c.in_ok-test.ensures.grown)
+    (at_none {X = IsGrowing now.net c.args.path.now c.args.dir c.args.kind c.args.budget now.assumptions [] c.grow.new.growth.nodes.items
+    c.grow.new.growth.splits} c.in_ok-test.test c.in-None.is c.in_ok-test.ensures.grown)
 
 pub end-requires-clause-few : goal.end-requires-clause-few
 end-requires-clause-few g c =
     let now = standing c.grow.new.scope in
     end_few now.net c.args.path.now c.args.dir c.args.kind c.args.budget now.assumptions c.grow.new.growth.nodes.items c.grow.new.growth.splits
-    (at_none c.in_ok-test.test c.in-None.is c.in_ok-test.ensures.grown) c.requires.budget
+    (at_none {X = IsGrowing now.net c.args.path.now c.args.dir c.args.kind c.args.budget now.assumptions [] c.grow.new.growth.nodes.items
+    c.grow.new.growth.splits} c.in_ok-test.test c.in-None.is c.in_ok-test.ensures.grown) c.requires.budget
 
 pub returns-clause-found : goal.returns-clause-found
 returns-clause-found g c =
@@ -43,11 +46,14 @@ returns-clause-found g c =
     let P : Circuit → Type 0 = λ n. IsFound n c.args.kind c.args.path.now c.args.dir c.args.budget c.end.result in
     subst P c.grow.ensures.net
     (end_found now.net c.args.path.now c.args.dir c.args.kind c.args.budget now.assumptions c.grow.new.growth.nodes.items c.grow.new.growth.splits
-    (at_none c.in_ok-test.test c.in-None.is c.in_ok-test.ensures.grown) c.end.result c.end.ensures)
+    (at_none {X = IsGrowing now.net c.args.path.now c.args.dir c.args.kind c.args.budget now.assumptions [] c.grow.new.growth.nodes.items
+    c.grow.new.growth.splits} c.in_ok-test.test c.in-None.is c.in_ok-test.ensures.grown) c.end.result c.end.ensures)
 
 pub returns-clause-counted : goal.returns-clause-counted
 returns-clause-counted g c =
     let now = standing c.grow.new.scope in
     end_counts now.net c.args.path.now c.args.dir c.args.kind c.args.budget now.assumptions c.grow.new.growth.nodes.items c.grow.new.growth.splits
-    (at_none c.in_ok-test.test c.in-None.is c.in_ok-test.ensures.grown) c.end.result c.end.ensures (standing c.args.scope.now) now
-    (at_none c.in_ok-test.test c.in-None.is c.in_ok-test.ensures.counted)
+    (at_none {X = IsGrowing now.net c.args.path.now c.args.dir c.args.kind c.args.budget now.assumptions [] c.grow.new.growth.nodes.items
+    c.grow.new.growth.splits} c.in_ok-test.test c.in-None.is c.in_ok-test.ensures.grown) c.end.result c.end.ensures (standing c.args.scope.now) now
+    (at_none {X = HasCounted (length c.grow.new.growth.nodes.items) (standing c.args.scope.now) now} c.in_ok-test.test c.in-None.is
+    c.in_ok-test.ensures.counted)

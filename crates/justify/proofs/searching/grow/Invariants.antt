@@ -1,10 +1,10 @@
 -- The tree has grown from the places so far; each place less leaves less to do.
 use Rattle.std.proofs.Common.{◌≡◌, ◌+◌, ◌-◌, ◌*◌, ◌≤◌, length, reverse}
 use Rattle.implication.specs.Scopes.{IsSameScope, standing}
+use Rattle.pair_trial.specs.Desks.{IsDesk}
 use Rattle.justify.specs.Answers.{HasCounted}
-use Rattle.justify.specs.Desks.{IsDesk}
-use Rattle.justify.specs.Growths.{IsGrowing}
-use Rattle.justify.specs.Scoping.{IsUnderWay}
+use Rattle.tree_growth.specs.Growths.{IsGrowing}
+use Rattle.tree_growth.specs.UnderWay.{IsUnderWay}
 use Rattle.justify.proofs.searching.grow.Given as goal
 
 abbrev pub invariant-loop-place : goal.invariant-loop-place

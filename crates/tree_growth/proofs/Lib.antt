@@ -1,0 +1,3 @@
+mod HalfStates
+pub mod Placing
+pub mod Visits
