@@ -71,13 +71,37 @@ fn order_line(net: &Netlist, delays: &Delays, one: &Path, other: &Path) -> &'sta
 
 /// Whether a pair is a test: transition, kind, both vectors, and the path.
 pub fn verdict(alloc: Global, net: &Netlist, row: &str) -> Result<String, Trouble> {
+    let is_test = is_met(alloc, net, question_of(row)?)?;
+    Ok(yes_or_no(alloc, is_test)?)
+}
+
+// A question to a pair of vectors: is it a test of this kind, for this transition and path.
+#[derive(Clone, Copy)]
+struct Question<'a> {
+    fault: Fault,
+    first: &'a str,
+    second: &'a str,
+    path: &'a str,
+}
+
+// The question of a row.
+fn question_of(row: &str) -> Result<Question<'_>, Trouble> {
     let (fault, rest) = fault_of(row)?;
     let (first, rest) = parted(rest)?;
-    let (second, row) = parted(rest)?;
-    let pair = pair(alloc, net, first, second)?;
-    let path = path(alloc, net, row)?;
-    let is_test = is_test(alloc, net, &path, fault, &pair)?;
-    Ok(yes_or_no(alloc, is_test)?)
+    let (second, path) = parted(rest)?;
+    Ok(Question {
+        fault,
+        first,
+        second,
+        path,
+    })
+}
+
+// The answer to a question.
+fn is_met(alloc: Global, net: &Netlist, question: Question<'_>) -> Result<bool, Trouble> {
+    let pair = pair(alloc, net, question.first, question.second)?;
+    let path = path(alloc, net, question.path)?;
+    is_test(alloc, net, &path, question.fault, &pair)
 }
 
 // Whether a pair is a test.

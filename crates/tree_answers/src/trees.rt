@@ -56,8 +56,20 @@ pub fn spent(alloc: Global, net: &Netlist, prefix: &str, row: &str) -> Result<St
     let budget = number_of(budget)?;
     let (fault, nodes) = fault_of(rest)?;
     let tree = tree_of(alloc, nodes)?;
+    judged_spent(alloc, net, prefix, fault, budget, &tree)
+}
+
+// What `check_spent` says of a budget and a tree.
+fn judged_spent(
+    alloc: Global,
+    net: &Netlist,
+    prefix: &str,
+    fault: Fault,
+    budget: u32,
+    tree: &Tree,
+) -> Result<String, Trouble> {
     let prefix = path(alloc, net, prefix)?;
-    let told = check_spent(alloc, net, &prefix, fault.dir, fault.kind, budget, &tree)?;
+    let told = check_spent(alloc, net, &prefix, fault.dir, fault.kind, budget, tree)?;
     Ok(line_of(alloc, told)?)
 }
 

@@ -19,9 +19,7 @@ pub fn waves(
     file: Option<&str>,
     vectors: &str,
 ) -> Result<String, Trouble> {
-    let (first, second) = parted(vectors)?;
-    let delays = accepted_delays(alloc, net, file)?;
-    let waves = replayed(alloc, net, &delays, first, second)?;
+    let waves = waves_under(alloc, net, file, vectors)?;
     let mut text = String::new(alloc);
     for line in 0..net.lines() {
         text.push_str("  ")?;
@@ -41,7 +39,21 @@ fn add_wave(alloc: Global, wave: &Wave, text: &mut String) -> Result<(), AllocEr
     text.push('\n')
 }
 
-// The waves of all lines under a pair.
+// The waves of all lines under two vectors.
+fn waves_under(
+    alloc: Global,
+    net: &Netlist,
+    file: Option<&str>,
+    vectors: &str,
+) -> Result<Vec<Wave>, Trouble>
+    ensures { IfOk result (λ waves. vec_len waves ≡ line_count net.now) }
+{
+    let (first, second) = parted(vectors)?;
+    let delays = accepted_delays(alloc, net, file)?;
+    replayed(alloc, net, &delays, first, second)
+}
+
+// The waves of all lines under two vectors and these delays.
 fn replayed(
     alloc: Global,
     net: &Netlist,
@@ -68,9 +80,7 @@ pub fn samples(
 ) -> Result<String, Trouble> {
     let (time, vectors) = parted(row)?;
     let time = time_of(time)?;
-    let (first, second) = parted(vectors)?;
-    let delays = accepted_delays(alloc, net, file)?;
-    let waves = replayed(alloc, net, &delays, first, second)?;
+    let waves = waves_under(alloc, net, file, vectors)?;
     let sampled = sampled(alloc, net, waves.as_slice(), time)?;
     Ok(bits_line(alloc, sampled.as_slice())?)
 }
@@ -92,14 +102,24 @@ pub fn sides(
     row: &str,
 ) -> Result<String, Trouble> {
     let (time, rest) = parted(row)?;
-    let time = time_of(time)?;
-    let (first, rest) = parted(rest)?;
+    let settled = have_settled(alloc, net, file, rest, time_of(time)?)?;
+    Ok(yes_or_no(alloc, settled)?)
+}
+
+// Whether the sides of a path have settled at a time: both vectors, and the path.
+fn have_settled(
+    alloc: Global,
+    net: &Netlist,
+    file: Option<&str>,
+    row: &str,
+    time: i64,
+) -> Result<bool, Trouble> {
+    let (first, rest) = parted(row)?;
     let (second, row) = parted(rest)?;
     let delays = accepted_delays(alloc, net, file)?;
     let path = path(alloc, net, row)?;
     let waves = replayed(alloc, net, &delays, first, second)?;
-    let settled = settled(net, &delays, waves.as_slice(), &path, time);
-    Ok(yes_or_no(alloc, settled)?)
+    Ok(settled(net, &delays, waves.as_slice(), &path, time))
 }
 
 // A time.
