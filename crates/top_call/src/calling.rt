@@ -16,8 +16,9 @@ use std::alloc::Global;
 /// `gen NET DELAYS TESTS REPORT PROOFS` reads the first two files and writes the other three, then a summary on out. At status 0
 /// the three files hold the texts of one good run: it lists the first paths of NET's circuit by nonincreasing length, each once, with
 /// one verdict for each transition. A robust test samples a wrong value under every delay assignment that makes its path late; a
-/// nonrobust one does where its side pins have settled, too; the refutation of an untestable fault excludes every pair of vectors; and
-/// an aborted fault spent its budget (`gen_work` in the crate gen_call).
+/// nonrobust one does where its side pins have settled, too; the refutation of an untestable fault excludes every pair of vectors; an
+/// aborted fault spent its budget; and a nonrobust or aborted one tells why no robust test was found (`gen_work` in the crate
+/// gen_call).
 ///
 /// Inputs of more than 33,554,432 bytes are refused, and so are a netlist that has no circuit, a delay file that gives its pins
 /// no delays, and a circuit whose texts might grow too long.
