@@ -3,9 +3,9 @@ use Rattle.std.proofs.Common.{◌≡◌, ℕ, ◌+◌, List, [], ◌∷◌, Some
 use Rattle.netlist.specs.Circuit.{Circuit}
 use Rattle.netlist.specs.Description.{described}
 use Rattle.netlist.specs.Statements.{Numbered}
-use Rattle.bench_lines.specs.declared.fault.LineFault.{LineFault}
-use Rattle.bench_lines.specs.declared.fault.LineFault.TheVariants as line
-use Rattle.bench_lines.specs.Statements.{Reading, line_reading}
+use Rattle.bench_reader.specs.declared.line_fault.LineFault.{LineFault}
+use Rattle.bench_reader.specs.declared.line_fault.LineFault.TheVariants as line
+use Rattle.bench_reader.specs.Statements.{Reading, line_reading}
 use Rattle.net_builder.specs.declared.fault.BuildFault.{BuildFault}
 use Rattle.net_builder.specs.Refusals.{Refuses}
 use Rattle.net_builder.proofs.Exclusive.{refuses_none}

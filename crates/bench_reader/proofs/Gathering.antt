@@ -2,7 +2,7 @@
 use Rattle.std.proofs.Common.{◌≡◌, ℕ, ◌+◌, ◌<◌, ◌≤◌, List, [], ◌∷◌, length, Some, None, Ok, Err, refl, ap, sym, ◌∙◌, arith, append_assoc, append-nil, length-append}
 use Rattle.std.proofs.lemmas.Grind.{common_steps}
 use Rattle.netlist.specs.Statements.{Numbered, numbered}
-use Rattle.bench_lines.specs.Statements.{Reading, line_reading}
+use Rattle.bench_reader.specs.Statements.{Reading, line_reading}
 use Rattle.bench_reader.specs.declared.fault.BenchFault.{BenchFault}
 use Rattle.bench_reader.specs.declared.fault.BenchFault.TheVariants.{BadByte, NameTooLong, Syntax, UnknownKind, FanIn, Build, NoMemory}
 use Rattle.bench_reader.specs.Lines.{lines_of}

@@ -9,11 +9,11 @@ use Rattle.netlist.specs.Lawful.{IsCircuit, IsLoopFree}
 use Rattle.netlist.specs.Levels.{greatest_level}
 use Rattle.netlist.specs.Statements.{IsStatement, Numbered, numbered}
 use Rattle.net_builder.proofs.Circuits.{described_IsCircuit}
-use Rattle.bench_lines.specs.Bytes.{code_of, has_bad_byte}
-use Rattle.bench_lines.specs.Tokens.{tokens_of}
-use Rattle.bench_lines.specs.declared.fault.LineFault.TheVariants as line
-use Rattle.bench_lines.specs.Statements.{Reading, code_reading, is_too_long, line_reading, tokens_reading}
-use Rattle.bench_lines.proofs.Lawful.{IsLawful, lawful_tokens}
+use Rattle.bench_reader.specs.Bytes.{code_of, has_bad_byte}
+use Rattle.bench_reader.specs.Tokens.{tokens_of}
+use Rattle.bench_reader.specs.declared.line_fault.LineFault.TheVariants as line
+use Rattle.bench_reader.specs.Statements.{Reading, code_reading, is_too_long, line_reading, tokens_reading}
+use Rattle.bench_reader.proofs.Lawful.{IsLawful, lawful_tokens}
 use Rattle.bench_reader.specs.Circuits.{HasCircuit}
 use Rattle.bench_reader.specs.Lines.{lines_of}
 use Rattle.bench_reader.specs.Texts.{Statements, statements_from, with_line}

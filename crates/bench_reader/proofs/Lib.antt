@@ -1,4 +1,10 @@
+pub mod Scanning
+pub mod Listing
+pub mod Arguments
+pub mod Lawful
+pub mod LineReadings
 pub mod Answering
 pub mod Cutting
 pub mod Gathering
 pub mod LawfulCircuits
+pub mod Writing

@@ -1,4 +1,10 @@
+pub mod Bytes
+pub mod Tokens
+pub mod Kinds
+pub mod Statements
+pub mod Seen
 pub mod Circuits
 pub mod Lines
 pub mod Refusals
 pub mod Texts
+pub mod Canonical

@@ -1,9 +1,9 @@
 -- The statements of a text, or why it is refused (ISCAS .bench).
 use Rattle.std.specs.Prelude.{◌≡◌, ⊤, ℕ, ◌+◌, List, [], ◌∷◌, ◌++◌, Some, None, Result, Ok, Err}
 use Rattle.netlist.specs.Statements.{Numbered, numbered}
-use Rattle.bench_lines.specs.declared.fault.LineFault.{LineFault}
-use Rattle.bench_lines.specs.declared.fault.LineFault.TheVariants as line
-use Rattle.bench_lines.specs.Statements.{Reading, line_reading}
+use Rattle.bench_reader.specs.declared.line_fault.LineFault.{LineFault}
+use Rattle.bench_reader.specs.declared.line_fault.LineFault.TheVariants as line
+use Rattle.bench_reader.specs.Statements.{Reading, line_reading}
 use Rattle.bench_reader.specs.declared.fault.BenchFault.{BenchFault}
 use Rattle.bench_reader.specs.declared.fault.BenchFault.TheVariants.{BadByte, NameTooLong, Syntax, UnknownKind, FanIn, NoMemory}
 use Rattle.bench_reader.specs.Lines.{lines_of}

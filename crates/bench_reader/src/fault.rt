@@ -2,7 +2,7 @@
 ghost use Rattle.std.specs.Prelude.{◌≡◌};
 ghost use Rattle.bench_reader.specs.Texts.{at_line};
 
-use bench_lines::LineFault;
+use crate::line_fault::LineFault;
 use net_builder::BuildFault;
 use thiserror::Error;
 

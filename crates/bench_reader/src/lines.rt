@@ -2,7 +2,7 @@
 ghost use Rattle.std.specs.Prelude.{◌≡◌, ◌<◌, ◌∷◌, length};
 ghost use Rattle.bench_reader.specs.Lines.{lines_of};
 
-use bench_lines::place_of;
+use crate::cut::place_of;
 
 // The first line of a text that has one, and the text behind it.
 pub(crate) fn split_line(text: &[u8]) -> (&[u8], &[u8])

@@ -3,15 +3,16 @@ ghost use Rattle.std.specs.Prelude.{◌≡◌, ◌<◌, ◌≤◌, [], ◌∷◌
 ghost use Rattle.netlist.specs.declared.limits.TheConstants.{MOST_STATEMENTS};
 ghost use Rattle.netlist.specs.NameTexts.{bytes_of};
 ghost use Rattle.netlist.specs.Statements.{IsStatement, numbered};
-ghost use Rattle.bench_lines.specs.Seen.{statement_seen};
-ghost use Rattle.bench_lines.specs.Statements.{line_reading};
+ghost use Rattle.bench_reader.specs.Seen.{statement_seen};
+ghost use Rattle.bench_reader.specs.Statements.{line_reading};
 ghost use Rattle.bench_reader.specs.Texts.{AddsLine, IsAnswer, RefusesLine, statements_of};
 
 use crate::fault::{BenchFault, at_line};
+use crate::line::read_line;
 use crate::lines::split_line;
-use bench_lines::{Statement, Token, read_line};
-use pd_base::OutOfMemory;
-use raw_netlist::RawNet;
+use crate::statement::Statement;
+use crate::token::Token;
+use net_builder::RawNet;
 use std::alloc::Global;
 
 /// The most bytes of a text.

@@ -1,9 +1,9 @@
 -- What accepted inputs exclude, over files that tell what is read: each stage then has one answer.
 use Rattle.std.proofs.Common.{◌≡◌, ℕ, List, [], ◌∷◌, ◌++◌, Option, None, Some, sym, subst, ◌∙◌}
 use Rattle.pd_io.specs.Folder.{Folder}
-use Rattle.call_work.specs.Work.{Work, Stage, Read, Require, Requirement, names_of}
-use Rattle.call_work.specs.Passing.{Accepts, HasBytes, Pass}
-use Rattle.call_work.specs.Calls.{AreTold}
+use Rattle.calls.specs.Work.{Work, Stage, Read, Require, Requirement, names_read}
+use Rattle.calls.specs.Passing.{Accepts, HasBytes, Pass}
+use Rattle.calls.specs.Calls.{AreTold}
 
 -- a name whose bytes are told has one text
 same_bytes : (folder : Option Folder) (name : List ℕ) (names : List (List ℕ)) (text bytes : List ℕ)
@@ -20,28 +20,28 @@ later_told (Some folder) name (next ∷ names) told = tt
 
 module _ (work : Work) (folder : Option Folder) where
   -- stages lead from the same inputs to the same ones
-  pub passed_alike : (stages : List Stage) (first one other : List (List ℕ)) → AreTold (names_of stages) folder
+  pub passed_alike : (stages : List Stage) (first one other : List (List ℕ)) → AreTold (names_read stages) folder
       → Pass work folder stages first one → Pass work folder stages first other → one ≡ other
   passed_alike [] first one other told pass pass_too = pass ∙ sym pass_too
   passed_alike (Read role name ∷ stages) first one other told (text, has, pass) (bytes, has_too, pass_too) =
-      passed_alike stages (first ++ text ∷ []) one other (later_told folder name (names_of stages) told) pass
+      passed_alike stages (first ++ text ∷ []) one other (later_told folder name (names_read stages) told) pass
       (subst (λ (b : List ℕ). Pass work folder stages (first ++ b ∷ []) other)
-      (same_bytes folder name (names_of stages) text bytes told has has_too) pass_too)
+      (same_bytes folder name (names_read stages) text bytes told has has_too) pass_too)
   passed_alike (Require requirement ∷ stages) first one other told (accepts, pass) (accepts_too, pass_too) =
       passed_alike stages first one other told pass pass_too
 
   -- a requirement among stages that are passed accepts what was read before it
   pub accepted_before : (before later : List Stage) (requirement : Requirement) (first inputs all : List (List ℕ))
-      → AreTold (names_of before) folder
+      → AreTold (names_read before) folder
       → Pass work folder (before ++ Require requirement ∷ later) first all → Pass work folder before first inputs
       → Accepts work requirement inputs
   accepted_before [] later requirement first inputs all told (accepts, pass) so_far =
       subst (Accepts work requirement) (sym so_far) accepts
   accepted_before (Read role name ∷ before) later requirement first inputs all told (text, has, pass) (bytes, has_too, so_far) =
       accepted_before before later requirement (first ++ text ∷ []) inputs all
-      (later_told folder name (names_of before) told) pass
+      (later_told folder name (names_read before) told) pass
       (subst (λ (b : List ℕ). Pass work folder before (first ++ b ∷ []) inputs)
-      (same_bytes folder name (names_of before) text bytes told has has_too) so_far)
+      (same_bytes folder name (names_read before) text bytes told has has_too) so_far)
   accepted_before (Require other ∷ before) later requirement first inputs all told (accepts, pass) (accepts_too, so_far) =
       accepted_before before later requirement first inputs all told pass so_far
 

@@ -1,26 +1,26 @@
 -- What follows for a whole call of any command from how it performed and was reported.
 use Rattle.std.proofs.Common.{◌≡◌, ℕ, List, [], ◌∷◌, ◌++◌, Option, refl, sym, ap, subst, ◌∙◌, append_assoc}
-use Rattle.pd_io.specs.Counts.{Rose}
 use Rattle.pd_io.specs.Folder.{Folder}
 use Rattle.pd_io.specs.Seen.{FilesSeen, SinkSeen, Outside, seen_of}
 use Rattle.pd_io.proofs.Tellings.{tells_chain}
-use Rattle.call_endings.specs.declared.refusal.Refusal.{Refusal}
-use Rattle.call_endings.specs.declared.refusal.Refusal.TheVariants.{Words, TooLong, Netlist, Delays, PathText, TestText}
-use Rattle.call_endings.specs.declared.ending.Ending.{Ending}
-use Rattle.call_endings.specs.declared.ending.Ending.TheVariants.{Done, Refused, ReadFault, WriteFault, OutFault, NoMemory}
-use Rattle.call_endings.specs.declared.status.Status.{Status}
-use Rattle.call_endings.specs.declared.status.Status.TheVariants as exit
-use Rattle.call_endings.specs.Lines.{refusal_status, status_of}
-use Rattle.call_endings.specs.Reports.{IsReported}
-use Rattle.call_endings.specs.Reports as reports
-use Rattle.call_work.specs.Work.{Work, Stage, Require, requirement_of, names_of}
-use Rattle.call_work.specs.Passing.{Pass, AsksOnly}
-use Rattle.call_work.specs.Stopping.{IsRefused}
-use Rattle.call_work.specs.Writing.{put_all, folder_with_all, writer_after}
-use Rattle.call_work.specs.Calls.{Performs, Ends, IsDone, AreTold, HasAcceptedInputs, NoneFailed, IsDoneOrNoMemory}
-use Rattle.call_work.specs.Calls as calls
+use Rattle.calls.specs.declared.refusal.Refusal.{Refusal}
+use Rattle.calls.specs.declared.refusal.Refusal.TheVariants.{Words, TooLong, Netlist, Delays, PathText, TestText}
+use Rattle.calls.specs.declared.ending.Ending.{Ending}
+use Rattle.calls.specs.declared.ending.Ending.TheVariants.{Done, Refused, ReadFault, WriteFault, OutFault, NoMemory}
+use Rattle.calls.specs.declared.status.Status.{Status}
+use Rattle.calls.specs.declared.status.Status.TheVariants as exit
+use Rattle.calls.specs.Lines.{refusal_status, status_of}
+use Rattle.calls.specs.Reports.{IsReported}
+use Rattle.calls.specs.Reports as reports
+use Rattle.calls.specs.Work.{Work, Stage, Require, requirement_of, names_read}
+use Rattle.calls.specs.Passing.{Pass, AsksOnly}
+use Rattle.calls.specs.Stopping.{IsRefused}
+use Rattle.calls.specs.Writing.{put_all, folder_with_all, writer_after}
+use Rattle.calls.specs.Calls.{Performs, Ends, IsDone, AreTold, HasAcceptedInputs, NoneFailed, IsDoneOrNoMemory}
+use Rattle.calls.specs.Calls as calls
+use Rattle.calls.proofs.Outputs.{rose_later}
 use Rattle.call_laws.proofs.Acceptance.{accepted_before, front_told}
-use Rattle.call_laws.proofs.Stages.{names_of-append}
+use Rattle.call_laws.proofs.Stages.{names_read-append}
 
 -- no refusal has the status of work that was done
 refused_is_not_done : (refusal : Refusal) → refusal_status refusal ≡ exit.Done → ⊥
@@ -58,10 +58,10 @@ performed_done work old new (calls.wrote inputs products read passed gives write
   products = products;
   passed = passed.passed;
   gives = gives;
-  files = tells_chain old.files.folder read.folder new.files.folder (AsksOnly (names_of work.stages))
+  files = tells_chain old.files.folder read.folder new.files.folder (AsksOnly (names_read work.stages))
       (λ before after. after ≡ folder_with_all products.files before)
       (λ before after.
-      after ≡ record { held = put_all before.held products.files; asked = before.asked ++ names_of work.stages })
+      after ≡ record { held = put_all before.held products.files; asked = before.asked ++ names_read work.stages })
       passed.asked writes.files.told
       (λ x y z asked whole. whole ∙ ap (folder_with_all products.files) asked);
   out = writes.out;
@@ -87,11 +87,11 @@ pub stage_behind : (before rest stages : List Stage) (stage : Stage) → stages 
 stage_behind before rest stages stage place = place ∙ append_assoc before (stage ∷ []) rest
 
 -- the names that these stages read are told, where all names of the work are
-pub told_before : (work : Work) (folder : Option Folder) (before rest : List Stage) → AreTold (names_of work.stages) folder
-    → work.stages ≡ before ++ rest → AreTold (names_of before) folder
+pub told_before : (work : Work) (folder : Option Folder) (before rest : List Stage) → AreTold (names_read work.stages) folder
+    → work.stages ≡ before ++ rest → AreTold (names_read before) folder
 told_before work folder before rest told place =
-    front_told folder (names_of before) (names_of rest)
-    (subst (λ (names : List (List ℕ)). AreTold names folder) (ap names_of place ∙ names_of-append before rest) told)
+    front_told folder (names_read before) (names_read rest)
+    (subst (λ (names : List (List ℕ)). AreTold names folder) (ap names_read place ∙ names_read-append before rest) told)
 
 -- no requirement refuses inputs with which all stages are passed
 pub accepted_not_refused : (work : Work) (refusal : Refusal) (old new : FilesSeen)
@@ -102,10 +102,6 @@ accepted_not_refused work refusal old new accepted it =
     (told_before work old.folder it.before (Require (requirement_of refusal) ∷ it.place.0) accepted.told behind)
     (subst (λ (stages : List Stage). Pass work old.folder stages [] accepted.inputs) behind accepted.passed)
     it.passed.passed refusal refl it.refuses
-
--- a count that rose after it had stayed rose
-pub rose_since : (old mid new : ℕ) → mid ≡ old → Rose mid new → Rose old new
-rose_since old mid new same rose = subst (λ (count : ℕ). Rose count new) same rose
 
 -- the endings to which a call comes that nothing stops but want of memory
 data EndsDoneOrNoMemory (ending : Ending) : Type 0 where
@@ -123,7 +119,7 @@ ends_so work old new (ReadFault role) (calls.stopped stops same) accepted none =
 ends_so work old new (ReadFault role) (calls.wrote inputs products read passed gives writes) accepted none = absurd writes
 ends_so work old new (WriteFault role) (calls.stopped stops same) accepted none = absurd stops
 ends_so work old new (WriteFault role) (calls.wrote inputs products read passed gives writes) accepted none =
-    absurd (none.write (rose_since _ _ _ passed.only.write_faults writes.rose))
+    absurd (none.write (rose_later _ _ _ passed.only.write_faults writes.rose))
 ends_so work old new OutFault (calls.stopped stops same) accepted none = absurd stops
 ends_so work old new OutFault (calls.wrote inputs products read passed gives writes) accepted none =
     absurd (none.out writes.rose)

@@ -2,21 +2,21 @@
 use Rattle.std.proofs.Common.{◌≡◌, refl, sym, subst, ◌∙◌}
 use Rattle.pd_io.specs.Counts.{Rose}
 use Rattle.pd_io.specs.Seen.{Outside, seen_of}
-use Rattle.call_endings.specs.declared.role.Role.{Role}
-use Rattle.call_endings.specs.declared.refusal.Refusal.{Refusal}
-use Rattle.call_endings.specs.declared.refusal.Refusal.TheVariants.{Words, TooLong, Netlist, Delays, PathText, TestText}
-use Rattle.call_endings.specs.declared.ending.Ending.{Ending}
-use Rattle.call_endings.specs.declared.ending.Ending.TheVariants.{Done, Refused, ReadFault, WriteFault, OutFault, NoMemory}
-use Rattle.call_endings.specs.declared.status.Status.{Status}
-use Rattle.call_endings.specs.declared.status.Status.TheVariants as exit
-use Rattle.call_endings.specs.Lines.{refusal_status, status_of}
-use Rattle.call_endings.specs.Reports.{IsReported}
-use Rattle.call_endings.specs.Reports as reports
-use Rattle.call_work.specs.Work.{Work}
-use Rattle.call_work.specs.Stopping.{IsUnread}
-use Rattle.call_work.specs.Calls.{Performs, Ends}
-use Rattle.call_work.specs.Calls as calls
-use Rattle.call_laws.proofs.Calls.{rose_since}
+use Rattle.calls.specs.declared.role.Role.{Role}
+use Rattle.calls.specs.declared.refusal.Refusal.{Refusal}
+use Rattle.calls.specs.declared.refusal.Refusal.TheVariants.{Words, TooLong, Netlist, Delays, PathText, TestText}
+use Rattle.calls.specs.declared.ending.Ending.{Ending}
+use Rattle.calls.specs.declared.ending.Ending.TheVariants.{Done, Refused, ReadFault, WriteFault, OutFault, NoMemory}
+use Rattle.calls.specs.declared.status.Status.{Status}
+use Rattle.calls.specs.declared.status.Status.TheVariants as exit
+use Rattle.calls.specs.Lines.{refusal_status, status_of}
+use Rattle.calls.specs.Reports.{IsReported}
+use Rattle.calls.specs.Reports as reports
+use Rattle.calls.specs.Work.{Work}
+use Rattle.calls.specs.Stopping.{IsUnread}
+use Rattle.calls.specs.Calls.{Performs, Ends}
+use Rattle.calls.specs.Calls as calls
+use Rattle.calls.proofs.Outputs.{rose_later}
 
 -- the status is that of its ending, or that of want of memory
 data StatusIs (ending : Ending) (status : Status) : Type 0 where
@@ -93,7 +93,7 @@ write_failed work status old new ends failed =
       by_kind (ReadFault role) performed is = absurd (cc)
       by_kind (WriteFault role) (calls.stopped stops same) is = absurd stops
       by_kind (WriteFault role) (calls.wrote inputs products read passed gives writes) is =
-          of_files (rose_since _ _ _ passed.only.write_faults writes.rose)
+          of_files (rose_later _ _ _ passed.only.write_faults writes.rose)
       by_kind OutFault (calls.stopped stops same) is = absurd stops
       by_kind OutFault (calls.wrote inputs products read passed gives writes) is = of_out writes.rose
       by_kind NoMemory performed is = absurd (cc)

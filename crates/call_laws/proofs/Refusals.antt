@@ -3,23 +3,23 @@
 use Rattle.std.proofs.Common.{◌≡◌, ℕ, List, [], ◌∷◌, ◌++◌, Option, refl, sym, ap, subst, ◌∙◌}
 use Rattle.pd_io.specs.Folder.{Folder}
 use Rattle.pd_io.specs.Seen.{SinkSeen, Outside, seen_of}
-use Rattle.call_words.specs.declared.refusal.WordsRefusal.{WordsRefusal}
-use Rattle.call_endings.specs.declared.role.Role.{Role}
-use Rattle.call_endings.specs.declared.refusal.Refusal.{Refusal}
-use Rattle.call_endings.specs.declared.refusal.Refusal.TheVariants.{Words}
-use Rattle.call_endings.specs.declared.ending.Ending.{Ending}
-use Rattle.call_endings.specs.declared.ending.Ending.TheVariants.{Done, Refused, ReadFault, WriteFault, OutFault, NoMemory}
-use Rattle.call_endings.specs.declared.status.Status.{Status}
-use Rattle.call_endings.specs.declared.status.Status.TheVariants as exit
-use Rattle.call_endings.specs.Lines.{refusal_status, status_of}
-use Rattle.call_endings.specs.Reports.{IsReported}
-use Rattle.call_endings.specs.Reports as reports
-use Rattle.call_work.specs.Work.{Work, Stage, Read, Require, Wording, requirement_of, names_of}
-use Rattle.call_work.specs.Passing.{Pass}
-use Rattle.call_work.specs.Refused.{refused_words}
-use Rattle.call_work.specs.Stopping.{IsRefused}
-use Rattle.call_work.specs.Calls.{AreTold, Performs, Ends, NoneFailed}
-use Rattle.call_work.specs.Calls as calls
+use Rattle.calls.specs.declared.word_refusal.WordsRefusal.{WordsRefusal}
+use Rattle.calls.specs.declared.role.Role.{Role}
+use Rattle.calls.specs.declared.refusal.Refusal.{Refusal}
+use Rattle.calls.specs.declared.refusal.Refusal.TheVariants.{Words}
+use Rattle.calls.specs.declared.ending.Ending.{Ending}
+use Rattle.calls.specs.declared.ending.Ending.TheVariants.{Done, Refused, ReadFault, WriteFault, OutFault, NoMemory}
+use Rattle.calls.specs.declared.status.Status.{Status}
+use Rattle.calls.specs.declared.status.Status.TheVariants as exit
+use Rattle.calls.specs.Lines.{refusal_status, status_of}
+use Rattle.calls.specs.Reports.{IsReported}
+use Rattle.calls.specs.Reports as reports
+use Rattle.calls.specs.Work.{Work, Stage, Read, Require, Wording, requirement_of, names_read}
+use Rattle.calls.specs.Passing.{Pass}
+use Rattle.calls.specs.Refused.{refused_words}
+use Rattle.calls.specs.Stopping.{IsRefused}
+use Rattle.calls.specs.Calls.{AreTold, Performs, Ends, NoneFailed}
+use Rattle.calls.specs.Calls as calls
 use Rattle.call_laws.proofs.Acceptance.{passed_alike, accepted_before}
 use Rattle.call_laws.proofs.Splits.{Places, compared}
 use Rattle.call_laws.proofs.Splits as places
@@ -28,7 +28,7 @@ use Rattle.call_laws.proofs.Calls.{stage_behind, told_before}
 -- This refusal is the first one that what the old files hold leads to: all names are told, the stages before its requirement
 -- are passed with these inputs, and these are refused for its reason.
 pub record IsFirstRefusal (work : Work) (folder : Option Folder) (refusal : Refusal) : Type 0 where
-  pub told : AreTold (names_of work.stages) folder
+  pub told : AreTold (names_read work.stages) folder
   pub before : List Stage
   pub later : List Stage
   pub inputs : List (List ℕ)
@@ -57,7 +57,7 @@ data EndsRefused (work : Work) (refusal : Refusal) (inputs : List (List ℕ)) (e
 
 module _ (work : Work) (folder : Option Folder) (refusal : Refusal) (first : IsFirstRefusal work folder refusal) where
   -- the names read before the requirement are told
-  told_first : AreTold (names_of first.before) folder
+  told_first : AreTold (names_read first.before) folder
   told_first =
       told_before work folder first.before (Require (requirement_of refusal) ∷ first.later) first.told first.place
 

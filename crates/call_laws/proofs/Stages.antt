@@ -1,27 +1,27 @@
 -- The stages of a command, one after the other: what was passed so far, and how the call may end at the next stage.
 use Rattle.std.proofs.Common.{◌≡◌, ℕ, List, [], ◌∷◌, ◌++◌, Option, None, Some, refl, sym, ap, subst, ◌∙◌, append_assoc, arith}
 use Rattle.std.proofs.lemmas.List.{append-nil}
-use Rattle.pd_io.specs.Counts.{Rose}
 use Rattle.pd_io.specs.Folder.{Folder, bytes_at}
 use Rattle.pd_io.specs.Telling.{Tells, IsFrontOf}
 use Rattle.pd_io.specs.Seen.{FilesSeen}
 use Rattle.pd_io.proofs.Tellings.{tells_same, tells_chain}
-use Rattle.call_endings.specs.declared.role.Role.{Role}
-use Rattle.call_endings.specs.declared.refusal.Refusal.{Refusal}
-use Rattle.call_endings.specs.declared.ending.Ending.{Ending}
-use Rattle.call_endings.specs.declared.ending.Ending.TheVariants.{Refused, NoMemory}
-use Rattle.call_work.specs.Work.{Work, Stage, Read, Require, Requirement, requirement_of, names_of}
-use Rattle.call_work.specs.Passing.{HasBytes, Accepts, Pass, AsksOnly, HasOnlyRead, HasPassed}
-use Rattle.call_work.specs.Stopping.{Stops}
-use Rattle.call_work.specs.Inputs.{FailsToRead}
-use Rattle.call_work.specs.Inputs as inputs
-use Rattle.call_work.proofs.Inputs.{asks_none}
+use Rattle.calls.specs.declared.role.Role.{Role}
+use Rattle.calls.specs.declared.refusal.Refusal.{Refusal}
+use Rattle.calls.specs.declared.ending.Ending.{Ending}
+use Rattle.calls.specs.declared.ending.Ending.TheVariants.{Refused, NoMemory}
+use Rattle.calls.specs.Work.{Work, Stage, Read, Require, Requirement, requirement_of, names_read}
+use Rattle.calls.specs.Passing.{HasBytes, Accepts, Pass, AsksOnly, HasOnlyRead, HasPassed}
+use Rattle.calls.specs.Stopping.{Stops}
+use Rattle.calls.specs.Inputs.{FailsToRead}
+use Rattle.calls.specs.Inputs as inputs
+use Rattle.calls.proofs.Inputs.{asks_none}
+use Rattle.calls.proofs.Outputs.{rose_later}
 
 -- the names of stages and of further ones
-pub names_of-append : (first later : List Stage) → names_of (first ++ later) ≡ names_of first ++ names_of later
-names_of-append [] later = refl
-names_of-append (Read role name ∷ first) later = ap (λ (names : List (List ℕ)). name ∷ names) (names_of-append first later)
-names_of-append (Require requirement ∷ first) later = names_of-append first later
+pub names_read-append : (first later : List Stage) → names_read (first ++ later) ≡ names_read first ++ names_read later
+names_read-append [] later = refl
+names_read-append (Read role name ∷ first) later = ap (λ (names : List (List ℕ)). name ∷ names) (names_read-append first later)
+names_read-append (Require requirement ∷ first) later = names_read-append first later
 
 -- names were asked, and then more
 asks_more : (first second : List (List ℕ)) (old mid new : Folder)
@@ -82,10 +82,10 @@ module _ (work : Work) where
       → HasPassed work (stages ++ Read role name ∷ []) (inputs ++ bytes ∷ []) old new
   then_read {stages} {inputs} {old} {mid} {new} role name bytes before has asked only = record {
     passed = pass_read old.folder stages [] inputs role name bytes before.passed
-        (has_before (names_of stages) name bytes old.folder mid.folder before.asked has);
+        (has_before (names_read stages) name bytes old.folder mid.folder before.asked has);
     asked = subst (λ (names : List (List ℕ)). Tells old.folder new.folder (AsksOnly names))
-        (sym (names_of-append stages (Read role name ∷ [])))
-        (then_asks (names_of stages) (name ∷ []) old.folder mid.folder new.folder before.asked asked);
+        (sym (names_read-append stages (Read role name ∷ [])))
+        (then_asks (names_read stages) (name ∷ []) old.folder mid.folder new.folder before.asked asked);
     only = record {
       writer = only.writer ∙ before.only.writer;
       read_faults = only.read_faults ∙ before.only.read_faults;
@@ -100,7 +100,7 @@ module _ (work : Work) where
   then_required {stages} {inputs} {old} {new} requirement before accepts = record {
     passed = pass_requirement old.folder stages [] inputs requirement before.passed accepts;
     asked = subst (λ (names : List (List ℕ)). Tells old.folder new.folder (AsksOnly names))
-        (sym (names_of-append stages (Require requirement ∷ []) ∙ append-nil (names_of stages))) before.asked;
+        (sym (names_read-append stages (Require requirement ∷ []) ∙ append-nil (names_read stages))) before.asked;
     only = before.only;
   }
 
@@ -118,11 +118,11 @@ module _ (work : Work) where
     before = stages;
     next = [];
     inputs = inputs;
-    names = names_of stages;
+    names = names_read stages;
     place = (front.0, front.1 ∙ ap (λ (s : List Stage). s ++ front.0) (sym (append-nil stages)));
     one_at_most = omega arith;
     passed = before.passed;
-    front = ([], ap names_of (append-nil stages) ∙ sym (append-nil (names_of stages)));
+    front = ([], ap names_read (append-nil stages) ∙ sym (append-nil (names_read stages)));
     asked = before.asked;
     read_faults = before.only.read_faults;
     write_faults = before.only.write_faults;
@@ -130,16 +130,12 @@ module _ (work : Work) where
 
   -- a front of the name of one more read is a front of the names with it
   front_with_name : (stages : List Stage) (role : Role) (name : List ℕ) (names : List (List ℕ))
-      → IsFrontOf names (name ∷ []) → IsFrontOf (names_of stages ++ names) (names_of (stages ++ Read role name ∷ []))
+      → IsFrontOf names (name ∷ []) → IsFrontOf (names_read stages ++ names) (names_read (stages ++ Read role name ∷ []))
   front_with_name stages role name names (more, whole) = (
     more,
-    names_of-append stages (Read role name ∷ []) ∙ ap (λ (last : List (List ℕ)). names_of stages ++ last) whole
-        ∙ sym (append_assoc (names_of stages) names more),
+    names_read-append stages (Read role name ∷ []) ∙ ap (λ (last : List (List ℕ)). names_read stages ++ last) whole
+        ∙ sym (append_assoc (names_read stages) names more),
   )
-
-  -- a count that rose after it had stayed rose
-  rose_later : (old mid new : ℕ) → mid ≡ old → Rose mid new → Rose old new
-  rose_later old mid new same rose = subst (λ (count : ℕ). Rose count new) same rose
 
   -- a file was not read, behind stages that were passed
   pub stops_unread : {stages : List Stage} {all : List (List ℕ)} {old mid new : FilesSeen} (role : Role) (name : List ℕ)
@@ -152,7 +148,7 @@ module _ (work : Work) where
         name = name;
         place = place;
         passed = before.passed;
-        asked = then_asks (names_of stages) (name ∷ []) old.folder mid.folder new.folder before.asked asked;
+        asked = then_asks (names_read stages) (name ∷ []) old.folder mid.folder new.folder before.asked asked;
         rose = rose_later _ _ _ before.only.read_faults rose;
         write_faults = write ∙ before.only.write_faults;
       })
@@ -161,12 +157,12 @@ module _ (work : Work) where
         before = stages;
         next = Read role name ∷ [];
         inputs = all;
-        names = names_of stages ++ names;
+        names = names_read stages ++ names;
         place = place;
         one_at_most = omega arith;
         passed = before.passed;
         front = front_with_name stages role name names front;
-        asked = then_asks (names_of stages) names old.folder mid.folder new.folder before.asked asked;
+        asked = then_asks (names_read stages) names old.folder mid.folder new.folder before.asked asked;
         read_faults = read ∙ before.only.read_faults;
         write_faults = write ∙ before.only.write_faults;
       })

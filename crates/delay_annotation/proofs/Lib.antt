@@ -1,2 +1,13 @@
 pub mod Changing
-pub mod PinRow
+pub mod Digits
+pub mod Meaning
+pub mod OneMeaning
+pub mod DelayLaws
+pub mod Fields
+pub mod FirstRows
+pub mod Forms
+pub mod Gathering
+pub mod Keeping
+pub mod LastOf
+pub mod Settled
+pub mod Taken

@@ -1,28 +1,21 @@
--- The delays that are kept for the pins of a circuit (this project's own).
+-- The delays of the pins of a circuit, in one list: gate by gate, and at each gate from pin 0 on (this project's own).
 use Rattle.std.specs.Prelude.{◌≡◌, ◌≢◌, ℕ, ◌≤◌, List, length, slice_index_or, All}
 use Rattle.pd_base.specs.declared.ids.PinRef.{PinRef}
 use Rattle.netlist.specs.Circuit.{Circuit}
-use Rattle.netlist.specs.Pins.{pin_total}
+use Rattle.netlist.specs.Pins.{IsPin, pin_place_in, pin_total}
 use Rattle.netlist.specs.Waves.{Delays}
 use Rattle.delay_annotation.specs.declared.delays.TheConstants.{MOST_DELAY}
-use Rattle.delay_annotation.specs.Places.{AreFirsts, IsPin, place_of}
 
--- for each gate the place of its first pin, and the delays of all pins by place
-pub record Annotation : Type 0 where
-  pub firsts : List ℕ
-  pub delays : List ℕ
+-- the delay of a pin of the circuit, by its place in the list
+abbrev pub delays_of : Circuit → List ℕ → Delays
+delays_of c kept pin = slice_index_or kept (pin_place_in c pin) 0
 
--- the delay of a pin
-abbrev pub delays_of : Annotation → Delays
-delays_of kept pin = slice_index_or kept.delays (place_of kept.firsts pin) 0
-
--- there is one delay for each pin of the circuit, gate by gate, and none is over the greatest
-pub record Fits (c : Circuit) (kept : Annotation) : Type 0 where
-  pub firsts : AreFirsts c kept.firsts
-  pub one_each : length kept.delays ≡ pin_total c
-  pub bounded : All (λ delay. delay ≤ MOST_DELAY) kept.delays
+-- there is one delay for each pin of the circuit, and none is over the greatest
+pub record Fits (c : Circuit) (kept : List ℕ) : Type 0 where
+  pub one_each : length kept ≡ pin_total c
+  pub bounded : All (λ delay. delay ≤ MOST_DELAY) kept
 
 -- this pin has this delay now, and each other pin of the circuit has the delay that it had
-pub record Changes (c : Circuit) (old new : Annotation) (pin : PinRef) (delay : ℕ) : Type 0 where
-  pub changed : delays_of new pin ≡ delay
-  pub others : (other : PinRef) → IsPin c other → other ≢ pin → delays_of new other ≡ delays_of old other
+pub record SetsDelay (c : Circuit) (old new : List ℕ) (pin : PinRef) (delay : ℕ) : Type 0 where
+  pub changed : delays_of c new pin ≡ delay
+  pub others : (other : PinRef) → IsPin c other → other ≢ pin → delays_of c new other ≡ delays_of c old other

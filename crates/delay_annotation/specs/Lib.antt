@@ -1,2 +1,7 @@
 pub mod Annotation
-pub mod Places
+pub mod Fields
+pub mod Rows
+pub mod DelayFile
+pub mod LastRows
+pub mod Settling
+pub mod Taking

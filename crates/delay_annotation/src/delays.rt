@@ -3,9 +3,8 @@ ghost use Rattle.std.specs.Prelude.{◌≡◌, ◌<◌, ◌≤◌, ℕ, length, 
 ghost use Rattle.pd_base.specs.declared.ids.PinRef.{PinRef};
 ghost use Rattle.netlist.specs.Circuit.{gate_count, pins_at};
 ghost use Rattle.netlist.specs.Pins.{IsPinOn};
-ghost use Rattle.delay_annotation.specs.Annotation.{delays_of, Changes, Fits};
+ghost use Rattle.delay_annotation.specs.Annotation.{delays_of, SetsDelay, Fits};
 
-use crate::PinPlaces;
 use netlist::Netlist;
 use pd_base::{OutOfMemory, PinRef};
 use std::alloc::Global;
@@ -21,27 +20,25 @@ pub const UNIT_DELAY: u32 = 1;
 /// `Fits`; each call is handed the netlist again.
 #[derive(Debug, Drop)]
 pub struct Delays {
-    places: PinPlaces,
-    delays: Vec<u32>,
+    by_place: Vec<u32>,
 }
 
 impl Model for Delays {
-    ghost use Rattle.delay_annotation.specs.Annotation.{Annotation};
+    ghost use Rattle.std.specs.Prelude.{ℕ, List};
 
-    ghost Value = { Annotation };
+    ghost Value = { List ℕ };
 
-    ghost view = { λ d. record { firsts = d.places; delays = d.delays.items } };
+    ghost view = { λ d. d.by_place.items };
 }
 
 impl Delays {
     /// The delays of a netlist whose pins all have the delay 1. It fails only where memory runs out.
     pub fn unit(alloc: Global, net: &Netlist) -> Result<Delays, OutOfMemory>
         ensures fits { IfOk result (λ delays. Fits net.now delays) }
-        ensures unit { IfOk result (λ delays. (pin : PinRef) (line : ℕ) → IsPinOn net.now pin line → delays_of delays pin ≡ UNIT_DELAY) }
+        ensures unit { IfOk result (λ delays. (pin : PinRef) (line : ℕ) → IsPinOn net.now pin line → delays_of net.now delays pin ≡ UNIT_DELAY) }
     {
-        let places = PinPlaces::new(alloc, net)?;
-        let delays = vec![in alloc; UNIT_DELAY; net.pin_total() as usize]?;
-        Ok(Delays { places, delays })
+        let by_place = vec![in alloc; UNIT_DELAY; net.pin_total() as usize]?;
+        Ok(Delays { by_place })
     }
 
     /// The delay of a pin, in delay units.
@@ -49,10 +46,10 @@ impl Delays {
         requires fits { Fits net.now self.now }
         requires gate { pin.gate.0 < gate_count net.now }
         requires pin { pin.pin < length (pins_at net.now pin.gate.0) }
-        ensures delay { result ≡ delays_of self.now pin }
+        ensures delay { result ≡ delays_of net.now self.now pin }
         ensures bounded { result ≤ MOST_DELAY }
     {
-        self.delays[self.places.place(net, pin)]
+        self.by_place[net.pin_place(pin)]
     }
 
     /// Gives a pin this delay, in delay units. All other pins keep theirs.
@@ -62,9 +59,8 @@ impl Delays {
         requires pin { pin.pin < length (pins_at net.now pin.gate.0) }
         requires bounded { delay ≤ MOST_DELAY }
         ensures fits { Fits net.now self.new }
-        ensures changes { Changes net.now self.old self.new pin delay }
+        ensures changes { SetsDelay net.now self.old self.new pin delay }
     {
-        let place = self.places.place(net, pin);
-        self.delays[place] = delay;
+        self.by_place[net.pin_place(pin)] = delay;
     }
 }

@@ -1,10 +1,20 @@
-//! The delays of a netlist, one for each pin.
-//! Stands on pd_base and netlist.
-//! The layers above use the contracts of `Delays`, and cite `delays_of` and `Fits` (specs/Annotation.antt).
+//! The delays of a netlist, one for each pin, and how they are read from a delay file.
+//! Stands on pd_base, netlist and csv.
+//! The layers above use `Delays` and `read_delays`, and cite `delays_of` and `Fits` (specs/Annotation.antt), and `HasDelays` and
+//! `RefusesDelays` (specs/DelayFile.antt).
 #![tactic(auto)]
 
 mod delays;
-mod places;
+mod fault;
+mod field;
+mod last;
+mod reading;
+mod row;
+mod rows;
+mod setting;
+mod settling;
 
 pub use delays::{Delays, MOST_DELAY, UNIT_DELAY};
-pub use places::PinPlaces;
+pub use fault::DelayFault;
+pub use field::{MOST_NUMBER_DIGITS, MOST_PIN_DIGITS};
+pub use reading::{MOST_BYTES, read_delays};

@@ -18,8 +18,8 @@ use Rattle.netlist.specs.Paths.{Connects, IsSide}
 use Rattle.netlist.specs.Values.{value}
 use Rattle.netlist.specs.Waves.{Delays, wave_of}
 use Rattle.netlist.proofs.Evaluation.{all_at_place}
-use Rattle.delay_annotation.specs.Places.{IsPin}
-use Rattle.waveform.specs.Changes.{Changes, wave_at}
+use Rattle.netlist.specs.Pins.{IsPin}
+use Rattle.delay_replay.specs.Changes.{Changes, wave_at}
 use Rattle.delay_replay.specs.LineWaves.{AreWavesOf, EndsAt, kept_wave}
 use Rattle.delay_replay.specs.Settling.{HasSettled, IsOwnOrSettled, HaveSidesSettled, HaveSettled}
 use Rattle.delay_replay.proofs.Replaying.{line_goes}

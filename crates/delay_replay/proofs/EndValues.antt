@@ -20,15 +20,14 @@ use Rattle.netlist.specs.Values.{bit_of, gate_value, value}
 use Rattle.netlist.specs.Waves.{Delays, Wave, source_wave, pin_values, delay_copy, wave_of}
 use Rattle.netlist.proofs.Evaluation.{line_induction, value_at_source, value_at_gate}
 use Rattle.path_laws.proofs.RelatedValues.{values_related_anywhere}
+use Rattle.netlist.specs.Pins.{pin_place_in}
 use Rattle.delay_annotation.specs.declared.delays.TheConstants.{MOST_DELAY}
-use Rattle.delay_annotation.specs.Annotation.{Annotation, Fits, delays_of}
-use Rattle.delay_annotation.specs.Places.{place_of}
-use Rattle.waveform.specs.Changes.{Changes, AreChangesOf, IsRising}
-use Rattle.waveform.proofs.ChangeTimes.{no_longer}
-use Rattle.waveform.proofs.Turning.{at_earliest, at_latest}
+use Rattle.delay_annotation.specs.Annotation.{Fits, delays_of}
+use Rattle.delay_replay.specs.Changes.{Changes, AreChangesOf, AreTimesRising}
+use Rattle.delay_replay.proofs.ChangeTimes.{listed_changes, no_longer}
+use Rattle.delay_replay.proofs.Turning.{at_earliest, at_latest}
 use Rattle.delay_replay.specs.LatestChange.{delayed, latest_change}
-use Rattle.delay_replay.specs.LineWaves.{GoesBetween, IsWithin}
-use Rattle.delay_replay.proofs.ChangeTimes.{listed_changes}
+use Rattle.delay_replay.specs.LineWaves.{GoesBetween, IsTimeWithin}
 
 -- the wave has this value before time 0
 abbrev pub IsEarly : Wave → Bool → Type 0
@@ -147,14 +146,14 @@ goes_between wave first last bound changes early late are = record {
         (λ above. absurd (differs (late (time -ℤ pos 1) (omega (arith, ints)) ∙ sym (late time (omega (arith, ints))))))
         (λ upto. upto)
 
-    between : All (IsWithin bound) changes.times
+    between : All (IsTimeWithin bound) changes.times
     between i d within = record {
       from_zero = not_early (get_or changes.times i d) (listed i d within);
       to_bound = not_late (get_or changes.times i d) (listed i d within);
     }
 
 -- a wave that can change at time 0 alone has one change at most
-pub one_change : (first last : Bool) (changes : Changes) → IsRising changes.times → GoesBetween first last 0 changes
+pub one_change : (first last : Bool) (changes : Changes) → AreTimesRising changes.times → GoesBetween first last 0 changes
     → length changes.times ≤ 1
 one_change first last changes rising goes =
     no_longer changes.times (pos 0 ∷ []) rising (λ i j d less within. absurd (omega arith))
@@ -180,12 +179,12 @@ few_levels c is line within =
     omega (arith, is.few_levels)
 
 -- a delay that is kept is none over the greatest
-pub small_delay : (c : Circuit) (kept : Annotation) → Fits c kept → (pin : PinRef) → delays_of kept pin ≤ MOST_DELAY
+pub small_delay : (c : Circuit) (kept : List ℕ) → Fits c kept → (pin : PinRef) → delays_of c kept pin ≤ MOST_DELAY
 small_delay c kept fits pin =
     ⊎_elim
-    (λ within. fits.bounded (place_of kept.firsts pin) 0 within)
-    (λ past. omega (arith, get_or_past kept.delays (place_of kept.firsts pin) 0 past))
-    (cases_lt (place_of kept.firsts pin) (length kept.delays))
+    (λ within. fits.bounded (pin_place_in c pin) 0 within)
+    (λ past. omega (arith, get_or_past kept (pin_place_in c pin) 0 past))
+    (cases_lt (pin_place_in c pin) (length kept))
 
 module _ (c : Circuit) (is : IsCircuit c) (delays : Delays) (small : (pin : PinRef) → delays pin ≤ MOST_DELAY) where
   -- the line's latest change comes within its levels

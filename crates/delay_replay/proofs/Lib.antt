@@ -1,6 +1,11 @@
+pub mod ChangeTimes
+pub mod PinCounts
+pub mod GatePins
+pub mod Merging
+pub mod NextChanges
+pub mod Turning
 mod BackwardSteps
-mod ChangeTimes
-mod Counting
+mod ChangeCounts
 mod EndValues
 mod PrefixLengths
 mod Replaying

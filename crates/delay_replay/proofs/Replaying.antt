@@ -22,10 +22,10 @@ use Rattle.netlist.specs.Waves.{Delays, Wave, source_wave, pin_values, delay_cop
 use Rattle.netlist.proofs.Evaluation.{map_agree, gate_line_of, value_at_gate}
 use Rattle.path_laws.proofs.GateValues.{wave_of_source}
 use Rattle.delay_annotation.specs.declared.delays.TheConstants.{MOST_DELAY}
-use Rattle.waveform.specs.declared.gate.TheConstants.{MOST_CHANGES}
-use Rattle.waveform.specs.Changes.{Changes, AreChangesOf, ChangesOver, IsBounded}
-use Rattle.waveform.specs.GateWaves.{gate_wave, line_wave}
-use Rattle.waveform.proofs.ChangeTimes.{not_over}
+use Rattle.delay_replay.specs.declared.gate.TheConstants.{MOST_CHANGES}
+use Rattle.delay_replay.specs.Changes.{Changes, AreChangesOf, ChangesOver, IsBounded}
+use Rattle.delay_replay.specs.GateWaves.{gate_wave, line_wave}
+use Rattle.delay_replay.proofs.ChangeTimes.{not_over, over_same, shows_same}
 use Rattle.delay_replay.specs.declared.line_waves.TheConstants.{MOST_CHANGES_OF_ALL}
 use Rattle.delay_replay.specs.declared.line_waves.ReplayFault.{ReplayFault}
 use Rattle.delay_replay.specs.declared.line_waves.ReplayFault.TheVariants.{TooManyChanges, NoMemory}
@@ -33,11 +33,10 @@ use Rattle.delay_replay.specs.LatestChange.{latest_change}
 use Rattle.delay_replay.specs.LineWaves.{AreWavesOf, GoesBetween, kept_wave, no_changes}
 use Rattle.delay_replay.specs.ChangeLimits.{HaveChanges, HasFewChanges, IsFirstTooMuch, IsTooMuch, NoneTooMuch, RefusesReplay, ranked_lines}
 use Rattle.delay_replay.specs.ChangeLimits.IsTooMuch.{by_itself, together}
-use Rattle.delay_replay.specs.Turns.{AreSourceWaves, AddsWaves, IsOver, RefusesTurn}
-use Rattle.delay_replay.specs.Turns.IsOver.{by_itself as over_by_itself, together as over_together}
-use Rattle.delay_replay.proofs.ChangeTimes.{over_same, shows_same}
+use Rattle.delay_replay.specs.ReplayTurns.{AreSourceWaves, AddsWaves, IsOver, RefusesGate}
+use Rattle.delay_replay.specs.ReplayTurns.IsOver.{by_itself as over_by_itself, together as over_together}
 use Rattle.delay_replay.proofs.EndValues.{early_choice, late_choice, wave_early, wave_late, goes_between, one_change, latest_small}
-use Rattle.delay_replay.proofs.Counting.{none_too_much, one_line_more, zip_from_places}
+use Rattle.delay_replay.proofs.ChangeCounts.{none_too_much, one_line_more, zip_from_places}
 
 -- the wave of a source changes at time 0 at most
 source_goes : (pair : Vectors) (source : ℕ) (changes : Changes) → AreChangesOf (source_wave pair source) changes
@@ -321,7 +320,7 @@ module _ (c : Circuit) (pair : Vectors) (delays : Delays) where
 
           -- a turn that is refused refuses the replay
           pub turn_refused : (fault : ReplayFault)
-              → RefusesTurn (gate_wave (delay_copy delays) c gate.0 (line_wave waves)) own_line total fault
+              → RefusesGate (gate_wave (delay_copy delays) c gate.0 (line_wave waves)) own_line total fault
               → RefusesReplay c pair delays fault
           turn_refused NoMemory refuses = tt
           turn_refused (TooManyChanges line) refuses =

@@ -6,7 +6,7 @@ use Rattle.pd_base.specs.Pair.{Vectors}
 use Rattle.netlist.specs.Circuit.{Circuit, HasLines, observed_lines}
 use Rattle.netlist.specs.Waves.{Delays, wave_of}
 use Rattle.netlist.proofs.Evaluation.{map_agree}
-use Rattle.waveform.specs.Changes.{Changes, wave_at}
+use Rattle.delay_replay.specs.Changes.{Changes, wave_at}
 use Rattle.delay_replay.specs.LineWaves.{AreWavesOf, kept_wave}
 use Rattle.delay_replay.specs.Settling.{samples, observed_at}
 

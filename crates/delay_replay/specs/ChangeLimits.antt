@@ -7,8 +7,8 @@ use Rattle.pd_base.specs.Pair.{Vectors}
 use Rattle.netlist.specs.Circuit.{Circuit, source_count, gate_line}
 use Rattle.netlist.specs.Levels.{IsRankOrder}
 use Rattle.netlist.specs.Waves.{Delays, Wave, wave_of}
-use Rattle.waveform.specs.declared.gate.TheConstants.{MOST_CHANGES}
-use Rattle.waveform.specs.Changes.{Changes, AreChangesOf, ChangesOver}
+use Rattle.delay_replay.specs.declared.gate.TheConstants.{MOST_CHANGES}
+use Rattle.delay_replay.specs.Changes.{Changes, AreChangesOf, ChangesOver}
 use Rattle.delay_replay.specs.declared.line_waves.TheConstants.{MOST_CHANGES_OF_ALL}
 use Rattle.delay_replay.specs.declared.line_waves.ReplayFault.{ReplayFault}
 use Rattle.delay_replay.specs.declared.line_waves.ReplayFault.TheVariants.{TooManyChanges, NoMemory}

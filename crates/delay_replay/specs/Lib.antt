@@ -1,5 +1,9 @@
+pub mod Changes
+pub mod GateWaves
+pub mod PinChanges
+pub mod AddedChanges
 pub mod ChangeLimits
 pub mod LatestChange
 pub mod LineWaves
 pub mod Settling
-pub mod Turns
+pub mod ReplayTurns

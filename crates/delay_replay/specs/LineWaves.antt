@@ -5,7 +5,7 @@ use Rattle.pd_base.specs.Pair.{Vectors}
 use Rattle.netlist.specs.Circuit.{Circuit, line_count}
 use Rattle.netlist.specs.Values.{value}
 use Rattle.netlist.specs.Waves.{Delays, wave_of}
-use Rattle.waveform.specs.Changes.{Changes, AreChangesOf, wave_at}
+use Rattle.delay_replay.specs.Changes.{Changes, AreChangesOf, wave_at}
 use Rattle.delay_replay.specs.LatestChange.{latest_change}
 
 -- what is read where there is no line
@@ -26,7 +26,7 @@ abbrev pub EndsAt : Changes → Bool → Type 0
 EndsAt changes value = (time : ℤ) → All (λ change. change ≤ℤ time) changes.times → wave_at changes time ≡ value
 
 -- a time from 0 up to a bound
-pub record IsWithin (bound : ℕ) (time : ℤ) : Type 0 where
+pub record IsTimeWithin (bound : ℕ) (time : ℤ) : Type 0 where
   pub from_zero : pos 0 ≤ℤ time
   pub to_bound : time ≤ℤ pos bound
 
@@ -36,7 +36,7 @@ pub record GoesBetween (first last : Bool) (bound : ℕ) (changes : Changes) : T
   pub latest : EndsAt changes last
   pub early : (time : ℤ) → time <ℤ pos 0 → wave_at changes time ≡ first
   pub late : (time : ℤ) → pos bound ≤ℤ time → wave_at changes time ≡ last
-  pub between : All (IsWithin bound) changes.times
+  pub between : All (IsTimeWithin bound) changes.times
 
 -- each line goes from its value under the first vector to its value under the second
 abbrev pub GoBetweenValues : Circuit → Vectors → Delays → List Changes → Type 0

@@ -7,7 +7,7 @@ use Rattle.pd_base.specs.Pair.{Vectors}
 use Rattle.netlist.specs.Circuit.{Circuit, observed_lines}
 use Rattle.netlist.specs.Paths.{IsSide}
 use Rattle.netlist.specs.Waves.{Delays, wave_of}
-use Rattle.waveform.specs.Changes.{Changes, wave_at}
+use Rattle.delay_replay.specs.Changes.{Changes, wave_at}
 use Rattle.delay_replay.specs.LineWaves.{EndsAt, kept_wave}
 
 -- what is sampled of kept waves at a time, by observed line

@@ -1,10 +1,17 @@
-//! The waves of all lines of a netlist under a pair of vectors, samples of them, and whether the sides of a path have settled.
-//! Stands on pd_base, netlist, path_laws, delay_annotation and waveform.
-//! The layer above uses the contracts of `replay`, `sample` and `settled`.
+//! The waves of all lines of a netlist under a pair of vectors and its delays, kept as their changes; samples of them; and
+//! whether the sides of a path have settled.
+//! Stands on pd_base, netlist, delay_annotation and path_laws.
+//! The layers above use the contracts of `replay`, `sample` and `settled`.
 #![tactic(auto)]
 
+mod gate;
 mod line_waves;
+mod pin_changes;
+mod pin_count;
 mod settling;
+mod wave;
 
+pub use gate::{MOST_CHANGES, WaveFault, gate_wave};
 pub use line_waves::{MOST_CHANGES_OF_ALL, ReplayFault, replay};
 pub use settling::{sample, settled};
+pub use wave::{LATEST_CHANGE, Wave, pin_copy, source_wave};

@@ -1,22 +1,22 @@
 // The waves of all lines under a pair of vectors: the sources first, then gate by gate in rank order, so that the waves of the
 // lines that a gate reads are there when its turn comes. What is read of the waves is in settling.rt.
-ghost use Rattle.std.specs.Prelude.{◌≡◌, ◌+◌, ◌*◌, ◌^◌, ◌<◌, ◌≤◌, ℕ, length, sum_by, All, IfOk, IfErr, OnOk};
+ghost use Rattle.std.specs.Prelude.{◌≡◌, ◌+◌, ◌*◌, ◌^◌, ◌<◌, ◌≤◌, length, sum_by, All, IfOk, IfErr, OnOk};
 ghost use Rattle.netlist.specs.Circuit.{source_count, gate_count, gate_line, line_count};
 ghost use Rattle.netlist.specs.declared.limits.TheConstants.{MOST_LEVELS};
 ghost use Rattle.delay_annotation.specs.Annotation.{delays_of, Fits};
 ghost use Rattle.delay_annotation.specs.declared.delays.TheConstants.{MOST_DELAY};
-ghost use Rattle.waveform.specs.Changes.{AreChangesOf, IsBounded};
-ghost use Rattle.waveform.specs.GateWaves.{delayed_gate_wave};
+ghost use Rattle.delay_replay.specs.Changes.{AreChangesOf, IsBounded};
+ghost use Rattle.delay_replay.specs.GateWaves.{delayed_gate_wave};
 ghost use Rattle.delay_replay.specs.LatestChange.{AreGreatestLengths, ComeBy};
 ghost use Rattle.delay_replay.specs.LineWaves.{AreWavesOf, GoBetweenValues};
 ghost use Rattle.delay_replay.specs.ChangeLimits.{HasFewChanges, RefusesReplay};
-ghost use Rattle.delay_replay.specs.Turns.{AreSourceWaves, AddsWaves, RefusesTurn};
+ghost use Rattle.delay_replay.specs.ReplayTurns.{AreSourceWaves, AddsWaves, RefusesGate};
 
+use crate::{MOST_CHANGES, Wave, WaveFault, gate_wave, source_wave};
 use delay_annotation::Delays;
 use netlist::Netlist;
 use pd_base::{GateId, LineId, OutOfMemory, Pair};
 use std::alloc::Global;
-use waveform::{MOST_CHANGES, Wave, WaveFault, gate_wave, source_wave};
 
 /// The most changes that the waves of all lines may have together.
 pub const MOST_CHANGES_OF_ALL: usize = 16_777_216;
@@ -54,23 +54,24 @@ pub fn replay(
 ) -> Result<Vec<Wave>, ReplayFault>
     requires fits { Fits net.now delays.now }
     requires bits { length pair.now.first ≡ source_count net.now }
-    ensures waves { IfOk result (λ waves. AreWavesOf net.now pair.now (delays_of delays.now) waves.items) }
-    ensures values { IfOk result (λ waves. GoBetweenValues net.now pair.now (delays_of delays.now) waves.items) }
-    ensures latest { IfOk result (λ waves. ComeBy net.now (delays_of delays.now) (MOST_LEVELS * MOST_DELAY)) }
-    ensures greatest { IfOk result (λ waves. AreGreatestLengths net.now (delays_of delays.now)) }
+    ensures waves { IfOk result (λ waves. AreWavesOf net.now pair.now (delays_of net.now delays.now) waves.items) }
+    ensures values { IfOk result (λ waves. GoBetweenValues net.now pair.now (delays_of net.now delays.now) waves.items) }
+    ensures latest { IfOk result (λ waves. ComeBy net.now (delays_of net.now delays.now) (MOST_LEVELS * MOST_DELAY)) }
+    ensures greatest { IfOk result (λ waves. AreGreatestLengths net.now (delays_of net.now delays.now)) }
     ensures bounded { IfOk result (λ waves. All IsBounded waves.items) }
-    ensures few { IfOk result (λ waves. HasFewChanges net.now pair.now (delays_of delays.now)) }
-    ensures refused { IfErr result (RefusesReplay net.now pair.now (delays_of delays.now)) }
+    ensures few { IfOk result (λ waves. HasFewChanges net.now pair.now (delays_of net.now delays.now)) }
+    ensures refused { IfErr result (RefusesReplay net.now pair.now (delays_of net.now delays.now)) }
 {
-    let sources = net.sources();
+    // A netlist knows itself as a circuit.
+    let one_each = pair.first().len() == net.sources() as usize;
+    prove!(one_each);
     let mut waves = source_waves(alloc, net, pair)?;
     let mut total = change_total(&waves);
     add_still_waves(alloc, net.gates(), &mut waves)?;
     for gate in net.order() {
-        let line = sources + gate.0;
         let wave = next_wave(alloc, net, delays, *gate, &waves, total)?;
         total += wave.changes().len();
-        waves[line as usize] = wave;
+        waves[net.line_of(*gate).0 as usize] = wave;
     }
     Ok(waves)
 }
@@ -128,10 +129,10 @@ fn next_wave(
     ensures wave { IfOk result (AreChangesOf (delayed_gate_wave net.now delays.now gate.0 waves.now)) }
     ensures few { IfOk result (λ wave. length wave.times ≤ MOST_CHANGES) }
     ensures few_of_all { IfOk result (λ wave. total + length wave.times ≤ MOST_CHANGES_OF_ALL) }
-    ensures refused { IfErr result (RefusesTurn
+    ensures refused { IfErr result (RefusesGate
         (delayed_gate_wave net.now delays.now gate.0 waves.now) (gate_line net.now gate.0) total) }
 {
-    let line = LineId(net.sources() + gate.0);
+    let line = net.line_of(gate);
     let wave = match gate_wave(alloc, net, delays, gate, waves) {
         Ok(wave) => wave,
         Err(WaveFault::TooMany) => return Err(ReplayFault::TooManyChanges(line)),

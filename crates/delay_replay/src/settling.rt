@@ -1,6 +1,6 @@
 // What is read of the waves of all lines at a time: samples of the observed lines, and whether the sides of a path have
 // settled. Nothing here takes memory. The waves are made in line_waves.rt.
-ghost use Rattle.std.specs.Prelude.{◌≡◌, ◌+◌, ◌*◌, ◌<◌, ◌≤◌, ◌↔◌, ℕ, pos, ◌-ℤ◌, length, IsTrue};
+ghost use Rattle.std.specs.Prelude.{◌≡◌, ◌+◌, ◌*◌, ◌<◌, ◌≤◌, ◌↔◌, pos, ◌-ℤ◌, length, IsTrue};
 ghost use Rattle.pd_base.specs.Pair.{Vectors};
 ghost use Rattle.netlist.specs.Circuit.{gate_count, line_count, observed_lines, pins_at};
 ghost use Rattle.netlist.specs.Waves.{Delays as DelayAssignment};
@@ -10,14 +10,14 @@ ghost use Rattle.netlist.specs.Meaning.{IsSettled};
 ghost use Rattle.netlist.specs.declared.limits.TheConstants.{MOST_LEVELS};
 ghost use Rattle.delay_annotation.specs.Annotation.{delays_of, Fits};
 ghost use Rattle.delay_annotation.specs.declared.delays.TheConstants.{MOST_DELAY};
-ghost use Rattle.waveform.specs.Changes.{wave_at};
+ghost use Rattle.delay_replay.specs.Changes.{wave_at};
 ghost use Rattle.delay_replay.specs.LineWaves.{AreWavesOf};
 ghost use Rattle.delay_replay.specs.Settling.{samples, observed_at, IsOwnOrSettled, HaveSidesSettled, HaveSettled};
 
+use crate::Wave;
 use delay_annotation::Delays;
 use netlist::Netlist;
 use pd_base::{Path, PinRef};
-use waveform::Wave;
 
 /// Fills in what the observed lines have at a time, in the order of `observed`. `waves` has one wave per line, by line number,
 /// and `out` one place per observed line. Takes no memory.
@@ -40,9 +40,9 @@ pub fn settled(net: &Netlist, delays: &Delays, waves: &[Wave], path: &Path, time
     requires fits { Fits net.now delays.now }
     requires one_each { length waves.now ≡ line_count net.now }
     requires prefix { IsPrefix net.now path.now }
-    ensures exactly { IsTrue result ↔ HaveSettled net.now (delays_of delays.now) waves.now time path.now.steps }
-    ensures of_waves { (pair : Vectors) → AreWavesOf net.now pair (delays_of delays.now) waves.now
-        → IsTrue result ↔ IsSettled net.now path.now pair (delays_of delays.now) time }
+    ensures exactly { IsTrue result ↔ HaveSettled net.now (delays_of net.now delays.now) waves.now time path.now.steps }
+    ensures of_waves { (pair : Vectors) → AreWavesOf net.now pair (delays_of net.now delays.now) waves.now
+        → IsTrue result ↔ IsSettled net.now path.now pair (delays_of net.now delays.now) time }
 {
     let lines = net.lines() as usize;
     prove!(waves.len() == lines);
@@ -72,7 +72,7 @@ fn sides_settled(
     requires one_each { length waves.now ≡ line_count net.now }
     requires gate { step.gate.0 < gate_count net.now }
     requires behind { behind ≤ MOST_LEVELS * MOST_DELAY }
-    ensures { IsTrue result ↔ HaveSidesSettled net.now (delays_of delays.now) waves.now (time -ℤ pos behind) step }
+    ensures { IsTrue result ↔ HaveSidesSettled net.now (delays_of net.now delays.now) waves.now (time -ℤ pos behind) step }
 {
     for (pin, line) in net.pins(step.gate).iter().enumerate() {
         let wave = &waves[line.0 as usize];
@@ -98,7 +98,7 @@ fn pin_settled(
     requires gate { step.gate.0 < gate_count net.now }
     requires pin { pin < length (pins_at net.now step.gate.0) }
     requires behind { behind ≤ MOST_LEVELS * MOST_DELAY }
-    ensures { IsTrue result ↔ IsOwnOrSettled (delays_of delays.now) wave.now (time -ℤ pos behind) step pin }
+    ensures { IsTrue result ↔ IsOwnOrSettled (delays_of net.now delays.now) wave.now (time -ℤ pos behind) step pin }
 {
     if pin == step.pin {
         return true;

@@ -8,6 +8,8 @@ use Rattle.pd_base.specs.declared.ids.PinRef.{PinRef}
 use Rattle.pd_base.specs.declared.fault.Direction.{Direction}
 use Rattle.pd_base.specs.declared.fault.Kind.{Kind}
 use Rattle.pd_base.specs.Route.{Route}
+use Rattle.pd_base.specs.Target.{Target, target_of}
+use Rattle.pd_base.specs.declared.rules.Rules.TheVariants.{One}
 use Rattle.netlist.specs.Circuit.{Circuit, line_count, gate_line}
 use Rattle.netlist.specs.Pins.{IsPinOn}
 use Rattle.netlist.specs.Paths.{Connects, line_after, prefix_of, IsPath}
@@ -16,12 +18,12 @@ use Rattle.state_sets.specs.declared.state.State.{State}
 use Rattle.state_sets.specs.FourStates.{four_states}
 use Rattle.state_sets.specs.Starts.{MayStart}
 use Rattle.state_sets.specs.Hulls.{IsNarrowingOf, IsEmptied}
-use Rattle.hull_laws.specs.Nodes.{MayBe, ClosesAtNode}
-use Rattle.hull_laws.proofs.Hulls.{emptied_if_wider, prefix_closes, widens_by_states}
-use Rattle.refutation_check.specs.declared.tree.Node.{Node}
-use Rattle.refutation_check.specs.declared.tree.Node.TheVariants.{Closed}
-use Rattle.refutation_check.specs.Trees.{split_count}
-use Rattle.refutation_check.specs.Trees.Cases.{closed}
+use Rattle.state_laws.specs.Nodes.{MayBe, ClosesAtNode}
+use Rattle.state_laws.proofs.Hulls.{emptied_if_wider, prefix_closes, widens_by_states}
+use Rattle.runs.specs.declared.tree.Node.{Node}
+use Rattle.runs.specs.declared.tree.Node.TheVariants.{Closed}
+use Rattle.runs.specs.Trees.{split_count}
+use Rattle.runs.specs.Trees.Cases.{closed}
 use Rattle.tree_laws.specs.Refutations.{IsRefutation}
 use Rattle.implication.specs.declared.assumption.Assumption.{Assumption}
 use Rattle.implication.specs.declared.assumption.Assumption.TheVariants.{Entered}
@@ -55,26 +57,32 @@ module _ (c : Circuit) (begun : Beginning) (path : Route) (source : begun.source
   abbrev entries : List Assumption
   entries = map Entered (take count path.steps)
 
-  -- at the start of a path lines may be in no more than under its first pins
+  -- the target of the path, and that of its first pins
+  abbrev whole : Target
+  whole = target_of path begun.direction begun.kind
+
+  abbrev first : Target
+  first = target_of (prefix_of count path) begun.direction begun.kind
+
+  -- at the start of the first pins lines may be in no more than under them
   let_be : (line : ℕ) (state : State) → line < line_count c → state.0 < four_states.count
-      → MayBe four_states c path.source.0 begun.direction [] line state → MayUnder four_states c begun entries line state
+      → MayBe four_states c One first [] line state → MayUnder four_states c begun entries line state
   let_be line state inside in_range may = record {
     start =
-        let P : LineId → Type 0 = λ s. MayStart four_states c s.0 begun.direction line state in
+        let P : LineId → Type 0 = λ s. MayStart four_states c One s.0 begun.direction line state in
         subst P (sym source) may.start;
     assumed = All-map (IsLetBy four_states.count line state) Entered (take count path.steps) (λ place d within. tt);
   }
 
   -- so where these pins empty a line, the start of the path closes
-  closes_at : (line : ℕ) → line < line_count c → IsEmptiedUnder four_states c begun entries line
-      → ClosesAtNode c begun.kind path begun.direction []
+  closes_at : (line : ℕ) → line < line_count c → IsEmptiedUnder four_states c begun entries line → ClosesAtNode c One whole []
   closes_at line inside emptied =
       let Emptied : List PinRef → Type 0 =
       λ steps. IsEmptied four_states c (IsNarrowingOf c begun.kind steps) (MayUnder four_states c begun entries) line in
       let Narrowings = IsNarrowingOf c begun.kind (take count path.steps) in
-      let May = MayBe four_states c path.source.0 begun.direction [] in
+      let May = MayBe four_states c One first [] in
       let Might = MayUnder four_states c begun entries in
-      prefix_closes c begun.kind (prefix_of count path) path (prefix_of-is_prefix count path) begun.direction []
+      prefix_closes c One (prefix_of count path) path (prefix_of-is_prefix count path) begun.direction begun.kind []
       (record {
         line = line;
         in_circuit = inside;
@@ -177,7 +185,7 @@ at_source old new path kind direction is_path begun free left_open =
 module _ (old : Standing) (path : Route) (kind : Kind) (direction : Direction)
     (begun : old.beginning ≡ Some (record { source = path.source; direction = direction; kind = kind })) where
   -- where all pins are entered the search can start
-  pub at_start : (new : Standing) → HasEntered old new path (length path.steps) → IsStart path direction kind new
+  pub at_start : (new : Standing) → HasEntered old new path (length path.steps) → IsStart (target_of path direction kind) new
   at_start new has = record {
     beginning = has.beginning ∙ begun;
     entered = has.entered ∙ ap (map Entered) (take_all (length path.steps) path.steps (omega arith));
@@ -186,7 +194,7 @@ module _ (old : Standing) (path : Route) (kind : Kind) (direction : Direction)
 
   -- where the start closes, one closed leaf refutes the path
   pub closed_refutes : (c : Circuit) (budget : ℕ) (tree : List Node) → ClosesFrom c old.beginning path → tree ≡ Closed ∷ []
-      → IsRefutation c kind path direction tree × (split_count tree ≤ budget)
+      → IsRefutation c One (target_of path direction kind) tree × (split_count tree ≤ budget)
   closed_refutes c budget tree closes is =
       let P : Option Beginning → Type 0 = λ b. ClosesFrom c b path in
       let none : split_count tree ≡ 0 = ap split_count is in

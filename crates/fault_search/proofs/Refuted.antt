@@ -5,31 +5,31 @@ use Rattle.std.specs.Prelude.{slice_get}
 use Rattle.std.proofs.lemmas.List.{length-take}
 use Rattle.std.proofs.lemmas.List.Elements.{All-cons, All-nil}
 use Rattle.std.proofs.lemmas.Option.{slice_get-get_or}
-use Rattle.pd_base.specs.declared.fault.Direction.{Direction}
-use Rattle.pd_base.specs.declared.fault.Kind.{Kind}
+use Rattle.pd_base.specs.Target.{Target}
+use Rattle.pd_base.specs.declared.rules.Rules.TheVariants.{One}
 use Rattle.pd_base.specs.Route.{Route}
 use Rattle.netlist.specs.Circuit.{Circuit}
 use Rattle.netlist.specs.Paths.{IsPrefixOf, prefix_of}
 use Rattle.path_laws.proofs.Prefixes.{own_prefix, is_prefix_of}
-use Rattle.refutation_check.specs.declared.tree.Node.{Node}
+use Rattle.runs.specs.declared.tree.Node.{Node}
 use Rattle.tree_laws.specs.Refutations.{IsRefutation}
 use Rattle.good_runs.specs.Faults.{IsNumber}
-use Rattle.refutation_check.specs.Trees.{split_count}
+use Rattle.runs.specs.Trees.{split_count}
 use Rattle.verdict_runs.specs.declared.findings.Outcome.{Outcome}
 use Rattle.verdict_runs.specs.declared.findings.Outcome.TheVariants.{Unsearched, Tested, Refuted, Spent}
 use Rattle.verdict_runs.specs.declared.findings.Refutation.{Refutation}
-use Rattle.verdict_runs.specs.Findings.{Searches, HasPrefix, IsFound, AreApart, NoneRefutes, IsRefutedBy}
+use Rattle.verdict_runs.specs.Findings.{Searches, HasPrefix, IsFoundRefutation, AreApart, NoneRefutes, IsRefutedBy}
 use Rattle.fault_search.specs.declared.targets.Aim.{Aim}
 use Rattle.fault_search.specs.Prefixes.{IsFirstWith}
-use Rattle.fault_search.specs.Walks.{AreRefutations, AreShort, AreStanding, IsAimedAt, IsGrown, IsWalked, KeepSettled, Stands, is_settled, outcome_at, searches_with}
-use Rattle.fault_search.specs.Refuting.{AreSettled, IsAdded, IsSettledAt, refutation_of}
-use Rattle.fault_search.specs.Refuting.IsSettledAt.{under, aside}
+use Rattle.fault_search.specs.Walks.{AreRefutations, AreShort, AreStanding, IsAimedAt, IsGrown, IsWalked, KeepKnown, Stands, is_known, outcome_at, searches_with, target_for}
+use Rattle.fault_search.specs.Refuting.{AreRefutedUnder, IsAdded, IsRefutedUnder, refutation_of}
+use Rattle.fault_search.specs.Refuting.IsRefutedUnder.{under, aside}
 use Rattle.fault_search.proofs.Places.{at_last, in_first, in_push, same_item}
 use Rattle.fault_search.proofs.Begins.{fewer_steps, turned_round}
 
 -- the tree refutes a path with so many splits
-abbrev pub IsRefuted : Circuit → Kind → Route → Direction → ℕ → List Node → Type 0
-IsRefuted c kind path direction budget tree = IsRefutation c kind path direction tree × (split_count tree ≤ budget)
+abbrev pub IsRefuted : Circuit → Target → ℕ → List Node → Type 0
+IsRefuted c target budget tree = IsRefutation c One target tree × (split_count tree ≤ budget)
 
 module _ (c : Circuit) (routes : List Route) (aim : Aim) (at first : ℕ) (tree : List Node) (of : IsFirstWith routes at first)
     (old : List Refutation) where
@@ -73,7 +73,7 @@ module _ (c : Circuit) (routes : List Route) (aim : Aim) (at first : ℕ) (tree 
       its.is_prefix ∙ ap (prefix_of (length of.prefix.steps)) listed ∙ cut
 
   -- it is one that was found
-  is_found : IsRefuted c aim.kind of.prefix aim.dir aim.budget tree → IsFound c then added
+  is_found : IsRefuted c (target_for aim of.prefix) aim.budget tree → IsFoundRefutation c then added
   is_found refutes = record {
     listed = of.route;
     is_listed = names;
@@ -86,12 +86,12 @@ module _ (c : Circuit) (routes : List Route) (aim : Aim) (at first : ℕ) (tree 
         omega (arith, low, some));
     within_budget = refutes.1;
     refutes =
-        let P : Route → Type 0 = λ r. IsRefutation c aim.kind r aim.dir tree in
+        let P : Route → Type 0 = λ r. IsRefutation c One (target_for aim r) tree in
         subst P (sym cut) refutes.0;
   }
 
   -- each one before still is
-  found_before : (refutation : Refutation) → IsFound c before refutation → IsFound c then refutation
+  found_before : (refutation : Refutation) → IsFoundRefutation c before refutation → IsFoundRefutation c then refutation
   found_before refutation is = record {
     listed = is.listed;
     is_listed = is.is_listed;
@@ -102,8 +102,8 @@ module _ (c : Circuit) (routes : List Route) (aim : Aim) (at first : ℕ) (tree 
   }
 
   -- to a path that does not have the prefix none applies, if none did
-  none_still : (route : Route) → ¬ IsPrefixOf of.prefix route → NoneRefutes before aim.kind aim.dir route
-      → NoneRefutes then aim.kind aim.dir route
+  none_still : (route : Route) → ¬ IsPrefixOf of.prefix route → NoneRefutes before (target_for aim route)
+      → NoneRefutes then (target_for aim route)
   none_still route apart none index refutation here refutes =
       ⊎_elim (λ (is : slice_get old index ≡ Some refutation). none index refutation is refutes)
       (λ (is : (index ≡ length old) × (refutation ≡ added)).
@@ -112,7 +112,7 @@ module _ (c : Circuit) (routes : List Route) (aim : Aim) (at first : ℕ) (tree 
       (in_push old added index refutation here)
 
   stands_still : (route : Route) (outcome : Outcome) → ¬ IsPrefixOf of.prefix route
-      → Stands c before aim.kind aim.dir route outcome → Stands c then aim.kind aim.dir route outcome
+      → Stands c before (target_for aim route) outcome → Stands c then (target_for aim route) outcome
   stands_still route Unsearched apart stands = none_still route apart stands
   stands_still route (Tested pair) apart stands = stands
   stands_still route (Refuted index) apart stands = record {
@@ -124,7 +124,7 @@ module _ (c : Circuit) (routes : List Route) (aim : Aim) (at first : ℕ) (tree 
       record { is_spent = stands.is_spent; none_refutes = none_still route apart stands.none_refutes }
 
   -- to a path that has the prefix it applies
-  refuted_now : (route : Route) → IsPrefixOf of.prefix route → IsRefutedBy then aim.kind aim.dir route (length old)
+  refuted_now : (route : Route) → IsPrefixOf of.prefix route → IsRefutedBy then (target_for aim route) (length old)
   refuted_now route begins = record {
     refutation = added;
     is_found = at_last old added;
@@ -132,34 +132,34 @@ module _ (c : Circuit) (routes : List Route) (aim : Aim) (at first : ℕ) (tree 
         record { of_kind = refl; of_direction = refl; prefix = of.prefix; has_prefix = has_own; is_prefix = begins };
   }
 
-  stands_then : (route : Route) (was is : Outcome) → IsSettledAt of.prefix (length old) route was is
-      → Stands c before aim.kind aim.dir route was → Stands c then aim.kind aim.dir route is
+  stands_then : (route : Route) (was is : Outcome) → IsRefutedUnder of.prefix (length old) route was is
+      → Stands c before (target_for aim route) was → Stands c then (target_for aim route) is
   stands_then route was is (under begins same) stands =
-      let P : Outcome → Type 0 = λ o. Stands c then aim.kind aim.dir route o in subst P (sym same) (refuted_now route begins)
+      let P : Outcome → Type 0 = λ o. Stands c then (target_for aim route) o in subst P (sym same) (refuted_now route begins)
   stands_then route was is (aside apart same) stands =
-      let P : Outcome → Type 0 = λ o. Stands c then aim.kind aim.dir route o in
+      let P : Outcome → Type 0 = λ o. Stands c then (target_for aim route) o in
       subst P (sym same) (stands_still route was apart stands)
 
-  settled_at : (was is : List Outcome) (settled : AreSettled routes at (length old) was is) (other : ℕ) (route : Route)
+  known_at : (was is : List Outcome) (known : AreRefutedUnder routes at (length old) was is) (other : ℕ) (route : Route)
       → slice_get routes other ≡ Some route
-      → IsSettledAt of.prefix (length old) route (outcome_at was other) (outcome_at is other)
-  settled_at was is settled other route here =
-      let same : settled.prefix ≡ of.prefix = same_item routes at settled.prefix of.prefix settled.is_prefix of.is_prefix in
-      let P : Route → Type 0 = λ p. IsSettledAt p (length old) route (outcome_at was other) (outcome_at is other) in
-      subst P same (settled.each other route here)
+      → IsRefutedUnder of.prefix (length old) route (outcome_at was other) (outcome_at is other)
+  known_at was is known other route here =
+      let same : known.prefix ≡ of.prefix = same_item routes at known.prefix of.prefix known.is_prefix of.is_prefix in
+      let P : Route → Type 0 = λ p. IsRefutedUnder p (length old) route (outcome_at was other) (outcome_at is other) in
+      subst P same (known.each other route here)
 
-  standing_then : (was is : List Outcome) → AreSettled routes at (length old) was is
+  standing_then : (was is : List Outcome) → AreRefutedUnder routes at (length old) was is
       → AreStanding c before aim.kind aim.dir was → AreStanding c then aim.kind aim.dir is
-  standing_then was is settled standing = record {
-    one_each = settled.one_each ∙ standing.one_each;
+  standing_then was is known standing = record {
+    one_each = known.one_each ∙ standing.one_each;
     stands =
         λ other route here.
-        stands_then route (outcome_at was other) (outcome_at is other) (settled_at was is settled other route here)
+        stands_then route (outcome_at was other) (outcome_at is other) (known_at was is known other route here)
         (standing.stands other route here);
   }
 
   -- no refutation before has a prefix that is one of the path
-  not_above : NoneRefutes before aim.kind aim.dir of.prefix → (index : ℕ) (upper lower : Refutation) (prefix longer : Route)
+  not_above : NoneRefutes before (target_for aim of.prefix) → (index : ℕ) (upper lower : Refutation) (prefix longer : Route)
       → slice_get old index ≡ Some upper → lower ≡ added → upper.kind ≡ lower.kind → upper.dir ≡ lower.dir
       → HasPrefix routes upper prefix → HasPrefix routes lower longer → IsPrefixOf prefix longer → ⊥
   not_above none index upper lower prefix longer here last kinds directions has_upper has_lower begins =
@@ -174,7 +174,7 @@ module _ (c : Circuit) (routes : List Route) (aim : Aim) (at first : ℕ) (tree 
       })
 
   -- nor one of which the path is a prefix, since none has more steps
-  not_below : NoneRefutes before aim.kind aim.dir of.prefix → AreShort aim old (length of.prefix.steps) → (index : ℕ)
+  not_below : NoneRefutes before (target_for aim of.prefix) → AreShort aim old (length of.prefix.steps) → (index : ℕ)
       (upper lower : Refutation) (prefix longer : Route) → slice_get old index ≡ Some lower → upper ≡ added
       → upper.kind ≡ lower.kind → upper.dir ≡ lower.dir → HasPrefix routes upper prefix → HasPrefix routes lower longer
       → IsPrefixOf prefix longer → ⊥
@@ -199,7 +199,7 @@ module _ (c : Circuit) (routes : List Route) (aim : Aim) (at first : ℕ) (tree 
         is_prefix = turned_round of.prefix longer starts no_more;
       })
 
-  apart_then : NoneRefutes before aim.kind aim.dir of.prefix → AreShort aim old (length of.prefix.steps) → AreApart before
+  apart_then : NoneRefutes before (target_for aim of.prefix) → AreShort aim old (length of.prefix.steps) → AreApart before
       → AreApart then
   apart_then none short apart i j upper lower prefix longer is_upper is_lower kinds directions has_upper has_lower begins =
       ⊎_elim
@@ -217,12 +217,12 @@ module _ (c : Circuit) (routes : List Route) (aim : Aim) (at first : ℕ) (tree 
       (λ (last_j : (j ≡ length old) × (lower ≡ added)). last_i.0 ∙ sym last_j.0) (in_push old added j lower is_lower))
       (in_push old added i upper is_upper)
 
-  found_then : IsRefuted c aim.kind of.prefix aim.dir aim.budget tree → AreRefutations c before → (index : ℕ)
-      (refutation : Refutation) → slice_get all index ≡ Some refutation → IsFound c then refutation
+  found_then : IsRefuted c (target_for aim of.prefix) aim.budget tree → AreRefutations c before → (index : ℕ)
+      (refutation : Refutation) → slice_get all index ≡ Some refutation → IsFoundRefutation c then refutation
   found_then refutes are index refutation here =
       ⊎_elim (λ (is : slice_get old index ≡ Some refutation). found_before refutation (are.found index refutation is))
       (λ (is : (index ≡ length old) × (refutation ≡ added)).
-      let P : Refutation → Type 0 = λ r. IsFound c then r in subst P (sym is.1) (is_found refutes))
+      let P : Refutation → Type 0 = λ r. IsFoundRefutation c then r in subst P (sym is.1) (is_found refutes))
       (in_push old added index refutation here)
 
   short_then : AreShort aim old (length of.prefix.steps) → AreShort aim all (length of.prefix.steps)
@@ -233,12 +233,12 @@ module _ (c : Circuit) (routes : List Route) (aim : Aim) (at first : ℕ) (tree 
       omega (arith, steps))
       (in_push old added index refutation here)
 
-  walked_then : (was is : List Outcome) → IsRefuted c aim.kind of.prefix aim.dir aim.budget tree
+  walked_then : (was is : List Outcome) → IsRefuted c (target_for aim of.prefix) aim.budget tree
       → IsWalked c routes aim (length of.prefix.steps) was old → outcome_at was at ≡ Unsearched
-      → AreSettled routes at (length old) was is → IsWalked c routes aim (length of.prefix.steps) is all
-  walked_then was is refutes walked unsearched settled =
-      let P : Outcome → Type 0 = λ o. Stands c before aim.kind aim.dir of.prefix o in
-      let none : NoneRefutes before aim.kind aim.dir of.prefix =
+      → AreRefutedUnder routes at (length old) was is → IsWalked c routes aim (length of.prefix.steps) is all
+  walked_then was is refutes walked unsearched known =
+      let P : Outcome → Type 0 = λ o. Stands c before (target_for aim of.prefix) o in
+      let none : NoneRefutes before (target_for aim of.prefix) =
       subst P unsearched (walked.standing.stands at of.prefix of.is_prefix) in
       record {
         are_refutations = record {
@@ -246,52 +246,52 @@ module _ (c : Circuit) (routes : List Route) (aim : Aim) (at first : ℕ) (tree 
           apart = apart_then none walked.are_short walked.are_refutations.apart;
         };
         are_short = short_then walked.are_short;
-        standing = standing_then was is settled walked.standing;
+        standing = standing_then was is known walked.standing;
       }
 
--- an outcome that a refutation settles is settled
-settled_by : (prefix route : Route) (refutation : ℕ) (was is : Outcome) → IsSettledAt prefix refutation route was is
-    → is_settled was ≡ true → is_settled is ≡ true
-settled_by prefix route refutation was is (under begins same) settled = ap is_settled same
-settled_by prefix route refutation was is (aside apart same) settled = ap is_settled same ∙ settled
+-- a path with the prefix has a known outcome
+known_by : (prefix route : Route) (refutation : ℕ) (was is : Outcome) → IsRefutedUnder prefix refutation route was is
+    → is_known was ≡ true → is_known is ≡ true
+known_by prefix route refutation was is (under begins same) known = ap is_known same
+known_by prefix route refutation was is (aside apart same) known = ap is_known same ∙ known
 
 -- and that of the refuted path itself is
-settles_own : (route : Route) (refutation : ℕ) (was is : Outcome) → IsSettledAt route refutation route was is
-    → is_settled is ≡ true
-settles_own route refutation was is (under begins same) = ap is_settled same
-settles_own route refutation was is (aside apart same) = absurd (apart (own_prefix route))
+known_under : (route : Route) (refutation : ℕ) (was is : Outcome) → IsRefutedUnder route refutation route was is
+    → is_known is ≡ true
+known_under route refutation was is (under begins same) = ap is_known same
+known_under route refutation was is (aside apart same) = absurd (apart (own_prefix route))
 
 module _ (routes : List Route) (at : ℕ) (route : Route) (here : slice_get routes at ≡ Some route) (aim : Aim) (tree : List Node)
     (was is : List Outcome) (old new : List Refutation) (added : IsAdded routes at aim tree was is old new) where
   same_path : added.is_first.prefix ≡ route
   same_path = same_item routes at added.is_first.prefix route added.is_first.is_prefix here
 
-  pub walked_on : (c : Circuit) → IsRefuted c aim.kind route aim.dir aim.budget tree
+  pub walked_on : (c : Circuit) → IsRefuted c (target_for aim route) aim.budget tree
       → IsWalked c routes aim (length route.steps) was old → outcome_at was at ≡ Unsearched
       → IsWalked c routes aim (length route.steps) is new
   walked_on c refutes walked unsearched =
-      let P : Route → Type 0 = λ r. IsRefuted c aim.kind r aim.dir aim.budget tree in
+      let P : Route → Type 0 = λ r. IsRefuted c (target_for aim r) aim.budget tree in
       let Q : Route → Type 0 = λ r. IsWalked c routes aim (length r.steps) was old in
       let R : Route → Type 0 = λ r. IsWalked c routes aim (length r.steps) is new in
       let S : List Refutation → Type 0 = λ rs. IsWalked c routes aim (length added.is_first.prefix.steps) is rs in
       subst R same_path
       (subst S (sym added.added)
       (walked_then c routes aim at added.first tree added.is_first old was is (subst P (sym same_path) refutes)
-      (subst Q (sym same_path) walked) unsearched added.settled))
+      (subst Q (sym same_path) walked) unsearched added.shared))
 
-  pub settled_own : is_settled (outcome_at is at) ≡ true
-  settled_own =
-      let own : added.settled.prefix ≡ route =
-      same_item routes at added.settled.prefix route added.settled.is_prefix here in
-      let P : Route → Type 0 = λ p. IsSettledAt p (length old) route (outcome_at was at) (outcome_at is at) in
-      settles_own route (length old) (outcome_at was at) (outcome_at is at) (subst P own (added.settled.each at route here))
+  pub known_own : is_known (outcome_at is at) ≡ true
+  known_own =
+      let own : added.shared.prefix ≡ route =
+      same_item routes at added.shared.prefix route added.shared.is_prefix here in
+      let P : Route → Type 0 = λ p. IsRefutedUnder p (length old) route (outcome_at was at) (outcome_at is at) in
+      known_under route (length old) (outcome_at was at) (outcome_at is at) (subst P own (added.shared.each at route here))
 
-  pub kept_settled : length was ≡ length routes → KeepSettled was is
-  kept_settled one_each other within settled =
+  pub kept_known : length was ≡ length routes → KeepKnown was is
+  kept_known one_each other within known =
       let inside : other < length routes = omega (arith, one_each, within) in
       let its : slice_get routes other ≡ Some (get_or routes other route) = slice_get-get_or routes other route inside in
-      settled_by added.settled.prefix (get_or routes other route) (length old) (outcome_at was other) (outcome_at is other)
-      (added.settled.each other (get_or routes other route) its) settled
+      known_by added.shared.prefix (get_or routes other route) (length old) (outcome_at was other) (outcome_at is other)
+      (added.shared.each other (get_or routes other route) its) known
 
   pub grown_by_one : IsGrown aim old new
   grown_by_one = record {

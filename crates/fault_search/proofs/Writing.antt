@@ -9,14 +9,14 @@ use Rattle.verdict_runs.specs.declared.findings.Outcome.{Outcome}
 use Rattle.verdict_runs.specs.declared.findings.Outcome.TheVariants.{Unsearched, Tested, Refuted, Spent}
 use Rattle.verdict_runs.specs.declared.findings.Refutation.{Refutation}
 use Rattle.fault_search.specs.declared.targets.Aim.{Aim}
-use Rattle.fault_search.specs.Walks.{IsWalked, KeepSettled, Stands, is_settled, outcome_at, searches_with}
+use Rattle.fault_search.specs.Walks.{IsWalked, KeepKnown, Stands, is_known, outcome_at, searches_with, target_for}
 
--- an outcome that is not settled is that no search was run
-pub unsettled : (outcome : Outcome) → is_settled outcome ≡ false → outcome ≡ Unsearched
-unsettled Unsearched not = refl
-unsettled (Tested pair) not = absurd (true≢false not)
-unsettled (Refuted index) not = absurd (true≢false not)
-unsettled (Spent tree) not = absurd (true≢false not)
+-- an outcome that is not known is that no search was run
+pub unknown : (outcome : Outcome) → is_known outcome ≡ false → outcome ≡ Unsearched
+unknown Unsearched not = refl
+unknown (Tested pair) not = absurd (true≢false not)
+unknown (Refuted index) not = absurd (true≢false not)
+unknown (Spent tree) not = absurd (true≢false not)
 
 -- one outcome is written
 module _ (c : Circuit) (routes : List Route) (aim : Aim) (longest at : ℕ) (was is : List Outcome) (refutations : List Refutation)
@@ -34,7 +34,7 @@ module _ (c : Circuit) (routes : List Route) (aim : Aim) (longest at : ℕ) (was
       ap (λ (list : List Outcome). outcome_at list other) written ∙ get_or-set_other was at other outcome Unsearched apart
 
   pub walked_with : ((route : Route) → slice_get routes at ≡ Some route
-      → Stands c (searches_with aim.budget routes refutations) aim.kind aim.dir route outcome)
+      → Stands c (searches_with aim.budget routes refutations) (target_for aim route) outcome)
       → IsWalked c routes aim longest is refutations
   walked_with stands = record {
     are_refutations = walked.are_refutations;
@@ -44,7 +44,7 @@ module _ (c : Circuit) (routes : List Route) (aim : Aim) (longest at : ℕ) (was
       stands =
           λ other route here.
           (let P : Outcome → Type 0 =
-          λ o. Stands c (searches_with aim.budget routes refutations) aim.kind aim.dir route o in
+          λ o. Stands c (searches_with aim.budget routes refutations) (target_for aim route) o in
           ⊎_elim
           (λ (same : other ≡ at).
           let Q : ℕ → Type 0 = λ n. slice_get routes n ≡ Some route in
@@ -54,10 +54,10 @@ module _ (c : Circuit) (routes : List Route) (aim : Aim) (longest at : ℕ) (was
     };
   }
 
-  pub settled_with : is_settled outcome ≡ true → is_settled (outcome_at is at) ≡ true
-  settled_with settled = ap is_settled written_at ∙ settled
+  pub known_with : is_known outcome ≡ true → is_known (outcome_at is at) ≡ true
+  known_with known = ap is_known written_at ∙ known
 
-  pub kept_with : is_settled outcome ≡ true → KeepSettled was is
-  kept_with settled other within before =
-      ⊎_elim (λ (same : other ≡ at). ap is_settled (ap (outcome_at is) same) ∙ settled_with settled)
-      (λ (apart : other ≡ at → ⊥). ap is_settled (elsewhere other apart) ∙ before) (cases_eq other at)
+  pub kept_with : is_known outcome ≡ true → KeepKnown was is
+  kept_with known other within before =
+      ⊎_elim (λ (same : other ≡ at). ap is_known (ap (outcome_at is) same) ∙ known_with known)
+      (λ (apart : other ≡ at → ⊥). ap is_known (elsewhere other apart) ∙ before) (cases_eq other at)

@@ -1,9 +1,11 @@
 -- How a scope stands while the pins of a path are entered (this project's own).
 use Rattle.std.specs.Prelude.{◌≡◌, ⊤, ℕ, [], map, take, Option, Some, None}
 use Rattle.pd_base.specs.Route.{Route}
+use Rattle.pd_base.specs.Target.{target_of}
+use Rattle.pd_base.specs.declared.rules.Rules.TheVariants.{One}
 use Rattle.netlist.specs.Circuit.{Circuit}
 use Rattle.netlist.specs.Paths.{IsPath}
-use Rattle.hull_laws.specs.Nodes.{ClosesAtNode}
+use Rattle.state_laws.specs.Nodes.{ClosesAtNode}
 use Rattle.implication.specs.declared.assumption.Beginning.{Beginning}
 use Rattle.implication.specs.declared.assumption.Assumption.TheVariants.{Entered}
 use Rattle.implication.specs.Standing.{Standing, IsOpenIn}
@@ -30,9 +32,9 @@ pub record HasEntered (old new : Standing) (path : Route) (count : ℕ) : Type 0
 -- the start of the path closes, for the kind and the direction with which the scope began
 abbrev pub ClosesFrom : Circuit → Option Beginning → Route → Type 0
 ClosesFrom c None path = ⊤
-ClosesFrom c (Some begun) path = ClosesAtNode c begun.kind path begun.direction []
+ClosesFrom c (Some begun) path = ClosesAtNode c One (target_of path begun.direction begun.kind) []
 
 -- no scope is open any more on the engine, and its circuit is the same
-pub record IsAtRest (old new : Standing) : Type 0 where
+pub record IsIdleAgain (old new : Standing) : Type 0 where
   pub net : new.net ≡ old.net
   pub idle : new.beginning ≡ None

@@ -1,27 +1,33 @@
 -- How far the searches for the tests of a kind and a transition have come (this project's own).
 use Rattle.std.specs.Prelude.{◌≡◌, ℕ, ◌<◌, ◌≤◌, Bool, true, false, List, ◌++◌, length, slice_get, slice_index_or, Some, All}
+use Rattle.pd_base.specs.declared.limits.TheConstants.{MOST_BUDGET, MOST_PATHS}
+use Rattle.netlist.specs.declared.limits.TheConstants.{MOST_LEVELS}
 use Rattle.pd_base.specs.Route.{Route}
+use Rattle.pd_base.specs.Target.{Target, target_of}
 use Rattle.pd_base.specs.declared.fault.Direction.{Direction}
 use Rattle.pd_base.specs.declared.fault.Kind.{Kind}
 use Rattle.netlist.specs.Circuit.{Circuit}
 use Rattle.netlist.specs.Paths.{IsPath}
-use Rattle.refutation_check.specs.Lawful.{greatest_path_number, most_steps}
 use Rattle.verdict_runs.specs.declared.findings.Outcome.{Outcome}
 use Rattle.verdict_runs.specs.declared.findings.Outcome.TheVariants.{Unsearched, Tested, Refuted, Spent}
 use Rattle.verdict_runs.specs.declared.findings.Refutation.{Refutation}
-use Rattle.verdict_runs.specs.Findings.{Searches, IsFound, AreApart, NoneRefutes, IsOutcome}
+use Rattle.verdict_runs.specs.Findings.{Searches, IsFoundRefutation, AreApart, NoneRefutes, IsOutcome}
 use Rattle.fault_search.specs.declared.targets.Aim.{Aim}
 
+-- what is searched for on a path
+abbrev pub target_for : Aim → Route → Target
+target_for aim path = target_of path aim.dir aim.kind
+
 -- listed paths: few enough, and of few enough steps, to be numbered and counted
-pub record AreListed (c : Circuit) (routes : List Route) : Type 0 where
+pub record AreSearchablePaths (c : Circuit) (routes : List Route) : Type 0 where
   pub are_paths : All (IsPath c) routes
-  pub few : length routes ≤ greatest_path_number
-  pub short : All (λ route. length route.steps ≤ most_steps) routes
+  pub few : length routes ≤ MOST_PATHS
+  pub short : All (λ route. length route.steps ≤ MOST_LEVELS) routes
 
 -- a budget that the program takes
 pub record IsBudget (budget : ℕ) : Type 0 where
   pub positive : 1 ≤ budget
-  pub within : budget ≤ 1000000
+  pub within : budget ≤ MOST_BUDGET
 
 -- what was found so far
 abbrev pub searches_with : ℕ → List Route → List Refutation → Searches
@@ -32,29 +38,29 @@ abbrev pub outcome_at : List Outcome → ℕ → Outcome
 outcome_at outcomes at = slice_index_or outcomes at Unsearched
 
 -- the path was searched, or a refutation applies to it
-abbrev pub is_settled : Outcome → Bool
-is_settled Unsearched = false
-is_settled (Tested pair) = true
-is_settled (Refuted index) = true
-is_settled (Spent tree) = true
+abbrev pub is_known : Outcome → Bool
+is_known Unsearched = false
+is_known (Tested pair) = true
+is_known (Refuted index) = true
+is_known (Spent tree) = true
 
 -- to a path that was not searched no refutation applies; any other outcome is as it is promised
-abbrev pub Stands : Circuit → Searches → Kind → Direction → Route → Outcome → Type 0
-Stands c searches kind direction path Unsearched = NoneRefutes searches kind direction path
-Stands c searches kind direction path (Tested pair) = IsOutcome c searches kind direction path (Tested pair)
-Stands c searches kind direction path (Refuted index) = IsOutcome c searches kind direction path (Refuted index)
-Stands c searches kind direction path (Spent tree) = IsOutcome c searches kind direction path (Spent tree)
+abbrev pub Stands : Circuit → Searches → Target → Outcome → Type 0
+Stands c searches target Unsearched = NoneRefutes searches target
+Stands c searches target (Tested pair) = IsOutcome c searches target (Tested pair)
+Stands c searches target (Refuted index) = IsOutcome c searches target (Refuted index)
+Stands c searches target (Spent tree) = IsOutcome c searches target (Spent tree)
 
 -- each outcome stands so for its path
 pub record AreStanding (c : Circuit) (searches : Searches) (kind : Kind) (direction : Direction) (outcomes : List Outcome) : Type 0 where
   pub one_each : length outcomes ≡ length searches.routes
   pub stands : (at : ℕ) (route : Route) → slice_get searches.routes at ≡ Some route
-      → Stands c searches kind direction route (outcome_at outcomes at)
+      → Stands c searches (target_of route direction kind) (outcome_at outcomes at)
 
 -- the refutations are found ones, none of which another one of its kind and transition makes needless
 pub record AreRefutations (c : Circuit) (searches : Searches) : Type 0 where
   pub found : (index : ℕ) (refutation : Refutation) → slice_get searches.refutations index ≡ Some refutation
-      → IsFound c searches refutation
+      → IsFoundRefutation c searches refutation
   pub apart : AreApart searches
 
 -- the refutation is of the kind and the transition that are searched for
@@ -74,9 +80,9 @@ pub record IsWalked (c : Circuit) (routes : List Route) (aim : Aim) (longest : �
   pub are_short : AreShort aim refutations longest
   pub standing : AreStanding c (searches_with aim.budget routes refutations) aim.kind aim.dir outcomes
 
--- what is settled stays so
-abbrev pub KeepSettled : List Outcome → List Outcome → Type 0
-KeepSettled old new = (at : ℕ) → at < length old → is_settled (outcome_at old at) ≡ true → is_settled (outcome_at new at) ≡ true
+-- what is known stays so
+abbrev pub KeepKnown : List Outcome → List Outcome → Type 0
+KeepKnown old new = (at : ℕ) → at < length old → is_known (outcome_at old at) ≡ true → is_known (outcome_at new at) ≡ true
 
 -- there may be more refutations, all for this aim
 pub record IsGrown (aim : Aim) (old new : List Refutation) : Type 0 where

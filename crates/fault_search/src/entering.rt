@@ -3,14 +3,14 @@ ghost use Rattle.std.specs.Prelude.{◌≡◌, ◌+◌, ◌<◌, ◌≤◌, ◌^
 ghost use Rattle.netlist.specs.Paths.{IsPath};
 ghost use Rattle.implication.specs.Scopes.{IsSameScope, standing};
 ghost use Rattle.justify.specs.Answers.{IsFound};
-ghost use Rattle.fault_search.specs.Walks.{IsBudget};
-ghost use Rattle.fault_search.specs.Entering.{IsAtSource, HasEntered, ClosesFrom, IsAtRest};
+ghost use Rattle.fault_search.specs.Walks.{IsBudget, target_for};
+ghost use Rattle.fault_search.specs.Entering.{IsAtSource, HasEntered, ClosesFrom, IsIdleAgain};
 
 use crate::targets::Aim;
 use implication::{Conflict, Engine, HasNetlist, Scope};
 use justify::{Found, search};
 use pd_base::{OutOfMemory, Path, Steps};
-use refutation_check::{Node, Tree};
+use runs::{Node, Tree};
 use state_sets::FourStates;
 use std::alloc::Global;
 
@@ -26,8 +26,8 @@ pub(crate) fn search_path<N: HasNetlist, L>(
     requires path { IsPath engine.old.net path.now }
     requires budget { IsBudget aim.budget }
     requires room { steps.old + length path.now.steps < 2 ^ 64 }
-    ensures found { IfOk result (IsFound engine.old.net aim.kind path.now aim.dir aim.budget) }
-    ensures rest { IsAtRest engine.old engine.new }
+    ensures found { IfOk result (IsFound engine.old.net (target_for aim path.now) aim.budget) }
+    ensures rest { IsIdleAgain engine.old engine.new }
     ensures steps { steps.new ≤ steps.old + length path.now.steps }
 {
     let mut scope = Scope::begin(engine, path.source(), aim.dir, aim.kind);
@@ -46,7 +46,7 @@ fn search_within<N: HasNetlist, L>(
     requires begun { (standing scope.old).beginning ≡ Some (record { source = path.now.source; direction = aim.dir; kind = aim.kind }) }
     requires budget { IsBudget aim.budget }
     requires room { steps.old + length path.now.steps < 2 ^ 64 }
-    ensures found { IfOk result (IsFound (standing scope.old).net aim.kind path.now aim.dir aim.budget) }
+    ensures found { IfOk result (IsFound (standing scope.old).net (target_for aim path.now) aim.budget) }
     ensures scope { IsSameScope scope.old scope.new }
     ensures net { (standing scope.new).net ≡ (standing scope.old).net }
     ensures steps { steps.new ≤ steps.old + length path.now.steps }

@@ -1,9 +1,9 @@
-// What a visit is for: a path of the order, and which of its tests.
+// What a search is asked for: a path of the order, and which of its tests.
 use pd_base::{Direction, Kind};
 
 /// A path in the order of searches.
 #[derive(Clone, Copy, Debug)]
-pub struct Entry {
+pub struct PathEntry {
     /// How many steps it has.
     pub steps: usize,
     /// Its index in the list of paths.
@@ -15,7 +15,7 @@ pub struct Entry {
 pub struct Aim {
     /// The conditions.
     pub kind: Kind,
-    /// The transition at the sources.
+    /// The transition at the source of the path.
     pub dir: Direction,
     /// The most splits of a search.
     pub budget: u32,

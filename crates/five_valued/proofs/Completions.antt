@@ -11,15 +11,16 @@ use Rattle.netlist.specs.declared.kind.GateKind.{GateKind}
 use Rattle.netlist.specs.Circuit.{Circuit, source_count, line_count, kind_at, pins_at}
 use Rattle.netlist.specs.Lawful.{IsCircuit}
 use Rattle.netlist.proofs.Evaluation.{line_induction, value_at_source, value_at_gate}
-use Rattle.state_sets.specs.declared.op.Op.{Op}
-use Rattle.state_sets.specs.declared.op.Op.TheVariants.{And, Or, Xor}
+use Rattle.netlist.specs.declared.op.Op.{Op}
+use Rattle.netlist.specs.declared.op.Op.TheVariants.{And, Or, Xor}
 use Rattle.state_sets.specs.declared.state.State.{State}
 use Rattle.state_sets.specs.States.{Has}
 use Rattle.state_sets.specs.StateAlgebra.{joined}
 use Rattle.state_sets.specs.FourStates.{four_states}
 use Rattle.state_sets.specs.FourLaws.{all_below, all_below_at, state_of, four_laws}
 use Rattle.state_sets.specs.LineStates.{state_under}
-use Rattle.state_sets.specs.Narrowing.{op_of, is_inverting, inverted_if, gate_state}
+use Rattle.netlist.specs.Gates.{op_of, is_inverting}
+use Rattle.state_sets.specs.Narrowing.{inverted_if, gate_state}
 use Rattle.state_laws.proofs.PairStates.{gate_state_under}
 use Rattle.five_valued.specs.declared.five.Five.{Five}
 use Rattle.five_valued.specs.FiveValues.{joined_five, inverted, gate_five, five_at, five_value}

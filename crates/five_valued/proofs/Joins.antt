@@ -4,11 +4,11 @@ use Rattle.std.specs.List.{list_all, list_any}
 use Rattle.std.proofs.lemmas.Bool.{cond-false}
 use Rattle.std.proofs.lemmas.List.{take_more, map-append}
 use Rattle.netlist.specs.Values.{parity}
-use Rattle.state_sets.specs.declared.op.Op.{Op}
-use Rattle.state_sets.specs.declared.op.Op.TheVariants.{And, Or, Xor}
+use Rattle.netlist.specs.declared.op.Op.{Op}
+use Rattle.netlist.specs.declared.op.Op.TheVariants.{And, Or, Xor}
 use Rattle.five_valued.specs.declared.five.Five.{Five}
 use Rattle.five_valued.specs.declared.five.Five.TheVariants.{S0, S1, U0, U1, XX}
-use Rattle.five_valued.specs.FiveValues.{is_steady_at, is_steady, ends_at, has_last, steady_five, ending_five, controlled, parity_five, joined_five}
+use Rattle.five_valued.specs.FiveValues.{is_steady_at, is_known_steady, ends_at, has_last, steady_five, ending_five, controlled, parity_five, joined_five}
 use Rattle.five_valued.proofs.FiveTests.{all_bits, at_bit, all_pairs, at_pair, all_fives, at_five, all_five_pairs, at_five_pair, same_five, same_five_tells}
 
 -- what the four tests of a list decide
@@ -65,7 +65,7 @@ abbrev decided_parity : Bool → Bool → Bool → Five
 decided_parity all_steady all_known odd =
     if all_steady then steady_five odd else if all_known then ending_five odd else XX
 
-steady_known : (values : List Five) → (list_all is_steady values && not (list_all has_last values)) ≡ false
+steady_known : (values : List Five) → (list_all is_known_steady values && not (list_all has_last values)) ≡ false
 steady_known [] = refl
 steady_known (S0 ∷ values) = steady_known values
 steady_known (S1 ∷ values) = steady_known values
@@ -76,7 +76,7 @@ steady_known (XX ∷ values) = refl
 abbrev one_more_odd : Five → Bool → Bool → Bool → Bool
 one_more_odd value odd a b =
     cond (a && not b) true (same_five
-    (decided_parity (is_steady value && a) (has_last value && b) (cond (ends_at true value) (not odd) odd))
+    (decided_parity (is_known_steady value && a) (has_last value && b) (cond (ends_at true value) (not odd) odd))
     (parity_five (value ∷ decided_parity a b odd ∷ [])))
 
 every_one_more_odd : all_fives (λ value. all_bits (λ odd. all_pairs (one_more_odd value odd))) ≡ true
@@ -86,7 +86,7 @@ parity-cons : (value : Five) (values : List Five)
     → parity_five (value ∷ values) ≡ parity_five (value ∷ parity_five values ∷ [])
 parity-cons value values =
     let odd = parity (map (ends_at true) values) in
-    let a = list_all is_steady values in
+    let a = list_all is_known_steady values in
     let b = list_all has_last values in
     let fits : one_more_odd value odd a b ≡ true = at_pair (one_more_odd value odd)
     (at_bit (λ bit. all_pairs (one_more_odd value bit))

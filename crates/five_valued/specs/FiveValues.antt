@@ -6,9 +6,9 @@ use Rattle.netlist.specs.declared.kind.GateKind.{GateKind}
 use Rattle.netlist.specs.Circuit.{Circuit, kind_at}
 use Rattle.netlist.specs.Evaluation.{value_of}
 use Rattle.netlist.specs.Values.{parity}
-use Rattle.state_sets.specs.declared.op.Op.{Op}
-use Rattle.state_sets.specs.declared.op.Op.TheVariants.{And, Or, Xor}
-use Rattle.state_sets.specs.Narrowing.{op_of, is_inverting}
+use Rattle.netlist.specs.declared.op.Op.{Op}
+use Rattle.netlist.specs.declared.op.Op.TheVariants.{And, Or, Xor}
+use Rattle.netlist.specs.Gates.{op_of, is_inverting}
 use Rattle.five_valued.specs.declared.five.Five.{Five}
 use Rattle.five_valued.specs.declared.five.Five.TheVariants.{S0, S1, U0, U1, XX}
 
@@ -29,8 +29,8 @@ ends_at bit U1 = bit
 ends_at bit XX = false
 
 -- it is known to be steady, at either bit
-abbrev pub is_steady : Five → Bool
-is_steady value = is_steady_at false value || is_steady_at true value
+abbrev pub is_known_steady : Five → Bool
+is_known_steady value = is_steady_at false value || is_steady_at true value
 
 -- its value under the second vector is known
 abbrev pub has_last : Five → Bool
@@ -58,7 +58,7 @@ controlled bit values =
 -- the parity of the values under the second vector where all of them are known, steady where all pins are
 abbrev pub parity_five : List Five → Five
 parity_five values =
-    if list_all is_steady values then steady_five (parity (map (ends_at true) values))
+    if list_all is_known_steady values then steady_five (parity (map (ends_at true) values))
     else if list_all has_last values then ending_five (parity (map (ends_at true) values)) else XX
 
 -- what an operation makes of the values of all pins

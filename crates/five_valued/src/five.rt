@@ -1,6 +1,6 @@
 // The five values, what each tells of a line, and their inversion.
 ghost use Rattle.std.specs.Prelude.{◌≡◌};
-ghost use Rattle.five_valued.specs.FiveValues.{is_steady_at, is_steady, ends_at, has_last, steady_five, ending_five, inverted};
+ghost use Rattle.five_valued.specs.FiveValues.{is_steady_at, is_known_steady, ends_at, has_last, steady_five, ending_five, inverted};
 
 /// What is known of a line's state under a pair of vectors: the set of states of which it has one.
 #[derive(Clone, Copy, Debug, PartialEq, Eq, PartialOrd, Ord, Hash)]
@@ -31,7 +31,7 @@ impl Five {
 
     // Whether it is known to be steady, at either bit.
     pub(crate) fn is_steady(self) -> bool
-        ensures { result ≡ is_steady self }
+        ensures { result ≡ is_known_steady self }
     {
         match self {
             Five::S0 | Five::S1 => true,

@@ -3,7 +3,7 @@ ghost use Rattle.std.specs.Prelude.{◌≡◌, [], ◌∷◌};
 ghost use Rattle.five_valued.specs.FiveValues.{controlled, parity_five, joined_five};
 
 use crate::five::{Five, ending_five, steady_five};
-use state_sets::Op;
+use netlist::Op;
 
 /// The value of a gate of this operation whose two pins have these values.
 pub fn five_join(op: Op, a: Five, b: Five) -> Five

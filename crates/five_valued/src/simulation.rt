@@ -8,9 +8,8 @@ ghost use Rattle.five_valued.specs.FiveSets.{HasStatesOf};
 ghost use Rattle.logic_values.specs.Known.{HasPlaces};
 
 use crate::{Five, five_invert, five_join};
-use netlist::{GateKind, Netlist};
+use netlist::{GateKind, Netlist, Op};
 use pd_base::LineId;
-use state_sets::Op;
 
 /// Fills in the value of each line where the sources have those of `partial`, which has one place per source, in their order.
 /// `out` has one place per line, by line number. Under every pair of vectors by which each source is in a state of its value,
@@ -21,11 +20,13 @@ pub fn simulate(net: &Netlist, partial: &[Five], out: &mut [Five])
     ensures exactly { EachIndex out.new (λ line. five_at out.new line ≡ five_value net.now partial.now line) }
     ensures completions { (pair : Vectors) → HasStatesOf net.now pair partial.now → HasStatesOf net.now pair out.new }
 {
-    let sources = net.sources();
+    // A netlist knows itself as a circuit.
+    let one_each = partial.len() == net.sources() as usize;
+    prove!(one_each);
     set_sources(partial, out);
     for gate in net.order() {
-        let line = sources + gate.0;
-        out[line as usize] = gate_five(net.kind(*gate), net.pins(*gate), out);
+        let line = net.line_of(*gate);
+        out[line.0 as usize] = gate_five(net.kind(*gate), net.pins(*gate), out);
     }
 }
 
@@ -44,13 +45,11 @@ fn gate_five(kind: GateKind, pins: &[LineId], values: &[Five]) -> Five
     requires { HasPlaces values.now pins.now }
     ensures { result ≡ gate_five kind (map (λ pin. five_at values.now pin.0) pins.now) }
 {
-    match kind {
-        GateKind::And | GateKind::Buff => joined_pins(Op::And, pins, values),
-        GateKind::Nand | GateKind::Not => five_invert(joined_pins(Op::And, pins, values)),
-        GateKind::Or => joined_pins(Op::Or, pins, values),
-        GateKind::Nor => five_invert(joined_pins(Op::Or, pins, values)),
-        GateKind::Xor => joined_pins(Op::Xor, pins, values),
-        GateKind::Xnor => five_invert(joined_pins(Op::Xor, pins, values)),
+    let joined = joined_pins(kind.operation(), pins, values);
+    if kind.inverts() {
+        five_invert(joined)
+    } else {
+        joined
     }
 }
 

@@ -4,8 +4,9 @@ use Rattle.std.proofs.Common.{◌≡◌, ⊎_elim, ℕ, ◌-◌, ◌^◌, ◌≤
 use Rattle.std.specs.List.{Contains}
 use Rattle.std.proofs.lemmas.Bool.{false≢true}
 use Rattle.std.proofs.lemmas.List.Elements.{All-cons, All-contains, All-nil}
+use Rattle.pd_base.specs.Target.{Target, target_of}
+use Rattle.pd_base.specs.declared.rules.Rules.{Rules}
 use Rattle.pd_base.specs.Pair.{Vectors}
-use Rattle.pd_base.specs.Route.{Route}
 use Rattle.pd_base.specs.declared.fault.Direction.{Direction}
 use Rattle.pd_base.specs.declared.fault.Kind.{Kind}
 use Rattle.pd_base.specs.declared.fault.Kind.TheVariants as kinds
@@ -18,19 +19,19 @@ use Rattle.path_laws.proofs.NonrobustPath.{robust_is_nonrobust}
 use Rattle.state_sets.specs.declared.state.StateSet.{StateSet}
 use Rattle.state_sets.specs.FourStates.{four_states}
 use Rattle.state_sets.specs.Hulls.{Closes, HasNoEmptySet, IsNarrowingOf}
-use Rattle.hull_laws.specs.Nodes.{ClosesAtNode, IsNodeHull, MayBe}
-use Rattle.hull_laws.proofs.Hulls.{hull_once, not_closing}
-use Rattle.pair_laws.proofs.SourceStates.{launched}
-use Rattle.refutation_check.specs.declared.run.ListedPath.{ListedPath}
-use Rattle.refutation_check.specs.declared.run.Run.{Run}
-use Rattle.refutation_check.specs.declared.run.Verdict.{Verdict}
-use Rattle.refutation_check.specs.declared.run.Verdict.TheVariants.{Robust, Nonrobust, Untestable, Aborted}
-use Rattle.refutation_check.specs.declared.tree.Node.{Node}
-use Rattle.refutation_check.specs.declared.tree.Node.TheVariants.{Closed, Waiting}
-use Rattle.refutation_check.specs.Trees.{Cases, preorder}
-use Rattle.refutation_check.specs.Trees.Cases.{closed, waiting, by_value, by_steadiness}
-use Rattle.refutation_check.specs.Verdicts.{is_robust, is_untestable}
-use Rattle.tree_laws.specs.Bounds.{AreSupport}
+use Rattle.state_laws.specs.Nodes.{ClosesAtNode, IsNodeHull, MayBe}
+use Rattle.state_laws.proofs.Hulls.{hull_once, not_closing}
+use Rattle.state_laws.proofs.SourceStates.{launched}
+use Rattle.runs.specs.declared.run.ListedPath.{ListedPath}
+use Rattle.runs.specs.declared.run.Run.{Run}
+use Rattle.runs.specs.declared.run.Verdict.{Verdict}
+use Rattle.runs.specs.declared.run.Verdict.TheVariants.{Robust, Nonrobust, Untestable, Aborted}
+use Rattle.runs.specs.declared.tree.Node.{Node}
+use Rattle.runs.specs.declared.tree.Node.TheVariants.{Closed, Waiting}
+use Rattle.runs.specs.Trees.{Cases, preorder}
+use Rattle.runs.specs.Trees.Cases.{closed, waiting, by_value, by_steadiness}
+use Rattle.runs.specs.Verdicts.{is_robust, is_untestable}
+use Rattle.tree_laws.specs.Bounds.{AreSupport, states_of_source}
 use Rattle.tree_laws.specs.Refutations.{IsRefutation}
 use Rattle.tree_laws.specs.Spent.{IsOpen, IsSpent, IsSpentBelow, MayTry}
 use Rattle.tree_laws.proofs.Bound.{own_in_support, spent_below_bound}
@@ -51,12 +52,12 @@ none_waits waits =
     cc
 
 -- the root of a spent tree does not close, and its trial does
-pub root_is_open : (c : Circuit) (kind : Kind) (path : Route) (direction : Direction) (budget : ℕ) (nodes : List Node)
-    → IsSpent c kind path direction budget nodes → (hull : List StateSet) × IsOpen c kind path direction [] hull
-root_is_open c kind path direction budget nodes spent = by spent.cases spent.tree spent.spent
+pub root_is_open : (c : Circuit) (rules : Rules) (target : Target) (budget : ℕ) (nodes : List Node)
+    → IsSpent c rules target budget nodes → (hull : List StateSet) × IsOpen c rules target [] hull
+root_is_open c rules target budget nodes spent = by spent.cases spent.tree spent.spent
   where
-    by : (cases : Cases) → nodes ≡ preorder cases → IsSpentBelow c kind path direction [] cases
-        → (hull : List StateSet) × IsOpen c kind path direction [] hull
+    by : (cases : Cases) → nodes ≡ preorder cases → IsSpentBelow c rules target [] cases
+        → (hull : List StateSet) × IsOpen c rules target [] hull
     by closed tree below =
         let P : List Node → Type 0 = λ all. Contains all Waiting in absurd (none_waits (subst P tree spent.waits))
     by waiting tree below = below
@@ -64,9 +65,9 @@ root_is_open c kind path direction budget nodes spent = by spent.cases spent.tre
     by (by_steadiness source first second) tree below = (below.0.hull, below.0.is_open)
 
 -- a start that closes is refuted by a closed leaf alone
-closed_refutes : (c : Circuit) (kind : Kind) (path : Route) (direction : Direction) → ClosesAtNode c kind path direction []
-    → IsRefutation c kind path direction (Closed ∷ [])
-closed_refutes c kind path direction closes = record { cases = closed; tree = refl; refutes = closes }
+closed_refutes : (c : Circuit) (rules : Rules) (target : Target) → ClosesAtNode c rules target []
+    → IsRefutation c rules target (Closed ∷ [])
+closed_refutes c rules target closes = record { cases = closed; tree = refl; refutes = closes }
 
 module _ (c : Circuit) (circuit : IsCircuit c) (delays : Delays) (count budget : ℕ) (run : Run)
     (good : IsGoodRun c delays count budget run) (number : ℕ) (listed : ListedPath) (direction : Direction) (verdict : Verdict)
@@ -76,28 +77,28 @@ module _ (c : Circuit) (circuit : IsCircuit c) (delays : Delays) (count budget :
 
   -- the proof that there is no robust test, where none spent the budget
   no_robust_test : (proof : ℕ) → HasRobustProof run number direction listed.path proof
-      → (HasSpentTree c budget run kinds.Robust listed.path direction proof → ⊥)
-      → (pair : Vectors) → ¬ Meets kinds.Robust c listed.path direction pair
+      → (HasSpentTree c budget run (target_of listed.path direction kinds.Robust) proof → ⊥)
+      → (pair : Vectors) → ¬ Meets c (target_of listed.path direction kinds.Robust) pair
   no_robust_test proof has no_spent =
       ⊎_elim
-      (λ (refutes : HasRefutingTree c run kinds.Robust listed.path direction proof).
-      refutation_excludes_path c circuit kinds.Robust refutes.prefix listed.path is_prefix refutes.is_prefix direction
+      (λ (refutes : HasRefutingTree c run (target_of listed.path direction kinds.Robust) proof).
+      refutation_excludes_path c circuit run.rules kinds.Robust refutes.prefix listed.path is_prefix refutes.is_prefix direction
       refutes.proof.tree refutes.refutes)
-      (λ (spent : HasSpentTree c budget run kinds.Robust listed.path direction proof). absurd (no_spent spent))
+      (λ (spent : HasSpentTree c budget run (target_of listed.path direction kinds.Robust) proof). absurd (no_spent spent))
       (robust_proof_tells c circuit delays count budget run good number listed fault.is_listed direction proof has)
 
   -- with a budget that no spent tree reaches, the verdict tells what there is
-  module _ (no_spent : (kind : Kind) (nodes : List Node) → IsSpent c kind listed.path direction budget nodes → ⊥) where
+  module _ (no_spent : (kind : Kind) (nodes : List Node) → IsSpent c run.rules (target_of listed.path direction kind) budget nodes → ⊥) where
     truth_of : (own : Verdict) → IsFault run number listed direction own
         → IsVerdict c run number direction listed.path own → IsTruth c listed.path direction own
     truth_of (Robust test) of is =
-        let some : HasSomeTest c kinds.Robust listed.path direction = record {
+        let some : HasSomeTest c (target_of listed.path direction kinds.Robust) = record {
           pair = is.test.pair;
           first_fits = is.of_fault.first_fits;
           second_fits = is.of_fault.second_fits;
           meets = is.of_fault.meets;
         } in
-        let weaker : HasSomeTest c kinds.Nonrobust listed.path direction = record {
+        let weaker : HasSomeTest c (target_of listed.path direction kinds.Nonrobust) = record {
           pair = is.test.pair;
           first_fits = is.of_fault.first_fits;
           second_fits = is.of_fault.second_fits;
@@ -110,13 +111,13 @@ module _ (c : Circuit) (circuit : IsCircuit c) (delays : Delays) (count budget :
           decided = refl;
         }
     truth_of (Nonrobust test proof) of is =
-        let weaker : HasSomeTest c kinds.Nonrobust listed.path direction = record {
+        let weaker : HasSomeTest c (target_of listed.path direction kinds.Nonrobust) = record {
           pair = is.0.test.pair;
           first_fits = is.0.of_fault.first_fits;
           second_fits = is.0.of_fault.second_fits;
           meets = is.0.of_fault.meets;
         } in
-        let none : HasSomeTest c kinds.Robust listed.path direction → ⊥ =
+        let none : HasSomeTest c (target_of listed.path direction kinds.Robust) → ⊥ =
         λ some. no_robust_test proof is.1 (λ spent. no_spent kinds.Robust spent.proof.tree spent.is_spent) some.pair some.meets in
         record {
           robust = (λ no. absurd (false≢true no), λ some. absurd (none some));
@@ -126,7 +127,7 @@ module _ (c : Circuit) (circuit : IsCircuit c) (delays : Delays) (count budget :
         }
     truth_of (Untestable proof) of is =
         let excludes = untestable_excludes_every_pair c circuit delays count budget run good number listed direction proof of in
-        let none : (kind : Kind) → HasSomeTest c kind listed.path direction → ⊥ = λ kind some. excludes kind some.pair some.meets in
+        let none : (kind : Kind) → HasSomeTest c (target_of listed.path direction kind) → ⊥ = λ kind some. excludes kind some.pair some.meets in
         record {
           robust = (λ no. absurd (false≢true no), λ some. absurd (none kinds.Robust some));
           nonrobust = (λ no. absurd (false≢true no), λ both. absurd (none kinds.Nonrobust both.1));
@@ -138,23 +139,24 @@ module _ (c : Circuit) (circuit : IsCircuit c) (delays : Delays) (count budget :
         is.1.cites in
         absurd (no_spent kinds.Nonrobust spent.proof.tree spent.is_spent)
 
-  -- with a budget of at least four to the power of the number of sources in the support, the path's own not counted, the verdict
-  -- tells what there is, and is not aborted
-  pub great_budget_decides : (sources : List ℕ) → AreSupport c listed.path sources → 4 ^ (length sources - 1) ≤ budget
+  -- with a budget of at least the number of states that the rules leave a source to the power of the number of sources in the support,
+  -- the path's own not counted, the verdict tells what there is, and is not aborted
+  pub great_budget_decides : (sources : List ℕ) → AreSupport c listed.path sources
+      → states_of_source run.rules ^ (length sources - 1) ≤ budget
       → IsTruth c listed.path direction verdict
   great_budget_decides sources support great =
       truth_of
       (λ kind nodes spent.
-      let below = spent_below_bound c kind listed.path direction budget nodes is_prefix spent sources support in omega arith)
+      let below = spent_below_bound c run.rules (target_of listed.path direction kind) budget nodes is_prefix spent sources support in omega arith)
       verdict fault (good.verdicts number listed direction verdict fault)
 
   -- where the start closes for the nonrobust kind the fault is untestable, whatever the budget
-  pub closed_start_is_untestable : ClosesAtNode c kinds.Nonrobust listed.path direction [] → is_untestable verdict ≡ true
+  pub closed_start_is_untestable : ClosesAtNode c run.rules (target_of listed.path direction kinds.Nonrobust) [] → is_untestable verdict ≡ true
   closed_start_is_untestable closes = by verdict fault (good.verdicts number listed direction verdict fault)
     where
-      none : (pair : Vectors) → ¬ Meets kinds.Nonrobust c listed.path direction pair
-      none = refutation_excludes c circuit kinds.Nonrobust listed.path is_prefix direction (Closed ∷ [])
-          (closed_refutes c kinds.Nonrobust listed.path direction closes)
+      none : (pair : Vectors) → ¬ Meets c (target_of listed.path direction kinds.Nonrobust) pair
+      none = refutation_excludes c circuit run.rules (target_of listed.path direction kinds.Nonrobust) is_prefix (Closed ∷ [])
+          (closed_refutes c run.rules (target_of listed.path direction kinds.Nonrobust) closes)
 
       by : (own : Verdict) → IsFault run number listed direction own → IsVerdict c run number direction listed.path own
           → is_untestable own ≡ true
@@ -165,15 +167,15 @@ module _ (c : Circuit) (circuit : IsCircuit c) (delays : Delays) (count budget :
       by (Aborted robust nonrobust) of is =
           let spent = cited_spent c circuit delays count budget run good number listed of.is_listed direction kinds.Nonrobust
           nonrobust is.1.cites in
-          let root = root_is_open c kinds.Nonrobust listed.path direction budget spent.proof.tree spent.is_spent in
+          let root = root_is_open c run.rules (target_of listed.path direction kinds.Nonrobust) budget spent.proof.tree spent.is_spent in
           absurd (not_closing four_states c (IsNarrowingOf c kinds.Nonrobust listed.path.steps)
-          (MayBe four_states c listed.path.source.0 direction []) root.0 root.1.is_hull root.1.none_empty closes)
+          (MayBe four_states c run.rules (target_of listed.path direction kinds.Nonrobust) []) root.0 root.1.is_hull root.1.none_empty closes)
 
   -- where the start does not close for the robust kind, and neither does the trial there, the fault is robust, whatever the budget
-  module _ (hull : List StateSet) (is_hull : IsNodeHull c kinds.Robust listed.path direction [] hull)
+  module _ (hull : List StateSet) (is_hull : IsNodeHull c run.rules (target_of listed.path direction kinds.Robust) [] hull)
       (none_empty : HasNoEmptySet c hull)
       (open_trial : ¬ Closes four_states c (IsNarrowingOf c kinds.Robust listed.path.steps)
-      (MayTry c listed.path direction [] hull)) where
+      (MayTry c run.rules (target_of listed.path direction kinds.Robust) [] hull)) where
     -- the pair that the trial reads off
     abbrev pair : Vectors
     pair = least_pair c hull
@@ -182,23 +184,23 @@ module _ (c : Circuit) (circuit : IsCircuit c) (delays : Delays) (count budget :
     takes = takes_least c hull listed.path is_hull.rest.labelling none_empty
 
     -- it cannot be that it is no robust test
-    some_robust : ¬ (¬ Meets kinds.Robust c listed.path direction pair)
+    some_robust : ¬ (¬ Meets c (target_of listed.path direction kinds.Robust) pair)
     some_robust none =
         let source = listed.path.source.0 in
         let least = takes source (own_in_support c listed.path is_prefix) in
         let may = is_hull.rest.among source _ least.has in
         let launches = launched c pair source is_prefix.source direction (may.start.own refl) in
-        open_trial (trial_closes c circuit kinds.Robust listed.path is_prefix direction [] hull pair takes
+        open_trial (trial_closes c circuit run.rules (target_of listed.path direction kinds.Robust) is_prefix [] hull pair takes
         (λ sides. none (record { launches = launches; sides = sides })))
 
     -- no budget was spent on a robust test
-    none_spent : (nodes : List Node) → IsSpent c kinds.Robust listed.path direction budget nodes → ⊥
+    none_spent : (nodes : List Node) → IsSpent c run.rules (target_of listed.path direction kinds.Robust) budget nodes → ⊥
     none_spent nodes spent =
-        let root = root_is_open c kinds.Robust listed.path direction budget nodes spent in
+        let root = root_is_open c run.rules (target_of listed.path direction kinds.Robust) budget nodes spent in
         let same = hull_once four_states c (IsNarrowingOf c kinds.Robust listed.path.steps)
-        (MayBe four_states c listed.path.source.0 direction []) root.0 root.1.is_hull hull is_hull in
+        (MayBe four_states c run.rules (target_of listed.path direction kinds.Robust) []) root.0 root.1.is_hull hull is_hull in
         let P : List StateSet → Type 0 = λ labels. Closes four_states c (IsNarrowingOf c kinds.Robust listed.path.steps)
-        (MayTry c listed.path direction [] labels) in
+        (MayTry c run.rules (target_of listed.path direction kinds.Robust) [] labels) in
         open_trial (subst P same root.1.trial)
 
     no_robust_proof : (proof : ℕ) → HasRobustProof run number direction listed.path proof → ⊥

@@ -14,8 +14,8 @@ use Rattle.state_sets.specs.Hulls.{HasNoEmptySet}
 use Rattle.state_sets.specs.Labellings.{IsLabelling, label_at}
 use Rattle.state_sets.specs.Starts.{IsLeast}
 use Rattle.state_sets.specs.States.{Has, no_states}
-use Rattle.hull_laws.proofs.Sets.{label_within, no_state_left}
-use Rattle.pair_laws.proofs.SourceStates.{state_read_off}
+use Rattle.state_laws.proofs.Sets.{label_within, no_state_left}
+use Rattle.state_laws.proofs.SourceStates.{state_read_off}
 use Rattle.tree_laws.proofs.Trials.{TakesLeast}
 
 -- the least state of a set among the first ones, or none of these is in the set

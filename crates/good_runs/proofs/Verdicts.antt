@@ -1,5 +1,6 @@
 -- What each verdict of a good run tells of its fault.
 use Rattle.std.proofs.Common.{◌≡◌, ◌⊎◌, inl, inr, ℕ, true, false, map, subst}
+use Rattle.pd_base.specs.Target.{Target, target_of}
 use Rattle.pd_base.specs.Pair.{Vectors}
 use Rattle.pd_base.specs.Route.{Route}
 use Rattle.pd_base.specs.declared.test.Test.{Test}
@@ -14,10 +15,10 @@ use Rattle.netlist.specs.Paths.{IsPath, IsPrefixOf, prefix_of}
 use Rattle.netlist.specs.Waves.{Delays}
 use Rattle.path_laws.proofs.NonrobustPath.{nonrobust_detects}
 use Rattle.path_laws.proofs.RobustPath.{robust_detects}
-use Rattle.refutation_check.specs.declared.run.ListedPath.{ListedPath}
-use Rattle.refutation_check.specs.declared.run.Proof.{Proof}
-use Rattle.refutation_check.specs.declared.run.Run.{Run}
-use Rattle.refutation_check.specs.declared.run.Verdict.TheVariants.{Robust, Nonrobust, Untestable, Aborted}
+use Rattle.runs.specs.declared.run.ListedPath.{ListedPath}
+use Rattle.runs.specs.declared.run.Proof.{Proof}
+use Rattle.runs.specs.declared.run.Run.{Run}
+use Rattle.runs.specs.declared.run.Verdict.TheVariants.{Robust, Nonrobust, Untestable, Aborted}
 use Rattle.tree_laws.specs.Refutations.{IsRefutation}
 use Rattle.tree_laws.specs.Spent.{IsSpent}
 use Rattle.tree_laws.proofs.Refuting.{nonrobust_excludes_path, refutation_excludes_path}
@@ -26,19 +27,19 @@ use Rattle.good_runs.specs.GoodRun.{HasRobustProof, IsGoodRefutation, IsGoodRun,
 use Rattle.good_runs.specs.GoodRun.HasRobustProof.{refuted, spent}
 use Rattle.good_runs.proofs.Numbers.{all_at_number, number_in_map, number_same}
 
--- the budget was spent on the path: the proof of this number has a tree that shows it
-pub record HasSpentTree (c : Circuit) (budget : ℕ) (run : Run) (kind : Kind) (path : Route) (direction : Direction) (number : ℕ) : Type 0 where
+-- the budget was spent on the target: the proof of this number has a tree that shows it
+pub record HasSpentTree (c : Circuit) (budget : ℕ) (run : Run) (target : Target) (number : ℕ) : Type 0 where
   pub proof : Proof
   pub is_proof : IsNumber run.proofs number proof
-  pub is_spent : IsSpent c kind path direction budget proof.tree
+  pub is_spent : IsSpent c run.rules target budget proof.tree
 
--- the proof of this number refutes the conditions on a prefix of the path
-pub record HasRefutingTree (c : Circuit) (run : Run) (kind : Kind) (path : Route) (direction : Direction) (number : ℕ) : Type 0 where
+-- the proof of this number refutes the target on a prefix of its path
+pub record HasRefutingTree (c : Circuit) (run : Run) (target : Target) (number : ℕ) : Type 0 where
   pub proof : Proof
   pub is_proof : IsNumber run.proofs number proof
   pub prefix : Route
-  pub is_prefix : IsPrefixOf prefix path
-  pub refutes : IsRefutation c kind prefix direction proof.tree
+  pub is_prefix : IsPrefixOf prefix target.path
+  pub refutes : IsRefutation c run.rules (target_of prefix target.direction target.kind) proof.tree
 
 module _ (c : Circuit) (circuit : IsCircuit c) (delays : Delays) (count budget : ℕ) (run : Run)
     (good : IsGoodRun c delays count budget run) where
@@ -61,17 +62,18 @@ module _ (c : Circuit) (circuit : IsCircuit c) (delays : Delays) (count budget :
         (number_in_map (λ (l : ListedPath). l.path) run.paths number listed is_listed)
 
     -- a refutation that is cited refutes a prefix of the path
-    pub cited_refutes : (kind : Kind) (proof_number : ℕ) → CitesRefutation run kind direction listed.path proof_number
-        → HasRefutingTree c run kind listed.path direction proof_number
+    pub cited_refutes : (kind : Kind) (proof_number : ℕ) → CitesRefutation run (target_of listed.path direction kind) proof_number
+        → HasRefutingTree c run (target_of listed.path direction kind) proof_number
     cited_refutes kind proof_number cites =
         let proof = cites.proof in
         let is_good = good_refutation proof_number proof cites.is_proof cites.applies.refutes in
         let same = number_same run.paths proof.path is_good.listed cites.applies.listed is_good.is_listed cites.applies.is_listed in
         let about = cites.applies.is_about in
-        let OfPath : ListedPath → Type 0 = λ l. IsRefutation c proof.kind (prefix_of proof.steps l.path) proof.dir proof.tree in
+        let OfPath : ListedPath → Type 0 = λ l.
+        IsRefutation c run.rules (target_of (prefix_of proof.steps l.path) proof.dir proof.kind) proof.tree in
         let prefix = prefix_of proof.steps cites.applies.listed.path in
-        let OfKind : Kind → Type 0 = λ k. IsRefutation c k prefix proof.dir proof.tree in
-        let OfDirection : Direction → Type 0 = λ d. IsRefutation c kind prefix d proof.tree in
+        let OfKind : Kind → Type 0 = λ k. IsRefutation c run.rules (target_of prefix proof.dir k) proof.tree in
+        let OfDirection : Direction → Type 0 = λ d. IsRefutation c run.rules (target_of prefix d kind) proof.tree in
         record {
           proof = proof;
           is_proof = cites.is_proof;
@@ -82,15 +84,15 @@ module _ (c : Circuit) (circuit : IsCircuit c) (delays : Delays) (count budget :
 
     -- a spent proof that is cited spent the budget on the path
     pub cited_spent : (kind : Kind) (proof_number : ℕ) → CitesSpent run kind direction number proof_number
-        → HasSpentTree c budget run kind listed.path direction proof_number
+        → HasSpentTree c budget run (target_of listed.path direction kind) proof_number
     cited_spent kind proof_number cites =
         let proof = cites.proof in
         let is_good = good_spent proof_number proof cites.is_proof cites.spent in
         let At : ℕ → Type 0 = λ n. IsNumber run.paths n is_good.listed in
         let same = number_same run.paths number is_good.listed listed (subst At cites.of_path is_good.is_listed) is_listed in
-        let OfPath : ListedPath → Type 0 = λ l. IsSpent c proof.kind l.path proof.dir budget proof.tree in
-        let OfKind : Kind → Type 0 = λ k. IsSpent c k listed.path proof.dir budget proof.tree in
-        let OfDirection : Direction → Type 0 = λ d. IsSpent c kind listed.path d budget proof.tree in
+        let OfPath : ListedPath → Type 0 = λ l. IsSpent c run.rules (target_of l.path proof.dir proof.kind) budget proof.tree in
+        let OfKind : Kind → Type 0 = λ k. IsSpent c run.rules (target_of listed.path proof.dir k) budget proof.tree in
+        let OfDirection : Direction → Type 0 = λ d. IsSpent c run.rules (target_of listed.path d kind) budget proof.tree in
         record {
           proof = proof;
           is_proof = cites.is_proof;
@@ -99,17 +101,17 @@ module _ (c : Circuit) (circuit : IsCircuit c) (delays : Delays) (count budget :
         }
 
     -- no pair is a test of a kind that a cited refutation excludes
-    pub cited_excludes : (kind : Kind) (proof_number : ℕ) → CitesRefutation run kind direction listed.path proof_number
-        → (pair : Vectors) → ¬ Meets kind c listed.path direction pair
+    pub cited_excludes : (kind : Kind) (proof_number : ℕ) → CitesRefutation run (target_of listed.path direction kind) proof_number
+        → (pair : Vectors) → ¬ Meets c (target_of listed.path direction kind) pair
     cited_excludes kind proof_number cites =
         let has = cited_refutes kind proof_number cites in
-        refutation_excludes_path c circuit kind has.prefix listed.path listed_is_path.prefix has.is_prefix direction has.proof.tree
+        refutation_excludes_path c circuit run.rules kind has.prefix listed.path listed_is_path.prefix has.is_prefix direction has.proof.tree
         has.refutes
 
     -- the robust proof: a refutation of the robust conditions, or a spent budget
     pub robust_proof_tells : (proof_number : ℕ) → HasRobustProof run number direction listed.path proof_number
-        → HasRefutingTree c run kinds.Robust listed.path direction proof_number
-        ⊎ HasSpentTree c budget run kinds.Robust listed.path direction proof_number
+        → HasRefutingTree c run (target_of listed.path direction kinds.Robust) proof_number
+        ⊎ HasSpentTree c budget run (target_of listed.path direction kinds.Robust) proof_number
     robust_proof_tells proof_number (refuted cites) = inl (cited_refutes kinds.Robust proof_number cites)
     robust_proof_tells proof_number (spent none cites) = inr (cited_spent kinds.Robust proof_number cites)
 
@@ -139,18 +141,18 @@ module _ (c : Circuit) (circuit : IsCircuit c) (delays : Delays) (count budget :
 
     -- an untestable verdict excludes every pair: none meets the nonrobust conditions, and so none the robust ones
     pub untestable_excludes_every_pair : (proof_number : ℕ) → IsFault run number listed direction (Untestable proof_number)
-        → (kind : Kind) (pair : Vectors) → ¬ Meets kind c listed.path direction pair
+        → (kind : Kind) (pair : Vectors) → ¬ Meets c (target_of listed.path direction kind) pair
     untestable_excludes_every_pair proof_number fault kind pair =
         let cites = good.verdicts number listed direction (Untestable proof_number) fault in
         let has = cited_refutes number listed fault.is_listed direction kinds.Nonrobust proof_number cites in
-        nonrobust_excludes_path c circuit has.prefix listed.path (listed_is_path number listed fault.is_listed direction).prefix
+        nonrobust_excludes_path c circuit run.rules has.prefix listed.path (listed_is_path number listed fault.is_listed direction).prefix
         has.is_prefix direction has.proof.tree has.refutes kind pair
 
     -- an aborted verdict spent its budget on a nonrobust test, and has no robust one: by a refutation, or by a spent budget
     pub aborted_spent_its_budget : (robust nonrobust : ℕ) → IsFault run number listed direction (Aborted robust nonrobust)
-        → HasSpentTree c budget run kinds.Nonrobust listed.path direction nonrobust
-        × (HasRefutingTree c run kinds.Robust listed.path direction robust
-        ⊎ HasSpentTree c budget run kinds.Robust listed.path direction robust)
+        → HasSpentTree c budget run (target_of listed.path direction kinds.Nonrobust) nonrobust
+        × (HasRefutingTree c run (target_of listed.path direction kinds.Robust) robust
+        ⊎ HasSpentTree c budget run (target_of listed.path direction kinds.Robust) robust)
     aborted_spent_its_budget robust nonrobust fault =
         let has = good.verdicts number listed direction (Aborted robust nonrobust) fault in (
           cited_spent number listed fault.is_listed direction kinds.Nonrobust nonrobust has.1.cites,

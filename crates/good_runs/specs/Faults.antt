@@ -1,14 +1,14 @@
 -- The faults of a run, and which of its proofs speak of a fault (this project's own).
 use Rattle.std.specs.Prelude.{◌≡◌, ℕ, ◌-◌, ◌≤◌, true, false, List, slice_get, Some}
-use Rattle.pd_base.specs.Route.{Route}
+use Rattle.pd_base.specs.Target.{Target}
 use Rattle.pd_base.specs.declared.fault.Direction.{Direction}
 use Rattle.pd_base.specs.declared.fault.Direction.TheVariants.{Rise, Fall}
 use Rattle.pd_base.specs.declared.fault.Kind.{Kind}
 use Rattle.netlist.specs.Paths.{IsPrefixOf, prefix_of}
-use Rattle.refutation_check.specs.declared.run.ListedPath.{ListedPath}
-use Rattle.refutation_check.specs.declared.run.Proof.{Proof}
-use Rattle.refutation_check.specs.declared.run.Run.{Run}
-use Rattle.refutation_check.specs.declared.run.Verdict.{Verdict}
+use Rattle.runs.specs.declared.run.ListedPath.{ListedPath}
+use Rattle.runs.specs.declared.run.Proof.{Proof}
+use Rattle.runs.specs.declared.run.Run.{Run}
+use Rattle.runs.specs.declared.run.Verdict.{Verdict}
 
 -- the item of this number, from 1
 pub record IsNumber {T : Type 0} (items : List T) (number : ℕ) (item : T) : Type 0 where
@@ -30,27 +30,26 @@ pub record IsAbout (kind : Kind) (direction : Direction) (proof : Proof) : Type 
   pub of_kind : proof.kind ≡ kind
   pub of_direction : proof.dir ≡ direction
 
--- a refutation applies to a path: it is of this kind and direction, and its prefix, so many steps of a listed path, is one of the
--- path
-pub record Applies (run : Run) (kind : Kind) (direction : Direction) (path : Route) (proof : Proof) : Type 0 where
+-- a refutation applies to a target: it is of its kind and direction, and its prefix, so many steps of a listed path, is one of the
+-- target's path
+pub record Applies (run : Run) (target : Target) (proof : Proof) : Type 0 where
   pub refutes : proof.spent ≡ false
-  pub is_about : IsAbout kind direction proof
+  pub is_about : IsAbout target.kind target.direction proof
   pub listed : ListedPath
   pub is_listed : IsNumber run.paths proof.path listed
-  pub has_prefix : IsPrefixOf (prefix_of proof.steps listed.path) path
+  pub has_prefix : IsPrefixOf (prefix_of proof.steps listed.path) target.path
 
--- no refutation of the run applies to the path
-abbrev pub NoneApplies : Run → Kind → Direction → Route → Type 0
-NoneApplies run kind direction path =
-    (number : ℕ) (proof : Proof) → IsNumber run.proofs number proof → ¬ Applies run kind direction path proof
+-- no refutation of the run applies to the target
+abbrev pub NoneApplies : Run → Target → Type 0
+NoneApplies run target = (number : ℕ) (proof : Proof) → IsNumber run.proofs number proof → ¬ Applies run target proof
 
--- the proof of this number is the refutation of the least number that applies to the path
-pub record CitesRefutation (run : Run) (kind : Kind) (direction : Direction) (path : Route) (number : ℕ) : Type 0 where
+-- the proof of this number is the refutation of the least number that applies to the target
+pub record CitesRefutation (run : Run) (target : Target) (number : ℕ) : Type 0 where
   pub proof : Proof
   pub is_proof : IsNumber run.proofs number proof
-  pub applies : Applies run kind direction path proof
+  pub applies : Applies run target proof
   pub least : (other : ℕ) (other_proof : Proof) → IsNumber run.proofs other other_proof
-      → Applies run kind direction path other_proof → number ≤ other
+      → Applies run target other_proof → number ≤ other
 
 -- the proof of this number shows that the budget was spent on the listed path of this number
 pub record CitesSpent (run : Run) (kind : Kind) (direction : Direction) (path_number number : ℕ) : Type 0 where

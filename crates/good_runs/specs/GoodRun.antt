@@ -1,9 +1,9 @@
--- What a good run is, rule by rule (this project's own).
+-- What a good run is, point by point (this project's own).
 use Rattle.std.specs.Prelude.{◌≡◌, ℕ, ◌≤◌, max, true, false, length, map, count_by, ◌||◌, Bool, All}
 use Rattle.pd_base.specs.Route.{Route}
+use Rattle.pd_base.specs.Target.{Target, target_of}
 use Rattle.pd_base.specs.declared.test.Test.{Test}
 use Rattle.pd_base.specs.declared.fault.Direction.{Direction}
-use Rattle.pd_base.specs.declared.fault.Kind.{Kind}
 use Rattle.pd_base.specs.declared.fault.Kind.TheVariants as kinds
 use Rattle.netlist.specs.Circuit.{Circuit, source_count}
 use Rattle.netlist.specs.Values.{observed_values}
@@ -12,13 +12,13 @@ use Rattle.netlist.specs.Paths.{IsPrefixOf, prefix_of, length_of}
 use Rattle.netlist.specs.Order.{AreFirst}
 use Rattle.netlist.specs.Greatest.{greatest}
 use Rattle.netlist.specs.Conditions.{Meets}
-use Rattle.refutation_check.specs.declared.run.ListedPath.{ListedPath}
-use Rattle.refutation_check.specs.declared.run.Proof.{Proof}
-use Rattle.refutation_check.specs.declared.run.Run.{Run}
-use Rattle.refutation_check.specs.declared.run.Verdict.{Verdict}
-use Rattle.refutation_check.specs.declared.run.Verdict.TheVariants.{Robust, Nonrobust, Untestable, Aborted}
-use Rattle.refutation_check.specs.Trees.{split_count}
-use Rattle.refutation_check.specs.Verdicts.{verdicts_of, is_robust, is_nonrobust}
+use Rattle.runs.specs.declared.run.ListedPath.{ListedPath}
+use Rattle.runs.specs.declared.run.Proof.{Proof}
+use Rattle.runs.specs.declared.run.Run.{Run}
+use Rattle.runs.specs.declared.run.Verdict.{Verdict}
+use Rattle.runs.specs.declared.run.Verdict.TheVariants.{Robust, Nonrobust, Untestable, Aborted}
+use Rattle.runs.specs.Trees.{split_count}
+use Rattle.runs.specs.Verdicts.{verdicts_of, is_robust, is_nonrobust}
 use Rattle.tree_laws.specs.Refutations.{IsRefutation}
 use Rattle.tree_laws.specs.Spent.{IsSpent}
 use Rattle.good_runs.specs.Faults.{IsNumber, IsFault, NoneApplies, CitesRefutation, CitesSpent}
@@ -35,7 +35,7 @@ greatest_cited (Untestable proof) = proof
 greatest_cited (Aborted robust nonrobust) = max robust nonrobust
 
 -- a refutation: its prefix is one of a listed path, and of none with a lesser number; its tree has no more splits than the budget,
--- and refutes its kind and direction for the prefix
+-- and refutes its kind and direction for the prefix, under the rules of the run
 pub record IsGoodRefutation (c : Circuit) (budget : ℕ) (run : Run) (proof : Proof) : Type 0 where
   pub listed : ListedPath
   pub is_listed : IsNumber run.paths proof.path listed
@@ -43,55 +43,55 @@ pub record IsGoodRefutation (c : Circuit) (budget : ℕ) (run : Run) (proof : Pr
   pub is_first : (other : ℕ) (other_listed : ListedPath) → IsNumber run.paths other other_listed
       → IsPrefixOf (prefix_of proof.steps listed.path) other_listed.path → proof.path ≤ other
   pub within_budget : split_count proof.tree ≤ budget
-  pub refutation : IsRefutation c proof.kind (prefix_of proof.steps listed.path) proof.dir proof.tree
+  pub refutation : IsRefutation c run.rules (target_of (prefix_of proof.steps listed.path) proof.dir proof.kind) proof.tree
 
--- a spent proof: it names a listed path and all its steps, and its tree spent exactly the budget on it
+-- a spent proof: it names a listed path and all its steps, and its tree spent exactly the budget on it, under the rules of the run
 pub record IsGoodSpent (c : Circuit) (budget : ℕ) (run : Run) (proof : Proof) : Type 0 where
   pub listed : ListedPath
   pub is_listed : IsNumber run.paths proof.path listed
   pub whole : proof.steps ≡ length listed.path.steps
-  pub is_spent : IsSpent c proof.kind listed.path proof.dir budget proof.tree
+  pub is_spent : IsSpent c run.rules (target_of listed.path proof.dir proof.kind) budget proof.tree
 
 -- the proof that a fault has no robust test: the refutation of the least number that applies; or, where none applies, that the
 -- budget was spent on it
 pub data HasRobustProof (run : Run) (number : ℕ) (direction : Direction) (path : Route) (proof : ℕ) : Type 0 where
-  refuted : CitesRefutation run kinds.Robust direction path proof → HasRobustProof run number direction path proof
-  spent : NoneApplies run kinds.Robust direction path → CitesSpent run kinds.Robust direction number proof
+  refuted : CitesRefutation run (target_of path direction kinds.Robust) proof → HasRobustProof run number direction path proof
+  spent : NoneApplies run (target_of path direction kinds.Robust) → CitesSpent run kinds.Robust direction number proof
       → HasRobustProof run number direction path proof
 
 -- the proof of an aborted fault: the budget was spent on it for the nonrobust kind, and no refutation of this kind applies
 pub record HasNonrobustProof (run : Run) (number : ℕ) (direction : Direction) (path : Route) (proof : ℕ) : Type 0 where
-  pub none_applies : NoneApplies run kinds.Nonrobust direction path
+  pub none_applies : NoneApplies run (target_of path direction kinds.Nonrobust)
   pub cites : CitesSpent run kinds.Nonrobust direction number proof
 
--- the test of a fault: it names the path, the direction and the kind, and its pair meets the conditions
-pub record IsTestOf (c : Circuit) (number : ℕ) (direction : Direction) (kind : Kind) (path : Route) (test : Test) : Type 0 where
+-- the test for a target whose path has this number: it names the path, the direction and the kind, and its pair meets the conditions
+pub record IsTestOf (c : Circuit) (number : ℕ) (target : Target) (test : Test) : Type 0 where
   pub of_path : test.path ≡ number
-  pub of_direction : test.dir ≡ direction
-  pub of_kind : test.kind ≡ kind
+  pub of_direction : test.dir ≡ target.direction
+  pub of_kind : test.kind ≡ target.kind
   pub first_fits : length test.pair.first ≡ source_count c
   pub second_fits : length test.pair.second ≡ source_count c
-  pub meets : Meets kind c path direction test.pair
+  pub meets : Meets c target test.pair
 
--- the test of this number is one of the fault
-pub record HasTest (c : Circuit) (run : Run) (number : ℕ) (direction : Direction) (kind : Kind) (path : Route) (test_number : ℕ) : Type 0 where
+-- the test of this number is one for the target
+pub record HasTest (c : Circuit) (run : Run) (number : ℕ) (target : Target) (test_number : ℕ) : Type 0 where
   pub test : Test
   pub is_test : IsNumber run.tests test_number test
-  pub of_fault : IsTestOf c number direction kind path test
+  pub of_fault : IsTestOf c number target test
 
 -- the same of a nonrobust verdict: its pair does not meet the robust conditions
 pub record HasNonrobustTest (c : Circuit) (run : Run) (number : ℕ) (direction : Direction) (path : Route) (test_number : ℕ) : Type 0 where
   pub test : Test
   pub is_test : IsNumber run.tests test_number test
-  pub of_fault : IsTestOf c number direction kinds.Nonrobust path test
-  pub not_robust : ¬ Meets kinds.Robust c path direction test.pair
+  pub of_fault : IsTestOf c number (target_of path direction kinds.Nonrobust) test
+  pub not_robust : ¬ Meets c (target_of path direction kinds.Robust) test.pair
 
 -- what a verdict on a fault asks of the run
 abbrev pub IsVerdict : Circuit → Run → ℕ → Direction → Route → Verdict → Type 0
-IsVerdict c run number direction path (Robust test) = HasTest c run number direction kinds.Robust path test
+IsVerdict c run number direction path (Robust test) = HasTest c run number (target_of path direction kinds.Robust) test
 IsVerdict c run number direction path (Nonrobust test proof) =
     HasNonrobustTest c run number direction path test × HasRobustProof run number direction path proof
-IsVerdict c run number direction path (Untestable proof) = CitesRefutation run kinds.Nonrobust direction path proof
+IsVerdict c run number direction path (Untestable proof) = CitesRefutation run (target_of path direction kinds.Nonrobust) proof
 IsVerdict c run number direction path (Aborted robust nonrobust) =
     HasRobustProof run number direction path robust × HasNonrobustProof run number direction path nonrobust
 

@@ -1,3 +1,11 @@
+pub mod Cuts
+pub mod Folds
+pub mod Limited
+pub mod Passing
+pub mod Sets
+pub mod Suffixes
+pub mod Ties
+pub mod Whole
 pub mod Marks
 pub mod Nodes
 pub mod Passes

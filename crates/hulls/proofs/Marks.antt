@@ -10,10 +10,11 @@ use Rattle.std.proofs.lemmas.List.Quantifiers.{all_pairs_push}
 use Rattle.pd_base.specs.declared.ids.PinRef.{PinRef}
 use Rattle.pd_base.specs.declared.fault.Kind.{Kind}
 use Rattle.netlist.specs.Circuit.{Circuit, pins_at}
+use Rattle.netlist.specs.Pins.{IsPin}
 use Rattle.state_sets.specs.declared.condition.Condition.{Condition}
 use Rattle.state_sets.specs.Hulls.{condition_at}
 use Rattle.hulls.specs.Marks.{mark_at, marked_condition}
-use Rattle.hulls.specs.Conditions.{IsMarked, IsPinOf}
+use Rattle.hulls.specs.Conditions.{IsMarked}
 
 -- none of these steps goes through the gate
 abbrev pub PassBy : List PinRef → ℕ → Type 0
@@ -79,7 +80,7 @@ module _ (kind : Kind) where
       (cases_eq step.gate.0 gate)
 
   -- the pin of a condition is one of the gate
-  pub condition_pin : (c : Circuit) (steps : List PinRef) → All (IsPinOf c) steps → (gate : ℕ)
+  pub condition_pin : (c : Circuit) (steps : List PinRef) → All (IsPin c) steps → (gate : ℕ)
       → IfSome (condition_at kind steps gate) (λ condition. condition.pin < length (pins_at c gate))
   condition_pin c [] all gate = tt
   condition_pin c (step ∷ steps) all gate =
@@ -88,10 +89,10 @@ module _ (kind : Kind) where
       ⊎_elim
       (λ (here : step.gate.0 ≡ gate).
       subst holds (sym (ap seen (eq-eqb step.gate.0 gate here)))
-      (subst (λ (g : ℕ). step.pin < length (pins_at c g)) here (All-head (IsPinOf c) step steps all).pin))
+      (subst (λ (g : ℕ). step.pin < length (pins_at c g)) here (All-head (IsPin c) step steps all).in_gate))
       (λ (away : step.gate.0 ≢ gate).
       subst holds (sym (ap seen (ne_eqb step.gate.0 gate away)))
-      (condition_pin c steps (All-tail (IsPinOf c) step steps all) gate))
+      (condition_pin c steps (All-tail (IsPin c) step steps all) gate))
       (cases_eq step.gate.0 gate)
 
 -- of steps through different gates, and a last one: the others pass by its gate

@@ -4,8 +4,8 @@ use Rattle.pd_base.specs.declared.ids.LineId.{LineId}
 use Rattle.pd_base.specs.declared.ids.PinRef.{PinRef}
 use Rattle.hulls.specs.Conditions.{Entered}
 use Rattle.std.specs.List.{All}
-use Rattle.pd_base.specs.Route.{Route}
-use Rattle.pd_base.specs.declared.fault.Direction.{Direction}
+use Rattle.pd_base.specs.Target.{Target}
+use Rattle.pd_base.specs.declared.rules.Rules.{Rules}
 use Rattle.pd_base.specs.declared.fault.Kind.{Kind}
 use Rattle.netlist.specs.Circuit.{Circuit, line_count}
 use Rattle.state_sets.specs.declared.state.State.{State}
@@ -13,20 +13,20 @@ use Rattle.state_sets.specs.declared.state.StateSet.{StateSet}
 use Rattle.state_sets.specs.FourStates.{four_states}
 use Rattle.state_sets.specs.Starts.{MayStart}
 use Rattle.state_sets.specs.Hulls.{Narrowing, IsNarrowingOf, IsHull, IsEmptied, HasAt}
-use Rattle.hull_laws.specs.declared.half.Half.{Half}
-use Rattle.hull_laws.specs.Nodes.{MayBe, IsCut, IsNodeHull, IsEmptiedAtNode}
-use Rattle.hull_laws.proofs.Hulls.{Allows, hull_of_same, emptied_if_wider, widens_by_states}
+use Rattle.state_laws.specs.declared.half.Half.{Half}
+use Rattle.state_laws.specs.Nodes.{MayBe, IsCut, IsNodeHull, IsEmptiedAtNode}
+use Rattle.state_laws.proofs.Hulls.{Allows, hull_of_same, emptied_if_wider, widens_by_states}
 
-module _ (c : Circuit) (kind : Kind) (prefix : Route) (direction : Direction) (halves : List Half) (launched start : List StateSet)
+module _ (c : Circuit) (rules : Rules) (target : Target) (halves : List Half) (launched start : List StateSet)
     (launches : (line : ℕ) (state : State) → HasAt four_states.count launched line state
-    ↔ ((line < line_count c) × (state.0 < four_states.count) × MayStart four_states c prefix.source.0 direction line state))
+    ↔ ((line < line_count c) × (state.0 < four_states.count) × MayStart four_states c rules target.path.source.0 target.direction line state))
     (cuts : (line : ℕ) (state : State) → HasAt four_states.count start line state
     ↔ (HasAt four_states.count launched line state × All (IsCut four_states line state) halves)) where
   abbrev Narrowings : Narrowing → Type 0
-  Narrowings = IsNarrowingOf c kind prefix.steps
+  Narrowings = IsNarrowingOf c target.kind target.path.steps
 
   abbrev May : ℕ → State → Type 0
-  May = MayBe four_states c prefix.source.0 direction halves
+  May = MayBe four_states c rules target halves
 
   has_is_may : Allows four_states c (HasAt four_states.count start) May
   has_is_may line state in_circuit in_range has =
@@ -38,42 +38,42 @@ module _ (c : Circuit) (kind : Kind) (prefix : Route) (direction : Direction) (h
 
   -- so their hull is that of the node
   pub node_hull : (hull : List StateSet) → IsHull four_states c Narrowings (HasAt four_states.count start) hull
-      → IsNodeHull c kind prefix direction halves hull
+      → IsNodeHull c rules target halves hull
   node_hull = hull_of_same four_states c Narrowings (HasAt four_states.count start) May has_is_may may_is_has
 
   -- and so are the emptied lines
   pub node_emptied : (line : ℕ) → IsEmptied four_states c Narrowings (HasAt four_states.count start) line
-      → IsEmptiedAtNode c kind prefix direction halves line
+      → IsEmptiedAtNode c rules target halves line
   node_emptied = emptied_if_wider four_states c Narrowings Narrowings May (HasAt four_states.count start)
       (widens_by_states four_states c Narrowings May (HasAt four_states.count start) may_is_has)
 
-module _ (c : Circuit) (kind : Kind) (prefix : Route) (direction : Direction) (halves : List Half) (launched start : List StateSet)
-    (entered : Entered) (source : LineId) (is_kind : entered.kind ≡ kind) (is_steps : entered.steps ≡ prefix.steps)
-    (is_source : source ≡ prefix.source)
+module _ (c : Circuit) (rules : Rules) (target : Target) (halves : List Half) (launched start : List StateSet)
+    (entered : Entered) (source : LineId) (is_kind : entered.kind ≡ target.kind) (is_steps : entered.steps ≡ target.path.steps)
+    (is_source : source ≡ target.path.source)
     (launches : (line : ℕ) (state : State) → HasAt four_states.count launched line state
-    ↔ ((line < line_count c) × (state.0 < four_states.count) × MayStart four_states c source.0 direction line state))
+    ↔ ((line < line_count c) × (state.0 < four_states.count) × MayStart four_states c rules source.0 target.direction line state))
     (cuts : (line : ℕ) (state : State) → HasAt four_states.count start line state
     ↔ (HasAt four_states.count launched line state × All (IsCut four_states line state) halves)) where
   launches_prefix : (line : ℕ) (state : State) → HasAt four_states.count launched line state
-      ↔ ((line < line_count c) × (state.0 < four_states.count) × MayStart four_states c prefix.source.0 direction line state)
+      ↔ ((line < line_count c) × (state.0 < four_states.count) × MayStart four_states c rules target.path.source.0 target.direction line state)
   launches_prefix line state =
       subst (λ (s : LineId). HasAt four_states.count launched line state
-      ↔ ((line < line_count c) × (state.0 < four_states.count) × MayStart four_states c s.0 direction line state))
+      ↔ ((line < line_count c) × (state.0 < four_states.count) × MayStart four_states c rules s.0 target.direction line state))
       is_source (launches line state)
 
   -- the same, as the code has the source, the kind and the steps
   pub entered_hull : (hull : List StateSet)
       → IsHull four_states c (IsNarrowingOf c entered.kind entered.steps) (HasAt four_states.count start) hull
-      → IsNodeHull c kind prefix direction halves hull
+      → IsNodeHull c rules target halves hull
   entered_hull hull is =
-      node_hull c kind prefix direction halves launched start launches_prefix cuts hull
+      node_hull c rules target halves launched start launches_prefix cuts hull
       (subst₂ (λ (k : Kind) (steps : List PinRef). IsHull four_states c (IsNarrowingOf c k steps) (HasAt four_states.count start) hull)
       is_kind is_steps is)
 
   pub entered_emptied : (line : ℕ)
       → IsEmptied four_states c (IsNarrowingOf c entered.kind entered.steps) (HasAt four_states.count start) line
-      → IsEmptiedAtNode c kind prefix direction halves line
+      → IsEmptiedAtNode c rules target halves line
   entered_emptied line emptied =
-      node_emptied c kind prefix direction halves launched start launches_prefix cuts line
+      node_emptied c rules target halves launched start launches_prefix cuts line
       (subst₂ (λ (k : Kind) (steps : List PinRef). IsEmptied four_states c (IsNarrowingOf c k steps) (HasAt four_states.count start) line)
       is_kind is_steps emptied)

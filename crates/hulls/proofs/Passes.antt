@@ -17,9 +17,9 @@ use Rattle.state_sets.specs.Labellings.{label_at, IsLabelling}
 use Rattle.state_sets.specs.Narrowing.{IsNarrowing, gate_lines}
 use Rattle.state_sets.specs.Hulls.{Narrowing, condition_at, IsNarrowingOf, IsAtRest, HasNoEmptySet}
 use Rattle.state_sets.specs.Hulls.Narrowing.{at_gate, along_link}
-use Rattle.hull_laws.specs.Sweeps.{KeepsRests, total}
-use Rattle.hull_laws.proofs.Sweeps.{keeps_none, keeps_on, keeps_one, none_emptied, kept_total}
-use Rattle.hulls.specs.Sweeps.{RestsAt, IsSweep, IsWholeSweep, IsKept, IsEmptying}
+use Rattle.state_laws.specs.Sweeps.{KeepsRests, label_total}
+use Rattle.state_laws.proofs.Sweeps.{keeps_none, keeps_on, keeps_one, none_emptied, kept_total}
+use Rattle.hulls.specs.Sweeps.{RestsAt, IsSweep, IsWholeSweep, IsPartlySwept, IsEmptying}
 
 module _ (a : StateAlgebra) (c : Circuit) (kind : Kind) (steps : List PinRef) where
   abbrev Narrowings : Narrowing → Type 0
@@ -45,8 +45,8 @@ module _ (a : StateAlgebra) (c : Circuit) (kind : Kind) (steps : List PinRef) wh
       (All-contains (RestsAt a c kind steps labels) order (record { 0 = gate }) all (is.whole gate is_one.0))
 
   -- the sum of the sets does not rise
-  not_more : (old new : List StateSet) → IsLabelling a.count c old → KeepsRests a c Narrowings old new → total new ≤ total old
-  not_more old new is keeps = ⊎_elim (λ less. omega arith) (λ same. let e = ap total same in omega arith)
+  not_more : (old new : List StateSet) → IsLabelling a.count c old → KeepsRests a c Narrowings old new → label_total new ≤ label_total old
+  not_more old new is keeps = ⊎_elim (λ less. omega arith) (λ same. let e = ap label_total same in omega arith)
       (kept_total a c Narrowings old new is keeps)
 
   -- one gate more
@@ -78,12 +78,12 @@ module _ (a : StateAlgebra) (c : Circuit) (kind : Kind) (steps : List PinRef) wh
   }
 
   -- nothing narrowed keeps all
-  pub kept_none : (labels : List StateSet) → IsLabelling a.count c labels → HasNoEmptySet c labels → IsKept a c kind steps labels labels
+  pub kept_none : (labels : List StateSet) → IsLabelling a.count c labels → HasNoEmptySet c labels → IsPartlySwept a c kind steps labels labels
   kept_none labels is some = record { keeps = keeps_none a c Narrowings labels is; none_empty = some; no_more = omega arith }
 
   -- so does one sweep after another
-  pub kept_on : (gates : List GateId) (old mid new : List StateSet) (changed : Bool) → IsKept a c kind steps old mid
-      → IsSweep a c kind steps gates mid new changed → IsKept a c kind steps old new
+  pub kept_on : (gates : List GateId) (old mid new : List StateSet) (changed : Bool) → IsPartlySwept a c kind steps old mid
+      → IsSweep a c kind steps gates mid new changed → IsPartlySwept a c kind steps old new
   kept_on gates old mid new changed before after = record {
     keeps = keeps_on a c Narrowings old mid new before.keeps after.keeps;
     none_empty = after.none_empty;
@@ -91,7 +91,7 @@ module _ (a : StateAlgebra) (c : Circuit) (kind : Kind) (steps : List PinRef) wh
   }
 
   -- and a line emptied behind it
-  pub kept_emptying : (old mid new : List StateSet) (line : ℕ) → IsKept a c kind steps old mid → IsEmptying a c kind steps mid new line
+  pub kept_emptying : (old mid new : List StateSet) (line : ℕ) → IsPartlySwept a c kind steps old mid → IsEmptying a c kind steps mid new line
       → IsEmptying a c kind steps old new line
   kept_emptying old mid new line before after = record {
     keeps = keeps_on a c Narrowings old mid new before.keeps after.keeps;

@@ -3,7 +3,6 @@ use Rattle.std.proofs.Common.{◌≡◌, ◌≢◌, ℕ, ◌+◌, ◌<◌, ◌�
 use Rattle.std.proofs.lemmas.List.{drop_more, take-append-drop, length-take}
 use Rattle.std.specs.List.{All}
 use Rattle.std.proofs.lemmas.List.Elements.{All-nil, All-cons}
-use Rattle.std.proofs.lemmas.Option.{slice_get_within}
 use Rattle.pd_base.specs.declared.ids.PinRef.{PinRef}
 use Rattle.pd_base.specs.declared.fault.Kind.{Kind}
 use Rattle.netlist.specs.declared.kind.GateKind.{GateKind}
@@ -13,10 +12,11 @@ use Rattle.netlist.specs.Circuit.{Circuit, gate_line, line_count, kind_at, pins_
 use Rattle.netlist.specs.Lawful.{IsCircuit, IsFanIn}
 use Rattle.netlist.specs.Levels.{level, greatest_level}
 use Rattle.netlist.specs.Paths.{Connects}
+use Rattle.netlist.specs.Pins.{IsPin}
+use Rattle.netlist.proofs.PinRow.{pin_on_line}
 use Rattle.path_laws.proofs.StepCounts.{step_raises, steps_within_levels}
 use Rattle.state_sets.specs.Hulls.{condition_at}
 use Rattle.hulls.specs.Marks.{marked_condition}
-use Rattle.hulls.specs.Conditions.{IsPinOf}
 use Rattle.hulls.proofs.Marks.{PassBy, mark_none, condition_marked}
 
 -- a gate has few pins
@@ -36,19 +36,15 @@ none_at kind steps gate pass = condition_marked kind steps gate ∙ ap (marked_c
 
 module _ (c : Circuit) (circuit : IsCircuit c) where
   -- the pin of a step is below the most pins of a gate
-  pub pin_fits : (step : PinRef) → IsPinOf c step → step.pin < MOST_FAN_IN
+  pub pin_fits : (step : PinRef) → IsPin c step → step.pin < MOST_FAN_IN
   pin_fits step is =
-      omega (arith, is.pin, fan_in_few (kind_at c step.gate.0) (length (pins_at c step.gate.0)) (circuit.fan_in step.gate.0 is.gate))
+      omega (arith, is.in_gate, fan_in_few (kind_at c step.gate.0) (length (pins_at c step.gate.0)) (circuit.fan_in step.gate.0 is.in_circuit))
 
   -- steps that connect go through pins of the circuit
-  pub pins_of_steps : (line : ℕ) (steps : List PinRef) → Connects c line steps → All (IsPinOf c) steps
-  pins_of_steps line [] connects = All-nil (IsPinOf c)
+  pub pins_of_steps : (line : ℕ) (steps : List PinRef) → Connects c line steps → All (IsPin c) steps
+  pins_of_steps line [] connects = All-nil (IsPin c)
   pins_of_steps line (step ∷ steps) connects =
-      All-cons (IsPinOf c) step steps
-      (record {
-        gate = connects.0.in_circuit;
-        pin = slice_get_within (pins_at c step.gate.0) step.pin (record { 0 = line }) connects.0.reads;
-      })
+      All-cons (IsPin c) step steps (pin_on_line c step line connects.0)
       (pins_of_steps (gate_line c step.gate.0) steps connects.1)
 
   -- a later step's gate stands on a higher level than the line from which the steps lead on
@@ -97,5 +93,5 @@ module _ (c : Circuit) (circuit : IsCircuit c) where
     step_has_room within = omega (arith, steps_within_levels c circuit line steps within connects, length-take place steps)
 
     -- and its pin is one of the circuit
-    pub step_is_pin : IsPinOf c step
+    pub step_is_pin : IsPin c step
     step_is_pin = pins_of_steps line steps connects place d inside

@@ -5,6 +5,7 @@ use Rattle.std.proofs.lemmas.Nat.{and_le_l}
 use Rattle.std.proofs.lemmas.Bool.{cases_eq, cases_lt}
 use Rattle.std.proofs.lemmas.List.{get_or-set_same, get_or-set_other, length-set}
 use Rattle.pd_base.specs.declared.fault.Direction.{Direction}
+use Rattle.pd_base.specs.declared.rules.Rules.{Rules}
 use Rattle.netlist.specs.Circuit.{Circuit, source_count, line_count}
 use Rattle.state_sets.specs.declared.state.State.{State}
 use Rattle.state_sets.specs.declared.state.StateSet.{StateSet}
@@ -13,28 +14,28 @@ use Rattle.state_sets.specs.StateAlgebra.{StateAlgebra}
 use Rattle.state_sets.specs.Labellings.{label_at, IsLabelling}
 use Rattle.state_sets.specs.Hulls.{HasAt}
 use Rattle.state_sets.specs.Starts.{MayStart, IsLaunching, IsOtherStart, IsInHalf}
-use Rattle.hull_laws.specs.declared.half.Half.{Half}
-use Rattle.hull_laws.specs.Nodes.{IsCut}
-use Rattle.hull_laws.proofs.Sets.{has_in_circuit, label_within}
-use Rattle.narrowing.specs.Sets.{Means}
-use Rattle.narrowing.proofs.Sets.{all_have}
-use Rattle.narrowing.proofs.Cuts.{has_after_cut, had_before_cut, kept_by_cut}
+use Rattle.state_laws.specs.declared.half.Half.{Half}
+use Rattle.state_laws.specs.Nodes.{IsCut}
+use Rattle.state_laws.proofs.Sets.{has_in_circuit, label_within}
+use Rattle.hulls.specs.Sets.{Means}
+use Rattle.hulls.proofs.Sets.{all_have}
+use Rattle.hulls.proofs.Cuts.{has_after_cut, had_before_cut, kept_by_cut}
 
-module _ (a : StateAlgebra) (c : Circuit) (source : ℕ) (direction : Direction) (is_source : source < source_count c)
+module _ (a : StateAlgebra) (c : Circuit) (rules : Rules) (source : ℕ) (direction : Direction) (is_source : source < source_count c)
     (labels : List StateSet) (is : IsLabelling a.count c labels)
     (own : Means a.count (label_at labels source) (λ s. (s.0 < a.count) × IsLaunching a direction s))
     (others : (line : ℕ) → line < source_count c → line ≢ source
-    → Means a.count (label_at labels line) (λ s. (s.0 < a.count) × IsOtherStart a s))
+    → Means a.count (label_at labels line) (λ s. (s.0 < a.count) × IsOtherStart a rules s))
     (gates : (line : ℕ) → source_count c ≤ line → line < line_count c → label_at labels line ≡ all_states a.count) where
   -- a state that a line has is one in which it may start
-  started : (line : ℕ) (state : State) → HasAt a.count labels line state → MayStart a c source direction line state
+  started : (line : ℕ) (state : State) → HasAt a.count labels line state → MayStart a c rules source direction line state
   started line state has = record {
     own = λ here. ((own state).0 (subst (λ (l : ℕ). Has a.count (label_at labels l) state) here has)).1;
     other = λ in_sources away. ((others line in_sources away state).0 has).1;
   }
 
   -- and each such state it has
-  starts : (line : ℕ) (state : State) → line < line_count c → state.0 < a.count → MayStart a c source direction line state
+  starts : (line : ℕ) (state : State) → line < line_count c → state.0 < a.count → MayStart a c rules source direction line state
       → HasAt a.count labels line state
   starts line state in_circuit in_range may = ⊎_elim
       (λ (here : line ≡ source).
@@ -49,7 +50,7 @@ module _ (a : StateAlgebra) (c : Circuit) (source : ℕ) (direction : Direction)
 
   -- the labels are those of a start
   pub is_start : (line : ℕ) (state : State) → HasAt a.count labels line state
-      ↔ ((line < line_count c) × (state.0 < a.count) × MayStart a c source direction line state)
+      ↔ ((line < line_count c) × (state.0 < a.count) × MayStart a c rules source direction line state)
   is_start line state = (
     λ has. (has_in_circuit a.count c labels is line state has, has.in_range, started line state has),
     λ may. starts line state may.0 may.1 may.2,

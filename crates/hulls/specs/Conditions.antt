@@ -2,7 +2,8 @@
 use Rattle.std.specs.Prelude.{◌≡◌, ◌≢◌, ℕ, ◌<◌, ◌≤◌, List, length, All, AllPairs, slice_index_or}
 use Rattle.pd_base.specs.declared.ids.PinRef.{PinRef}
 use Rattle.pd_base.specs.declared.fault.Kind.{Kind}
-use Rattle.netlist.specs.Circuit.{Circuit, gate_count, pins_at}
+use Rattle.netlist.specs.Circuit.{Circuit, gate_count}
+use Rattle.netlist.specs.Pins.{IsPin}
 use Rattle.hulls.specs.Marks.{mark_at}
 
 -- the kind of the tests, how many gates there are, how many steps there is room for, and the steps that were entered
@@ -20,12 +21,7 @@ pub record IsMarked (marks : List ℕ) (room capacity : ℕ) (steps : List PinRe
   pub few : length steps ≤ room
   pub reserved : room ≤ capacity
 
--- the step goes through a pin of the circuit
-pub record IsPinOf (c : Circuit) (step : PinRef) : Type 0 where
-  pub gate : step.gate.0 < gate_count c
-  pub pin : step.pin < length (pins_at c step.gate.0)
-
 -- what was entered is of this circuit
 pub record IsEnteredOn (c : Circuit) (entered : Entered) : Type 0 where
   pub gates : entered.gates ≡ gate_count c
-  pub steps : All (IsPinOf c) entered.steps
+  pub steps : All (IsPin c) entered.steps

@@ -1,5 +1,11 @@
+pub mod Changes
+pub mod Joins
+pub mod Limits
+pub mod Passes
+pub mod Sets
 pub mod Answers
 pub mod Conditions
 pub mod Marks
 pub mod Sweeps
 pub mod Pairs
+pub mod GateViews

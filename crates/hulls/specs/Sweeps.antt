@@ -10,7 +10,7 @@ use Rattle.state_sets.specs.StateAlgebra.{StateAlgebra}
 use Rattle.state_sets.specs.Labellings.{label_at}
 use Rattle.state_sets.specs.Narrowing.{IsNarrowing}
 use Rattle.state_sets.specs.Hulls.{condition_at, IsNarrowingOf, IsAtRest, HasNoEmptySet}
-use Rattle.hull_laws.specs.Sweeps.{KeepsRests, total}
+use Rattle.state_laws.specs.Sweeps.{KeepsRests, label_total}
 
 -- the narrowing at a gate does not change the labels
 abbrev pub RestsAt : StateAlgebra → Circuit → Kind → List PinRef → List StateSet → GateId → Type 0
@@ -22,7 +22,7 @@ pub record IsSweep (a : StateAlgebra) (c : Circuit) (kind : Kind) (steps : List 
     (old new : List StateSet) (changed : Bool) : Type 0 where
   pub keeps : KeepsRests a c (IsNarrowingOf c kind steps) old new
   pub none_empty : HasNoEmptySet c new
-  pub falls : changed ≡ true → total new < total old
+  pub falls : changed ≡ true → label_total new < label_total old
   pub same : changed ≡ false → new ≡ old
   pub rests : changed ≡ false → All (RestsAt a c kind steps new) gates
 
@@ -31,14 +31,14 @@ pub record IsWholeSweep (a : StateAlgebra) (c : Circuit) (kind : Kind) (steps : 
     (old new : List StateSet) (changed : Bool) : Type 0 where
   pub keeps : KeepsRests a c (IsNarrowingOf c kind steps) old new
   pub none_empty : HasNoEmptySet c new
-  pub falls : changed ≡ true → total new < total old
+  pub falls : changed ≡ true → label_total new < label_total old
   pub rests : changed ≡ false → IsAtRest a c (IsNarrowingOf c kind steps) new
 
 -- narrowings at some gates lost no labels at rest, left each line some state, and gave no line more states than it had
-pub record IsKept (a : StateAlgebra) (c : Circuit) (kind : Kind) (steps : List PinRef) (old new : List StateSet) : Type 0 where
+pub record IsPartlySwept (a : StateAlgebra) (c : Circuit) (kind : Kind) (steps : List PinRef) (old new : List StateSet) : Type 0 where
   pub keeps : KeepsRests a c (IsNarrowingOf c kind steps) old new
   pub none_empty : HasNoEmptySet c new
-  pub no_more : total new ≤ total old
+  pub no_more : label_total new ≤ label_total old
 
 -- narrowings left no state at this line
 pub record IsEmptying (a : StateAlgebra) (c : Circuit) (kind : Kind) (steps : List PinRef) (old new : List StateSet) (line : ℕ) : Type 0 where

@@ -1,5 +1,6 @@
 // The hull at a node of a tree of cases: from the start, with all halves above the node cut in.
 ghost use Rattle.std.specs.Prelude.{◌≡◌, ◌<◌, ◌↔◌, ℕ, [], All, IfOk};
+ghost use Rattle.pd_base.specs.Target.{target_of};
 ghost use Rattle.netlist.specs.Circuit.{source_count, gate_count};
 ghost use Rattle.netlist.specs.Lawful.{IsCircuit};
 ghost use Rattle.netlist.specs.Levels.{greatest_level};
@@ -7,25 +8,25 @@ ghost use Rattle.netlist.specs.Paths.{IsPrefix};
 ghost use Rattle.state_sets.specs.declared.state.State.{State};
 ghost use Rattle.state_sets.specs.Labellings.{IsLabelling};
 ghost use Rattle.state_sets.specs.Hulls.{HasAt};
-ghost use Rattle.hull_laws.specs.Nodes.{IsCut};
+ghost use Rattle.state_laws.specs.Nodes.{IsCut};
 ghost use Rattle.hulls.specs.Answers.{IsAtNode};
 ghost use Rattle.hulls.specs.Conditions.{IsEnteredOn};
 ghost use Rattle.hulls.specs.Pairs.{LosesNoPair, DecidesSingletons};
 
-use crate::{Conditions, Hull, cut_to_half, launch, settle};
-use hull_laws::Half;
-use narrowing::NarrowScratch;
+use crate::{Conditions, Hull, NarrowScratch, cut_to_half, launch, settle};
 use netlist::Netlist;
-use pd_base::{Direction, Kind, LineId, OutOfMemory, Path};
+use pd_base::{Direction, Kind, LineId, OutOfMemory, Path, Rules};
+use state_laws::Half;
 use state_sets::{Algebra, FourStates, Labels};
 use std::alloc::Global;
 
 /// The hull at a node: the greatest labels that no narrowing changes, under the conditions of the kind at the gates of the prefix,
-/// where the prefix's source launches the transition and each source of a half has only states of the half. It fails only where
-/// memory runs out, of which it takes three bytes a line beside the room for the steps.
+/// where the prefix's source launches the transition, the other sources start as the rules leave them, and each source of a half has
+/// only states of the half. It fails only where memory runs out, of which it takes three bytes a line beside the room for the steps.
 pub fn hull(
     alloc: Global,
     net: &Netlist,
+    rules: &Rules,
     prefix: &Path,
     dir: Direction,
     kind: Kind,
@@ -33,19 +34,20 @@ pub fn hull(
 ) -> Result<Hull, OutOfMemory>
     requires prefix { IsPrefix net.now prefix.now }
     requires sources { All (λ half. half.source < source_count net.now) halves.now }
-    ensures hull { IfOk result (IsAtNode net.now kind prefix.now dir halves.now) }
+    ensures hull { IfOk result (IsAtNode net.now rules.now (target_of prefix.now dir kind) halves.now) }
 
-    // no pair of vectors is lost, and singletons decide
-    ensures pairs { IfOk result (LosesNoPair net.now kind prefix.now dir halves.now) }
-    ensures singletons { IfOk result (DecidesSingletons net.now kind prefix.now dir) }
+    // no pair of vectors is lost that the rules admit, and singletons decide
+    ensures pairs { IfOk result (LosesNoPair net.now rules.now (target_of prefix.now dir kind) halves.now) }
+    ensures singletons { IfOk result (DecidesSingletons net.now (target_of prefix.now dir kind)) }
 {
-    hull_at(alloc, net, prefix, dir, kind, halves)
+    hull_at(alloc, net, rules, prefix, dir, kind, halves)
 }
 
 // The same, without what it tells of pairs.
 fn hull_at(
     alloc: Global,
     net: &Netlist,
+    rules: &Rules,
     prefix: &Path,
     dir: Direction,
     kind: Kind,
@@ -53,13 +55,13 @@ fn hull_at(
 ) -> Result<Hull, OutOfMemory>
     requires prefix { IsPrefix net.now prefix.now }
     requires sources { All (λ half. half.source < source_count net.now) halves.now }
-    ensures hull { IfOk result (IsAtNode net.now kind prefix.now dir halves.now) }
+    ensures hull { IfOk result (IsAtNode net.now rules.now (target_of prefix.now dir kind) halves.now) }
     ensures circuit { IsCircuit net.now }
 {
     let mut conditions = Conditions::new(alloc, net, kind)?;
     enter_all(&mut conditions, net, prefix);
     let mut labels = Labels::full(alloc, net)?;
-    launch(&mut labels, net, prefix.source(), dir);
+    launch(&mut labels, net, rules, prefix.source(), dir);
     cut_to_halves(&mut labels, net, halves);
     let mut scratch = NarrowScratch::new(alloc, net)?;
     match settle(net, &mut labels, &conditions, &mut scratch) {

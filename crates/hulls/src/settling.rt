@@ -6,12 +6,11 @@ ghost use Rattle.netlist.specs.Lawful.{ReadsLines};
 ghost use Rattle.state_sets.specs.States.{no_states};
 ghost use Rattle.state_sets.specs.Labellings.{label_at, IsLabelling};
 ghost use Rattle.state_sets.specs.Hulls.{IsNarrowingOf, IsHull, IsEmptied, HasAt, HasNoEmptySet};
-ghost use Rattle.hull_laws.specs.Sweeps.{KeepsRests};
+ghost use Rattle.state_laws.specs.Sweeps.{KeepsRests};
 ghost use Rattle.hulls.specs.Conditions.{IsEnteredOn};
-ghost use Rattle.hulls.specs.Sweeps.{IsSweep, IsWholeSweep, IsKept, IsEmptying};
+ghost use Rattle.hulls.specs.Sweeps.{IsSweep, IsWholeSweep, IsPartlySwept, IsEmptying};
 
-use crate::Conditions;
-use narrowing::{NarrowScratch, narrow};
+use crate::{Conditions, NarrowScratch, narrow};
 use netlist::Netlist;
 use pd_base::{GateId, LineId};
 use state_sets::{Algebra, Labels, Narrowed, StateSet};
@@ -98,7 +97,7 @@ fn sweep_back<A: Algebra>(
     requires circuit { ReadsLines net.now }
     requires conditions { IsEnteredOn net.now conditions.now }
     ensures { MatchResult result
-        (λ done. IsKept A.algebra net.now conditions.now.kind conditions.now.steps labels.old labels.new)
+        (λ done. IsPartlySwept A.algebra net.now conditions.now.kind conditions.now.steps labels.old labels.new)
         (λ line. IsEmptying A.algebra net.now conditions.now.kind conditions.now.steps labels.old labels.new line.0) }
 {
     for gate in net.order().iter().rev() {

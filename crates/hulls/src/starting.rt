@@ -1,26 +1,26 @@
 // The labels from which a search starts, and the halves into which the states of a source are split.
 ghost use Rattle.std.specs.Prelude.{◌≡◌, ◌≢◌, ◌<◌, ◌≤◌, ◌↔◌, ℕ, length, IsTrue};
 ghost use Rattle.netlist.specs.Circuit.{source_count, line_count};
-ghost use Rattle.netlist.specs.Conditions.{final_bit};
 ghost use Rattle.state_sets.specs.declared.state.State.{State};
 ghost use Rattle.state_sets.specs.States.{Has, IsWithin, AreWithin, no_states, all_states};
 ghost use Rattle.state_sets.specs.Labellings.{label_at, IsLabelling};
 ghost use Rattle.state_sets.specs.Hulls.{HasAt};
 ghost use Rattle.state_sets.specs.Starts.{MayStart, IsInHalf, IsLaunching, IsOtherStart};
-ghost use Rattle.hull_laws.specs.Nodes.{IsCut};
-ghost use Rattle.narrowing.specs.Sets.{Means, with_if};
+ghost use Rattle.state_laws.specs.Nodes.{IsCut};
+ghost use Rattle.hulls.specs.Sets.{Means};
 
-use hull_laws::Half;
-use netlist::Netlist;
-use pd_base::{Direction, LineId};
+use crate::selecting::with_if;
+use netlist::{Netlist, final_bit};
+use pd_base::{Direction, LineId, Rules};
+use state_laws::Half;
 use state_sets::{Algebra, Labels, State, StateSet, count_states, every_state};
 
 /// Writes into the labels what lines may be in at the start of a search: the source launches the transition, each other source is
-/// in any state in which sources may start, and each gate's line in any state. What stood there before does not matter. Takes no
-/// memory.
+/// in any state that the rules leave it, and each gate's line in any state. What stood there before does not matter. Takes no memory.
 pub fn launch<A: Algebra>(
     labels: &mut Labels<A>,
     net: &Netlist,
+    rules: &Rules,
     source: LineId,
     direction: Direction,
 )
@@ -28,25 +28,37 @@ pub fn launch<A: Algebra>(
     requires source { source.0 < source_count net.now }
     ensures labelling { IsLabelling A.algebra.count net.now labels.new }
     ensures start { (line : ℕ) (state : State) → HasAt A.algebra.count labels.new line state
-        ↔ ((line < line_count net.now) × (state.0 < A.algebra.count) × MayStart A.algebra net.now source.0 direction line state) }
+        ↔ ((line < line_count net.now) × (state.0 < A.algebra.count) × MayStart A.algebra net.now rules.now source.0 direction line state) }
 {
-    launch_in::<A>(labels.as_mut_slice(), net.sources(), source, direction);
+    launch_in::<A>(
+        labels.as_mut_slice(),
+        net.sources(),
+        rules,
+        source,
+        direction,
+    );
 }
 
 // The same on the sets alone: the first so many are those of the sources.
-fn launch_in<A: Algebra>(sets: &mut [StateSet], sources: u32, source: LineId, direction: Direction)
+fn launch_in<A: Algebra>(
+    sets: &mut [StateSet],
+    sources: u32,
+    rules: &Rules,
+    source: LineId,
+    direction: Direction,
+)
     requires source { source.0 < sources }
     requires sources { sources ≤ length sets.old }
     ensures within { AreWithin A.algebra.count sets.new }
     ensures own { Means A.algebra.count (label_at sets.new source.0) (λ s. (s.0 < A.algebra.count) × IsLaunching A.algebra direction s) }
     ensures others { (line : ℕ) → line < sources → line ≢ source.0
-        → Means A.algebra.count (label_at sets.new line) (λ s. (s.0 < A.algebra.count) × IsOtherStart A.algebra s) }
+        → Means A.algebra.count (label_at sets.new line) (λ s. (s.0 < A.algebra.count) × IsOtherStart A.algebra rules.now s) }
     ensures gates { (line : ℕ) → sources ≤ line → line < length sets.old → label_at sets.new line ≡ all_states A.algebra.count }
 {
     fill(
         sets,
         sources as usize,
-        other_states::<A>(),
+        other_states::<A>(rules),
         every_state::<A>(),
     );
     sets[source.0 as usize] = launching_states::<A>(direction);
@@ -71,22 +83,15 @@ fn launching_states<A: Algebra>(direction: Direction) -> StateSet
     moving.intersect(half_states::<A>(false, final_bit(direction)))
 }
 
-// The last value of a source that launches the transition.
-fn final_bit(direction: Direction) -> bool
-    ensures { result ≡ final_bit direction }
-{
-    match direction {
-        Direction::Rise => true,
-        Direction::Fall => false,
-    }
-}
-
 // The states in which another source may start.
-fn other_states<A: Algebra>() -> StateSet
+fn other_states<A: Algebra>(rules: &Rules) -> StateSet
     ensures within { IsWithin A.algebra.count result }
-    ensures means { Means A.algebra.count result (λ s. (s.0 < A.algebra.count) × IsOtherStart A.algebra s) }
+    ensures means { Means A.algebra.count result (λ s. (s.0 < A.algebra.count) × IsOtherStart A.algebra rules.now s) }
 {
-    every_state::<A>()
+    match rules {
+        Rules::One => every_state::<A>(),
+        Rules::Two => half_states::<A>(true, false),
+    }
 }
 
 /// The states in one half of a split: of a split by steadiness those that are steady, or in the second half those that are not,
@@ -113,18 +118,6 @@ fn is_in_half<A: Algebra>(steadiness: bool, second: bool, state: State) -> bool
         A::is_steady(state) != second
     } else {
         A::last(state) == second
-    }
-}
-
-// The set with a state more, or as it is.
-fn with_if(set: StateSet, state: State, added: bool) -> StateSet
-    requires { state.0 < 8 }
-    ensures { result ≡ with_if set state added }
-{
-    if added {
-        set.unite(StateSet::only(state))
-    } else {
-        set
     }
 }
 

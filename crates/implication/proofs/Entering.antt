@@ -12,13 +12,14 @@ use Rattle.netlist.specs.declared.limits.TheConstants.{MOST_FAN_IN}
 use Rattle.netlist.specs.Circuit.{Circuit, line_count, gate_count, gate_line, kind_at, pins_at}
 use Rattle.netlist.specs.Lawful.{IsCircuit, IsFanIn}
 use Rattle.netlist.specs.Levels.{level, greatest_level}
-use Rattle.netlist.specs.Pins.{IsPinOn}
+use Rattle.netlist.specs.Pins.{IsPin, IsPinOn}
 use Rattle.netlist.specs.Paths.{Connects, line_after}
+use Rattle.netlist.proofs.PinRow.{pin_on_line}
 use Rattle.path_laws.proofs.StepCounts.{step_raises, level_and_steps, steps_within_levels}
 use Rattle.state_sets.specs.Hulls.{condition_at}
 use Rattle.implication.specs.declared.assumption.Assumption.{Assumption}
 use Rattle.implication.specs.declared.assumption.Assumption.TheVariants.{Entered, Assumed}
-use Rattle.hulls.specs.Conditions.{Entered as Steps, IsPinOf, IsEnteredOn}
+use Rattle.hulls.specs.Conditions.{Entered as Steps, IsEnteredOn}
 use Rattle.implication.specs.Assumptions.{entered_pins}
 use Rattle.implication.specs.Kept.{HasStepRoom, CanStep}
 
@@ -54,13 +55,10 @@ module _ (c : Circuit) where
   connects_last line (step ∷ steps) pin connects = connects_last (gate_line c step.gate.0) steps pin connects.1
 
   -- pins that connect go through pins of the circuit
-  pub pins_of : (line : ℕ) (steps : List PinRef) → Connects c line steps → All (IsPinOf c) steps
-  pins_of line [] connects = All-nil (IsPinOf c)
-  pins_of line (step ∷ steps) connects = All-cons (IsPinOf c) step steps
-      (record {
-        gate = connects.0.in_circuit;
-        pin = slice_get_within (pins_at c step.gate.0) step.pin (record { 0 = line }) connects.0.reads;
-      })
+  pub pins_of : (line : ℕ) (steps : List PinRef) → Connects c line steps → All (IsPin c) steps
+  pins_of line [] connects = All-nil (IsPin c)
+  pins_of line (step ∷ steps) connects = All-cons (IsPin c) step steps
+      (pin_on_line c step line connects.0)
       (pins_of (gate_line c step.gate.0) steps connects.1)
 
   -- the last of pins that connect is at a gate of the circuit, and they lead to the line of that gate
@@ -168,7 +166,7 @@ pub entered_on : (c : Circuit) (line : ℕ) (list : List Assumption) → Connect
     → HasStepRoom c steps → steps.steps ≡ entered_pins list → IsEnteredOn c steps
 entered_on c line list connects steps room is = record {
   gates = room.gates;
-  steps = let P : List PinRef → Type 0 = λ xs. All (IsPinOf c) xs in subst P (sym is) (pins_of c line (entered_pins list) connects);
+  steps = let P : List PinRef → Type 0 = λ xs. All (IsPin c) xs in subst P (sym is) (pins_of c line (entered_pins list) connects);
 }
 
 -- a list that is not empty is what stands before its last entry, and that

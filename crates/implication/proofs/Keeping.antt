@@ -18,7 +18,7 @@ use Rattle.implication.specs.declared.assumption.Assumption.TheVariants.{Entered
 use Rattle.implication.specs.Assumptions.{entered_pins, left_of, ClosesUnder}
 use Rattle.implication.specs.Standing.{Standing, end_from}
 use Rattle.implication.specs.Moves.{with_assumed, back_at}
-use Rattle.implication.specs.Kept.{AreAssumptions, IsListFrom, AreLabelsUnder, StandsOpen, StandsFrom, HasStepRoom, IsKept, most_assumptions}
+use Rattle.implication.specs.Kept.{AreAssumptions, IsListFrom, AreLabelsUnder, StandsOpen, StandsFrom, HasStepRoom, KeepsStanding, most_assumptions}
 use Rattle.implication.proofs.Lists.{list_taken, list_with_pin, list_with_set, list_fits}
 use Rattle.implication.proofs.Labels.{open_if_settled, closes_if_emptied}
 
@@ -118,10 +118,10 @@ module _ (a : StateAlgebra) (c : Circuit) where
 kept_now : (a : StateAlgebra) (c seen : Circuit) (beginning : Option Beginning) (begun : Beginning) (list now : List Assumption)
     (answer : Option LineId) (closings closings' : ℕ) (conflict : Option LineId) (labels labels' : List StateSet) (steps steps' : Steps)
     (capacity capacity' : ℕ)
-    → IsKept a (record { net = c; beginning = beginning; assumptions = list; conflict = conflict; closings = closings }) labels steps capacity
+    → KeepsStanding a (record { net = c; beginning = beginning; assumptions = list; conflict = conflict; closings = closings }) labels steps capacity
     → beginning ≡ Some begun → seen ≡ c → capacity' ≡ capacity
     → StandsOpen a c begun now answer labels' steps'.steps → length labels' ≡ line_count seen → HasStepRoom seen steps'
-    → IsKept a (record { net = c; beginning = beginning; assumptions = now; conflict = answer; closings = closings' }) labels' steps' capacity'
+    → KeepsStanding a (record { net = c; beginning = beginning; assumptions = now; conflict = answer; closings = closings' }) labels' steps' capacity'
 kept_now a c seen beginning begun list now answer closings closings' conflict labels labels' steps steps' capacity capacity'
     kept is circuits room stands one_each step_room = record {
       circuit = kept.circuit;
@@ -133,7 +133,7 @@ kept_now a c seen beginning begun list now answer closings closings' conflict la
 
 module _ (a : StateAlgebra) (c : Circuit) (beginning : Option Beginning) (list : List Assumption) (conflict : Option LineId) (closings : ℕ)
     (labels : List StateSet) (steps : Steps) (capacity : ℕ)
-    (kept : IsKept a (record { net = c; beginning = beginning; assumptions = list; conflict = conflict; closings = closings }) labels steps capacity)
+    (kept : KeepsStanding a (record { net = c; beginning = beginning; assumptions = list; conflict = conflict; closings = closings }) labels steps capacity)
   where
     -- a set that takes some state away fits, as it is seen
     pub fits_seen_set : (seen : List Assumption) (source : LineId) (to left cut : StateSet) → source.0 < source_count c → seen ≡ list
@@ -165,7 +165,7 @@ module _ (a : StateAlgebra) (c : Circuit) (beginning : Option Beginning) (list :
           -- after an assumption more
           pub kept_added : (entry : Assumption) → conflict ≡ None → now ≡ list ++ entry ∷ []
               → IsListFrom a.count c beginning (list ++ entry ∷ [])
-              → IsKept a (record { net = c; beginning = beginning; assumptions = now; conflict = answer; closings = closings' })
+              → KeepsStanding a (record { net = c; beginning = beginning; assumptions = now; conflict = answer; closings = closings' })
               labels' steps' capacity'
           kept_added entry free grown fits =
               let stands0 : StandsFrom a c (Some begun) list None labels steps.steps =
@@ -187,7 +187,7 @@ module _ (a : StateAlgebra) (c : Circuit) (beginning : Option Beginning) (list :
             pub free_after : answer ≡ None
             free_after = free_before a c begun list mark below conflict labels steps.steps stands_of labels' answer under_cut
 
-            pub kept_cut : IsKept a (record { net = c; beginning = beginning; assumptions = now; conflict = answer; closings = closings' })
+            pub kept_cut : KeepsStanding a (record { net = c; beginning = beginning; assumptions = now; conflict = answer; closings = closings' })
                 labels' steps' capacity'
             kept_cut =
                 let open_ = stands_taken a c begun list mark below conflict labels steps.steps stands_of labels' answer steps'.steps under_cut

@@ -7,6 +7,7 @@ use Rattle.std.proofs.Math.Seq.{take-append_seam, drop-append_seam}
 use Rattle.pd_base.specs.declared.ids.LineId.{LineId}
 use Rattle.pd_base.specs.declared.ids.PinRef.{PinRef}
 use Rattle.pd_base.specs.declared.fault.Kind.{Kind}
+use Rattle.pd_base.specs.declared.rules.Rules.TheVariants.{One}
 use Rattle.netlist.specs.Circuit.{Circuit, line_count}
 use Rattle.state_sets.specs.declared.state.State.{State}
 use Rattle.state_sets.specs.declared.state.StateSet.{StateSet}
@@ -15,14 +16,14 @@ use Rattle.state_sets.specs.StateAlgebra.{StateAlgebra}
 use Rattle.state_sets.specs.Labellings.{label_at}
 use Rattle.state_sets.specs.Starts.{MayStart}
 use Rattle.state_sets.specs.Hulls.{Narrowing, HasAt, IsHull, IsEmptied, IsNarrowingOf, IsRestAmong, HasNoEmptySet}
-use Rattle.hull_laws.proofs.Hulls.{Allows, hull_of_same, emptied_if_wider, widens_by_states, widens_by_steps, not_closing}
+use Rattle.state_laws.proofs.Hulls.{Allows, hull_of_same, emptied_if_wider, widens_by_states, widens_by_steps, not_closing}
 use Rattle.implication.specs.declared.assumption.Beginning.{Beginning}
 use Rattle.implication.specs.declared.assumption.Assumption.{Assumption}
 use Rattle.implication.specs.declared.assumption.Assumption.TheVariants.{Entered, Assumed}
 use Rattle.implication.specs.Assumptions.{entered_pins, MayUnder, IsLetBy, IsHullUnder, IsEmptiedUnder, ClosesUnder}
-use Rattle.implication.specs.Kept.{AreCutBy, IsAboutSource, IsSettled, AreLabelsUnder}
+use Rattle.implication.specs.Kept.{AreCutBy, IsAboutSource, IsOpenHull, AreLabelsUnder}
 use Rattle.implication.proofs.Entering.{entered_append}
-use Rattle.narrowing.proofs.Cuts.{has_after_cut, had_before_cut, kept_by_cut}
+use Rattle.hulls.proofs.Cuts.{has_after_cut, had_before_cut, kept_by_cut}
 
 -- what holds of all holds of the first ones, and of the rest
 all_front : {X : Type 0} (P : X → Type 0) (xs ys : List X) → All P (xs ++ ys) → All P xs
@@ -130,7 +131,7 @@ module _ (a : StateAlgebra) (c : Circuit) (begun : Beginning) (assumptions : Lis
 
   module _ (launched cut : List StateSet)
       (start : (line : ℕ) (state : State) → HasAt a.count launched line state
-      ↔ ((line < line_count c) × (state.0 < a.count) × MayStart a c begun.source.0 begun.direction line state))
+      ↔ ((line < line_count c) × (state.0 < a.count) × MayStart a c One begun.source.0 begun.direction line state))
       (cuts : AreCutBy a.count assumptions launched cut) where
     -- labels launched and cut have what the lines may be in
     has_may : Allows a c (HasAt a.count cut) May
@@ -161,7 +162,7 @@ module _ (a : StateAlgebra) (c : Circuit) (begun : Beginning) (assumptions : Lis
     settled_under = settled_from cut hull_under emptied_under
 
   -- where each line has some state in the hull, the assumptions do not close
-  pub open_if_settled : (labels : List StateSet) → IsSettled a c begun assumptions labels → ¬ ClosesUnder a c begun assumptions
+  pub open_if_settled : (labels : List StateSet) → IsOpenHull a c begun assumptions labels → ¬ ClosesUnder a c begun assumptions
   open_if_settled labels settled = not_closing a c Narrowings May labels settled.hull settled.none_empty
 
   -- where a line is emptied, they do
@@ -171,7 +172,7 @@ module _ (a : StateAlgebra) (c : Circuit) (begun : Beginning) (assumptions : Lis
 
 -- Labels under some assumptions, cut by one more and settled, are the labels under all.
 module _ (a : StateAlgebra) (c : Circuit) (begun : Beginning) (before : List Assumption) (entry : Assumption) (old cut : List StateSet)
-    (settled : IsSettled a c begun before old) (cuts : AreCutBy a.count (entry ∷ []) old cut) where
+    (settled : IsOpenHull a c begun before old) (cuts : AreCutBy a.count (entry ∷ []) old cut) where
   abbrev More : ℕ → State → Type 0
   More = MayUnder a c begun (before ++ entry ∷ [])
 

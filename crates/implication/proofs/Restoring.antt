@@ -8,10 +8,10 @@ use Rattle.implication.specs.declared.assumption.Origin.TheVariants.{Within}
 use Rattle.implication.specs.declared.assumption.Assumption.{Assumption}
 use Rattle.implication.specs.Standing.{Standing}
 use Rattle.implication.specs.Moves.{conflict_at, back_at, left_behind}
-use Rattle.implication.specs.Clients.{IsRestored, Extends}
+use Rattle.implication.specs.Clients.{IsRestored, ExtendsStanding}
 
 -- nothing was added
-pub extends_itself : (standing : Standing) → Extends standing standing
+pub extends_itself : (standing : Standing) → ExtendsStanding standing standing
 extends_itself s = record {
   net = refl;
   beginning = refl;
@@ -22,7 +22,7 @@ extends_itself s = record {
 }
 
 -- what is restored extends what was
-pub extends_restored : (old new : Standing) → IsRestored old new → Extends old new
+pub extends_restored : (old new : Standing) → IsRestored old new → ExtendsStanding old new
 extends_restored old new is = record {
   net = is.net;
   beginning = is.beginning;
@@ -33,7 +33,7 @@ extends_restored old new is = record {
 }
 
 -- closing a scope that was made within another restores the other
-pub closed_restores : (old last new : Standing) (origin : Origin) → origin ≡ Within (length old.assumptions) → Extends old last
+pub closed_restores : (old last new : Standing) (origin : Origin) → origin ≡ Within (length old.assumptions) → ExtendsStanding old last
     → new ≡ left_behind origin last → IsRestored old new
 closed_restores old last new origin made extends is =
     let P : Standing → Type 0 = λ s. IsRestored old s in
@@ -47,7 +47,7 @@ closed_restores old last new origin made extends is =
     })
 
 -- what goes on from what went on goes on
-pub extends_trans : (first middle last : Standing) → Extends first middle → Extends middle last → Extends first last
+pub extends_trans : (first middle last : Standing) → ExtendsStanding first middle → ExtendsStanding middle last → ExtendsStanding first last
 extends_trans first middle last one two = record {
   net = two.net ∙ one.net;
   beginning = two.beginning ∙ one.beginning;
@@ -71,7 +71,7 @@ extends_trans first middle last one two = record {
 -- one assumption more, where no conflict stood
 pub extends_by_one : (old new : Standing) (entry : Assumption) → old.conflict ≡ None → new.net ≡ old.net
     → new.beginning ≡ old.beginning → new.assumptions ≡ old.assumptions ++ entry ∷ [] → old.closings ≤ new.closings
-    → Extends old new
+    → ExtendsStanding old new
 extends_by_one old new entry free net beginning grown later =
     let longer : length old.assumptions < length new.assumptions =
     let e = ap length grown in let f = length_push old.assumptions entry in omega arith in

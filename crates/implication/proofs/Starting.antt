@@ -3,8 +3,9 @@ use Rattle.std.proofs.Common.{◌≡◌, ◌<◌, not, List, [], replicate, Opti
 use Rattle.std.proofs.lemmas.List.{get_or-replicate}
 use Rattle.std.proofs.lemmas.List.Elements.{All-nil}
 use Rattle.pd_base.specs.Pair.{Vectors}
-use Rattle.pd_base.specs.Route.{Route}
+use Rattle.pd_base.specs.Target.{Target, target_of}
 use Rattle.pd_base.specs.declared.ids.LineId.{LineId}
+use Rattle.pd_base.specs.declared.rules.Rules.TheVariants.{One}
 use Rattle.netlist.specs.Circuit.{Circuit, source_count}
 use Rattle.netlist.specs.Lawful.{IsCircuit}
 use Rattle.netlist.specs.Conditions.{Meets, final_bit}
@@ -12,7 +13,7 @@ use Rattle.netlist.specs.Paths.{IsPrefix}
 use Rattle.state_sets.specs.declared.state.StateSet.{StateSet}
 use Rattle.state_sets.specs.StateAlgebra.{StateAlgebra}
 use Rattle.state_sets.specs.FourStates.{four_states}
-use Rattle.pair_laws.proofs.Pairs.{never_closes, pair_may_start}
+use Rattle.state_laws.proofs.Pairs.{never_closes, pair_may_start}
 use Rattle.implication.specs.declared.assumption.Beginning.{Beginning}
 use Rattle.implication.specs.declared.assumption.Assumption.{Assumption}
 use Rattle.implication.specs.Assumptions.{MayUnder, IsLetBy, ClosesUnder}
@@ -27,13 +28,14 @@ module _ (c : Circuit) (circuit : IsCircuit c) (begun : Beginning) (within : beg
     second = replicate (source_count c) (final_bit begun.direction);
   }
 
-  abbrev start : Route
-  start = record { source = begun.source; steps = [] }
+  -- the target of a path of the source alone
+  abbrev start : Target
+  start = target_of (record { source = begun.source; steps = [] }) begun.direction begun.kind
 
-  starts : IsPrefix c start
+  starts : IsPrefix c start.path
   starts = record { source = within; connects = tt }
 
-  meets : Meets begun.kind c start begun.direction launching
+  meets : Meets c start launching
   meets = record {
     launches = record {
       first = get_or-replicate (source_count c) begun.source.0 (not (final_bit begun.direction)) _ within;
@@ -45,9 +47,9 @@ module _ (c : Circuit) (circuit : IsCircuit c) (begun : Beginning) (within : beg
   -- so no line is emptied at the start
   pub start_never_closes : ClosesUnder four_states c begun [] → ⊥
   start_never_closes =
-      never_closes c circuit launching begun.kind start starts meets.sides (MayUnder four_states c begun [])
+      never_closes c circuit launching start.kind start.path starts meets.sides (MayUnder four_states c begun [])
       (λ line in_circuit. record {
-        start = pair_may_start c circuit launching begun.kind start starts begun.direction meets line;
+        start = pair_may_start c circuit One start starts launching meets (λ other source apart. tt) line;
         assumed = All-nil (IsLetBy four_states.count line _);
       })
 

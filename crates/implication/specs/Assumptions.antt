@@ -4,6 +4,7 @@ use Rattle.std.specs.Prelude.{◌≡◌, ⊤, ℕ, ◌==◌, List, [], ◌∷◌
 use Rattle.std.specs.List.{fold}
 use Rattle.pd_base.specs.declared.ids.LineId.{LineId}
 use Rattle.pd_base.specs.declared.ids.PinRef.{PinRef}
+use Rattle.pd_base.specs.declared.rules.Rules.TheVariants.{One}
 use Rattle.netlist.specs.Circuit.{Circuit}
 use Rattle.netlist.specs.Paths.{line_after}
 use Rattle.state_sets.specs.declared.state.State.{State}
@@ -40,9 +41,9 @@ abbrev pub IsLetBy : ℕ → ℕ → State → Assumption → Type 0
 IsLetBy count line state (Entered pin) = ⊤
 IsLetBy count line state (Assumed source set) = line ≡ source.0 → Has count set state
 
--- what a line may be in under assumptions: what it may be in at the start, and what each of them lets it be in
+-- what a line may be in under assumptions: what it may be in at the start under rules One, and what each of them lets it be in
 pub record MayUnder (a : StateAlgebra) (c : Circuit) (begun : Beginning) (assumptions : List Assumption) (line : ℕ) (state : State) : Type 0 where
-  pub start : MayStart a c begun.source.0 begun.direction line state
+  pub start : MayStart a c One begun.source.0 begun.direction line state
   pub assumed : All (IsLetBy a.count line state) assumptions
 
 -- the hull under assumptions: with the conditions of the kind of test at the gates of the pins entered

@@ -12,7 +12,7 @@ pub record IsRestored (old new : Standing) : Type 0 where
   pub later : old.closings ≤ new.closings
 
 -- What was assumed still is, and perhaps more: going back to the old length restores what stood.
-pub record Extends (old new : Standing) : Type 0 where
+pub record ExtendsStanding (old new : Standing) : Type 0 where
   pub net : new.net ≡ old.net
   pub beginning : new.beginning ≡ old.beginning
   pub longer : length old.assumptions ≤ length new.assumptions

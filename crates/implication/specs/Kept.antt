@@ -47,6 +47,7 @@ pub record AreAssumptions (count : ℕ) (c : Circuit) (begun : Beginning) (assum
   pub connects : Connects c begun.source.0 (entered_pins assumptions)
   pub shrink : DoShrink count (source_count c) [] assumptions
 
+-- the list is one as scopes make it, where a scope is open
 abbrev pub IsListFrom : ℕ → Circuit → Option Beginning → List Assumption → Type 0
 IsListFrom count c None assumptions = ⊤
 IsListFrom count c (Some begun) assumptions = AreAssumptions count c begun assumptions
@@ -55,13 +56,14 @@ IsListFrom count c (Some begun) assumptions = AreAssumptions count c begun assum
 abbrev pub most_assumptions : ℕ → Circuit → ℕ
 most_assumptions count c = count * source_count c + greatest_level c
 
--- the labels are the hull and each line has some state; or no state is left at this line
-pub record IsSettled (a : StateAlgebra) (c : Circuit) (begun : Beginning) (assumptions : List Assumption) (labels : List StateSet) : Type 0 where
+-- the labels are the hull, and each line has some state
+pub record IsOpenHull (a : StateAlgebra) (c : Circuit) (begun : Beginning) (assumptions : List Assumption) (labels : List StateSet) : Type 0 where
   pub hull : IsHullUnder a c begun assumptions labels
   pub none_empty : HasNoEmptySet c labels
 
+-- what labels and an answer tell: the labels are the hull and each line has some state; or no state is left at this line
 abbrev pub AreLabelsUnder : StateAlgebra → Circuit → Beginning → List Assumption → List StateSet → Option LineId → Type 0
-AreLabelsUnder a c begun assumptions labels None = IsSettled a c begun assumptions labels
+AreLabelsUnder a c begun assumptions labels None = IsOpenHull a c begun assumptions labels
 AreLabelsUnder a c begun assumptions labels (Some line) =
     (line.0 < line_count c) × IsEmptiedUnder a c begun assumptions line.0
 
@@ -73,11 +75,12 @@ pub record StandsOpen (a : StateAlgebra) (c : Circuit) (begun : Beginning) (assu
   pub earlier : (mark : ℕ) → mark < length assumptions → ¬ ClosesUnder a c begun (take mark assumptions)
   pub answer : AreLabelsUnder a c begun assumptions labels conflict
 
--- what stands while none is
+-- what stands while no scope is open
 pub record StandsIdle (assumptions : List Assumption) (conflict : Option LineId) : Type 0 where
   pub nothing : assumptions ≡ []
   pub free : conflict ≡ None
 
+-- what stands, by whether a scope has begun
 abbrev pub StandsFrom : StateAlgebra → Circuit → Option Beginning → List Assumption → Option LineId → List StateSet → List PinRef
     → Type 0
 StandsFrom a c None assumptions conflict labels steps = StandsIdle assumptions conflict
@@ -87,6 +90,11 @@ StandsFrom a c (Some begun) assumptions conflict labels steps = StandsOpen a c b
 pub record HasStepRoom (c : Circuit) (steps : EnteredSteps) : Type 0 where
   pub gates : steps.gates ≡ gate_count c
   pub levels : steps.room ≡ greatest_level c
+
+-- the conditions are those at the pins entered, with room for those of every prefix
+pub record AreStepsOf (c : Circuit) (assumptions : List Assumption) (steps : EnteredSteps) : Type 0 where
+  pub room : HasStepRoom c steps
+  pub entered : steps.steps ≡ entered_pins assumptions
 
 -- there is room for the step, and no step before goes through its gate
 pub record CanEnter (steps : EnteredSteps) (step : PinRef) : Type 0 where
@@ -101,7 +109,7 @@ CanStep steps (Entered pin) = CanEnter steps pin
 CanStep steps (Assumed source set) = ⊤
 
 -- the labels are those of the standing, and there is room for every list
-pub record IsKept (a : StateAlgebra) (standing : Standing) (labels : List StateSet) (steps : EnteredSteps) (capacity : ℕ) : Type 0 where
+pub record KeepsStanding (a : StateAlgebra) (standing : Standing) (labels : List StateSet) (steps : EnteredSteps) (capacity : ℕ) : Type 0 where
   pub circuit : IsCircuit standing.net
   pub one_each : length labels ≡ line_count standing.net
   pub stands : StandsFrom a standing.net standing.beginning standing.assumptions standing.conflict labels steps.steps

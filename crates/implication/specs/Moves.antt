@@ -49,12 +49,12 @@ back_at standing mark =
     record standing { assumptions = take mark standing.assumptions; conflict = conflict_at standing mark }
 
 -- no scope is open any more
-abbrev pub ended : Standing → Standing
-ended standing = record standing { beginning = None; assumptions = []; conflict = None }
+abbrev pub idle_again : Standing → Standing
+idle_again standing = record standing { beginning = None; assumptions = []; conflict = None }
 
 -- what a scope leaves when it is closed or dropped: it takes back all that came since it was made
 abbrev pub left_behind : Origin → Standing → Standing
-left_behind Begun standing = ended standing
+left_behind Begun standing = idle_again standing
 left_behind (Within length) standing = back_at standing length
 
 -- the length of the list when the scope was made

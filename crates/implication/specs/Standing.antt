@@ -34,6 +34,7 @@ abbrev pub end_from : Circuit → Option Beginning → List Assumption → ℕ
 end_from c None assumptions = 0
 end_from c (Some begun) assumptions = end_under c begun assumptions
 
+-- the same of how a scope stands
 abbrev pub end_of_scope : Standing → ℕ
 end_of_scope standing = end_from standing.net standing.beginning standing.assumptions
 
@@ -42,6 +43,7 @@ abbrev pub IsHullFrom : StateAlgebra → Circuit → Option Beginning → List A
 IsHullFrom a c None assumptions hull = ⊤
 IsHullFrom a c (Some begun) assumptions hull = IsHullUnder a c begun assumptions hull
 
+-- these are the labels as a scope stands
 abbrev pub IsLabels : StateAlgebra → Standing → List StateSet → Type 0
 IsLabels a standing labels = IsHullFrom a standing.net standing.beginning standing.assumptions labels
 
@@ -50,6 +52,7 @@ abbrev pub IsEmptiedFrom : StateAlgebra → Circuit → Option Beginning → Lis
 IsEmptiedFrom a c None assumptions line = ⊤
 IsEmptiedFrom a c (Some begun) assumptions line = (line < line_count c) × IsEmptiedUnder a c begun assumptions line
 
+-- no state is left at this line as a scope stands; nothing is said where none is open
 abbrev pub IsEmptiedIn : StateAlgebra → Standing → ℕ → Type 0
 IsEmptiedIn a standing line = IsEmptiedFrom a standing.net standing.beginning standing.assumptions line
 
@@ -58,5 +61,6 @@ abbrev pub IsOpenFrom : StateAlgebra → Circuit → Option Beginning → List A
 IsOpenFrom a c None assumptions = ⊤
 IsOpenFrom a c (Some begun) assumptions = ¬ ClosesUnder a c begun assumptions
 
+-- each line has some state as a scope stands; nothing is said where none is open
 abbrev pub IsOpenIn : StateAlgebra → Standing → Type 0
 IsOpenIn a standing = IsOpenFrom a standing.net standing.beginning standing.assumptions

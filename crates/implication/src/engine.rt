@@ -9,15 +9,14 @@ ghost use Rattle.state_sets.specs.States.{IsWithin};
 ghost use Rattle.state_sets.specs.FourStates.{four_states};
 ghost use Rattle.state_sets.specs.Labellings.{label_at};
 ghost use Rattle.implication.specs.Standing.{IsIdle, IsFree, IsLabels, IsEmptiedIn, IsOpenIn, end_of_scope};
-ghost use Rattle.implication.specs.Moves.{with_entered, with_assumed, grown, closed_at, back_at, left_behind, ended, HasBegun};
-ghost use Rattle.implication.specs.Clients.{Extends};
+ghost use Rattle.implication.specs.Moves.{with_entered, with_assumed, grown, closed_at, back_at, left_behind, idle_again, HasBegun};
+ghost use Rattle.implication.specs.Clients.{ExtendsStanding};
 ghost use Rattle.implication.specs.Kept.{IsListFrom, most_assumptions};
 
 use crate::labelling::{label_lines, label_more};
 use crate::left::left_of;
 use crate::{Assumption, Beginning, Conflict, HasNetlist, Origin};
-use hulls::Conditions;
-use narrowing::NarrowScratch;
+use hulls::{Conditions, NarrowScratch};
 use netlist::Netlist;
 use pd_base::{Kind, LineId, OutOfMemory, PinRef};
 use state_sets::{Algebra, Labels, StateSet, count_states};
@@ -46,7 +45,7 @@ impl<A: Algebra, N: HasNetlist> Model for Engine<A, N> {
     ghost Value = { Standing };
 
     ghost use Rattle.std.specs.Prelude.{length, vec_capacity};
-    ghost use Rattle.implication.specs.Kept.{IsKept};
+    ghost use Rattle.implication.specs.Kept.{KeepsStanding};
 
     ghost view = { λ e. record {
       net = N.circuit e.net;
@@ -56,7 +55,7 @@ impl<A: Algebra, N: HasNetlist> Model for Engine<A, N> {
       closings = e.closings;
     } };
 
-    ghost invariant = { λ e. IsKept A.algebra (record {
+    ghost invariant = { λ e. KeepsStanding A.algebra (record {
       net = N.circuit e.net;
       beginning = e.beginning;
       assumptions = e.assumptions.items;
@@ -174,7 +173,7 @@ impl<A: Algebra, N: HasNetlist> Engine<A, N> {
             self.new ≡ closed_at self.old (with_assumed A.algebra.count self.old.assumptions source to) conflict.0) }
         ensures open { OnOk result (IsOpenIn A.algebra self.new) }
         ensures emptied { IfErr result (λ conflict. IsEmptiedIn A.algebra self.new conflict.0.0) }
-        ensures extends { Extends self.old self.new }
+        ensures extends { ExtendsStanding self.old self.new }
     {
         if let Some(line) = self.conflict {
             return Err(Conflict(line));
@@ -200,7 +199,7 @@ impl<A: Algebra, N: HasNetlist> Engine<A, N> {
             self.new ≡ closed_at self.old (with_entered self.old.assumptions pin) conflict.0) }
         ensures open { OnOk result (IsOpenIn A.algebra self.new) }
         ensures emptied { IfErr result (λ conflict. IsEmptiedIn A.algebra self.new conflict.0.0) }
-        ensures extends { Extends self.old self.new }
+        ensures extends { ExtendsStanding self.old self.new }
     {
         if let Some(emptied) = self.conflict {
             return Err(Conflict(emptied));
@@ -278,7 +277,7 @@ impl<A: Algebra, N: HasNetlist> Engine<A, N> {
 
     // Closes the outermost scope.
     fn end(&mut self)
-        ensures { self.new ≡ ended self.old }
+        ensures { self.new ≡ idle_again self.old }
     {
         self.beginning = None;
         self.assumptions.clear();
@@ -304,6 +303,6 @@ fn line_behind(net: &Netlist, source: LineId, steps: &[PinRef]) -> LineId
 {
     match steps {
         [] => source,
-        [_front @ .., step] => LineId(net.sources() + step.gate.0),
+        [_front @ .., step] => net.line_of(step.gate),
     }
 }

@@ -7,13 +7,12 @@ ghost use Rattle.state_sets.specs.Labellings.{IsLabelling};
 ghost use Rattle.netlist.specs.Lawful.{IsCircuit};
 ghost use Rattle.netlist.specs.Paths.{Connects};
 ghost use Rattle.implication.specs.Assumptions.{entered_pins};
-ghost use Rattle.implication.specs.Kept.{AreAssumptions, AreLabelsUnder, IsSettled, AreCutBy, HasStepRoom, CanStep, IsAboutSource};
+ghost use Rattle.implication.specs.Kept.{AreAssumptions, AreLabelsUnder, IsOpenHull, AreCutBy, AreStepsOf, HasStepRoom, CanStep, IsAboutSource};
 
 use crate::{Assumption, Beginning};
-use hulls::{Conditions, launch, settle};
-use narrowing::NarrowScratch;
+use hulls::{Conditions, NarrowScratch, launch, settle};
 use netlist::Netlist;
-use pd_base::LineId;
+use pd_base::{LineId, Rules};
 use state_sets::{Algebra, Labels};
 
 // Leaves the hull in the labels, or gives a line at which no state is left. Takes no memory.
@@ -31,11 +30,10 @@ pub(crate) fn label_lines<A: Algebra>(
     requires room { HasStepRoom net.now conditions.old }
     ensures answer { AreLabelsUnder A.algebra net.now begun assumptions.now labels.new result }
     ensures labels { length labels.new ≡ line_count net.now }
-    ensures room { HasStepRoom net.now conditions.new }
-    ensures steps { conditions.new.steps ≡ entered_pins assumptions.now }
+    ensures steps { AreStepsOf net.now assumptions.now conditions.new }
 {
     set_steps(net, begun, assumptions, conditions);
-    launch(labels, net, begun.source, begun.direction);
+    launch(labels, net, &Rules::One, begun.source, begun.direction);
     cut_sources(net, assumptions, labels);
     settle(net, labels, conditions, scratch)
 }
@@ -52,13 +50,11 @@ pub(crate) fn label_more<A: Algebra>(
     requires circuit { IsCircuit net.now }
     requires assumptions { AreAssumptions A.algebra.count net.now begun assumptions.now }
     requires some { 1 ≤ length assumptions.now }
-    requires before { IsSettled A.algebra net.now begun (take (length assumptions.now - 1) assumptions.now) labels.old }
-    requires room { HasStepRoom net.now conditions.old }
-    requires steps { conditions.old.steps ≡ entered_pins (take (length assumptions.now - 1) assumptions.now) }
+    requires before { IsOpenHull A.algebra net.now begun (take (length assumptions.now - 1) assumptions.now) labels.old }
+    requires steps { AreStepsOf net.now (take (length assumptions.now - 1) assumptions.now) conditions.old }
     ensures answer { AreLabelsUnder A.algebra net.now begun assumptions.now labels.new result }
     ensures labels { length labels.new ≡ line_count net.now }
-    ensures room { HasStepRoom net.now conditions.new }
-    ensures steps { conditions.new.steps ≡ entered_pins assumptions.now }
+    ensures steps { AreStepsOf net.now assumptions.now conditions.new }
 {
     let entry = assumptions[assumptions.len() - 1];
     conditions.set_kind(begun.kind);
@@ -78,9 +74,8 @@ fn set_steps(
     requires room { HasStepRoom net.now conditions.old }
     requires source { begun.source.0 < source_count net.now }
     requires connects { Connects net.now begun.source.0 (entered_pins assumptions.now) }
-    ensures room { HasStepRoom net.now conditions.new }
     ensures kind { conditions.new.kind ≡ begun.kind }
-    ensures steps { conditions.new.steps ≡ entered_pins assumptions.now }
+    ensures steps { AreStepsOf net.now assumptions.now conditions.new }
 {
     leave_all(conditions);
     conditions.set_kind(begun.kind);

@@ -7,7 +7,7 @@ ghost use Rattle.state_sets.specs.FourStates.{four_states};
 ghost use Rattle.state_sets.specs.Labellings.{label_at};
 ghost use Rattle.implication.specs.Standing.{Standing, IsIdle, IsFree, IsLabels, IsEmptiedIn, IsOpenIn, end_of_scope};
 ghost use Rattle.implication.specs.Moves.{with_entered, with_assumed, grown, closed_at, back_at, left_behind, HasBegun, start_at};
-ghost use Rattle.implication.specs.Clients.{Extends, IsRestored};
+ghost use Rattle.implication.specs.Clients.{ExtendsStanding, IsRestored};
 
 use crate::{Beginning, Conflict, Engine, HasNetlist, Origin};
 use netlist::Netlist;
@@ -100,7 +100,7 @@ impl<'e, A: Algebra, N: HasNetlist> Scope<'e, A, N> {
         // Err if and only if the hull under the assumptions has an empty set
         ensures open { OnOk result (IsOpenIn A.algebra (standing self.new)) }
         ensures emptied { IfErr result (λ conflict. IsEmptiedIn A.algebra (standing self.new) conflict.0.0) }
-        ensures extends { Extends (standing self.old) (standing self.new) }
+        ensures extends { ExtendsStanding (standing self.old) (standing self.new) }
     {
         self.engine.assume(source, to)
     }
@@ -119,7 +119,7 @@ impl<'e, A: Algebra, N: HasNetlist> Scope<'e, A, N> {
             ≡ closed_at (standing self.old) (with_entered (standing self.old).assumptions pin) conflict.0) }
         ensures open { OnOk result (IsOpenIn A.algebra (standing self.new)) }
         ensures emptied { IfErr result (λ conflict. IsEmptiedIn A.algebra (standing self.new) conflict.0.0) }
-        ensures extends { Extends (standing self.old) (standing self.new) }
+        ensures extends { ExtendsStanding (standing self.old) (standing self.new) }
     {
         steps.tick();
         self.engine.enter(pin)
@@ -194,7 +194,7 @@ impl<'e, A: Algebra, N: HasNetlist> Scope<'e, A, N> {
 
         // so a scope within another leaves all as it was when it was made
         ensures restored { (before : Standing) → self.entry.origin ≡ Origin.Within (length before.assumptions)
-            → Extends before (standing self.entry) → IsRestored before self.exit.0.now }
+            → ExtendsStanding before (standing self.entry) → IsRestored before self.exit.0.now }
     {
         let Scope { engine, origin } = self;
         engine.leave(origin);
@@ -207,7 +207,7 @@ impl<'e, A: Algebra, N: HasNetlist> Drop for Scope<'e, A, N> {
     fn drop(self)
         ensures left { self.exit.0.now ≡ left_behind self.entry.origin (standing self.entry) }
         ensures restored { (before : Standing) → self.entry.origin ≡ Origin.Within (length before.assumptions)
-            → Extends before (standing self.entry) → IsRestored before self.exit.0.now }
+            → ExtendsStanding before (standing self.entry) → IsRestored before self.exit.0.now }
     {
         let Scope { engine, origin } = self;
         engine.leave(origin);

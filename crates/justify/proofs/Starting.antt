@@ -3,18 +3,17 @@ use Rattle.std.proofs.Common.{◌≡◌, ℕ, ◌<◌, ◌≤◌, List, [], ◌�
 use Rattle.std.specs.List.{All}
 use Rattle.std.proofs.lemmas.List.{length-map, take_all}
 use Rattle.std.proofs.lemmas.List.Elements.{All-nil, All-cons}
-use Rattle.pd_base.specs.Route.{Route}
+use Rattle.pd_base.specs.Target.{Target}
 use Rattle.pd_base.specs.declared.ids.PinRef.{PinRef}
-use Rattle.pd_base.specs.declared.fault.Direction.{Direction}
-use Rattle.pd_base.specs.declared.fault.Kind.{Kind}
+use Rattle.pd_base.specs.declared.rules.Rules.TheVariants.{One}
 use Rattle.netlist.specs.Circuit.{Circuit, line_count, gate_line}
 use Rattle.netlist.specs.Paths.{IsPrefix, Connects, end_of, line_after}
 use Rattle.state_sets.specs.declared.state.State.{State}
 use Rattle.state_sets.specs.States.{all_states}
 use Rattle.state_sets.specs.FourStates.{four_states}
-use Rattle.hull_laws.specs.Nodes.{IsCut}
-use Rattle.narrowing.proofs.Sets.{all_have}
-use Rattle.search_laws.proofs.Growing.{grows_from_root}
+use Rattle.state_laws.specs.Nodes.{IsCut}
+use Rattle.hulls.proofs.Sets.{all_have}
+use Rattle.tree_laws.proofs.Growing.{grows_from_root}
 use Rattle.implication.specs.declared.assumption.Beginning.{Beginning}
 use Rattle.implication.specs.declared.assumption.Assumption.{Assumption}
 use Rattle.implication.specs.declared.assumption.Assumption.TheVariants.{Entered}
@@ -29,7 +28,7 @@ use Rattle.pair_trial.specs.Nodes.{beginning_of}
 use Rattle.pair_trial.proofs.Resting.{open_under}
 use Rattle.tree_growth.specs.declared.growing.Growth.{Growth}
 use Rattle.tree_growth.specs.declared.growing.Place.{Place}
-use Rattle.tree_growth.specs.Growths.{IsNodeWith, IsPlace, IsGrowing}
+use Rattle.tree_growth.specs.Growths.{AllowAsNodeWith, IsPlace, IsGrowing}
 use Rattle.tree_growth.specs.UnderWay.{IsUnderWay}
 use Rattle.justify.specs.Scoping.{IsStart}
 use Rattle.tree_growth.proofs.Visits.{free_at, growing_same}
@@ -51,37 +50,37 @@ ends_within c line [] within connects = within
 ends_within c line (step ∷ steps) within connects =
     ends_within c (gate_line c step.gate.0) steps (omega (arith, connects.0.in_circuit)) connects.1
 
-module _ (path : Route) (direction : Direction) (kind : Kind) (standing : Standing) (start : IsStart path direction kind standing) where
-  start_long : length standing.assumptions ≡ length path.steps
-  start_long = ap length start.entered ∙ length-map path.steps (λ step. Entered step)
+module _ (target : Target) (standing : Standing) (start : IsStart target standing) where
+  start_long : length standing.assumptions ≡ length target.path.steps
+  start_long = ap length start.entered ∙ length-map target.path.steps (λ step. Entered step)
 
-  pub start_under_way : IsUnderWay path direction kind standing
+  pub start_under_way : IsUnderWay target standing
   start_under_way = record {
     beginning = start.beginning;
     longer = omega (arith, start_long);
-    front = take_all (length path.steps) standing.assumptions (omega (arith, start_long)) ∙ start.entered;
+    front = take_all (length target.path.steps) standing.assumptions (omega (arith, start_long)) ∙ start.entered;
     free = start.free;
   }
 
-  pub start_length : length standing.assumptions ≡ length path.steps
+  pub start_length : length standing.assumptions ≡ length target.path.steps
   start_length = start_long
 
-  start_entered : entered_pins standing.assumptions ≡ path.steps
-  start_entered = ap entered_pins start.entered ∙ entered_all path.steps
+  start_entered : entered_pins standing.assumptions ≡ target.path.steps
+  start_entered = ap entered_pins start.entered ∙ entered_all target.path.steps
 
-  pub start_end : end_of_scope standing ≡ end_of standing.net path
+  pub start_end : end_of_scope standing ≡ end_of standing.net target.path
   start_end =
       ap (λ o. end_from standing.net o standing.assumptions) start.beginning
-      ∙ ap (λ (steps : List PinRef). line_after standing.net path.source.0 steps) start_entered
+      ∙ ap (λ (steps : List PinRef). line_after standing.net target.path.source.0 steps) start_entered
 
-  module _ (is : IsPrefix standing.net path) where
+  module _ (is : IsPrefix standing.net target.path) where
     pub start_end_within : end_of_scope standing < line_count standing.net
     start_end_within =
         let P : ℕ → Type 0 = λ line. line < line_count standing.net in
         let within = is.source in
-        subst P (sym start_end) (ends_within standing.net path.source.0 path.steps (omega (arith, within)) is.connects)
+        subst P (sym start_end) (ends_within standing.net target.path.source.0 target.path.steps (omega (arith, within)) is.connects)
 
-    pub start_desk : (desk : Desk) → IsDeskFor standing.net (end_of_scope standing) desk → IsDesk standing.net path desk
+    pub start_desk : (desk : Desk) → IsDeskFor standing.net (end_of_scope standing) desk → IsDesk standing.net target.path desk
     start_desk desk made =
         let P : ℕ → Type 0 = λ line. IsDeskFor standing.net line desk in
         let there = subst P start_end made in
@@ -90,25 +89,25 @@ module _ (path : Route) (direction : Direction) (kind : Kind) (standing : Standi
     -- the tree grows from its root
     module _ (left_open : IsOpenIn four_states standing) (budget : ℕ) (mark : ScopeMark) (at : mark.at ≡ length standing.assumptions) where
       abbrev root : Place
-      root = record { mark = mark; source = path.source; set = all_states 4 }
+      root = record { mark = mark; source = target.path.source; set = all_states 4 }
 
       abbrev begun : Beginning
-      begun = beginning_of path direction kind
+      begun = beginning_of target
 
-      root_node : IsNodeWith standing.net begun standing.assumptions path.source (all_states 4) []
+      root_node : AllowAsNodeWith standing.net target standing.assumptions target.path.source (all_states 4) []
       root_node line state in_circuit in_range = (
         λ both. record { start = both.0.start; cut = All-nil (IsCut four_states line state) },
         λ be. (
           record {
             start = be.start;
             assumed = let P : List Assumption → Type 0 = λ list. All (IsLetBy four_states.count line state) list in
-                subst P (sym start.entered) (let_all four_states.count line state path.steps);
+                subst P (sym start.entered) (let_all four_states.count line state target.path.steps);
           },
           λ here. all_have 4 state in_range,
         ),
       )
 
-      root_place : IsPlace standing.net path direction kind standing.assumptions root []
+      root_place : IsPlace standing.net target standing.assumptions root []
       root_place = record {
         longer = omega (arith, start_long);
         entered = start_entered;
@@ -118,43 +117,43 @@ module _ (path : Route) (direction : Direction) (kind : Kind) (standing : Standi
         node = root_node;
       }
 
-      root_growing : IsGrowing standing.net path direction kind budget standing.assumptions (root ∷ []) [] 0
+      root_growing : IsGrowing standing.net target budget standing.assumptions (root ∷ []) [] 0
       root_growing = record {
         above = [] ∷ [];
         stacked = (
           omega (arith, at),
-          (let P : List Assumption → Type 0 = λ list. IsPlace standing.net path direction kind list root [] in
+          (let P : List Assumption → Type 0 = λ list. IsPlace standing.net target list root [] in
               subst P (sym (take_all mark.at standing.assumptions (omega (arith, at)))) root_place),
           tt,
         );
-        grows = grows_from_root standing.net kind path direction;
+        grows = grows_from_root standing.net One target;
         counted = refl;
         within = omega arith;
         waits = λ has. let none = has.1 in absurd (omega (arith, none));
       }
 
       pub start_growing : (growth : Growth) → growth.nodes.items ≡ [] → growth.places.items ≡ root ∷ [] → growth.splits ≡ 0
-          → IsGrowing standing.net path direction kind budget standing.assumptions (reverse growth.places.items) growth.nodes.items growth.splits
+          → IsGrowing standing.net target budget standing.assumptions (reverse growth.places.items) growth.nodes.items growth.splits
       start_growing growth nodes places splits =
-          growing_same standing.net standing.net path direction kind budget standing.assumptions standing.assumptions (root ∷ [])
+          growing_same standing.net standing.net target budget standing.assumptions standing.assumptions (root ∷ [])
           (reverse growth.places.items) [] growth.nodes.items 0 growth.splits refl refl (sym (ap reverse places)) (sym nodes) (sym splits) root_growing
 
 -- where the search ends, going back restores what stood
-pub ended_restored : (path : Route) (direction : Direction) (kind : Kind) (first middle last : Standing) → IsStart path direction kind first
-    → IsUnderWay path direction kind middle → middle.net ≡ first.net → first.closings ≤ middle.closings
+pub ended_restored : (target : Target) (first middle last : Standing) → IsStart target first
+    → IsUnderWay target middle → middle.net ≡ first.net → first.closings ≤ middle.closings
     → (mark : ℕ) → mark ≡ length first.assumptions → last ≡ back_at middle mark → IsRestored first last
-ended_restored path direction kind first middle last start way net later mark at back =
+ended_restored target first middle last start way net later mark at back =
     let P : Standing → Type 0 = λ s. IsRestored first s in
     subst P (sym back) (record {
       net = net;
       beginning = way.beginning ∙ sym start.beginning;
-      assumptions = ap (λ n. take n middle.assumptions) (at ∙ start_length path direction kind first start) ∙ way.front ∙ sym start.entered;
+      assumptions = ap (λ n. take n middle.assumptions) (at ∙ start_length target first start) ∙ way.front ∙ sym start.entered;
       conflict = free_at middle mark way.free ∙ sym start.free;
       later = later;
     })
 
 -- and it can go back
-pub ended_mark : (path : Route) (direction : Direction) (kind : Kind) (first middle : Standing) → IsStart path direction kind first
-    → IsUnderWay path direction kind middle → (mark : ℕ) → mark ≡ length first.assumptions → mark ≤ length middle.assumptions
-ended_mark path direction kind first middle start way mark at =
-    let long = start_length path direction kind first start in let longer = way.longer in omega (arith, long, longer, at)
+pub ended_mark : (target : Target) (first middle : Standing) → IsStart target first
+    → IsUnderWay target middle → (mark : ℕ) → mark ≡ length first.assumptions → mark ≤ length middle.assumptions
+ended_mark target first middle start way mark at =
+    let long = start_length target first start in let longer = way.longer in omega (arith, long, longer, at)

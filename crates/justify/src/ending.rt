@@ -1,13 +1,13 @@
 // The end of a search without a test: the nodes make one tree, which refutes if no leaf waits.
 ghost use Rattle.std.specs.Prelude.{◌≡◌, ◌<◌, ◌^◌, ◌↔◌, IsTrue, length};
 ghost use Rattle.std.specs.List.{Contains};
-ghost use Rattle.refutation_check.specs.declared.tree.Node.{Node};
-ghost use Rattle.refutation_check.specs.declared.tree.Node.TheVariants.{Waiting};
-ghost use Rattle.refutation_check.specs.Trees.{IsTree};
+ghost use Rattle.runs.specs.declared.tree.Node.{Node};
+ghost use Rattle.runs.specs.declared.tree.Node.TheVariants.{Waiting};
+ghost use Rattle.runs.specs.Trees.{IsTree};
 ghost use Rattle.justify.specs.Ends.{IsEnd};
 
 use crate::Found;
-use refutation_check::{Node, Tree};
+use runs::{Node, Tree};
 use tree_growth::Growth;
 
 // The answer of a search whose tree is whole.

@@ -1,6 +1,6 @@
 //! A search for a test of one path: it tries pairs of vectors, splits the cases where they fail, and ends with a test, with a tree that
-//! refutes, or with its budget spent. Stands on pd_base, netlist, state_sets, hull_laws, narrowing, refutation_check, tree_laws,
-//! search_laws, implication, pair_trial, which tries the pairs, and tree_growth, which splits the cases.
+//! refutes, or with its budget spent. Stands on implication, pair_trial, which tries the pairs, tree_growth, which splits the cases,
+//! and tree_laws.
 //! The layer above uses `search` and `Found`, and cites their contract.
 #![tactic(auto)]
 

@@ -1,5 +1,7 @@
 // The search itself: depth first, one node after another in preorder, each with its assumptions on the scope.
 ghost use Rattle.std.specs.Prelude.{◌≡◌, ◌≤◌, [], IfOk, IfSome, IfNone, length, reverse};
+ghost use Rattle.pd_base.specs.Target.{target_of};
+ghost use Rattle.pd_base.specs.declared.limits.TheConstants.{MOST_BUDGET};
 ghost use Rattle.netlist.specs.Paths.{IsPrefix};
 ghost use Rattle.state_sets.specs.FourStates.{four_states};
 ghost use Rattle.implication.specs.Standing.{IsOpenIn};
@@ -23,11 +25,11 @@ use std::alloc::Global;
 use tree_growth::{Growth, visit};
 
 /// Searches for a test of a kind for a path and a transition, on a scope that has begun with these and has entered the path's pins.
-/// At each node of the tree of cases a pair is tried, and a node that it fails at is split, as long as the budget lasts, which is a
-/// number of splits.
+/// The answer is a test, a tree of cases that refutes the conditions with at most so many splits as the budget, or a tree that spent
+/// exactly the budget.
 ///
-/// The scope is afterwards as before, also where memory runs out, which is the one error; but each closed leaf, and each node at which
-/// a pair failed, counts a conflict.
+/// The scope is afterwards as before, also where memory runs out, which is the one error; but conflicts are counted, as long as the
+/// count is not at its end: at least one for each closed leaf of a refutation, and one for each node of a spent tree.
 pub fn search<N: HasNetlist>(
     alloc: Global,
     scope: &mut Scope<FourStates, N>,
@@ -37,10 +39,10 @@ pub fn search<N: HasNetlist>(
     budget: u32,
 ) -> Result<Found, OutOfMemory>
     requires prefix { IsPrefix (standing scope.old).net path.now }
-    requires start { IsStart path.now dir kind (standing scope.old) }
+    requires start { IsStart (target_of path.now dir kind) (standing scope.old) }
     requires some_budget { 1 ≤ budget }
-    requires budget { budget ≤ 1000000 }
-    ensures found { IfOk result (IsFound (standing scope.old).net kind path.now dir budget) }
+    requires budget { budget ≤ MOST_BUDGET }
+    ensures found { IfOk result (IsFound (standing scope.old).net (target_of path.now dir kind) budget) }
     ensures counted { IfOk result (λ found. CountsConflicts budget found (standing scope.old) (standing scope.new)) }
     ensures scope { IsSameScope scope.old scope.new }
     ensures restored { IsRestored (standing scope.old) (standing scope.new) }
@@ -65,13 +67,13 @@ fn find<N: HasNetlist>(
     budget: u32,
 ) -> Result<Found, OutOfMemory>
     requires prefix { IsPrefix (standing scope.old).net path.now }
-    requires start { IsStart path.now dir kind (standing scope.old) }
+    requires start { IsStart (target_of path.now dir kind) (standing scope.old) }
     requires left_open { IsOpenIn four_states (standing scope.old) }
-    requires budget { budget ≤ 1000000 }
-    ensures found { IfOk result (IsFound (standing scope.old).net kind path.now dir budget) }
+    requires budget { budget ≤ MOST_BUDGET }
+    ensures found { IfOk result (IsFound (standing scope.old).net (target_of path.now dir kind) budget) }
     ensures counted { IfOk result (λ found. CountsConflicts budget found (standing scope.old) (standing scope.new)) }
     ensures scope { IsSameScope scope.old scope.new }
-    ensures under_way { IsUnderWay path.now dir kind (standing scope.new) }
+    ensures under_way { IsUnderWay (target_of path.now dir kind) (standing scope.new) }
     ensures net { (standing scope.new).net ≡ (standing scope.old).net }
     ensures later { (standing scope.old).closings ≤ (standing scope.new).closings }
 {
@@ -105,20 +107,20 @@ fn grow<N: HasNetlist>(
     growth: &mut Growth,
 ) -> Result<Option<Pair>, OutOfMemory>
     requires prefix { IsPrefix (standing scope.old).net path.now }
-    requires under_way { IsUnderWay path.now dir kind (standing scope.old) }
+    requires under_way { IsUnderWay (target_of path.now dir kind) (standing scope.old) }
     requires origin { start_at scope.old.origin ≤ length path.now.steps }
     requires desk { IsDesk (standing scope.old).net path.now desk.old }
-    requires growing { IsGrowing (standing scope.old).net path.now dir kind budget (standing scope.old).assumptions
+    requires growing { IsGrowing (standing scope.old).net (target_of path.now dir kind) budget (standing scope.old).assumptions
         (reverse growth.old.places.items) growth.old.nodes.items growth.old.splits }
     requires nodes { growth.old.nodes.items ≡ [] }
     ensures scope { IsSameScope scope.old scope.new }
-    ensures under_way { IsUnderWay path.now dir kind (standing scope.new) }
+    ensures under_way { IsUnderWay (target_of path.now dir kind) (standing scope.new) }
     ensures net { (standing scope.new).net ≡ (standing scope.old).net }
     ensures later { (standing scope.old).closings ≤ (standing scope.new).closings }
-    ensures test { IfOk result (λ test. IfSome test (IsFitTest (standing scope.old).net kind path.now dir)) }
+    ensures test { IfOk result (λ test. IfSome test (IsFitTest (standing scope.old).net (target_of path.now dir kind))) }
     ensures counted { IfOk result (λ test. IfNone test
         (HasCounted (length growth.new.nodes.items) (standing scope.old) (standing scope.new))) }
-    ensures grown { IfOk result (λ test. IfNone test (IsGrowing (standing scope.new).net path.now dir kind budget
+    ensures grown { IfOk result (λ test. IfNone test (IsGrowing (standing scope.new).net (target_of path.now dir kind) budget
         (standing scope.new).assumptions [] growth.new.nodes.items growth.new.splits)) }
 {
     while let Some(place) = growth.places.pop() {

@@ -1,14 +1,17 @@
 -- The limits as numbers (this project's own; docs/formats.md lists them).
-use Rattle.std.proofs.Common.{◌≡◌, refl}
-use Rattle.netlist.specs.declared.limits.TheConstants.{MOST_LINES, MOST_PINS, MOST_FAN_IN, MOST_LEVELS, MOST_NAME_BYTES}
+use Rattle.std.proofs.Common.{◌≡◌, pos, refl}
+use Rattle.pd_base.specs.declared.limits.TheConstants.{MOST_BUDGET, MOST_PATHS}
+use Rattle.pd_io.specs.declared.named.TheConstants.{MOST_AT_ONCE}
+use Rattle.netlist.specs.declared.limits.TheConstants.{MOST_LINES, MOST_PINS, MOST_FAN_IN, MOST_LEVELS, MOST_NAME_BYTES, MOST_STATEMENTS}
+use Rattle.bench_reader.specs.declared.statements.TheConstants.{MOST_BYTES as MOST_NETLIST_BYTES}
 use Rattle.delay_annotation.specs.declared.delays.TheConstants.{MOST_DELAY, UNIT_DELAY}
-use Rattle.delay_rows.specs.declared.field.TheConstants.{MOST_PIN_DIGITS, MOST_NUMBER_DIGITS}
-use Rattle.delay_reader.specs.declared.reading.TheConstants.{MOST_BYTES}
-use Rattle.path_lister.specs.declared.paths.TheConstants.{MOST_PATHS}
-use Rattle.waveform.specs.declared.gate.TheConstants.{MOST_CHANGES}
+use Rattle.delay_annotation.specs.declared.field.TheConstants.{MOST_PIN_DIGITS, MOST_NUMBER_DIGITS}
+use Rattle.delay_annotation.specs.declared.reading.TheConstants.{MOST_BYTES as MOST_DELAY_FILE_BYTES}
+use Rattle.delay_replay.specs.declared.gate.TheConstants.{MOST_CHANGES}
 use Rattle.delay_replay.specs.declared.line_waves.TheConstants.{MOST_CHANGES_OF_ALL}
-use Rattle.call_inputs.specs.declared.judging.TheConstants.{INPUT_LIMIT}
-use Rattle.gen_call.specs.declared.sizes.TheConstants.{MOST_PATH_TEXT, MOST_TEST_TEXT, STEP_BYTES}
+use Rattle.delay_replay.specs.declared.wave.TheConstants.{LATEST_CHANGE}
+use Rattle.commands.specs.declared.judging.TheConstants.{INPUT_LIMIT}
+use Rattle.commands.specs.declared.sizes.TheConstants.{MOST_PATH_TEXT, MOST_TEST_TEXT, STEP_BYTES}
 
 -- of circuits
 most_lines : MOST_LINES ≡ 262144
@@ -26,6 +29,12 @@ most_levels = refl
 most_name_bytes : MOST_NAME_BYTES ≡ 255
 most_name_bytes = refl
 
+most_statements : MOST_STATEMENTS ≡ 2147483647
+most_statements = refl
+
+most_netlist_bytes : MOST_NETLIST_BYTES ≡ 268435456
+most_netlist_bytes = refl
+
 -- of delays
 most_delay : MOST_DELAY ≡ 1000000
 most_delay = refl
@@ -39,20 +48,30 @@ most_pin_digits = refl
 most_number_digits : MOST_NUMBER_DIGITS ≡ 7
 most_number_digits = refl
 
-most_bytes : MOST_BYTES ≡ 268435456
-most_bytes = refl
+most_delay_file_bytes : MOST_DELAY_FILE_BYTES ≡ 268435456
+most_delay_file_bytes = refl
 
--- of lists and of replays
-most_paths : MOST_PATHS ≡ 10000
-most_paths = refl
-
+-- of replays
 most_changes : MOST_CHANGES ≡ 65536
 most_changes = refl
 
 most_changes_of_all : MOST_CHANGES_OF_ALL ≡ 16777216
 most_changes_of_all = refl
 
+latest_change : LATEST_CHANGE ≡ pos 5000000000
+latest_change = refl
+
+-- of files in memory
+most_at_once : MOST_AT_ONCE ≡ 4096
+most_at_once = refl
+
 -- of calls
+most_paths : MOST_PATHS ≡ 10000
+most_paths = refl
+
+most_budget : MOST_BUDGET ≡ 1000000
+most_budget = refl
+
 input_limit : INPUT_LIMIT ≡ 33554432
 input_limit = refl
 

@@ -1,2 +1,4 @@
 pub mod PinTests
 pub mod RankPass
+mod Marking
+mod Sweep

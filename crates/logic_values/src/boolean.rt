@@ -15,10 +15,13 @@ pub fn evaluate(net: &Netlist, vector: &[bool], out: &mut [bool])
     requires places { length out.old ≡ line_count net.now }
     ensures { EachIndex out.new (λ line. bit_at out.new line ≡ value net.now vector.now line) }
 {
+    // A netlist knows itself as a circuit.
+    let one_each = out.len() == net.lines() as usize;
+    prove!(one_each);
     set_sources(vector, out);
     for gate in net.order() {
-        let line = net.sources() + gate.0;
-        out[line as usize] = gate_value(net.kind(*gate), net.pins(*gate), out);
+        let line = net.line_of(*gate);
+        out[line.0 as usize] = gate_value(net.kind(*gate), net.pins(*gate), out);
     }
 }
 

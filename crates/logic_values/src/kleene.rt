@@ -25,10 +25,13 @@ pub fn steady(net: &Netlist, pair: &Pair, out: &mut [Steady])
     ensures steady_under_second { (line : ℕ) (bit : Bool) → line < length out.new → known_at out.new line ≡ Some bit
         → value net.now pair.now.second line ≡ bit }
 {
+    // A netlist knows itself as a circuit.
+    let one_each = out.len() == net.lines() as usize;
+    prove!(one_each);
     set_sources(pair, out);
     for gate in net.order() {
-        let line = net.sources() + gate.0;
-        out[line as usize] = gate_steadiness(net.kind(*gate), net.pins(*gate), out);
+        let line = net.line_of(*gate);
+        out[line.0 as usize] = gate_steadiness(net.kind(*gate), net.pins(*gate), out);
     }
 }
 

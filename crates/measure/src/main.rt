@@ -1,24 +1,32 @@
-//! The program `measure`, which the scripts of bench/ run: calls of the product's libraries, each in a process of its own. It is
-//! no part of the product. What refuses an input is told by the product's line on err. Stands on system_files, and on the crates
-//! of its subcommands: measured_lists, measured_waves and measured_hulls.
+//! The program `measure`, which the scripts of bench/ run: calls of the product's libraries, each in a process of its own. It
+//! reads a netlist and delays as the product does, and what refuses them is told by the product's line on err. Stands on
+//! commands, path_lister, delay_replay and system_files, and is no part of the product.
 #![tactic(auto)]
 
-use measured_hulls::{evaluate, hull, sweep};
-use measured_inputs::Stop;
-use measured_lists::list;
-use measured_waves::{replay, sort, waves};
+mod inputs;
+mod listing;
+mod output;
+mod question;
+mod replaying;
+mod sorting;
+mod stop;
+mod vectors;
+mod wave_lines;
+
+use listing::list;
+use replaying::replay;
+use sorting::sort;
 use std::process::ExitCode;
 use std::{env, io};
+use stop::Stop;
 use system_files::{StdFiles, StdSink};
+use wave_lines::waves;
 
 // What the program is called with.
 const USAGE: &str = "measure: list NET DELAYS PATHS
          waves NET DELAYS V1 V2
          replay NET DELAYS V1 V2 TIMES
-         sort COUNT TIMES
-         hull NET SOURCE STEPS DIRECTION KIND
-         sweep NET SOURCE STEPS DIRECTION KIND TIMES
-         evaluate NET TIMES";
+         sort COUNT TIMES";
 
 fn main(rt: HostRuntime) -> ExitCode {
     match measure(rt) {
@@ -60,9 +68,6 @@ fn call(rt: HostRuntime, name: &str, words: &[String]) -> Result<(), Stop> {
         "waves" => waves(alloc, files, out, words),
         "replay" => replay(alloc, files, out, words),
         "sort" => sort(alloc, out, words),
-        "hull" => hull(alloc, files, out, words),
-        "sweep" => sweep(alloc, files, out, words),
-        "evaluate" => evaluate(alloc, files, out, words),
         _ => Err(Stop::Words),
     }
 }

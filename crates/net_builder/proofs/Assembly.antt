@@ -6,16 +6,16 @@ use Rattle.std.proofs.lemmas.List.Elements.{All-map}
 use Rattle.std.proofs.lemmas.List.Sums.{sum_by-cons}
 use Rattle.std.proofs.lemmas.Simd.{map-map}
 use Rattle.std.specs.Global.{Vec}
-use Rattle.smallvec.specs.SmallVec.{SmallVec}
 use Rattle.pd_base.specs.declared.ids.LineId.{LineId}
-use Rattle.levelization.specs.Wiring.{FitsLines, IsWired}
+use Rattle.net_builder.specs.Wiring.{FitsLines, IsWired}
 use Rattle.netlist.specs.declared.netlist.Layout.{Layout}
 use Rattle.netlist.specs.Circuit.{Circuit, Gate, HasLines, gate_count, line_count, source_count}
 use Rattle.netlist.specs.Description.{AreNamed, NamedGate, described, gate_on, gates, line_named, names_by_line}
 use Rattle.netlist.specs.Statements.{Numbered}
-use Rattle.netlist.specs.Stored.{IsStored, circuit_of, gates_of, lists, small_lists}
-use Rattle.netlist.proofs.StoredLists.{lists-length}
+use Rattle.netlist.specs.Stored.{IsStored, circuit_of, gates_of}
+use Rattle.net_builder.proofs.Looking.{names_of_keys}
 use Rattle.net_builder.proofs.Circuits.{defined_lines, described_lines, described_pins, pins_have_lines}
+use Rattle.net_builder.specs.KeyNames.{key_names}
 
 -- gates out of their names, kinds and pins
 gates_again : (some : List Gate) → gates_of (map (λ g. g.name) some) (map (λ g. g.kind) some) (map (λ g. g.pins) some) ≡ some
@@ -30,10 +30,10 @@ stored_view c n stored = (λ i.
     gate_names : List (List ℕ)
     gate_names = map (λ g. g.name) c.gates
 
-    sources_are : take n.sources (lists n.names.keys) ≡ c.sources
+    sources_are : take n.sources n.names ≡ c.sources
     sources_are = (λ i. take (stored.sources i) (stored.names i)) ∙ take_at c.sources gate_names (length c.sources) refl
 
-    gates_are : gates_of (drop n.sources (lists n.names.keys)) n.kinds.items (small_lists n.pins.items) ≡ c.gates
+    gates_are : gates_of (drop n.sources n.names) n.kinds.items n.pins ≡ c.gates
     gates_are =
         (λ i. gates_of (drop (stored.sources i) (stored.names i)) (stored.kinds i) (stored.pins i))
         ∙ ap (λ names. gates_of names (map (λ g. g.kind) c.gates) (map (λ g. g.pins) c.gates))
@@ -45,8 +45,8 @@ pub stored_itself : (c : Circuit) (n : Layout) → IsStored c n → IsStored (ci
 stored_itself c n stored = subst (λ d. IsStored d n) (sym (stored_view c n stored)) stored
 
 -- there are as many names as lines
-pub keys_counted : (st : List Numbered) (keys : List (Vec ℕ)) → lists keys ≡ names_by_line st → length keys ≡ line_count (described st)
-keys_counted st keys are = sym (lists-length keys) ∙ ap length are ∙ sym (described_lines st)
+pub keys_counted : (st : List Numbered) (keys : List (Vec ℕ)) → key_names keys ≡ names_by_line st → length keys ≡ line_count (described st)
+keys_counted st keys are = sym (names_of_keys keys) ∙ ap length are ∙ sym (described_lines st)
 
 -- the sum of the lengths of images
 sum_of_lists : {X A : Type 0} (f : X → List A) (xs : List X) → sum_by length (map f xs) ≡ sum_by (λ x. length (f x)) xs
@@ -64,25 +64,25 @@ module _ (st : List Numbered) where
   pub described_gate_pins : map (λ g. g.pins) (described st).gates ≡ map argument_lines (gates st)
   described_gate_pins = map-map (λ (g : Gate). g.pins) (gate_on (names_by_line st)) (gates st)
 
-  module _ (pins : List (SmallVec LineId)) (is : small_lists pins ≡ map argument_lines (gates st)) where
+  module _ (pins : List (List LineId)) (is : pins ≡ map argument_lines (gates st)) where
     -- so many gates
     pub gates_counted : length pins ≡ gate_count (described st)
     gates_counted =
-        sym (length-map pins (λ (p : SmallVec LineId). p.items)) ∙ ap length is ∙ length-map (gates st) argument_lines
+        ap length is ∙ length-map (gates st) argument_lines
         ∙ sym (length-map (gates st) (gate_on (names_by_line st)))
 
     -- the circuit has so many lines
     pub wire_lines : (sources : ℕ) → sources ≡ source_count (described st) → sources + length pins ≡ line_count (described st)
     wire_lines sources are = omega (arith, are, gates_counted)
 
-    pub own_pins : map (λ g. g.pins) (described st).gates ≡ small_lists pins
+    pub own_pins : map (λ g. g.pins) (described st).gates ≡ pins
     own_pins = described_gate_pins ∙ sym is
 
     module _ (lines : ℕ) (many : lines ≡ line_count (described st)) where
-      pub described_wired : IsWired (described st) lines (small_lists pins)
+      pub described_wired : IsWired (described st) lines pins
       described_wired = record { line_total = sym many; gate_pins = own_pins }
 
-      pub described_fits : AreNamed st → FitsLines lines (small_lists pins)
+      pub described_fits : AreNamed st → FitsLines lines pins
       described_fits named =
           let InLines = λ (some : List LineId). All (λ line. line.0 < lines) some in
           let c = described st in
@@ -91,7 +91,7 @@ module _ (st : List Numbered) where
           (All-map (HasLines c) (λ (g : Gate). g.pins) c.gates (pins_have_lines st named)) in
           record {
             reads = subst (All InLines) own_pins read;
-            few_gates = omega (arith, length-map pins (λ (p : SmallVec LineId). p.items), gates_counted, many);
+            few_gates = omega (arith, gates_counted, many);
             few_lines = omega (arith, many, defined_lines st, named.limits.few_lines);
             few_pins = omega (
               arith,

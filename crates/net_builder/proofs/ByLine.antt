@@ -12,9 +12,9 @@ use Rattle.netlist.specs.declared.raw_net.RawStmt.{RawStmt}
 use Rattle.netlist.specs.declared.raw_net.RawStmt.TheVariants.{Input, Output, Gate, Flop}
 use Rattle.netlist.specs.Description.{AreDistinct, defined_names, flop_in, gate_in, names_by_line}
 use Rattle.netlist.specs.Statements.{Numbered, defined_by}
-use Rattle.netlist.specs.Stored.{lists}
 use Rattle.net_builder.specs.declared.names.Group.TheVariants.{Inputs, Flops, Gates}
 use Rattle.net_builder.specs.Groups.{group_in, group_names}
+use Rattle.net_builder.specs.KeyNames.{key_names}
 
 -- the elements of a list are all different
 abbrev pub Differ : {X : Type 0} → List X → Type 0
@@ -136,10 +136,10 @@ module _ (statements : List Numbered) where
       order_differ (names_by_line statements) (defined_names statements)
       (IsPermutation-sym (defined_names statements) (names_by_line statements) reordered)
 
-  module _ (none one two three : List (Vec ℕ)) (empty : none ≡ []) (is_one : lists one ≡ lists none ++ first)
-      (is_two : lists two ≡ lists one ++ second) (is_three : lists three ≡ lists two ++ third) where
+  module _ (none one two three : List (Vec ℕ)) (empty : none ≡ []) (is_one : key_names one ≡ key_names none ++ first)
+      (is_two : key_names two ≡ key_names one ++ second) (is_three : key_names three ≡ key_names two ++ third) where
     -- the groups put one behind another are all lines
-    pub all_lines : lists three ≡ names_by_line statements
+    pub all_lines : key_names three ≡ names_by_line statements
     all_lines =
         is_three ∙ ap (λ l. l ++ third) (is_two ∙ ap (λ l. l ++ second)
-        (is_one ∙ ap (λ (l : List (Vec ℕ)). lists l ++ first) empty)) ∙ by_groups
+        (is_one ∙ ap (λ (l : List (Vec ℕ)). key_names l ++ first) empty)) ∙ by_groups

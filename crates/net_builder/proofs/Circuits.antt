@@ -169,6 +169,14 @@ module _ (st : List Numbered) where
       (λ g. length-map g.arguments (line_named names)) (gates st)
       ∙ sum_flat (λ (g : NamedGate). length g.arguments) (λ (s : Numbered). gate_in s.statement) st
 
+  -- and as are named by the arguments of the gates
+  pub argument_lines_counted : (all : List (List ℕ))
+      → sum_by length (map (λ (g : NamedGate). map (line_named all) g.arguments) (gates st)) ≡ stated_pins st
+  argument_lines_counted all =
+      sum_mapped length (λ (g : NamedGate). length g.arguments) (λ (g : NamedGate). map (line_named all) g.arguments)
+      (λ g. length-map g.arguments (line_named all)) (gates st)
+      ∙ sum_flat (λ (g : NamedGate). length g.arguments) (λ (s : Numbered). gate_in s.statement) st
+
   module _ (named : AreNamed st) where
     -- the line of a defined name is one of the circuit
     has_line : (name : List ℕ) → Contains (defined_names st) name → (line_named names name).0 < line_count c

@@ -13,7 +13,7 @@ use Rattle.netlist.proofs.Evaluation.{value_at_source}
 use Rattle.netlist.proofs.StoredLists.{by_line-at, by_line-length}
 use Rattle.net_builder.specs.Depth.{IsFirstOver}
 use Rattle.net_builder.specs.Refusals.{RefusesDepth, RefusesLoop}
-use Rattle.levelization.specs.Faults.{IsFirstLooped}
+use Rattle.net_builder.specs.Faults.{IsFirstLooped}
 use Rattle.net_builder.proofs.Circuits.{defined_lines}
 use Rattle.net_builder.proofs.Exclusive.{count_of_mentions}
 

@@ -7,7 +7,7 @@ use Rattle.std.proofs.lemmas.List.Elements.{All-append}
 use Rattle.std.proofs.lemmas.List.Quantifiers.{all_pairs_push}
 use Rattle.netlist.specs.Description.{AreDistinct, IsWithinLimits, Mention, defined_names, definitions, mentions, used_names, uses}
 use Rattle.netlist.specs.Statements.{Numbered, defined_by, used_by}
-use Rattle.raw_netlist.specs.Reading.{line_at, no_statement, statement_at}
+use Rattle.net_builder.specs.Reading.{line_at, no_statement, statement_at}
 use Rattle.net_builder.specs.Refusals.{RefusesTwice, RefusesUndefined, mention_of}
 use Rattle.net_builder.proofs.Exclusive.{names_of_definitions, names_of_uses}
 use Rattle.net_builder.proofs.Pieces.{flat_more, flat_split}

@@ -2,7 +2,7 @@
 use Rattle.std.proofs.Common.{◌≡◌, ℕ, ◌+◌, ◌<◌, List, [], ◌∷◌, ◌++◌, length, map, take, drop, slice_get, Some, refl, sym, ap, ◌∙◌}
 use Rattle.netlist.specs.Description.{gate_in, gate_mentions, mentions}
 use Rattle.netlist.specs.Statements.{Numbered}
-use Rattle.raw_netlist.specs.Reading.{line_at, no_statement, own_name, statement_at}
+use Rattle.net_builder.specs.Reading.{line_at, no_statement, own_name, statement_at}
 use Rattle.net_builder.specs.Refusals.{mention_of}
 use Rattle.net_builder.proofs.Pieces.{flat_split}
 

@@ -1,34 +1,19 @@
 -- Each name that is used is defined where all pins read lines, and the outputs and data lines are among the names.
-use Rattle.std.proofs.Common.{◌≡◌, ℕ, ◌+◌, ◌<◌, List, [], ◌∷◌, ◌++◌, length, map, take, get_or, Some, None, cond, sym, ap, subst, ◌∙◌, arith}
-use Rattle.std.proofs.lemmas.List.{get_or-map, length-map}
+use Rattle.std.proofs.Common.{ℕ, ◌+◌, ◌<◌, List, [], ◌∷◌, ◌++◌, length, map, take, get_or, Some, None, cond, sym, ap, subst, arith}
 use Rattle.std.specs.List.{All, Contains, flat_map, position_or_len}
 use Rattle.std.specs.Str.{bytes_eq}
 use Rattle.std.proofs.lemmas.Bool.{lt-ltb}
-use Rattle.std.proofs.lemmas.List.Elements.{All-append, All-cons, All-more, All-tail}
-use Rattle.smallvec.specs.SmallVec.{SmallVec}
+use Rattle.std.proofs.lemmas.List.Elements.{All-append, All-cons, All-tail}
 use Rattle.pd_base.specs.declared.ids.LineId.{LineId}
 use Rattle.netlist.specs.declared.raw_net.RawStmt.{RawStmt}
 use Rattle.netlist.specs.declared.raw_net.RawStmt.TheVariants.{Input, Output, Gate, Flop}
 use Rattle.netlist.specs.Description.{NamedGate, gate_in, gates, line_named, used_names}
 use Rattle.netlist.specs.Statements.{Numbered, used_by}
-use Rattle.netlist.specs.Stored.{small_lists}
-use Rattle.raw_netlist.specs.Reading.{no_statement, statement_at}
+use Rattle.net_builder.specs.Reading.{no_statement, statement_at}
 use Rattle.net_builder.specs.Groups.{other_uses}
 use Rattle.net_builder.proofs.Defining.{all_unmapped}
 use Rattle.net_builder.proofs.Naming.{found_in}
 use Rattle.net_builder.proofs.Pieces.{flat_more}
-
--- as many lists as vectors
-pub small_length : {X : Type 0} (vecs : List (SmallVec X)) → length (small_lists vecs) ≡ length vecs
-small_length vecs = length-map vecs (λ v. v.items)
-
--- the lists of some vectors, with one more
-pub one_more_gate : {X : Type 0} (P : List X → Type 0) (vecs : List (SmallVec X)) (at : ℕ) (vec : SmallVec X)
-    → at < length vecs → vec ≡ get_or vecs at vec → All P (take at (small_lists vecs)) → P vec.items
-    → All P (take (at + 1) (small_lists vecs))
-one_more_gate P vecs at vec within is before own =
-    All-more P (small_lists vecs) at vec.items (omega (arith, small_length vecs)) before
-    (subst P (ap (λ v. v.items) is ∙ sym (get_or-map (λ v. v.items) vecs at vec vec.items within)) own)
 
 -- the outputs and data lines, with one statement more
 pub others_more : (statements : List Numbered) (place : ℕ) → place < length statements → (P : List ℕ → Type 0)

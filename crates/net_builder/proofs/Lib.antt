@@ -1,13 +1,29 @@
 mod Assembly
 pub mod ByLine
 pub mod Circuits
+pub mod Counting
 mod Deep
 mod Defining
 mod Distinct
 pub mod Exclusive
+mod FirstBytes
 mod GatePlaces
 mod GreatestMore
 mod Inserting
 pub mod KnownUses
+pub mod Levelled
+mod Looking
+mod NameParts
+mod NameSort
 mod Naming
 mod Pieces
+pub mod Placing
+pub mod Ranking
+mod RawStatements
+pub mod ReadStatements
+mod ReaderCounts
+pub mod Readers
+pub mod Releasing
+mod Results
+mod Rooms
+pub mod Wired

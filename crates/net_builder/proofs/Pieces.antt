@@ -6,7 +6,7 @@ use Rattle.std.proofs.lemmas.Grind.{flat_map-append}
 use Rattle.std.specs.List.{flat_map, sum_by}
 use Rattle.netlist.specs.Description.{definitions, mentions, pins_in, stated_pins}
 use Rattle.netlist.specs.Statements.{Numbered, defined_by}
-use Rattle.raw_netlist.specs.Reading.{no_statement, statement_at, line_at}
+use Rattle.net_builder.specs.Reading.{no_statement, statement_at, line_at}
 
 module _ {X A : Type 0} (f : X → List A) (xs : List X) (i : ℕ) (d : X) (within : i < length xs) where
   -- one more element of a list gives its own items last

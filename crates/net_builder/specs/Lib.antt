@@ -1,3 +1,15 @@
+pub mod Building
 pub mod Depth
+pub mod Faults
+pub mod Filling
 pub mod Groups
+pub mod KeyNames
+pub mod NameLists
+pub mod NameOrder
+pub mod Progress
+pub mod Ranked
+pub mod RawStored
+pub mod Readers
+pub mod Reading
 pub mod Refusals
+pub mod Wiring

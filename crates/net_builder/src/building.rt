@@ -1,28 +1,23 @@
 // From the statements of a netlist to the netlist.
-ghost use Rattle.std.specs.Prelude.{◌≡◌, ◌≤◌, length, map, All, IfOk, IfErr};
-ghost use Rattle.netlist.specs.declared.limits.TheConstants.{MOST_LEVELS};
+ghost use Rattle.std.specs.Prelude.{◌≡◌, map, All, IfOk, IfErr};
 ghost use Rattle.netlist.specs.Circuit.{source_count};
 ghost use Rattle.netlist.specs.Description.{AreNamed, Describes, described, gates, line_named, names_by_line};
-ghost use Rattle.netlist.specs.Lawful.{IsLoopFree};
-ghost use Rattle.netlist.specs.Levels.{greatest_level, line_levels};
-ghost use Rattle.netlist.specs.Pins.{AreFanouts};
 ghost use Rattle.netlist.specs.Statements.{IsStatement};
-ghost use Rattle.netlist.specs.Stored.{IsStored, lists, small_lists};
+ghost use Rattle.netlist.specs.Stored.{IsStored};
+ghost use Rattle.net_builder.specs.Building.{AreNamedLines, AreWires};
 ghost use Rattle.net_builder.specs.Refusals.{MayRefuse};
 
-use crate::BuildFault;
 use crate::defined::{check_uses, distinct_names};
-use crate::limits::{check_limits, count_pins};
-use crate::measures::{greatest_of, longest_of};
-use crate::once::{observed_of, once};
-use crate::parts::{flops_of, kinds_of, named_outputs, pins_of};
+use crate::limits::check_limits;
+use crate::measures::greatest_of;
+use crate::named_lines::{NamedLines, named_lines};
+use crate::once::observed_of;
+use crate::order::order_of;
+use crate::parts::{kinds_of, pins_of};
 use crate::wires::{Wires, wires_of};
-use indexmap::IndexSet;
-use levelization::order_of;
+use crate::{BuildFault, RawNet};
 use netlist::{Layout, Netlist};
-use pd_base::{LineId, OutOfMemory};
-use raw_netlist::RawNet;
-use smallvec::SmallVec;
+use pd_base::{FlatLists, LineId, OutOfMemory};
 use std::alloc::Global;
 
 /// The netlist of the circuit that the statements describe. They are refused exactly where they describe none, by the first
@@ -34,10 +29,12 @@ pub fn build(alloc: Global, raw: &RawNet) -> Result<Netlist, BuildFault>
     check_limits(raw)?;
     let names = distinct_names(alloc, raw)?;
     let pins = pins_of(alloc, raw, &names)?;
-    check_uses(alloc, raw, &names, pins.as_slice())?;
+    check_uses(alloc, raw, &names, &pins)?;
     let sources = (names.len() - pins.len()) as u32;
-    let wires = wires_of(alloc, raw, sources, pins.as_slice())?;
-    let layout = layout_of(alloc, raw, sources, names, pins, wires)?;
+    // The set of names ends here: no name is looked up any more.
+    let lines = named_lines(alloc, raw, names)?;
+    let wires = wires_of(alloc, raw, sources, &pins)?;
+    let layout = layout_of(alloc, raw, sources, lines, pins, wires)?;
     Ok(Netlist::new(layout))
 }
 
@@ -46,44 +43,41 @@ fn layout_of(
     alloc: Global,
     raw: &RawNet,
     sources: u32,
-    names: IndexSet<Vec<u8>>,
-    pins: Vec<SmallVec<LineId, 4>>,
+    lines: NamedLines,
+    pins: FlatLists<LineId>,
     wires: Wires,
 ) -> Result<Layout, OutOfMemory>
     requires named { AreNamed raw.now }
     requires lawful { All (λ s. IsStatement s.statement) raw.now }
     requires sources { sources ≡ source_count (described raw.now) }
-    requires names { lists names.keys ≡ names_by_line raw.now }
-    requires pins { small_lists pins.items ≡ map (λ gate. map (line_named (names_by_line raw.now)) gate.arguments) (gates raw.now) }
-    requires fanouts { AreFanouts (described raw.now) (lists wires.fanouts.items) }
-    requires levels { wires.levels.items ≡ line_levels (described raw.now) }
-    requires loop_free { IsLoopFree (described raw.now) }
-    requires few_levels { greatest_level (described raw.now) ≤ MOST_LEVELS }
+    requires lines { AreNamedLines (described raw.now) lines }
+    requires pins { pins ≡ map (λ gate. map (line_named (names_by_line raw.now)) gate.arguments) (gates raw.now) }
+    requires wires { AreWires (described raw.now) wires }
     ensures { IfOk result (λ layout. IsStored (described raw.now) layout) }
 {
-    let lines = names.len() as u32;
-    let listed = named_outputs(alloc, raw, &names)?;
-    let outputs = once(alloc, listed.as_slice(), lines)?;
-    let flops = flops_of(alloc, raw, &names)?;
-    let observed = observed_of(alloc, outputs.as_slice(), flops.as_slice(), lines)?;
+    let line_count = lines.names.len() as u32;
+    let observed = observed_of(
+        alloc,
+        lines.outputs.as_slice(),
+        lines.flops.as_slice(),
+        line_count,
+    )?;
     let order = order_of(alloc, sources, wires.levels.as_slice())?;
     let kinds = kinds_of(alloc, raw)?;
-    let longest_name = longest_of(&names);
     let greatest_level = greatest_of(wires.levels.as_slice());
-    let pin_total = count_pins(raw) as u32;
     Ok(Layout {
         sources,
-        names,
+        names: lines.names,
+        by_name: lines.by_name,
         kinds,
         pins,
-        outputs,
-        flops,
+        outputs: lines.outputs,
+        flops: lines.flops,
         observed,
         fanouts: wires.fanouts,
         levels: wires.levels,
         order,
-        pin_total,
         greatest_level,
-        longest_name,
+        longest_name: lines.longest_name,
     })
 }

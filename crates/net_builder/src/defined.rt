@@ -2,25 +2,23 @@
 ghost use Rattle.std.specs.Prelude.{◌≡◌, ◌≢◌, ◌+◌, ◌<◌, length, map, take, All, AllPairs, Contains, IfOk, IfErr, OnOk};
 ghost use Rattle.netlist.specs.Description.{AreDefined, AreDistinct, IsWithinLimits, defined_names, gates, line_named, names_by_line, used_names};
 ghost use Rattle.netlist.specs.Statements.{used_by};
-ghost use Rattle.netlist.specs.Stored.{lists, small_lists};
-ghost use Rattle.raw_netlist.specs.Reading.{statement_at};
+ghost use Rattle.net_builder.specs.Reading.{statement_at};
 ghost use Rattle.net_builder.specs.Refusals.{MayRefuse};
+ghost use Rattle.net_builder.specs.KeyNames.{key_names};
 
-use crate::BuildFault;
 use crate::known::{are_lines, others_defined};
 use crate::name_set::{NameFault, has_name, push_name};
 use crate::names::names_of_lines;
 use crate::reading::defined;
+use crate::{BuildFault, RawNet};
 use indexmap::IndexSet;
-use pd_base::{Items, LineId, OutOfMemory};
-use raw_netlist::RawNet;
-use smallvec::SmallVec;
+use pd_base::{FlatLists, Items, LineId, OutOfMemory};
 use std::alloc::Global;
 
 /// The names of all lines, by line, or the first that is defined twice.
 pub(crate) fn distinct_names(alloc: Global, raw: &RawNet) -> Result<IndexSet<Vec<u8>>, BuildFault>
     requires { IsWithinLimits raw.now }
-    ensures names { IfOk result (λ names. lists names.keys ≡ names_by_line raw.now) }
+    ensures names { IfOk result (λ names. key_names names.keys ≡ names_by_line raw.now) }
     ensures distinct { IfOk result (λ _. AreDistinct raw.now) }
     ensures refused { IfErr result (MayRefuse raw.now) }
 {
@@ -38,7 +36,7 @@ pub(crate) fn distinct_names(alloc: Global, raw: &RawNet) -> Result<IndexSet<Vec
 // The names that are defined, in order, each once.
 fn all_defined(alloc: Global, raw: &RawNet) -> Result<IndexSet<Vec<u8>>, BuildFault>
     requires { IsWithinLimits raw.now }
-    ensures names { IfOk result (λ names. lists names.keys ≡ defined_names raw.now) }
+    ensures names { IfOk result (λ names. key_names names.keys ≡ defined_names raw.now) }
     ensures distinct { IfOk result (λ _. AreDistinct raw.now) }
     ensures refused { IfErr result (MayRefuse raw.now) }
 {
@@ -58,9 +56,9 @@ fn add_defined(
 ) -> Result<(), BuildFault>
     requires within { place < length raw.now }
     requires limits { IsWithinLimits raw.now }
-    requires names { lists names.old.keys ≡ defined_names (take place raw.now) }
+    requires names { key_names names.old.keys ≡ defined_names (take place raw.now) }
     requires distinct { AreDistinct (take place raw.now) }
-    ensures names { OnOk result (lists names.new.keys ≡ defined_names (take (place + 1) raw.now)) }
+    ensures names { OnOk result (key_names names.new.keys ≡ defined_names (take (place + 1) raw.now)) }
     ensures distinct { OnOk result (AreDistinct (take (place + 1) raw.now)) }
     ensures refused { IfErr result (MayRefuse raw.now) }
 {
@@ -81,12 +79,12 @@ pub(crate) fn check_uses(
     alloc: Global,
     raw: &RawNet,
     names: &IndexSet<Vec<u8>>,
-    pins: &[SmallVec<LineId, 4>],
+    pins: &FlatLists<LineId>,
 ) -> Result<(), BuildFault>
     requires limits { IsWithinLimits raw.now }
     requires distinct { AreDistinct raw.now }
-    requires names { lists names.now.keys ≡ names_by_line raw.now }
-    requires pins { small_lists pins.now ≡ map (λ gate. map (line_named (lists names.now.keys)) gate.arguments) (gates raw.now) }
+    requires names { key_names names.now.keys ≡ names_by_line raw.now }
+    requires pins { pins.now ≡ map (λ gate. map (line_named (key_names names.now.keys)) gate.arguments) (gates raw.now) }
     ensures defined { IfOk result (λ _. AreDefined raw.now) }
     ensures refused { IfErr result (MayRefuse raw.now) }
 {
@@ -100,7 +98,7 @@ pub(crate) fn check_uses(
 fn first_undefined(alloc: Global, raw: &RawNet, names: &IndexSet<Vec<u8>>) -> Result<(), BuildFault>
     requires limits { IsWithinLimits raw.now }
     requires distinct { AreDistinct raw.now }
-    requires names { lists names.now.keys ≡ names_by_line raw.now }
+    requires names { key_names names.now.keys ≡ names_by_line raw.now }
     ensures defined { IfOk result (λ _. AreDefined raw.now) }
     ensures refused { IfErr result (MayRefuse raw.now) }
 {
@@ -120,7 +118,7 @@ fn check_used(
     requires within { place < length raw.now }
     requires limits { IsWithinLimits raw.now }
     requires distinct { AreDistinct raw.now }
-    requires names { lists names.now.keys ≡ names_by_line raw.now }
+    requires names { key_names names.now.keys ≡ names_by_line raw.now }
     requires before { All (Contains (defined_names raw.now)) (used_names (take place raw.now)) }
     ensures defined { IfOk result (λ _. All (Contains (defined_names raw.now)) (used_by (statement_at raw.now place))) }
     ensures refused { IfErr result (MayRefuse raw.now) }

@@ -2,22 +2,21 @@
 // flip-flops by their names.
 ghost use Rattle.std.specs.Prelude.{◌<◌, length, All, Contains, IsTrue};
 ghost use Rattle.std.specs.List.{flat_map};
-ghost use Rattle.netlist.specs.Stored.{lists, small_lists};
-ghost use Rattle.raw_netlist.specs.Reading.{statement_at};
+ghost use Rattle.net_builder.specs.Reading.{statement_at};
 ghost use Rattle.net_builder.specs.Groups.{other_uses};
+ghost use Rattle.net_builder.specs.KeyNames.{key_names};
 
 use crate::name_set::has_name;
+use crate::{Form, RawNet};
 use indexmap::IndexSet;
-use pd_base::LineId;
-use raw_netlist::{Form, RawNet};
-use smallvec::SmallVec;
+use pd_base::{FlatLists, LineId};
 
 /// Whether all pins of all gates read lines below this number.
-pub(crate) fn are_lines(pins: &[SmallVec<LineId, 4>], lines: u32) -> bool
-    ensures { IsTrue result → All (λ gate. All (λ line. line.0 < lines) gate) (small_lists pins.now) }
+pub(crate) fn are_lines(pins: &FlatLists<LineId>, lines: u32) -> bool
+    ensures { IsTrue result → All (λ gate. All (λ line. line.0 < lines) gate) pins.now }
 {
     for gate in 0..pins.len() {
-        if !are_below(pins[gate].as_slice(), lines) {
+        if !are_below(pins.list(gate), lines) {
             return false;
         }
     }
@@ -38,7 +37,7 @@ fn are_below(some: &[LineId], lines: u32) -> bool
 
 /// Whether the outputs and the data lines of the flip-flops are among these names.
 pub(crate) fn others_defined(raw: &RawNet, names: &IndexSet<Vec<u8>>) -> bool
-    ensures { IsTrue result → All (Contains (lists names.now.keys)) (flat_map (λ s. other_uses s.statement) raw.now) }
+    ensures { IsTrue result → All (Contains (key_names names.now.keys)) (flat_map (λ s. other_uses s.statement) raw.now) }
 {
     for place in 0..raw.len() {
         if !other_defined(raw, place, names) {
@@ -51,7 +50,7 @@ pub(crate) fn others_defined(raw: &RawNet, names: &IndexSet<Vec<u8>>) -> bool
 // Whether the output or the data line of a statement is among these names, where it has one.
 fn other_defined(raw: &RawNet, place: usize, names: &IndexSet<Vec<u8>>) -> bool
     requires { place < length raw.now }
-    ensures { IsTrue result → All (Contains (lists names.now.keys)) (other_uses (statement_at raw.now place)) }
+    ensures { IsTrue result → All (Contains (key_names names.now.keys)) (other_uses (statement_at raw.now place)) }
 {
     match raw.form(place) {
         Form::Output => has_name(names, raw.name(place)),

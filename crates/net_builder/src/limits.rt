@@ -2,12 +2,11 @@
 ghost use Rattle.std.specs.Prelude.{◌≡◌, ◌≤◌, ◌<◌, length, All, IfOk, IfErr};
 ghost use Rattle.netlist.specs.Description.{IsWithinLimits, definitions, pins_in, stated_pins};
 ghost use Rattle.netlist.specs.Statements.{IsStatement, defined_by};
-ghost use Rattle.raw_netlist.specs.Reading.{statement_at};
+ghost use Rattle.net_builder.specs.Reading.{statement_at};
 ghost use Rattle.net_builder.specs.Refusals.{MayRefuse};
 
-use crate::BuildFault;
+use crate::{BuildFault, Form, RawNet};
 use netlist::{MOST_LINES, MOST_PINS};
-use raw_netlist::{Form, RawNet};
 
 /// Refuses statements that go beyond the limit of lines or, else, of pins.
 pub(crate) fn check_limits(raw: &RawNet) -> Result<(), BuildFault>

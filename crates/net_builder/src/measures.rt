@@ -3,20 +3,19 @@ ghost use Rattle.std.specs.Prelude.{◌≡◌, ◌<◌, ◌≤◌, length, map, 
 ghost use Rattle.netlist.specs.declared.limits.TheConstants.{MOST_LEVELS};
 ghost use Rattle.netlist.specs.Greatest.{greatest};
 ghost use Rattle.netlist.specs.Names.{IsName};
-ghost use Rattle.netlist.specs.Stored.{lists};
 ghost use Rattle.net_builder.specs.Depth.{IsFirstOver};
 
-use indexmap::IndexSet;
 use netlist::MOST_LEVELS;
+use pd_base::FlatLists;
 
 /// The length of the longest name.
-pub(crate) fn longest_of(names: &IndexSet<Vec<u8>>) -> u32
-    requires { All IsName (lists names.now.keys) }
-    ensures { result ≡ greatest (map length (lists names.now.keys)) }
+pub(crate) fn longest_of(names: &FlatLists<u8>) -> u32
+    requires { All IsName names.now }
+    ensures { result ≡ greatest (map length names.now) }
 {
     let mut longest: u32 = 0;
-    for name in names.as_slice() {
-        longest = longest.max(name.len() as u32);
+    for line in 0..names.len() {
+        longest = longest.max(names.list(line).len() as u32);
     }
     longest
 }

@@ -2,7 +2,7 @@
 ghost use Rattle.std.specs.Prelude.{◌≡◌, ◌≢◌, ◌<◌, ◌≤◌, [], ◌∷◌, ◌++◌, length, slice_index_or, MatchBool, OnOk, Contains};
 ghost use Rattle.netlist.specs.declared.limits.TheConstants.{MOST_LINES};
 ghost use Rattle.netlist.specs.Description.{line_named};
-ghost use Rattle.netlist.specs.Stored.{lists};
+ghost use Rattle.net_builder.specs.KeyNames.{key_names};
 
 use indexmap::IndexSet;
 use pd_base::{LineId, OutOfMemory};
@@ -31,7 +31,7 @@ impl<T: Drop> From<AllocFailed<T>> for NameFault {
 
 /// Whether the set has a name.
 pub(crate) fn has_name(names: &IndexSet<Vec<u8>>, name: &[u8]) -> bool
-    ensures { MatchBool result (Contains (lists names.now.keys) name.now) (¬ Contains (lists names.now.keys) name.now) }
+    ensures { MatchBool result (Contains (key_names names.now.keys) name.now) (¬ Contains (key_names names.now.keys) name.now) }
 {
     match names.get_index_of(name) {
         Some(_) => true,
@@ -40,9 +40,9 @@ pub(crate) fn has_name(names: &IndexSet<Vec<u8>>, name: &[u8]) -> bool
 }
 
 /// The line that bears a name, where the names are those of the lines, by line.
-pub(crate) fn line_of(names: &IndexSet<Vec<u8>>, name: &[u8]) -> LineId
+pub(crate) fn line_named_in(names: &IndexSet<Vec<u8>>, name: &[u8]) -> LineId
     requires { length names.now.keys ≤ MOST_LINES }
-    ensures { result ≡ line_named (lists names.now.keys) name.now }
+    ensures { result ≡ line_named (key_names names.now.keys) name.now }
 {
     match names.get_index_of(name) {
         Some(line) => LineId(line as u32),
@@ -56,8 +56,8 @@ pub(crate) fn add_name(
     names: &mut IndexSet<Vec<u8>>,
     name: &[u8],
 ) -> Result<(), NameFault>
-    ensures fresh { OnOk result (¬ Contains (lists names.old.keys) name.now) }
-    ensures names { OnOk result (lists names.new.keys ≡ lists names.old.keys ++ name.now ∷ []) }
+    ensures fresh { OnOk result (¬ Contains (key_names names.old.keys) name.now) }
+    ensures names { OnOk result (key_names names.new.keys ≡ key_names names.old.keys ++ name.now ∷ []) }
 {
     if names.insert(Vec::from_slice(alloc, name)?)? {
         return Ok(());
@@ -71,8 +71,8 @@ pub(crate) fn push_name(
     names: &mut IndexSet<Vec<u8>>,
     name: &[u8],
 ) -> Result<(), OutOfMemory>
-    requires { ¬ Contains (lists names.old.keys) name.now }
-    ensures { OnOk result (lists names.new.keys ≡ lists names.old.keys ++ name.now ∷ []) }
+    requires { ¬ Contains (key_names names.old.keys) name.now }
+    ensures { OnOk result (key_names names.new.keys ≡ key_names names.old.keys ++ name.now ∷ []) }
 {
     names.insert(Vec::from_slice(alloc, name)?)?;
     Ok(())

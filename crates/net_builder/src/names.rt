@@ -1,14 +1,14 @@
 // The names of the lines by their numbers: inputs, then flip-flops, then gates, each in the order of the statements.
 ghost use Rattle.std.specs.Prelude.{◌≡◌, ◌≢◌, ◌<◌, [], ◌∷◌, ◌++◌, length, AllPairs, MatchOption, IfOk, OnOk};
 ghost use Rattle.netlist.specs.Description.{AreDistinct, names_by_line};
-ghost use Rattle.netlist.specs.Stored.{lists};
-ghost use Rattle.raw_netlist.specs.Reading.{statement_at};
+ghost use Rattle.net_builder.specs.Reading.{statement_at};
 ghost use Rattle.net_builder.specs.Groups.{group_in, group_names};
+ghost use Rattle.net_builder.specs.KeyNames.{key_names};
 
+use crate::RawNet;
 use crate::name_set::{NameFault, add_name};
 use crate::reading::{flop, gate, input};
 use indexmap::IndexSet;
-use raw_netlist::RawNet;
 use std::alloc::Global;
 
 /// Lines that are numbered one behind another.
@@ -21,7 +21,7 @@ pub(crate) enum Group {
 
 /// The names of all lines, by line, where no two are one.
 pub(crate) fn names_of_lines(alloc: Global, raw: &RawNet) -> Result<IndexSet<Vec<u8>>, NameFault>
-    ensures names { IfOk result (λ names. lists names.keys ≡ names_by_line raw.now) }
+    ensures names { IfOk result (λ names. key_names names.keys ≡ names_by_line raw.now) }
     ensures distinct { IfOk result (λ _. AreDistinct raw.now) }
 {
     let mut names = IndexSet::with_capacity(alloc, raw.len())?;
@@ -38,9 +38,9 @@ fn add_group(
     group: Group,
     names: &mut IndexSet<Vec<u8>>,
 ) -> Result<(), NameFault>
-    requires { AllPairs (λ a b. a ≢ b) (lists names.old.keys) }
-    ensures names { OnOk result (lists names.new.keys ≡ lists names.old.keys ++ group_names group raw.now) }
-    ensures distinct { OnOk result (AllPairs (λ a b. a ≢ b) (lists names.new.keys)) }
+    requires { AllPairs (λ a b. a ≢ b) (key_names names.old.keys) }
+    ensures names { OnOk result (key_names names.new.keys ≡ key_names names.old.keys ++ group_names group raw.now) }
+    ensures distinct { OnOk result (AllPairs (λ a b. a ≢ b) (key_names names.new.keys)) }
 {
     for place in 0..raw.len() {
         add_member(alloc, raw, place, group, names)?;
@@ -57,9 +57,9 @@ fn add_member(
     names: &mut IndexSet<Vec<u8>>,
 ) -> Result<(), NameFault>
     requires within { place < length raw.now }
-    requires distinct { AllPairs (λ a b. a ≢ b) (lists names.old.keys) }
-    ensures names { OnOk result (lists names.new.keys ≡ lists names.old.keys ++ group_in group (statement_at raw.now place)) }
-    ensures distinct { OnOk result (AllPairs (λ a b. a ≢ b) (lists names.new.keys)) }
+    requires distinct { AllPairs (λ a b. a ≢ b) (key_names names.old.keys) }
+    ensures names { OnOk result (key_names names.new.keys ≡ key_names names.old.keys ++ group_in group (statement_at raw.now place)) }
+    ensures distinct { OnOk result (AllPairs (λ a b. a ≢ b) (key_names names.new.keys)) }
 {
     let Some(name) = member(raw, place, group) else {
         return Ok(());

@@ -1,18 +1,19 @@
 // The parts of the circuit that are known by names alone: kinds, pins, output lines and flip-flops.
-ghost use Rattle.std.specs.Prelude.{◌≡◌, ◌<◌, ◌≤◌, ◌++◌, length, map, IfOk, OnOk};
+ghost use Rattle.std.specs.Prelude.{◌≡◌, ◌+◌, ◌<◌, ◌≤◌, ◌++◌, length, sum_by, map, IfOk, OnOk};
 ghost use Rattle.std.specs.List.{flat_map};
-ghost use Rattle.netlist.specs.declared.limits.TheConstants.{MOST_LINES};
-ghost use Rattle.netlist.specs.Description.{flop_in, flop_on, flops, gate_in, gates, line_named, output_in, outputs};
+ghost use Rattle.netlist.specs.declared.limits.TheConstants.{MOST_LINES, MOST_PINS};
+ghost use Rattle.netlist.specs.Description.{flop_in, flop_on, flops, gate_in, gates, line_named, output_in, outputs, pins_in, IsWithinLimits};
 ghost use Rattle.netlist.specs.Statements.{used_by};
-ghost use Rattle.netlist.specs.Stored.{lists, small_lists};
-ghost use Rattle.raw_netlist.specs.Reading.{statement_at};
+ghost use Rattle.net_builder.specs.Reading.{statement_at};
+ghost use Rattle.net_builder.specs.KeyNames.{key_names};
 
-use crate::name_set::line_of;
+use crate::limits::count_pins;
+use crate::name_set::line_named_in;
 use crate::reading::{flop, output};
+use crate::{Form, RawNet};
 use indexmap::IndexSet;
 use netlist::GateKind;
-use pd_base::{LineId, OutOfMemory};
-use raw_netlist::{Form, RawNet};
+use pd_base::{FlatLists, LineId, OutOfMemory};
 use smallvec::SmallVec;
 use std::alloc::Global;
 
@@ -45,12 +46,13 @@ pub(crate) fn pins_of(
     alloc: Global,
     raw: &RawNet,
     names: &IndexSet<Vec<u8>>,
-) -> Result<Vec<SmallVec<LineId, 4>>, OutOfMemory>
-    requires { length names.now.keys ≤ MOST_LINES }
-    ensures { IfOk result (λ pins. small_lists pins.items
-        ≡ map (λ gate. map (line_named (lists names.now.keys)) gate.arguments) (gates raw.now)) }
+) -> Result<FlatLists<LineId>, OutOfMemory>
+    requires few { length names.now.keys ≤ MOST_LINES }
+    requires limits { IsWithinLimits raw.now }
+    ensures { IfOk result (λ pins. pins
+        ≡ map (λ gate. map (line_named (key_names names.now.keys)) gate.arguments) (gates raw.now)) }
 {
-    let mut pins = Vec::with_capacity(alloc, raw.len())?;
+    let mut pins = FlatLists::with_capacity(alloc, raw.len(), count_pins(raw) as usize)?;
     for place in 0..raw.len() {
         push_pins(alloc, raw, place, names, &mut pins)?;
     }
@@ -63,15 +65,16 @@ fn push_pins(
     raw: &RawNet,
     place: usize,
     names: &IndexSet<Vec<u8>>,
-    pins: &mut Vec<SmallVec<LineId, 4>>,
+    pins: &mut FlatLists<LineId>,
 ) -> Result<(), OutOfMemory>
     requires within { place < length raw.now }
     requires few { length names.now.keys ≤ MOST_LINES }
-    ensures { OnOk result (small_lists pins.new.items ≡ small_lists pins.old.items
-        ++ map (λ gate. map (line_named (lists names.now.keys)) gate.arguments) (gate_in (statement_at raw.now place))) }
+    requires room { sum_by length pins.old + pins_in (statement_at raw.now place) ≤ MOST_PINS }
+    ensures { OnOk result (pins.new ≡ pins.old
+        ++ map (λ gate. map (line_named (key_names names.now.keys)) gate.arguments) (gate_in (statement_at raw.now place))) }
 {
     match raw.form(place) {
-        Form::Gate(_) => pins.push(lines_used(alloc, raw, place, names)?)?,
+        Form::Gate(_) => pins.push(lines_used(alloc, raw, place, names)?.as_slice())?,
         Form::Input | Form::Output | Form::Flop => {}
     }
     Ok(())
@@ -87,11 +90,11 @@ fn lines_used(
     requires within { place < length raw.now }
     requires few { length names.now.keys ≤ MOST_LINES }
     ensures { IfOk result (λ lines. lines.items
-        ≡ map (line_named (lists names.now.keys)) (used_by (statement_at raw.now place))) }
+        ≡ map (line_named (key_names names.now.keys)) (used_by (statement_at raw.now place))) }
 {
     let mut lines = SmallVec::new(alloc);
     for argument in 0..raw.used_len(place) {
-        lines.push(line_of(names, raw.used(place, argument)))?;
+        lines.push(line_named_in(names, raw.used(place, argument)))?;
     }
     Ok(lines)
 }
@@ -103,7 +106,7 @@ pub(crate) fn named_outputs(
     names: &IndexSet<Vec<u8>>,
 ) -> Result<Vec<LineId>, OutOfMemory>
     requires { length names.now.keys ≤ MOST_LINES }
-    ensures { IfOk result (λ lines. lines.items ≡ map (line_named (lists names.now.keys)) (outputs raw.now)) }
+    ensures { IfOk result (λ lines. lines.items ≡ map (line_named (key_names names.now.keys)) (outputs raw.now)) }
 {
     let mut lines = Vec::new(alloc);
     for place in 0..raw.len() {
@@ -122,10 +125,10 @@ fn push_output(
     requires within { place < length raw.now }
     requires few { length names.now.keys ≤ MOST_LINES }
     ensures { OnOk result (lines.new.items
-        ≡ lines.old.items ++ map (line_named (lists names.now.keys)) (output_in (statement_at raw.now place))) }
+        ≡ lines.old.items ++ map (line_named (key_names names.now.keys)) (output_in (statement_at raw.now place))) }
 {
     match raw.form(place) {
-        Form::Output => lines.push(line_of(names, raw.name(place)))?,
+        Form::Output => lines.push(line_named_in(names, raw.name(place)))?,
         Form::Input | Form::Gate(_) | Form::Flop => {}
     }
     Ok(())
@@ -138,7 +141,7 @@ pub(crate) fn flops_of(
     names: &IndexSet<Vec<u8>>,
 ) -> Result<Vec<(LineId, LineId)>, OutOfMemory>
     requires { length names.now.keys ≤ MOST_LINES }
-    ensures { IfOk result (λ found. found.items ≡ map (flop_on (lists names.now.keys)) (flops raw.now)) }
+    ensures { IfOk result (λ found. found.items ≡ map (flop_on (key_names names.now.keys)) (flops raw.now)) }
 {
     let mut found = Vec::new(alloc);
     for place in 0..raw.len() {
@@ -157,12 +160,12 @@ fn push_flop(
     requires within { place < length raw.now }
     requires few { length names.now.keys ≤ MOST_LINES }
     ensures { OnOk result (found.new.items
-        ≡ found.old.items ++ map (flop_on (lists names.now.keys)) (flop_in (statement_at raw.now place))) }
+        ≡ found.old.items ++ map (flop_on (key_names names.now.keys)) (flop_in (statement_at raw.now place))) }
 {
     match raw.form(place) {
         Form::Flop => found.push((
-            line_of(names, raw.name(place)),
-            line_of(names, raw.used(place, 0)),
+            line_named_in(names, raw.name(place)),
+            line_named_in(names, raw.used(place, 0)),
         ))?,
         Form::Input | Form::Output | Form::Gate(_) => {}
     }

@@ -1,12 +1,12 @@
 // Where a gate is defined, by its number: looked for only where a list of statements is refused.
 ghost use Rattle.std.specs.Prelude.{◌≡◌, ◌<◌, [], ◌∷◌, length, map, MatchBool, slice_get, Some, IfOk};
 ghost use Rattle.netlist.specs.Description.{gate_in, gate_mentions};
-ghost use Rattle.raw_netlist.specs.Reading.{line_at, own_name, statement_at};
+ghost use Rattle.net_builder.specs.Reading.{line_at, own_name, statement_at};
 ghost use Rattle.net_builder.specs.Refusals.{mention_of};
 
 use crate::defined::copied;
+use crate::{Form, RawNet};
 use pd_base::{Items, OutOfMemory};
-use raw_netlist::{Form, RawNet};
 use std::alloc::Global;
 
 /// The line of the text on which a gate is defined, and its name.

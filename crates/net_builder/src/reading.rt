@@ -2,9 +2,9 @@
 ghost use Rattle.std.specs.Prelude.{◌≡◌, ◌<◌, [], ◌∷◌, length, map, MatchOption};
 ghost use Rattle.netlist.specs.Description.{flop_in, gate_in, input_in, output_in};
 ghost use Rattle.netlist.specs.Statements.{defined_by};
-ghost use Rattle.raw_netlist.specs.Reading.{statement_at};
+ghost use Rattle.net_builder.specs.Reading.{statement_at};
 
-use raw_netlist::{Form, RawNet};
+use crate::{Form, RawNet};
 
 /// The name that a statement defines.
 pub(crate) fn defined(raw: &RawNet, place: usize) -> Option<&[u8]>

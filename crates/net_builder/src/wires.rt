@@ -5,24 +5,22 @@ ghost use Rattle.netlist.specs.Circuit.{source_count};
 ghost use Rattle.netlist.specs.Description.{AreNamed, described, gates, line_named, names_by_line};
 ghost use Rattle.netlist.specs.Lawful.{IsLoopFree};
 ghost use Rattle.netlist.specs.Levels.{greatest_level, line_levels};
-ghost use Rattle.netlist.specs.Pins.{AreFanouts};
-ghost use Rattle.netlist.specs.Stored.{lists, small_lists};
-ghost use Rattle.levelization.specs.Wiring.{NamesReaders};
+ghost use Rattle.net_builder.specs.Building.{AreWires};
+ghost use Rattle.net_builder.specs.Wiring.{NamesReaders};
 ghost use Rattle.net_builder.specs.Refusals.{MayRefuse};
 
-use crate::BuildFault;
+use crate::fanouts::fanouts_of;
+use crate::levels::{LevelFault, levels_of};
 use crate::measures::first_over;
 use crate::places::mention_of_gate;
-use levelization::{LevelFault, fanouts_of, levels_of};
-use pd_base::{LineId, PinRef};
-use raw_netlist::RawNet;
-use smallvec::SmallVec;
+use crate::{BuildFault, RawNet};
+use pd_base::{FlatLists, LineId, PinRef};
 use std::alloc::Global;
 
 /// What is known of the circuit's lines once there is no reason to refuse it.
 #[derive(Drop)]
 pub(crate) struct Wires {
-    pub(crate) fanouts: Vec<Vec<PinRef>>,
+    pub(crate) fanouts: FlatLists<PinRef>,
     pub(crate) levels: Vec<u32>,
 }
 
@@ -32,19 +30,16 @@ pub(crate) fn wires_of(
     alloc: Global,
     raw: &RawNet,
     sources: u32,
-    pins: &[SmallVec<LineId, 4>],
+    pins: &FlatLists<LineId>,
 ) -> Result<Wires, BuildFault>
     requires named { AreNamed raw.now }
     requires sources { sources ≡ source_count (described raw.now) }
-    requires pins { small_lists pins.now ≡ map (λ gate. map (line_named (names_by_line raw.now)) gate.arguments) (gates raw.now) }
-    ensures fanouts { IfOk result (λ wires. AreFanouts (described raw.now) (lists wires.fanouts.items)) }
-    ensures levels { IfOk result (λ wires. wires.levels.items ≡ line_levels (described raw.now)) }
-    ensures loop_free { IfOk result (λ _. IsLoopFree (described raw.now)) }
-    ensures few_levels { IfOk result (λ _. greatest_level (described raw.now) ≤ MOST_LEVELS) }
+    requires pins { pins.now ≡ map (λ gate. map (line_named (names_by_line raw.now)) gate.arguments) (gates raw.now) }
+    ensures wires { IfOk result (AreWires (described raw.now)) }
     ensures refused { IfErr result (MayRefuse raw.now) }
 {
     let fanouts = fanouts_of(alloc, sources + pins.len() as u32, pins)?;
-    let levels = loop_free_levels(alloc, raw, sources, pins, fanouts.as_slice())?;
+    let levels = loop_free_levels(alloc, raw, sources, pins, &fanouts)?;
     check_depth(alloc, raw, sources, levels.as_slice())?;
     Ok(Wires { fanouts, levels })
 }
@@ -54,13 +49,13 @@ fn loop_free_levels(
     alloc: Global,
     raw: &RawNet,
     sources: u32,
-    pins: &[SmallVec<LineId, 4>],
-    fanouts: &[Vec<PinRef>],
+    pins: &FlatLists<LineId>,
+    fanouts: &FlatLists<PinRef>,
 ) -> Result<Vec<u32>, BuildFault>
     requires named { AreNamed raw.now }
     requires sources { sources ≡ source_count (described raw.now) }
-    requires pins { small_lists pins.now ≡ map (λ gate. map (line_named (names_by_line raw.now)) gate.arguments) (gates raw.now) }
-    requires readers { NamesReaders (sources + length pins.now) (small_lists pins.now) (lists fanouts.now) }
+    requires pins { pins.now ≡ map (λ gate. map (line_named (names_by_line raw.now)) gate.arguments) (gates raw.now) }
+    requires readers { NamesReaders (sources + length pins.now) pins.now fanouts.now }
     ensures levels { IfOk result (λ levels. levels.items ≡ line_levels (described raw.now)) }
     ensures loop_free { IfOk result (λ _. IsLoopFree (described raw.now)) }
     ensures refused { IfErr result (MayRefuse raw.now) }

@@ -1,5 +1,6 @@
+pub mod ByName
 pub mod CircuitLines
 pub mod Evaluation
-pub mod Looking
+pub mod PinRow
 pub mod RankOrder
 pub mod StoredLists

@@ -8,21 +8,15 @@ use Rattle.pd_base.specs.declared.fault.Direction.TheVariants.{Rise, Fall}
 use Rattle.pd_base.specs.declared.fault.Kind.{Kind}
 use Rattle.pd_base.specs.declared.fault.Kind.TheVariants.{Robust, Nonrobust}
 use Rattle.pd_base.specs.Pair.{Vectors}
-use Rattle.pd_base.specs.Route.{Route}
+use Rattle.pd_base.specs.Target.{Target}
 use Rattle.netlist.specs.declared.kind.GateKind.{GateKind}
 use Rattle.netlist.specs.declared.kind.GateKind.TheVariants.{And, Nand, Or, Nor, Xor, Xnor, Not, Buff}
+use Rattle.netlist.specs.declared.side_conditions.SideCondition.{SideCondition}
+use Rattle.netlist.specs.declared.side_conditions.SideCondition.TheVariants.{Free, EndsAt, SteadyAt, AnySteady}
 use Rattle.netlist.specs.Circuit.{Circuit, kind_at, gate_line}
 use Rattle.netlist.specs.Values.{value, bit_of}
 use Rattle.netlist.specs.Steadiness.{is_steady}
 use Rattle.netlist.specs.Paths.{IsSide}
-
--- What a test asks of a side pin: nothing; this value under the second vector; to be steady at this value; to be steady at
--- either value.
-pub data SideCondition : Type 0 where
-  Free : SideCondition
-  EndsAt : Bool → SideCondition
-  SteadyAt : Bool → SideCondition
-  AnySteady : SideCondition
 
 -- The table of conditions: what a test of this kind asks of each side pin of a gate, where the on-path input has this value
 -- under the second vector. The controlling value of AND and NAND is 0, that of OR and NOR is 1.
@@ -56,17 +50,17 @@ Allows (SteadyAt bit) final steady = (final ≡ bit) × IsTrue steady
 Allows AnySteady final steady = IsTrue steady
 
 -- each side pin of the step is allowed by the table, where this line is the on-path input
-abbrev pub SidesAllowed : Kind → Circuit → Vectors → ℕ → PinRef → Type 0
-SidesAllowed kind c pair line step =
+abbrev pub SidesAllowed : Circuit → Kind → Vectors → ℕ → PinRef → Type 0
+SidesAllowed c kind pair line step =
     (pin : ℕ) (side : LineId) → IsSide c step pin side
     → Allows (side_condition kind (kind_at c step.gate.0) (value c pair.second line))
     (value c pair.second side.0) (is_steady c pair side.0)
 
 -- the side pins of all steps are, the first step's on-path input being this line
-abbrev pub SidesMeet : Kind → Circuit → Vectors → ℕ → List PinRef → Type 0
-SidesMeet kind c pair line [] = ⊤
-SidesMeet kind c pair line (step ∷ steps) =
-    SidesAllowed kind c pair line step × SidesMeet kind c pair (gate_line c step.gate.0) steps
+abbrev pub SidesMeet : Circuit → Kind → Vectors → ℕ → List PinRef → Type 0
+SidesMeet c kind pair line [] = ⊤
+SidesMeet c kind pair line (step ∷ steps) =
+    SidesAllowed c kind pair line step × SidesMeet c kind pair (gate_line c step.gate.0) steps
 
 -- the value that a source has after its transition
 abbrev pub final_bit : Direction → Bool
@@ -78,7 +72,7 @@ pub record Launches (pair : Vectors) (direction : Direction) (source : ℕ) : Ty
   pub first : bit_of pair.first source ≡ not (final_bit direction)
   pub second : bit_of pair.second source ≡ final_bit direction
 
--- the pair is a test of this kind for a path, or for a prefix, and this transition
-pub record Meets (kind : Kind) (c : Circuit) (path : Route) (direction : Direction) (pair : Vectors) : Type 0 where
-  pub launches : Launches pair direction path.source.0
-  pub sides : SidesMeet kind c pair path.source.0 path.steps
+-- the pair is a test for the target: of its kind, for its path or prefix, and its transition
+pub record Meets (c : Circuit) (target : Target) (pair : Vectors) : Type 0 where
+  pub launches : Launches pair target.direction target.path.source.0
+  pub sides : SidesMeet c target.kind pair target.path.source.0 target.path.steps

@@ -2,6 +2,7 @@ pub mod Circuit
 pub mod Conditions
 pub mod Description
 pub mod Evaluation
+pub mod Gates
 pub mod Greatest
 pub mod Lawful
 pub mod Levels

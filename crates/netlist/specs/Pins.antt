@@ -1,7 +1,13 @@
--- Which pins read a line: the fan-out of a line, and its transitive fan-in (as their field speaks of them).
-use Rattle.std.specs.Prelude.{◌≡◌, ℕ, ◌<◌, List, length, sum_by, slice_get, slice_index_or, [], Some, All, AllPairs, Contains}
+-- The pins of a circuit, and which of them read a line: the fan-out of a line, and its transitive fan-in (as their field speaks of
+-- them).
+use Rattle.std.specs.Prelude.{◌≡◌, ℕ, ◌+◌, ◌<◌, List, length, sum_by, take, slice_get, slice_index_or, [], Some, All, AllPairs, Contains}
 use Rattle.pd_base.specs.declared.ids.PinRef.{PinRef}
 use Rattle.netlist.specs.Circuit.{Circuit, gate_count, gate_line, line_count, pins_at}
+
+-- the pin is one of a gate of the circuit
+pub record IsPin (c : Circuit) (pin : PinRef) : Type 0 where
+  pub in_circuit : pin.gate.0 < gate_count c
+  pub in_gate : pin.pin < length (pins_at c pin.gate.0)
 
 -- the pin is one of a gate, and reads this line
 pub record IsPinOn (c : Circuit) (pin : PinRef) (line : ℕ) : Type 0 where
@@ -33,3 +39,11 @@ pub data IsInFanIn (c : Circuit) (end : ℕ) : ℕ → Type 0 where
 -- the number of pins of all gates
 abbrev pub pin_total : Circuit → ℕ
 pin_total c = sum_by (λ g. length g.pins) c.gates
+
+-- how many pins the gates before this one have
+abbrev pub pins_before : Circuit → ℕ → ℕ
+pins_before c gate = sum_by (λ g. length g.pins) (take gate c.gates)
+
+-- the place of a pin among all pins: gate by gate, and at each gate from pin 0 on
+abbrev pub pin_place_in : Circuit → PinRef → ℕ
+pin_place_in c pin = pins_before c pin.gate.0 + pin.pin

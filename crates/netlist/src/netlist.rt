@@ -1,17 +1,16 @@
 // The netlist: a circuit with what every layer above asks of it, laid out for reading. Here are the lists that it keeps, what
 // they hold (specs/Stored.antt), and the calls that read them. The crate that builds netlists computes the lists.
-ghost use Rattle.std.specs.Prelude.{◌≡◌, ◌≢◌, ◌<◌, All, AllPairs, MatchOption, Contains};
-ghost use Rattle.netlist.specs.Circuit.{HasLines, source_count, gate_count, line_count, kind_at, pins_at, line_names, observed_lines};
+ghost use Rattle.std.specs.Prelude.{◌≡◌, ◌≢◌, ◌<◌, All, AllPairs, MatchOption, Contains, length};
+ghost use Rattle.netlist.specs.Circuit.{HasLines, source_count, gate_count, gate_line, line_count, kind_at, pins_at, line_names, observed_lines};
 ghost use Rattle.netlist.specs.Lawful.{IsCircuit};
 ghost use Rattle.netlist.specs.Levels.{level, greatest_level, IsRankOrder, ReadsEarlier};
-ghost use Rattle.netlist.specs.Names.{name_at, longest_name};
-ghost use Rattle.netlist.specs.Pins.{IsFanout, pin_total};
+ghost use Rattle.netlist.specs.Names.{compared, name_at, longest_name};
+ghost use Rattle.netlist.specs.Pins.{IsFanout, pin_place_in, pin_total};
 ghost use Rattle.netlist.specs.Stored.{IsStored, circuit_of};
 
 use crate::GateKind;
-use indexmap::IndexSet;
-use pd_base::{GateId, LineId, PinRef};
-use smallvec::SmallVec;
+use pd_base::{FlatLists, GateId, LineId, PinRef};
+use std::cmp::Ordering;
 use std::marker::Model;
 
 /// What a netlist keeps of its circuit.
@@ -20,11 +19,13 @@ pub struct Layout {
     /// The number of sources.
     pub sources: u32,
     /// The names of the lines, by line number.
-    pub names: IndexSet<Vec<u8>>,
+    pub names: FlatLists<u8>,
+    /// All lines, in the order of their names' bytes.
+    pub by_name: Vec<LineId>,
     /// The kinds of the gates.
     pub kinds: Vec<GateKind>,
-    /// By gate the lines that its pins read. Most gates have few pins.
-    pub pins: Vec<SmallVec<LineId, 4>>,
+    /// By gate the lines that its pins read.
+    pub pins: FlatLists<LineId>,
     /// The output lines, each once.
     pub outputs: Vec<LineId>,
     /// The flip-flops, each as its own line and its data line.
@@ -32,13 +33,11 @@ pub struct Layout {
     /// The output lines and then the data lines of the flip-flops, each line once.
     pub observed: Vec<LineId>,
     /// By line the pins that read it, by gate and then by pin.
-    pub fanouts: Vec<Vec<PinRef>>,
+    pub fanouts: FlatLists<PinRef>,
     /// The levels of the lines.
     pub levels: Vec<u32>,
     /// The gates by level, then by number.
     pub order: Vec<GateId>,
-    /// The number of pins of all gates.
-    pub pin_total: u32,
     /// The greatest level of a line, 0 where there are no lines.
     pub greatest_level: u32,
     /// The length of the longest name, 0 where there are no lines.
@@ -99,7 +98,7 @@ impl Netlist {
     pub fn pin_total(&self) -> u32
         ensures { result ≡ pin_total self.now }
     {
-        self.layout.pin_total
+        self.layout.pins.item_count() as u32
     }
 
     /// The greatest level of a line, 0 where there are no lines.
@@ -130,7 +129,37 @@ impl Netlist {
         ensures pins { result.now ≡ pins_at self.now gate.0 }
         ensures in_circuit { HasLines self.now result.now }
     {
-        self.layout.pins[gate.0 as usize].as_slice()
+        self.layout.pins.list(gate.0 as usize)
+    }
+
+    /// The line of a gate: those of the sources come first.
+    pub fn line_of(&self, gate: GateId) -> LineId
+        requires { gate.0 < gate_count self.now }
+        ensures line { result ≡ record { 0 = gate_line self.now gate.0 } }
+        ensures in_circuit { result.0 < line_count self.now }
+    {
+        LineId(self.layout.sources + gate.0)
+    }
+
+    /// The gate whose line this is, and None if and only if it is a source.
+    pub fn gate_of(&self, line: LineId) -> Option<GateId>
+        requires { line.0 < line_count self.now }
+        ensures { MatchOption result (line.0 < source_count self.now)
+            (λ gate. (gate.0 < gate_count self.now) × (line.0 ≡ gate_line self.now gate.0)) }
+    {
+        let gate = line.0.checked_sub(self.layout.sources)?;
+        Some(GateId(gate))
+    }
+
+    /// The place of a pin among all pins, gate by gate and at each gate from pin 0 on. It is below the number of pins; different
+    /// pins have different places (`places_differ` in proofs/PinRow.antt).
+    pub fn pin_place(&self, pin: PinRef) -> usize
+        requires gate { pin.gate.0 < gate_count self.now }
+        requires pin { pin.pin < length (pins_at self.now pin.gate.0) }
+        ensures place { result ≡ pin_place_in self.now pin }
+        ensures within { result < pin_total self.now }
+    {
+        self.layout.pins.first_place(pin.gate.0 as usize) + pin.pin as usize
     }
 
     /// The pins that read a line, by gate and then by pin.
@@ -138,7 +167,7 @@ impl Netlist {
         requires { line.0 < line_count self.now }
         ensures { IsFanout self.now line.0 result.now }
     {
-        self.layout.fanouts[line.0 as usize].as_slice()
+        self.layout.fanouts.list(line.0 as usize)
     }
 
     /// All gates in rank order: by level, then by line number. So each gate stands behind those whose lines it reads.
@@ -189,7 +218,7 @@ impl Netlist {
         requires { line.0 < line_count self.now }
         ensures { result.now ≡ name_at self.now line.0 }
     {
-        self.layout.names.as_slice()[line.0 as usize].as_slice()
+        self.layout.names.list(line.0 as usize)
     }
 
     /// Looks a name up: gives the line that bears it, and None if and only if none does.
@@ -197,9 +226,22 @@ impl Netlist {
         ensures { MatchOption result (¬ Contains (line_names self.now) name.now)
             (λ line. (line.0 < line_count self.now) × (name_at self.now line.0 ≡ name.now)) }
     {
-        match self.layout.names.get_index_of(name) {
-            Some(line) => Some(LineId(line as u32)),
-            None => None,
+        let by_name = self.layout.by_name.as_slice();
+        match by_name.binary_search_by(|line| self.compare_name(*line, name)) {
+            Ok(at) => Some(by_name[at]),
+            Err(_) => None,
+        }
+    }
+
+    // How the name of a line compares with this one. A line past the last has no bytes.
+    fn compare_name(&self, line: LineId, name: &[u8]) -> Ordering
+        ensures { result ≡ compared (line_names self.now) name.now line }
+    {
+        let at = line.0 as usize;
+        if at < self.layout.names.len() {
+            self.layout.names.list(at).cmp(name)
+        } else {
+            b"".as_slice().cmp(name)
         }
     }
 }

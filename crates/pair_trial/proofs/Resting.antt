@@ -12,8 +12,8 @@ use Rattle.state_sets.specs.StateAlgebra.{StateAlgebra}
 use Rattle.state_sets.specs.FourStates.{four_states}
 use Rattle.state_sets.specs.Labellings.{label_at}
 use Rattle.state_sets.specs.Hulls.{IsNarrowingOf, IsAtRest}
-use Rattle.hull_laws.proofs.Hulls.{hull_once}
-use Rattle.narrowing.proofs.Sets.{only_this}
+use Rattle.state_laws.proofs.Hulls.{hull_once}
+use Rattle.hulls.proofs.Sets.{only_this}
 use Rattle.implication.specs.declared.assumption.Beginning.{Beginning}
 use Rattle.implication.specs.declared.assumption.Assumption.{Assumption}
 use Rattle.implication.specs.Assumptions.{entered_pins, MayUnder, IsHullUnder, ClosesUnder}

@@ -3,39 +3,36 @@ use Rattle.std.proofs.Common.{◌≡◌, ℕ, ◌<◌, ◌^◌, List, length, So
 use Rattle.std.specs.Prelude.{IsTrue, Bool}
 use Rattle.std.proofs.lemmas.List.{get_or_default}
 use Rattle.pd_base.specs.Pair.{Vectors}
-use Rattle.pd_base.specs.Route.{Route}
-use Rattle.pd_base.specs.declared.fault.Direction.{Direction}
-use Rattle.pd_base.specs.declared.fault.Kind.{Kind}
+use Rattle.pd_base.specs.Target.{Target}
 use Rattle.netlist.specs.Circuit.{Circuit, source_count}
 use Rattle.netlist.specs.Lawful.{IsCircuit}
 use Rattle.netlist.specs.Paths.{IsPrefix}
 use Rattle.netlist.specs.Conditions.{Meets}
-use Rattle.fan_in.specs.Marks.{is_marked}
+use Rattle.logic_values.specs.Marks.{is_marked}
 use Rattle.state_sets.specs.declared.state.StateSet.{StateSet}
 use Rattle.state_sets.specs.States.{AreWithin, no_states}
 use Rattle.state_sets.specs.FourStates.{four_states}
-use Rattle.hull_laws.proofs.Sets.{label_within}
+use Rattle.state_laws.proofs.Sets.{label_within}
 use Rattle.state_sets.specs.Labellings.{label_at}
-use Rattle.hull_laws.specs.declared.half.Half.{Half}
+use Rattle.state_laws.specs.declared.half.Half.{Half}
 use Rattle.implication.specs.declared.assumption.Beginning.{Beginning}
 use Rattle.implication.specs.Assumptions.{ClosesUnder, IsHullUnder}
-use Rattle.implication.specs.Clients.{Extends}
+use Rattle.implication.specs.Clients.{ExtendsStanding}
 use Rattle.implication.specs.Standing.{Standing, IsLabels}
 use Rattle.pair_trial.specs.Reading.{IsRead, least_of}
-use Rattle.pair_trial.specs.Nodes.{beginning_of, IsAtNode, IsNode, IsCone, AreOfSources, HasFailed, HasTwo}
+use Rattle.pair_trial.specs.Nodes.{beginning_of, StandsAtNode, AllowAsNode, IsCone, AreOfSources, HasFailed, HasTwo}
 use Rattle.pair_trial.specs.Pinning.{IsOnlyUnder, IsPinned}
 use Rattle.pair_trial.proofs.Resting.{labels_under, open_under}
 use Rattle.pair_trial.proofs.Nodes.{has_failed, has_two, walk_closes}
 
-module _ (standing : Standing) (circuit : IsCircuit standing.net) (kind : Kind) (path : Route) (is : IsPrefix standing.net path)
-    (direction : Direction) (node : IsAtNode path direction kind standing)
-    (marks : List Bool) (cone : IsCone standing.net path marks) (sets new_sets : List StateSet) (kept : sets ≡ new_sets)
+module _ (standing : Standing) (circuit : IsCircuit standing.net) (target : Target) (is : IsPrefix standing.net target.path)
+    (node : StandsAtNode target standing) (marks : List Bool) (cone : IsCone standing.net target.path marks) (sets new_sets : List StateSet) (kept : sets ≡ new_sets)
     (places : length sets ≡ source_count standing.net)
     (found : (hull : List StateSet) × IsLabels four_states standing hull × AreOfSources standing.net hull new_sets)
     (pair : Vectors) (read_sets : List StateSet) (read_marks : List Bool) (same_sets : read_sets ≡ sets) (same_marks : read_marks ≡ marks)
-    (read_so : IsRead read_sets read_marks pair) (no_test : Meets kind standing.net path direction pair → ⊥) where
+    (read_so : IsRead read_sets read_marks pair) (no_test : Meets standing.net target pair → ⊥) where
   abbrev begun : Beginning
-  begun = beginning_of path direction kind
+  begun = beginning_of target
 
   under : IsHullUnder four_states standing.net begun standing.assumptions found.0
   under = labels_under four_states standing begun found.0 node.beginning found.1
@@ -49,9 +46,9 @@ module _ (standing : Standing) (circuit : IsCircuit standing.net) (kind : Kind) 
   left_open : ClosesUnder four_states standing.net begun standing.assumptions → ⊥
   left_open = open_under four_states standing begun node.beginning node.left_open
 
-  pub tried_failed : (halves : List Half) → IsNode standing.net begun standing.assumptions halves
-      → HasFailed standing.net kind path direction halves sets
-  tried_failed halves at = has_failed standing.net kind path direction standing.assumptions node.entered halves at circuit is left_open
+  pub tried_failed : (halves : List Half) → AllowAsNode standing.net target standing.assumptions halves
+      → HasFailed standing.net target halves sets
+  tried_failed halves at = has_failed standing.net target standing.assumptions node.entered halves at circuit is left_open
       found.0 under marks cone sets places reads pair read no_test
 
   -- the sets are of the four states
@@ -61,13 +58,13 @@ module _ (standing : Standing) (circuit : IsCircuit standing.net) (kind : Kind) 
       subst P (sym (reads k (omega (arith, inside, places))) ∙ get_or_default sets k no_states d inside)
       (label_within four_states.count standing.net found.0 under.rest.labelling k)
 
-  module _ (below : (halves : List Half) × IsNode standing.net begun standing.assumptions halves) where
+  module _ (below : (halves : List Half) × AllowAsNode standing.net target standing.assumptions halves) where
     pub tried_two : HasTwo sets marks
-    tried_two = has_two standing.net kind path direction standing.assumptions node.entered below.0 below.1 circuit is left_open
+    tried_two = has_two standing.net target standing.assumptions node.entered below.0 below.1 circuit is left_open
         found.0 under marks cone sets places reads pair read no_test
 
     -- so the states of the pair can not be assumed without a conflict
-    pub tried_closes : (last : Standing) → Extends standing last → IsPinned standing last
+    pub tried_closes : (last : Standing) → ExtendsStanding standing last → IsPinned standing last
         → (walk_sets : List StateSet) (walk_marks : List Bool) → walk_sets ≡ sets → walk_marks ≡ marks
         → ((b : Beginning) → standing.beginning ≡ Some b → (source : ℕ) → source < length walk_sets
         → IsTrue (is_marked walk_marks source)
@@ -81,6 +78,6 @@ module _ (standing : Standing) (circuit : IsCircuit standing.net) (kind : Kind) 
         let R : Circuit → Type 0 = λ c. ClosesUnder four_states c begun last.assumptions in
         open_under four_states last begun (extends.beginning ∙ node.beginning) pinned.left_open
         (subst R (sym extends.net)
-        (walk_closes standing.net kind path direction standing.assumptions node.entered below.0 below.1 circuit is left_open
+        (walk_closes standing.net target standing.assumptions node.entered below.0 below.1 circuit is left_open
         found.0 under marks cone sets places reads pair read no_test last.assumptions pinned.entered
         (subst Q walked_marks (subst P walked_sets (only begun node.beginning)))))

@@ -4,7 +4,7 @@ use Rattle.std.specs.Prelude.{IsTrue, Bool}
 use Rattle.std.proofs.lemmas.Bool.{cases_lt}
 use Rattle.std.proofs.lemmas.List.{get_or-set_same, get_or-set_other}
 use Rattle.netlist.specs.Circuit.{Circuit}
-use Rattle.fan_in.specs.Marks.{is_marked}
+use Rattle.logic_values.specs.Marks.{is_marked}
 use Rattle.state_sets.specs.declared.state.StateSet.{StateSet}
 use Rattle.state_sets.specs.States.{no_states}
 use Rattle.state_sets.specs.FourStates.{four_states}

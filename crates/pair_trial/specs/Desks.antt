@@ -3,7 +3,7 @@ use Rattle.std.specs.Prelude.{◌≡◌, ◌<◌, ◌↔◌, ℕ, length, IsTrue
 use Rattle.pd_base.specs.Route.{Route}
 use Rattle.netlist.specs.Circuit.{Circuit, source_count, line_count}
 use Rattle.netlist.specs.Pins.{IsInFanIn}
-use Rattle.fan_in.specs.Marks.{is_marked}
+use Rattle.logic_values.specs.Marks.{is_marked}
 use Rattle.pair_trial.specs.declared.desk.Desk.{Desk}
 use Rattle.pair_trial.specs.Nodes.{IsCone}
 

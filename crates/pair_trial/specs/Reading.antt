@@ -3,7 +3,7 @@ use Rattle.std.specs.Prelude.{◌≡◌, ◌<◌, ◌==◌, ◌&&◌, ℕ, Bool,
 use Rattle.std.specs.Int.{bit_at}
 use Rattle.pd_base.specs.Pair.{Vectors}
 use Rattle.netlist.specs.Values.{bit_of}
-use Rattle.fan_in.specs.Marks.{is_marked}
+use Rattle.logic_values.specs.Marks.{is_marked}
 use Rattle.state_sets.specs.declared.state.State.{State}
 use Rattle.state_sets.specs.declared.state.StateSet.{StateSet}
 use Rattle.state_sets.specs.FourStates.{four_steady, four_last}

@@ -1,9 +1,7 @@
 -- What a pair has to be that a search gives as a test (this project's own).
 use Rattle.std.specs.Prelude.{◌≡◌, ℕ, ◌<◌, false, length}
 use Rattle.pd_base.specs.Pair.{Vectors}
-use Rattle.pd_base.specs.Route.{Route}
-use Rattle.pd_base.specs.declared.fault.Direction.{Direction}
-use Rattle.pd_base.specs.declared.fault.Kind.{Kind}
+use Rattle.pd_base.specs.Target.{Target}
 use Rattle.netlist.specs.Circuit.{Circuit, source_count}
 use Rattle.netlist.specs.Conditions.{Meets}
 use Rattle.netlist.specs.Values.{bit_of}
@@ -15,8 +13,8 @@ pub record IsZeroAt (pair : Vectors) (source : ℕ) : Type 0 where
   pub second : bit_of pair.second source ≡ false
 
 -- the pair has one bit per source in each vector, meets the conditions, and leaves the sources outside the support at 0
-pub record IsFitTest (c : Circuit) (kind : Kind) (path : Route) (direction : Direction) (pair : Vectors) : Type 0 where
+pub record IsFitTest (c : Circuit) (target : Target) (pair : Vectors) : Type 0 where
   pub first_fits : length pair.first ≡ source_count c
   pub second_fits : length pair.second ≡ source_count c
-  pub meets : Meets kind c path direction pair
-  pub zero_outside : (source : ℕ) → source < source_count c → ¬ IsInSupport c path source → IsZeroAt pair source
+  pub meets : Meets c target pair
+  pub zero_outside : (source : ℕ) → source < source_count c → ¬ IsInSupport c target.path source → IsZeroAt pair source

@@ -4,10 +4,9 @@ ghost use Rattle.std.specs.Prelude.{◌≡◌, ◌<◌, length, IfOk, IfSome, Is
 ghost use Rattle.netlist.specs.Circuit.{source_count, line_count};
 ghost use Rattle.implication.specs.Scopes.{standing};
 
-use fan_in::support;
 use hulls::half_states;
 use implication::{HasNetlist, Scope};
-use logic_values::{Steady, evaluate, steady};
+use logic_values::{Steady, evaluate, steady, support};
 use pd_base::{LineId, OutOfMemory, Pair};
 use state_sets::{FourStates, StateSet};
 use std::alloc::Global;
@@ -47,14 +46,14 @@ fn ruled_out<N: HasNetlist>(
 {
     let net = scope.net();
     for gate in net.order() {
-        let line = net.sources() + gate.0;
-        let place = line as usize;
+        let line = net.line_of(*gate);
+        let place = line.0 as usize;
         if !has_state(
-            scope.label(LineId(line)),
+            scope.label(line),
             last[place],
             steadiness[place].is_steady(),
         ) {
-            return Some(LineId(line));
+            return Some(line);
         }
     }
     None

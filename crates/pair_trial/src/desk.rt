@@ -5,8 +5,8 @@ ghost use Rattle.implication.specs.Scopes.{standing};
 ghost use Rattle.implication.specs.Standing.{end_of_scope};
 ghost use Rattle.pair_trial.specs.Desks.{IsDeskFor};
 
-use fan_in::support;
 use implication::{HasNetlist, Scope};
+use logic_values::support;
 use path_model::Scratch;
 use pd_base::OutOfMemory;
 use state_sets::{FourStates, StateSet};

@@ -1,6 +1,7 @@
 // A pair that is proposed at a node before it is split: by any means, since evaluation alone judges it. Here the sources of the support
 // are steady at 1 where their labels let them, and else in the least states that they have.
 ghost use Rattle.std.specs.Prelude.{◌≡◌, ◌<◌, ◌≤◌, length, IfOk, IfSome};
+ghost use Rattle.pd_base.specs.Target.{target_of};
 ghost use Rattle.netlist.specs.Circuit.{source_count, line_count};
 ghost use Rattle.netlist.specs.Lawful.{IsCircuit};
 ghost use Rattle.netlist.specs.Paths.{IsPrefix};
@@ -31,7 +32,7 @@ pub fn try_proposed<N: HasNetlist>(
     requires cone { IsCone (standing scope.now).net path.now marks.now }
     requires scratch { scratch.old ≡ line_count (standing scope.now).net }
     ensures scratch { scratch.new ≡ scratch.old }
-    ensures test { IfOk result (λ found. IfSome found (IsFitTest (standing scope.now).net kind path.now dir)) }
+    ensures test { IfOk result (λ found. IfSome found (IsFitTest (standing scope.now).net (target_of path.now dir kind))) }
 {
     let Some(pair) = propose(alloc, scope, marks)? else {
         return Ok(None);

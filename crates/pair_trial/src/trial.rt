@@ -1,11 +1,12 @@
 // The trial of a node: the pair is read off the labels of the support's sources, and tried by evaluation over the circuit. Where it
 // fails, its states are assumed one after another until a conflict comes, so that the scope counts it; evaluation alone decides.
 ghost use Rattle.std.specs.Prelude.{◌≡◌, ◌<◌, ◌≤◌, ◌^◌, ℕ, false, List, IsTrue, IfOk, IfSome, IfNone, None, Some, length};
+ghost use Rattle.pd_base.specs.Target.{target_of};
 ghost use Rattle.netlist.specs.Circuit.{source_count};
 ghost use Rattle.netlist.specs.Lawful.{IsCircuit};
 ghost use Rattle.netlist.specs.Paths.{IsPrefix};
-ghost use Rattle.fan_in.specs.Marks.{is_marked};
-ghost use Rattle.hull_laws.specs.declared.half.Half.{Half};
+ghost use Rattle.logic_values.specs.Marks.{is_marked};
+ghost use Rattle.state_laws.specs.declared.half.Half.{Half};
 ghost use Rattle.state_sets.specs.States.{AreWithin};
 ghost use Rattle.state_sets.specs.FourStates.{four_states};
 ghost use Rattle.state_sets.specs.Labellings.{label_at};
@@ -14,9 +15,9 @@ ghost use Rattle.implication.specs.declared.assumption.Beginning.{Beginning};
 ghost use Rattle.implication.specs.Standing.{IsFree, IsLabels, IsOpenIn};
 ghost use Rattle.implication.specs.Moves.{risen};
 ghost use Rattle.implication.specs.Scopes.{IsSameScope, standing};
-ghost use Rattle.implication.specs.Clients.{IsRestored, Extends};
+ghost use Rattle.implication.specs.Clients.{IsRestored, ExtendsStanding};
 ghost use Rattle.pair_trial.specs.Reading.{least_of};
-ghost use Rattle.pair_trial.specs.Nodes.{beginning_of, IsAtNode, IsNode, AreOfSources, HasFailed, HasTwo};
+ghost use Rattle.pair_trial.specs.Nodes.{StandsAtNode, AllowAsNode, AreOfSources, HasFailed, HasTwo};
 ghost use Rattle.pair_trial.specs.Pinning.{IsOnlyUnder, IsPinned};
 ghost use Rattle.pair_trial.specs.Tests.{IsFitTest};
 ghost use Rattle.pair_trial.specs.Desks.{IsDesk};
@@ -45,17 +46,17 @@ pub fn try_pair<N: HasNetlist>(
     desk: &mut Desk,
 ) -> Result<Option<Pair>, OutOfMemory>
     requires prefix { IsPrefix (standing scope.old).net path.now }
-    requires node { IsAtNode path.now dir kind (standing scope.old) }
-    requires below { (halves : List Half) × IsNode (standing scope.old).net (beginning_of path.now dir kind) (standing scope.old).assumptions halves }
+    requires node { StandsAtNode (target_of path.now dir kind) (standing scope.old) }
+    requires below { (halves : List Half) × AllowAsNode (standing scope.old).net (target_of path.now dir kind) (standing scope.old).assumptions halves }
     requires desk { IsDesk (standing scope.old).net path.now desk.old }
     ensures desk { IsDesk (standing scope.old).net path.now desk.new }
     ensures scope { IsSameScope scope.old scope.new }
     ensures restored { IsRestored (standing scope.old) (standing scope.new) }
-    ensures test { IfOk result (λ found. IfSome found (IsFitTest (standing scope.old).net kind path.now dir)) }
+    ensures test { IfOk result (λ found. IfSome found (IsFitTest (standing scope.old).net (target_of path.now dir kind))) }
     ensures counted { IfOk result (λ found. IfNone found (risen (standing scope.old).closings ≤ (standing scope.new).closings)) }
     ensures failed { IfOk result (λ found. IfNone found ((halves : List Half)
-        → IsNode (standing scope.old).net (beginning_of path.now dir kind) (standing scope.old).assumptions halves
-        → HasFailed (standing scope.old).net kind path.now dir halves desk.new.sets.items)) }
+        → AllowAsNode (standing scope.old).net (target_of path.now dir kind) (standing scope.old).assumptions halves
+        → HasFailed (standing scope.old).net (target_of path.now dir kind) halves desk.new.sets.items)) }
     ensures few { source_count (standing scope.old).net < 2 ^ 32 }
     ensures within { IfOk result (λ found. IfNone found (AreWithin 4 desk.new.sets.items)) }
     ensures two { IfOk result (λ found. IfNone found (HasTwo desk.new.sets.items desk.new.marks.items)) }
@@ -110,7 +111,7 @@ fn walk<N: HasNetlist>(
     requires free { IsFree (standing scope.old) }
     requires left_open { IsOpenIn four_states (standing scope.old) }
     ensures scope { IsSameScope scope.old scope.new }
-    ensures extends { Extends (standing scope.old) (standing scope.new) }
+    ensures extends { ExtendsStanding (standing scope.old) (standing scope.new) }
     ensures counted { IsTrue result → risen (standing scope.old).closings ≤ (standing scope.new).closings }
     ensures pinned { result ≡ false → IsPinned (standing scope.old) (standing scope.new) }
     ensures only { result ≡ false → (begun : Beginning) → (standing scope.old).beginning ≡ Some begun → (source : ℕ)
@@ -136,7 +137,7 @@ fn pin_marked<N: HasNetlist>(
     requires free { IsFree (standing scope.old) }
     requires left_open { IsOpenIn four_states (standing scope.old) }
     ensures scope { IsSameScope scope.old scope.new }
-    ensures extends { Extends (standing scope.old) (standing scope.new) }
+    ensures extends { ExtendsStanding (standing scope.old) (standing scope.new) }
     ensures counted { IsTrue result → risen (standing scope.old).closings ≤ (standing scope.new).closings }
     ensures pinned { result ≡ false → IsPinned (standing scope.old) (standing scope.new) }
     ensures only { result ≡ false → (begun : Beginning) → (standing scope.old).beginning ≡ Some begun → (source : ℕ)
@@ -162,7 +163,7 @@ fn pin_down<N: HasNetlist>(
     requires free { IsFree (standing scope.old) }
     requires left_open { IsOpenIn four_states (standing scope.old) }
     ensures scope { IsSameScope scope.old scope.new }
-    ensures extends { Extends (standing scope.old) (standing scope.new) }
+    ensures extends { ExtendsStanding (standing scope.old) (standing scope.new) }
     ensures counted { IsTrue result → risen (standing scope.old).closings ≤ (standing scope.new).closings }
     ensures pinned { result ≡ false → IsPinned (standing scope.old) (standing scope.new) }
     ensures only { result ≡ false → IsTrue marked → (begun : Beginning) → (standing scope.old).beginning ≡ Some begun

@@ -93,10 +93,10 @@ z_is_not_steady : is_steady hazard rising 4 ≡ false
 z_is_not_steady = refl
 
 -- so no robust test goes through y beside z, and a nonrobust one does
-no_robust_side : ¬ SidesAllowed Robust hazard rising 1 (pin 2 0)
+no_robust_side : ¬ SidesAllowed hazard Robust rising 1 (pin 2 0)
 no_robust_side allowed = true≢false (sym (allowed 1 (line 4) (record { other = omega arith; reads = refl })))
 
-nonrobust_side : SidesAllowed Nonrobust hazard rising 1 (pin 2 0)
+nonrobust_side : SidesAllowed hazard Nonrobust rising 1 (pin 2 0)
 nonrobust_side pin side is = tt
 
 -- a and b fall
@@ -104,7 +104,7 @@ abbrev falling : Vectors
 falling = record { first = true ∷ true ∷ false ∷ []; second = false ∷ false ∷ false ∷ [] }
 
 -- beside a side on the on-path line nothing falls robustly: that side is not steady
-no_fall_on_two_pins : ¬ SidesAllowed Robust hazard falling 1 (pin 3 0)
+no_fall_on_two_pins : ¬ SidesAllowed hazard Robust falling 1 (pin 3 0)
 no_fall_on_two_pins allowed = true≢false (sym (allowed 1 (line 1) side_on_same_line).0)
 
 -- the number of a line that was found, and one of no line where none was

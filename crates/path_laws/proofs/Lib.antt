@@ -11,3 +11,22 @@ pub mod RobustPath
 pub mod StepCounts
 pub mod Steadiness
 mod ThreeValues
+pub mod Ordered
+pub mod Appending
+pub mod Arcs
+pub mod Heads
+pub mod Moving
+pub mod Taking
+pub mod Taken
+pub mod Choosing
+pub mod Stepping
+pub mod Growing
+pub mod LastEntry
+pub mod FirstTurns
+pub mod Unfolding
+pub mod FirstWalks
+pub mod ArcPins
+pub mod WalkOrder
+pub mod FirstPaths
+pub mod ShortWalks
+pub mod WalkPaths

@@ -10,6 +10,7 @@ use Rattle.pd_base.specs.declared.fault.Kind.{Kind}
 use Rattle.pd_base.specs.declared.fault.Kind.TheVariants.{Robust, Nonrobust}
 use Rattle.pd_base.specs.Pair.{Vectors}
 use Rattle.pd_base.specs.Route.{Route}
+use Rattle.pd_base.specs.Target.{target_of}
 use Rattle.netlist.specs.declared.kind.GateKind.{GateKind}
 use Rattle.netlist.specs.declared.kind.GateKind.TheVariants.{And, Nand, Or, Nor, Xor, Xnor, Not, Buff}
 use Rattle.netlist.specs.Circuit.{Circuit, gate_line, kind_at}
@@ -45,8 +46,8 @@ nonrobust_side Not on_path final steady allowed = tt
 nonrobust_side Buff on_path final steady allowed = tt
 
 -- and so with the sides of all steps
-nonrobust_sides : (c : Circuit) (pair : Vectors) (line : ℕ) (steps : List PinRef) → SidesMeet Robust c pair line steps
-    → SidesMeet Nonrobust c pair line steps
+nonrobust_sides : (c : Circuit) (pair : Vectors) (line : ℕ) (steps : List PinRef) → SidesMeet c Robust pair line steps
+    → SidesMeet c Nonrobust pair line steps
 nonrobust_sides c pair line [] meet = tt
 nonrobust_sides c pair line (step ∷ steps) meet = (
   λ pin side is.
@@ -57,7 +58,7 @@ nonrobust_sides c pair line (step ∷ steps) meet = (
 
 -- a robust test is a nonrobust one
 pub robust_is_nonrobust : (c : Circuit) (path : Route) (direction : Direction) (pair : Vectors)
-    → Meets Robust c path direction pair → Meets Nonrobust c path direction pair
+    → Meets c (target_of path direction Robust) pair → Meets c (target_of path direction Nonrobust) pair
 robust_is_nonrobust c path direction pair meets = record {
   launches = meets.launches;
   sides = nonrobust_sides c pair path.source.0 path.steps meets.sides;
@@ -65,7 +66,7 @@ robust_is_nonrobust c path direction pair meets = record {
 
 -- so a test of either kind is a nonrobust one
 pub test_is_nonrobust : (kind : Kind) (c : Circuit) (path : Route) (direction : Direction) (pair : Vectors)
-    → Meets kind c path direction pair → Meets Nonrobust c path direction pair
+    → Meets c (target_of path direction kind) pair → Meets c (target_of path direction Nonrobust) pair
 test_is_nonrobust Robust c path direction pair meets = robust_is_nonrobust c path direction pair meets
 test_is_nonrobust Nonrobust c path direction pair meets = meets
 
@@ -105,7 +106,7 @@ module _ (c : Circuit) (pair : Vectors) (delays : Delays) where
   module _ (is : IsCircuit c) where
     -- a line that has the other value a pin's delay earlier hands it on through a step whose sides have settled
     settled_step : (time : ℤ) (step : PinRef) (line : ℕ) → IsPinOn c step line
-        → SidesAllowed Nonrobust c pair line step
+        → SidesAllowed c Nonrobust pair line step
         → AreSettledSides c pair delays time step → IsOther line (time -ℤ pos (delays step))
         → IsOther (gate_line c step.gate.0) time
     settled_step time step line on allowed settled other =
@@ -118,7 +119,7 @@ module _ (c : Circuit) (pair : Vectors) (delays : Delays) where
 
     -- and through steps one behind another, where it has it earlier by their delays in all
     settled_along : (time : ℤ) (line : ℕ) (steps : List PinRef) → Connects c line steps
-        → SidesMeet Nonrobust c pair line steps
+        → SidesMeet c Nonrobust pair line steps
         → AreSettled c pair delays time steps → IsOther line (time -ℤ pos (sum_by delays steps))
         → IsOther (line_after c line steps) time
     settled_along time line [] connects meet settled other = subst (IsOther line) (back_none time) other
@@ -145,7 +146,7 @@ late_front delays steps rest time late = omega (arith, ints, sum_by-append delay
 
 module _ (c : Circuit) (is : IsCircuit c) (path : Route) (direction : Direction) (pair : Vectors) where
   -- a nonrobust test shows the path late under every delay assignment under which it is late and its sides have settled
-  pub nonrobust_detects : IsPrefix c path → Meets Nonrobust c path direction pair → DetectsSettled c path pair
+  pub nonrobust_detects : IsPrefix c path → Meets c (target_of path direction Nonrobust) pair → DetectsSettled c path pair
   nonrobust_detects prefix meets delays time late settled =
       let source = path.source.0 in
       let length = sum_by delays path.steps in
@@ -156,7 +157,7 @@ module _ (c : Circuit) (is : IsCircuit c) (path : Route) (direction : Direction)
 
 -- and then it shows each prefix wrong, read back from the time of sampling by the delays of the steps behind it
 pub nonrobust_detects_along : (c : Circuit) → IsCircuit c → (path : Route) (direction : Direction) (pair : Vectors)
-    → IsPrefix c path → Meets Nonrobust c path direction pair → DetectsSettledAlong c path pair
+    → IsPrefix c path → Meets c (target_of path direction Nonrobust) pair → DetectsSettledAlong c path pair
 nonrobust_detects_along c is path direction pair whole meets delays time late settled prefix of =
     nonrobust_detects c is prefix direction pair (prefix_is_prefix c prefix path of whole)
     (prefix_meets c prefix path of Nonrobust direction pair meets) delays (time -ℤ pos (sum_by delays of.rest))

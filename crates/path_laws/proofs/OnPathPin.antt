@@ -10,8 +10,9 @@ use Rattle.netlist.specs.declared.kind.GateKind.{GateKind}
 use Rattle.netlist.specs.declared.kind.GateKind.TheVariants.{And, Nand, Or, Nor, Xor, Xnor, Not, Buff}
 use Rattle.netlist.specs.Lawful.{IsFanIn}
 use Rattle.netlist.specs.Values.{all_true, any_true, parity, only_value, gate_value}
-use Rattle.netlist.specs.Conditions.{SideCondition, side_condition}
-use Rattle.netlist.specs.Conditions.SideCondition.{Free, EndsAt, SteadyAt, AnySteady}
+use Rattle.netlist.specs.declared.side_conditions.SideCondition.{SideCondition}
+use Rattle.netlist.specs.Conditions.{side_condition}
+use Rattle.netlist.specs.declared.side_conditions.SideCondition.TheVariants.{Free, EndsAt, SteadyAt, AnySteady}
 
 -- One of two values of a side pin, and its final value, are held where this is asked: a value that is asked for is the final
 -- one, and a steady side has it as the other value too.

@@ -11,8 +11,9 @@ use Rattle.netlist.specs.Values.{gate_value, value}
 use Rattle.netlist.specs.Steadiness.{is_steady, steady_value, IsSteadyAt}
 use Rattle.netlist.specs.Pins.{IsPinOn}
 use Rattle.netlist.specs.Paths.{IsSide}
-use Rattle.netlist.specs.Conditions.{Allows, SideCondition, SidesAllowed, side_condition}
-use Rattle.netlist.specs.Conditions.SideCondition.{Free, EndsAt, SteadyAt, AnySteady}
+use Rattle.netlist.specs.declared.side_conditions.SideCondition.{SideCondition}
+use Rattle.netlist.specs.declared.side_conditions.SideCondition.TheVariants.{Free, EndsAt, SteadyAt, AnySteady}
+use Rattle.netlist.specs.Conditions.{Allows, SidesAllowed, side_condition}
 use Rattle.path_laws.proofs.Steadiness.{steady_second}
 use Rattle.path_laws.proofs.OnPathPin.{Held, IsHeld, gate_differs}
 use Rattle.path_laws.proofs.PinPlaces.{at_pins, length-at_pins, differ_at_pins}
@@ -64,7 +65,7 @@ module _ (c : Circuit) (pair : Vectors) where
   -- a robust test holds the sides of a step, where what their pins show is constant on steady lines
   pub robust_sides_held : (step : PinRef) (line : ℕ) (shown : ℕ → LineId → Bool)
       → ((pin : ℕ) (side : LineId) (bit : Bool) → IsSteadyAt c pair side.0 bit → shown pin side ≡ bit)
-      → SidesAllowed Robust c pair line step → SidesHeld c pair step (value c pair.second line) shown
+      → SidesAllowed c Robust pair line step → SidesHeld c pair step (value c pair.second line) shown
   robust_sides_held step line shown same allowed pin side is =
       allowed_is_held (side_condition Robust (kind_at c step.gate.0) (value c pair.second line)) side.0
       (shown pin side) (same pin side) (allowed pin side is)

@@ -9,6 +9,7 @@ use Rattle.pd_base.specs.declared.fault.Direction.{Direction}
 use Rattle.pd_base.specs.declared.fault.Kind.{Kind}
 use Rattle.pd_base.specs.Pair.{Vectors}
 use Rattle.pd_base.specs.Route.{Route}
+use Rattle.pd_base.specs.Target.{target_of}
 use Rattle.netlist.specs.Circuit.{Circuit, source_count, gate_line}
 use Rattle.netlist.specs.Paths.{Connects, IsPrefix, IsPrefixOf, prefix_of}
 use Rattle.netlist.specs.Conditions.{Launches, SidesMeet, Meets}
@@ -40,7 +41,7 @@ connects_front c line (step ∷ steps) rest connects =
 
 -- sides of all steps that meet the conditions meet them at the first ones
 sides_front : (kind : Kind) (c : Circuit) (pair : Vectors) (line : ℕ) (steps rest : List PinRef)
-    → SidesMeet kind c pair line (steps ++ rest) → SidesMeet kind c pair line steps
+    → SidesMeet c kind pair line (steps ++ rest) → SidesMeet c kind pair line steps
 sides_front kind c pair line [] rest meet = tt
 sides_front kind c pair line (step ∷ steps) rest meet =
     (meet.0, sides_front kind c pair (gate_line c step.gate.0) steps rest meet.1)
@@ -59,9 +60,9 @@ module _ (c : Circuit) (prefix path : Route) (of : IsPrefixOf prefix path) where
   }
 
   -- the conditions of both kinds hold for each prefix
-  pub prefix_meets : (kind : Kind) (direction : Direction) (pair : Vectors) → Meets kind c path direction pair
-      → Meets kind c prefix direction pair
+  pub prefix_meets : (kind : Kind) (direction : Direction) (pair : Vectors) → Meets c (target_of path direction kind) pair
+      → Meets c (target_of prefix direction kind) pair
   prefix_meets kind direction pair meets = record {
     launches = subst (λ (source : LineId). Launches pair direction source.0) (sym of.source) meets.launches;
-    sides = sides_front kind c pair prefix.source.0 prefix.steps of.rest (at_prefix (SidesMeet kind c pair) meets.sides);
+    sides = sides_front kind c pair prefix.source.0 prefix.steps of.rest (at_prefix (SidesMeet c kind pair) meets.sides);
   }

@@ -10,6 +10,7 @@ use Rattle.pd_base.specs.declared.fault.Direction.{Direction}
 use Rattle.pd_base.specs.declared.fault.Kind.TheVariants.{Robust}
 use Rattle.pd_base.specs.Pair.{Vectors}
 use Rattle.pd_base.specs.Route.{Route}
+use Rattle.pd_base.specs.Target.{target_of}
 use Rattle.netlist.specs.Circuit.{Circuit, source_count, gate_line}
 use Rattle.netlist.specs.Lawful.{IsCircuit}
 use Rattle.netlist.specs.Values.{bit_of, value}
@@ -67,7 +68,7 @@ module _ (c : Circuit) (pair : Vectors) where
 
 module _ (c : Circuit) (is : IsCircuit c) (pair : Vectors) where
   -- where a line's values under the two vectors differ, so do those of the gate behind a robust step on it
-  first_step : (step : PinRef) (line : ℕ) → IsPinOn c step line → SidesAllowed Robust c pair line step
+  first_step : (step : PinRef) (line : ℕ) → IsPinOn c step line → SidesAllowed c Robust pair line step
       → value c pair.first line ≡ not (value c pair.second line)
       → value c pair.first (gate_line c step.gate.0) ≡ not (value c pair.second (gate_line c step.gate.0))
   first_step step line on allowed differs =
@@ -77,7 +78,7 @@ module _ (c : Circuit) (is : IsCircuit c) (pair : Vectors) where
       (robust_sides_held c pair step line shown (λ pin side bit steady. steady_first c pair side.0 bit steady) allowed)
 
   -- and those of the last line of robust steps from it
-  first_along : (line : ℕ) (steps : List PinRef) → Connects c line steps → SidesMeet Robust c pair line steps
+  first_along : (line : ℕ) (steps : List PinRef) → Connects c line steps → SidesMeet c Robust pair line steps
       → value c pair.first line ≡ not (value c pair.second line)
       → value c pair.first (line_after c line steps) ≡ not (value c pair.second (line_after c line steps))
   first_along line [] connects meet differs = differs
@@ -86,7 +87,7 @@ module _ (c : Circuit) (is : IsCircuit c) (pair : Vectors) where
 
 -- under the first vector the last line of a robust path has the other value than under the second
 pub robust_first : (c : Circuit) → IsCircuit c → (path : Route) (direction : Direction) (pair : Vectors) → IsPrefix c path
-    → Meets Robust c path direction pair → value c pair.first (end_of c path) ≡ not (value c pair.second (end_of c path))
+    → Meets c (target_of path direction Robust) pair → value c pair.first (end_of c path) ≡ not (value c pair.second (end_of c path))
 robust_first c is path direction pair prefix meets =
     first_along c is pair path.source.0 path.steps prefix.connects meets.sides
     (launched_differs c pair direction path.source.0 prefix.source meets.launches)
@@ -95,7 +96,7 @@ module _ (copy : PinCopy) (keeps : KeepsConstants copy) (shift : Shift) (postpon
     (c : Circuit) (is : IsCircuit c) where
   -- a line that has the other value below a time hands it on through a robust step, for as long again as the pin takes
   wave_step : (pair : Vectors) (step : PinRef) (line : ℕ) (bound : ℤ) → IsPinOn c step line
-      → SidesAllowed Robust c pair line step
+      → SidesAllowed c Robust pair line step
       → IsOtherBelow copy c pair line bound
       → IsOtherBelow copy c pair (gate_line c step.gate.0) (bound +ℤ pos (shift step (value c pair.second line)))
   wave_step pair step line bound on allowed before time within =
@@ -114,7 +115,7 @@ module _ (copy : PinCopy) (keeps : KeepsConstants copy) (shift : Shift) (postpon
 
   -- and through robust steps one behind another, for as long as their pins take in all
   wave_along : (pair : Vectors) (line : ℕ) (steps : List PinRef) (bound : ℤ) → Connects c line steps
-      → SidesMeet Robust c pair line steps
+      → SidesMeet c Robust pair line steps
       → IsOtherBelow copy c pair line bound
       → IsOtherBelow copy c pair (line_after c line steps) (bound +ℤ pos (shift_along shift c pair line steps))
   wave_along pair line [] bound connects meet before time within = before time (omega (arith, ints))
@@ -126,7 +127,7 @@ module _ (copy : PinCopy) (keeps : KeepsConstants copy) (shift : Shift) (postpon
 
   -- at each time below what the steps' pins take in all, the path's last line has its value under the first vector
   pub robust_unchanged : (path : Route) (direction : Direction) (pair : Vectors) → IsPrefix c path
-      → Meets Robust c path direction pair
+      → Meets c (target_of path direction Robust) pair
       → (time : ℤ) → time <ℤ pos (shift_along shift c pair path.source.0 path.steps)
       → wave_under copy c pair (end_of c path) time ≡ value c pair.first (end_of c path)
   robust_unchanged path direction pair prefix meets time within =
@@ -144,7 +145,7 @@ delay_along delays c pair line (step ∷ steps) =
     ∙ sym (sum_by-cons delays step steps)
 
 module _ (c : Circuit) (is : IsCircuit c) (path : Route) (direction : Direction) (pair : Vectors) (prefix : IsPrefix c path)
-    (meets : Meets Robust c path direction pair) where
+    (meets : Meets c (target_of path direction Robust) pair) where
   -- under each delay assignment the path's last line changes, and no earlier than after the path's length
   changes_no_earlier : (delays : Delays) → ChangesNoEarlier c path pair delays
   changes_no_earlier delays = record {
@@ -158,7 +159,7 @@ module _ (c : Circuit) (is : IsCircuit c) (path : Route) (direction : Direction)
 -- A robust test holds each prefix of its path back: below the prefix's length its last line has its value under the first
 -- vector, which is not the one under the second.
 pub robust_holds_back : (c : Circuit) → IsCircuit c → (path : Route) (direction : Direction) (pair : Vectors)
-    → IsPrefix c path → Meets Robust c path direction pair → HoldsBack c path pair
+    → IsPrefix c path → Meets c (target_of path direction Robust) pair → HoldsBack c path pair
 robust_holds_back c is path direction pair whole meets delays prefix of =
     changes_no_earlier c is prefix direction pair (prefix_is_prefix c prefix path of whole)
     (prefix_meets c prefix path of Robust direction pair meets) delays
@@ -171,6 +172,6 @@ held_back_detects c path pair holds delays time late same =
 
 -- a robust test shows the path late under every delay assignment under which it is late
 pub robust_detects : (c : Circuit) → IsCircuit c → (path : Route) (direction : Direction) (pair : Vectors)
-    → IsPrefix c path → Meets Robust c path direction pair → Detects c path pair
+    → IsPrefix c path → Meets c (target_of path direction Robust) pair → Detects c path pair
 robust_detects c is path direction pair prefix meets =
     held_back_detects c path pair (robust_holds_back c is path direction pair prefix meets)

@@ -1,4 +1,9 @@
-//! The laws of the definitions of netlist: what is steady, which paths a robust and a nonrobust test show late, and why.
-//! Stands on pd_base and netlist, and has no code.
-//! The layers above cite `robust_detects`, `nonrobust_detects` and the lemmas on the values of gates (proofs/).
+//! The laws of paths: what robust and nonrobust tests show late, and why; and how the paths of a circuit are the walks of a
+//! graph with delays, whose first ones are listed through best walks that share their ends.
+//! Stands on pd_base and netlist; all its code is the entry as which a walk is kept.
+//! The layers above cite `robust_detects`, `nonrobust_detects`, the lemmas on values of gates, and `first_paths_from_walks`.
 #![tactic(auto)]
+
+mod entry;
+
+pub use entry::{NONE, WalkEntry};

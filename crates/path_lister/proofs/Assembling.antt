@@ -8,9 +8,9 @@ use Rattle.netlist.specs.Circuit.{Circuit, gate_line, line_count, source_count}
 use Rattle.netlist.specs.Lawful.{IsCircuit}
 use Rattle.netlist.specs.Pins.{pin_total}
 use Rattle.netlist.specs.Waves.{Delays}
-use Rattle.walk_laws.specs.Graph.{Graph, IsArcOf, IsGraph, arc_count, end_of, first_arc, node_count}
-use Rattle.path_walks.specs.CircuitGraph.{IsGraphOf, IsNodeOf, node_of, pin_of}
-use Rattle.path_walks.proofs.ArcPins.{goes_through, source_end}
+use Rattle.path_laws.specs.Graph.{Graph, IsArcOf, IsGraph, arc_count, arc_end, first_arc, node_count}
+use Rattle.path_laws.specs.CircuitGraph.{IsGraphOf, IsNodeOf, node_of, arc_pin}
+use Rattle.path_laws.proofs.ArcPins.{goes_through, source_end}
 use Rattle.path_lister.specs.Ranking.{AreNodes, AreNodesWithin, IsRanking}
 use Rattle.path_lister.specs.Rows.{AreRows}
 use Rattle.path_lister.specs.Stops.{AreStops}
@@ -93,15 +93,15 @@ module _ (c : Circuit) (circuit : IsCircuit c) (delays : Delays) (lines : List L
       (omega (arith, are.rows.begins)) (λ line within. (line_node line within).arcs.rises)
 
   -- each arc leads to a greater node
-  onward : (node arc : ℕ) → IsArcOf g node arc → (node < end_of g arc) × (end_of g arc < node_count g)
+  onward : (node arc : ℕ) → IsArcOf g node arc → (node < arc_end g arc) × (arc_end g arc < node_count g)
   onward node arc of =
-      at_nodes (λ node. IsArcOf g node arc → (node < end_of g arc) × (end_of g arc < node_count g)) at_root at_line node
+      at_nodes (λ node. IsArcOf g node arc → (node < arc_end g arc) × (arc_end g arc < node_count g)) at_root at_line node
       of.in_graph of
     where
       inside : AreNodesWithin c nodes
       inside = nodes_within c lines are.ranking nodes are.are_nodes
 
-      at_root : IsArcOf g 0 arc → (0 < end_of g arc) × (end_of g arc < node_count g)
+      at_root : IsArcOf g 0 arc → (0 < arc_end g arc) × (arc_end g arc < node_count g)
       at_root first =
           let source : arc < source_count c = omega (arith, first.below, are.rows.sources) in
           let within : arc < line_count c = omega (arith, source) in
@@ -111,19 +111,19 @@ module _ (c : Circuit) (circuit : IsCircuit c) (delays : Delays) (lines : List L
           )
 
       at_line : (line : ℕ) → line < line_count c → IsArcOf g (node_of nodes line) arc
-          → (node_of nodes line < end_of g arc) × (end_of g arc < node_count g)
+          → (node_of nodes line < arc_end g arc) × (arc_end g arc < node_count g)
       at_line line within own =
           let through = goes_through c delays nodes pins g is_graph_of line arc within own in
-          let gate_within : gate_line c (pin_of c pins arc).gate.0 < line_count c = omega (arith, through.on.in_circuit) in (
+          let gate_within : gate_line c (arc_pin c pins arc).gate.0 < line_count c = omega (arith, through.on.in_circuit) in (
             omega (
               arith,
               through.leads,
-              nodes_rise c lines are.ranking nodes are.are_nodes circuit (pin_of c pins arc) line within through.on,
+              nodes_rise c lines are.ranking nodes are.are_nodes circuit (arc_pin c pins arc) line within through.on,
             ),
             omega (
               arith,
               through.leads,
-              inside.within (gate_line c (pin_of c pins arc).gate.0) gate_within,
+              inside.within (gate_line c (arc_pin c pins arc).gate.0) gate_within,
               are.stopping.node_each,
             ),
           )

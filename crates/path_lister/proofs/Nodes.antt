@@ -7,7 +7,7 @@ use Rattle.pd_base.specs.declared.ids.PinRef.{PinRef}
 use Rattle.netlist.specs.Circuit.{Circuit, gate_line, line_count}
 use Rattle.netlist.specs.Lawful.{IsCircuit}
 use Rattle.netlist.specs.Pins.{IsPinOn}
-use Rattle.path_walks.specs.CircuitGraph.{node_of}
+use Rattle.path_laws.specs.CircuitGraph.{node_of}
 use Rattle.path_lister.specs.Ranking.{AreNodes, AreNodesWithin, IsRanking, line_in}
 use Rattle.path_lister.proofs.Ranked.{line_of, numbers_differ, place_of_line, ranking_length, stands_behind}
 

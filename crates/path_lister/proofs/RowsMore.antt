@@ -1,19 +1,17 @@
 -- The row of arcs grows by the fan-out of one line at a time, and never has more arcs than there are sources and pins.
-use Rattle.std.proofs.Common.{◌≡◌, ◌≢◌, ⊎_elim, inl, ℕ, ◌+◌, ◌-◌, ◌<◌, ◌≤◌, List, [], ◌∷◌, ◌++◌, length, map, get_or, take, drop, refl, sym, ap, subst, subst₂, ◌∙◌, arith, length-append, length-drop}
-use Rattle.std.specs.List.{All, AllPairs, range_with_len}
+use Rattle.std.proofs.Common.{◌≡◌, ◌≢◌, ⊎_elim, inl, ℕ, ◌+◌, ◌-◌, ◌<◌, ◌≤◌, List, [], ◌∷◌, ◌++◌, length, get_or, take, drop, refl, sym, ap, subst, subst₂, ◌∙◌, arith, length-append, length-drop}
+use Rattle.std.specs.List.{All, AllPairs}
 use Rattle.std.proofs.lemmas.Bool.{cases_lt}
 use Rattle.std.proofs.lemmas.List.{drop-append-le, drop_at, get_or-take, get_or_append_left, get_or_default, get_or_push, length-take-le, length_push, take-append-le, take_all, take_more}
-use Rattle.std.proofs.lemmas.List.FromFn.{get_or-map-range_with_len, length-map-range_with_len}
 use Rattle.std.proofs.lemmas.List.Elements.{All-append, All-nil, All-weaker, Contains-append_left, Contains-push, All-contains}
 use Rattle.std.proofs.lemmas.Option.{same_Some}
 use Rattle.pd_base.specs.declared.ids.LineId.{LineId}
 use Rattle.pd_base.specs.declared.ids.PinRef.{PinRef}
-use Rattle.netlist.specs.Circuit.{Circuit, gate_count, source_count}
-use Rattle.netlist.specs.Pins.{IsFanout, IsPinOn, pin_total}
-use Rattle.delay_annotation.specs.Places.{AreFirsts, IsPin, place_of, pins_before}
-use Rattle.delay_annotation.proofs.PinRow.{pin_on_line, place_within, places_differ}
-use Rattle.path_walks.specs.CircuitGraph.{AreArcsOf, no_pin}
-use Rattle.path_walks.proofs.WalkOrder.{no_pin_behind}
+use Rattle.netlist.specs.Circuit.{Circuit, source_count}
+use Rattle.netlist.specs.Pins.{IsFanout, IsPin, IsPinOn, pin_place_in, pin_total}
+use Rattle.netlist.proofs.PinRow.{pin_on_line, place_within, places_differ}
+use Rattle.path_laws.specs.CircuitGraph.{AreArcsOf, no_pin}
+use Rattle.path_laws.proofs.WalkOrder.{no_pin_behind}
 use Rattle.path_lister.specs.Ranking.{IsRanking, line_in}
 use Rattle.path_lister.specs.Rows.{AreRows, ReadsOneOf}
 use Rattle.path_lister.proofs.Counting.{few_by_number}
@@ -28,20 +26,11 @@ module _ (c : Circuit) where
   -- pins of the circuit that differ are no more than its pins
   pub few_pins : (pins : List PinRef) → AllPairs (λ a b. a ≢ b) pins → All (IsPin c) pins → length pins ≤ pin_total c
   few_pins pins differ are_pins =
-      few_by_number (place_of firsts) no_pin pins (pin_total c)
+      few_by_number (pin_place_in c) no_pin pins (pin_total c)
       (λ i j d before within.
-      places_differ c firsts are (get_or pins j d) (get_or pins i d) (are_pins j d within)
+      places_differ c (get_or pins j d) (get_or pins i d) (are_pins j d within)
       (are_pins i d (omega arith)) (differ i j d before within))
-      (λ k d within. place_within c firsts are (get_or pins k d) (are_pins k d within))
-    where
-      firsts : List ℕ
-      firsts = map (pins_before c) (range_with_len 0 (gate_count c))
-
-      are : AreFirsts c firsts
-      are = record {
-        one_each = length-map-range_with_len (pins_before c) 0 (gate_count c);
-        each = λ gate within. get_or-map-range_with_len (pins_before c) 0 (gate_count c) gate gate 0 within (omega arith);
-      }
+      (λ k d within. place_within c (get_or pins k d) (are_pins k d within))
 
   -- pins that read some of these lines are pins of the circuit
   pub read_pins : (lines : List LineId) (pins : List PinRef) → All (ReadsOneOf c lines) pins → All (IsPin c) pins

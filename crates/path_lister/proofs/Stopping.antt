@@ -5,7 +5,7 @@ use Rattle.std.proofs.lemmas.List.{get_or-replicate, get_or_past, length-replica
 use Rattle.std.proofs.lemmas.List.Elements.{All-contains, Contains-append_left, Contains-push, Contains-push_cases}
 use Rattle.pd_base.specs.declared.ids.LineId.{LineId}
 use Rattle.netlist.specs.Circuit.{Circuit, HasLines, line_count, observed_lines}
-use Rattle.path_walks.specs.CircuitGraph.{node_of}
+use Rattle.path_laws.specs.CircuitGraph.{node_of}
 use Rattle.path_lister.specs.Ranking.{AreNodesWithin}
 use Rattle.path_lister.specs.Stops.{AreStops}
 

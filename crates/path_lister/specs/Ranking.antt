@@ -3,7 +3,7 @@ use Rattle.std.specs.Prelude.{◌≡◌, ◌≢◌, ℕ, ◌+◌, ◌<◌, ◌�
 use Rattle.pd_base.specs.declared.ids.LineId.{LineId}
 use Rattle.netlist.specs.Circuit.{Circuit, HasLines, line_count}
 use Rattle.netlist.specs.Levels.{level}
-use Rattle.path_walks.specs.CircuitGraph.{node_of}
+use Rattle.path_laws.specs.CircuitGraph.{node_of}
 
 -- the second line is another one, and on no lower level
 pub record IsLineBefore (c : Circuit) (a b : LineId) : Type 0 where

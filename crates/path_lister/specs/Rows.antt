@@ -4,7 +4,7 @@ use Rattle.pd_base.specs.declared.ids.LineId.{LineId}
 use Rattle.pd_base.specs.declared.ids.PinRef.{PinRef}
 use Rattle.netlist.specs.Circuit.{Circuit, source_count}
 use Rattle.netlist.specs.Pins.{IsPinOn}
-use Rattle.path_walks.specs.CircuitGraph.{AreArcsOf}
+use Rattle.path_laws.specs.CircuitGraph.{AreArcsOf}
 use Rattle.path_lister.specs.Ranking.{line_in}
 
 -- the pin reads one of these lines

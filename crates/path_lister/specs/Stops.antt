@@ -1,7 +1,7 @@
 -- Where a walk may stop (this project's own).
 use Rattle.std.specs.Prelude.{◌≡◌, ◌↔◌, ℕ, ◌+◌, ◌<◌, Bool, false, List, length, slice_index_or, Contains, IsTrue}
 use Rattle.netlist.specs.Circuit.{Circuit, line_count, observed_lines}
-use Rattle.path_walks.specs.CircuitGraph.{node_of}
+use Rattle.path_laws.specs.CircuitGraph.{node_of}
 
 -- by node whether a walk may stop there: not at node 0, and at the node of a line exactly where the line is observed
 pub record AreStops (c : Circuit) (nodes : List ℕ) (stops : List Bool) : Type 0 where

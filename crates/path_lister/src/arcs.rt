@@ -1,9 +1,9 @@
 // Where each arc leads and what its delay is, and at which nodes a walk may stop.
 ghost use Rattle.std.specs.Prelude.{◌≡◌, ◌++◌, All, IfOk, length, map, replicate, take};
 ghost use Rattle.netlist.specs.Circuit.{gate_line, line_count, source_count};
+ghost use Rattle.netlist.specs.Pins.{IsPin};
 ghost use Rattle.delay_annotation.specs.Annotation.{delays_of, Fits};
-ghost use Rattle.delay_annotation.specs.Places.{IsPin};
-ghost use Rattle.path_walks.specs.CircuitGraph.{node_of};
+ghost use Rattle.path_laws.specs.CircuitGraph.{node_of};
 ghost use Rattle.path_lister.specs.Ranking.{AreNodesWithin};
 ghost use Rattle.path_lister.specs.Stops.{AreStops};
 
@@ -24,11 +24,11 @@ pub(crate) fn arc_ends(
     ensures { IfOk result (λ ends. ends.items
         ≡ take (source_count net.now) nodes.now ++ map (λ pin. node_of nodes.now (gate_line net.now pin.gate.0)) pins.now) }
 {
-    let sources = net.sources();
-    let mut ends = Vec::with_capacity(alloc, sources as usize + net.pin_total() as usize)?;
-    ends.extend_from_slice(&nodes[..sources as usize])?;
+    let sources = net.sources() as usize;
+    let mut ends = Vec::with_capacity(alloc, sources + net.pin_total() as usize)?;
+    ends.extend_from_slice(&nodes[..sources])?;
     for pin in pins {
-        ends.push(nodes[(sources + pin.gate.0) as usize])?;
+        ends.push(nodes[net.line_of(pin.gate).0 as usize])?;
     }
     Ok(ends)
 }
@@ -42,7 +42,7 @@ pub(crate) fn arc_delays(
 ) -> Result<Vec<u32>, OutOfMemory>
     requires fits { Fits net.now delays.now }
     requires pins { All (IsPin net.now) pins.now }
-    ensures { IfOk result (λ times. times.items ≡ replicate (source_count net.now) 0 ++ map (delays_of delays.now) pins.now) }
+    ensures { IfOk result (λ times. times.items ≡ replicate (source_count net.now) 0 ++ map (delays_of net.now delays.now) pins.now) }
 {
     let sources = net.sources() as usize;
     let mut times = Vec::with_capacity(alloc, sources + net.pin_total() as usize)?;

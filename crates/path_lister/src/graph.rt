@@ -8,11 +8,11 @@ ghost use Rattle.path_lister.specs.Graphs.{IsGraphUnder};
 use crate::arcs::{arc_delays, arc_ends, stops_of};
 use crate::ranking::{nodes_of, ranked_lines};
 use crate::rows::rows_of;
+use crate::timing_graph::TimingGraph;
 use delay_annotation::Delays;
 use netlist::Netlist;
 use pd_base::{OutOfMemory, PinRef};
 use std::alloc::Global;
-use timing_graph::TimingGraph;
 
 // The graph, and for each arc behind those of the sources its pin.
 #[derive(Debug, Drop)]
@@ -28,7 +28,7 @@ pub(crate) fn graph_of(
     delays: &Delays,
 ) -> Result<CircuitGraph, OutOfMemory>
     requires { Fits net.now delays.now }
-    ensures graph { IfOk result (λ own. IsGraphUnder net.now (delays_of delays.now) own.pins.items own.graph) }
+    ensures graph { IfOk result (λ own. IsGraphUnder net.now (delays_of net.now delays.now) own.pins.items own.graph) }
     ensures circuit { IsCircuit net.now }
 {
     let lines = ranked_lines(alloc, net)?;

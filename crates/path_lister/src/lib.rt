@@ -1,12 +1,18 @@
-//! The first paths of a circuit under a delay assignment, longest first.
-//! Stands on pd_base, netlist, path_laws, delay_annotation, timing_graph and path_walks.
+//! The first paths of a netlist under a delay assignment, longest first: the first walks of its timing graph, by lists of best
+//! walks that share their ends.
+//! Stands on pd_base, netlist, delay_annotation and path_laws.
 //! The layers above use the contract of `first_paths`.
 #![tactic(auto)]
 
 mod arcs;
 mod graph;
+mod growth;
+mod listing;
+mod lists;
 mod paths;
 mod ranking;
 mod rows;
+mod starting;
+mod timing_graph;
 
-pub use paths::{MOST_PATHS, first_paths};
+pub use paths::first_paths;

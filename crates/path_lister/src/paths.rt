@@ -1,18 +1,16 @@
 // The first paths: those of the first walks of the circuit's graph, written out one after the other.
 ghost use Rattle.std.specs.Prelude.{◌≡◌, ◌≤◌, All, IfOk, map};
+ghost use Rattle.pd_base.specs.declared.limits.TheConstants.{MOST_PATHS};
 ghost use Rattle.netlist.specs.Order.{AreFirst};
 ghost use Rattle.delay_annotation.specs.Annotation.{delays_of, Fits};
-ghost use Rattle.path_walks.specs.CircuitGraph.{GoesOnThroughPins, GoesThroughPin, pin_of, route_of};
+ghost use Rattle.path_laws.specs.CircuitGraph.{GoesOnThroughPins, GoesThroughPin, arc_pin, route_of};
 
 use crate::graph::graph_of;
+use crate::listing::{Listing, first_walks};
 use delay_annotation::Delays;
 use netlist::Netlist;
 use pd_base::{LineId, OutOfMemory, Path, PinRef};
 use std::alloc::Global;
-use timing_graph::{Listing, first_walks};
-
-/// The most paths that are asked for.
-pub const MOST_PATHS: u32 = 10_000;
 
 /// The first `count` paths of a netlist under these delays, or all of them where there are fewer: the longer path stands
 /// before, of equally long ones that of the lesser source, and then that of the lesser steps, by gate and pin. No path is
@@ -25,7 +23,7 @@ pub fn first_paths(
 ) -> Result<Vec<Path>, OutOfMemory>
     requires fits { Fits net.now delays.now }
     requires count { count ≤ MOST_PATHS }
-    ensures { IfOk result (λ paths. AreFirst net.now (delays_of delays.now) count paths.items) }
+    ensures { IfOk result (λ paths. AreFirst net.now (delays_of net.now delays.now) count paths.items) }
 {
     let own = graph_of(alloc, net, delays)?;
     let listing = first_walks(alloc, &own.graph, count)?;
@@ -72,7 +70,7 @@ fn steps_of(
     walk: &[u32],
 ) -> Result<Vec<PinRef>, OutOfMemory>
     requires { All (GoesThroughPin net.now pins.now) walk.now }
-    ensures { IfOk result (λ steps. steps.items ≡ map (pin_of net.now pins.now) walk.now) }
+    ensures { IfOk result (λ steps. steps.items ≡ map (arc_pin net.now pins.now) walk.now) }
 {
     let sources = net.sources();
     let mut steps = Vec::with_capacity(alloc, walk.len())?;

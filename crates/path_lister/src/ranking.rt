@@ -12,13 +12,12 @@ pub(crate) fn ranked_lines(alloc: Global, net: &Netlist) -> Result<Vec<LineId>, 
     ensures lines { IfOk result (λ lines. IsRanking net.now lines.items) }
     ensures circuit { IsCircuit net.now }
 {
-    let sources = net.sources();
     let mut lines = Vec::with_capacity(alloc, net.lines() as usize)?;
-    for source in 0..sources {
+    for source in 0..net.sources() {
         lines.push(LineId(source))?;
     }
     for gate in net.order() {
-        lines.push(LineId(sources + gate.0))?;
+        lines.push(net.line_of(*gate))?;
     }
     Ok(lines)
 }

@@ -3,13 +3,13 @@ use Rattle.std.proofs.Common.{◌≡◌, ℕ, ◌+◌, ◌<◌, ◌↔◌, List,
 use Rattle.std.specs.List.{All}
 use Rattle.std.proofs.lemmas.List.{drop_more}
 use Rattle.std.proofs.lemmas.List.Elements.{All-cons, All-nil}
-use Rattle.std.proofs.lemmas.Option.{slice_get-get_or, slice_get_within, get_or_from_slice_get}
+use Rattle.std.proofs.lemmas.Option.{slice_get-get_or, get_or_from_slice_get}
 use Rattle.pd_base.specs.declared.ids.LineId.{LineId}
 use Rattle.pd_base.specs.declared.ids.PinRef.{PinRef}
 use Rattle.netlist.specs.Circuit.{Circuit, gate_line, pins_at}
-use Rattle.netlist.specs.Pins.{IsPinOn}
+use Rattle.netlist.specs.Pins.{IsPin, IsPinOn}
 use Rattle.netlist.specs.Paths.{Connects, line_after}
-use Rattle.delay_annotation.specs.Places.{IsPin}
+use Rattle.netlist.proofs.PinRow.{pin_on_line}
 
 -- what is read where there is no step
 abbrev pub no_step : PinRef
@@ -29,18 +29,11 @@ line_id : (line : LineId) (number : ℕ) → line.0 ≡ number → line ≡ reco
 line_id line number same = λ i. record { 0 = same i }
 
 module _ (c : Circuit) where
-  -- a pin on a line is a pin of the circuit
-  pin_on_is_pin : (step : PinRef) (line : ℕ) → IsPinOn c step line → IsPin c step
-  pin_on_is_pin step line on = record {
-    in_circuit = on.in_circuit;
-    in_gate = slice_get_within (pins_at c step.gate.0) step.pin (record { 0 = line }) on.reads;
-  }
-
   -- steps that connect are pins of the circuit
   pub connected_pins : (line : ℕ) (steps : List PinRef) → Connects c line steps → All (IsPin c) steps
   connected_pins line [] connects = All-nil (IsPin c)
   connected_pins line (step ∷ steps) connects =
-      All-cons (IsPin c) step steps (pin_on_is_pin step line connects.0)
+      All-cons (IsPin c) step steps (pin_on_line c step line connects.0)
       (connected_pins (gate_line c step.gate.0) steps connects.1)
 
   -- a pin of the circuit whose place has this line is on it

@@ -7,7 +7,8 @@ use Rattle.pd_base.specs.declared.ids.PinRef.{PinRef}
 use Rattle.pd_base.specs.declared.fault.Kind.{Kind}
 use Rattle.pd_base.specs.Pair.{Vectors}
 use Rattle.netlist.specs.Circuit.{Circuit, HasLines, gate_line, kind_at, line_count, pins_at}
-use Rattle.netlist.specs.Conditions.{Allows, SideCondition, SidesAllowed, SidesMeet, side_condition}
+use Rattle.netlist.specs.declared.side_conditions.SideCondition.{SideCondition}
+use Rattle.netlist.specs.Conditions.{Allows, SidesAllowed, SidesMeet, side_condition}
 use Rattle.netlist.specs.Paths.{Connects, IsSide}
 use Rattle.netlist.specs.Steadiness.{is_steady, steady_value}
 use Rattle.netlist.specs.Values.{value}
@@ -54,7 +55,7 @@ module _ (c : Circuit) (pair : Vectors) (finals : List Bool) (steadiness : List 
 
   -- so the sides pass exactly where they are allowed
   sides_at_pins : (kind : Kind) (line : ℕ) → condition ≡ side_condition kind (kind_at c step.gate.0) (value c pair.second line)
-      → SidesPass condition finals steadiness step.pin (pins_at c step.gate.0) ↔ SidesAllowed kind c pair line step
+      → SidesPass condition finals steadiness step.pin (pins_at c step.gate.0) ↔ SidesAllowed c kind pair line step
   sides_at_pins kind line asks = (
     λ pass pin side is.
         subst (λ asked. Allows asked (value c pair.second side.0) (is_steady c pair side.0)) asks
@@ -68,17 +69,17 @@ module _ (c : Circuit) (pair : Vectors) (finals : List Bool) (steadiness : List 
   -- whatever list of the gate's pins was gone through
   pub sides_judged : (kind : Kind) (line : ℕ) (pins : List LineId) → pins ≡ pins_at c step.gate.0
       → condition ≡ side_condition kind (kind_at c step.gate.0) (value c pair.second line)
-      → SidesPass condition finals steadiness step.pin pins ↔ SidesAllowed kind c pair line step
+      → SidesPass condition finals steadiness step.pin pins ↔ SidesAllowed c kind pair line step
   sides_judged kind line pins own asks =
-      subst (λ lines. SidesPass condition finals steadiness step.pin lines ↔ SidesAllowed kind c pair line step) (sym own)
+      subst (λ lines. SidesPass condition finals steadiness step.pin lines ↔ SidesAllowed c kind pair line step) (sym own)
       (sides_at_pins kind line asks)
 
-module _ (kind : Kind) (c : Circuit) (pair : Vectors) where
+module _ (c : Circuit) (kind : Kind) (pair : Vectors) where
   -- whether the sides of steps meet the conditions is decided by other steps, which connect from a line of the circuit
   pub record AreDecidedBy (first : ℕ) (steps : List PinRef) (line : ℕ) (rest : List PinRef) : Type 0 where
     pub within : line < line_count c
     pub connects : Connects c line rest
-    pub same : SidesMeet kind c pair first steps ↔ SidesMeet kind c pair line rest
+    pub same : SidesMeet c kind pair first steps ↔ SidesMeet c kind pair line rest
 
   module _ (steps : List PinRef) (place : ℕ) (within : place < length steps) (line : ℕ) where
     -- the step at this place
@@ -86,12 +87,12 @@ module _ (kind : Kind) (c : Circuit) (pair : Vectors) where
     step = get_or steps place no_step
 
     -- the conditions from a step on are its own and those of the steps behind it
-    pub sides_from : SidesMeet kind c pair line (drop place steps)
-        → SidesAllowed kind c pair line step × SidesMeet kind c pair (gate_line c step.gate.0) (drop (place + 1) steps)
-    sides_from meet = subst (SidesMeet kind c pair line) (steps_from steps place within) meet
+    pub sides_from : SidesMeet c kind pair line (drop place steps)
+        → SidesAllowed c kind pair line step × SidesMeet c kind pair (gate_line c step.gate.0) (drop (place + 1) steps)
+    sides_from meet = subst (SidesMeet c kind pair line) (steps_from steps place within) meet
 
     -- where the sides of a step are allowed, the steps behind it decide
-    pub decided_more : (first : ℕ) (all : List PinRef) → SidesAllowed kind c pair line step
+    pub decided_more : (first : ℕ) (all : List PinRef) → SidesAllowed c kind pair line step
         → AreDecidedBy first all line (drop place steps)
         → AreDecidedBy first all (gate_line c step.gate.0) (drop (place + 1) steps)
     decided_more first all allowed are =
@@ -101,6 +102,6 @@ module _ (kind : Kind) (c : Circuit) (pair : Vectors) where
           connects = from.1;
           same = (
             λ meet. (sides_from (are.same.0 meet)).1,
-            λ rest. are.same.1 (subst (SidesMeet kind c pair line) (sym (steps_from steps place within)) (allowed, rest)),
+            λ rest. are.same.1 (subst (SidesMeet c kind pair line) (sym (steps_from steps place within)) (allowed, rest)),
           );
         }

@@ -2,7 +2,8 @@
 -- side pins is said in the crate netlist).
 use Rattle.std.specs.Prelude.{◌≡◌, ◌≢◌, ℕ, Bool, List, slice_get, is_some, Some}
 use Rattle.pd_base.specs.declared.ids.LineId.{LineId}
-use Rattle.netlist.specs.Conditions.{SideCondition, Allows}
+use Rattle.netlist.specs.declared.side_conditions.SideCondition.{SideCondition}
+use Rattle.netlist.specs.Conditions.{Allows}
 use Rattle.logic_values.specs.Known.{bit_at, known_at}
 use Rattle.logic_values.specs.declared.steadiness.Steady.{Steady}
 

@@ -1,11 +1,11 @@
 // Whether a route is a path: each of its pins reads the line that was reached before it, and the last line is observed.
-ghost use Rattle.std.specs.Prelude.{◌≡◌, ◌<◌, ◌↔◌, All, Contains, IsTrue, MatchOption};
-ghost use Rattle.delay_annotation.specs.Places.{IsPin};
-ghost use Rattle.netlist.specs.Circuit.{gate_count, gate_line, observed_lines};
+ghost use Rattle.std.specs.Prelude.{◌≡◌, ◌↔◌, All, Contains, IsTrue, MatchOption};
+ghost use Rattle.netlist.specs.Circuit.{observed_lines};
 ghost use Rattle.netlist.specs.Paths.{end_of, line_after, Connects, IsPath, IsPrefix};
+ghost use Rattle.netlist.specs.Pins.{IsPin};
 
 use netlist::Netlist;
-use pd_base::{GateId, LineId, Path, PinRef};
+use pd_base::{LineId, Path, PinRef};
 
 /// Whether the route is a path of the circuit: it begins at a source, each step's pin reads the line that was reached before
 /// it, and the last line is observed. Its steps have to be pins of the circuit. Takes no memory.
@@ -17,14 +17,6 @@ pub fn is_path(net: &Netlist, path: &Path) -> bool
         Some(end) => is_observed(net, end),
         None => false,
     }
-}
-
-/// The line of a gate.
-pub(crate) fn gate_line(net: &Netlist, gate: GateId) -> LineId
-    requires { gate.0 < gate_count net.now }
-    ensures { result.0 ≡ gate_line net.now gate.0 }
-{
-    LineId(net.sources() + gate.0)
 }
 
 // The last line, where the route begins at a source and its steps connect.
@@ -50,7 +42,7 @@ fn last_of(net: &Netlist, source: LineId, steps: &[PinRef]) -> Option<LineId>
         if net.pins(step.gate)[step.pin as usize].0 != line.0 {
             return None;
         }
-        line = gate_line(net, step.gate);
+        line = net.line_of(step.gate);
     }
     Some(line)
 }

@@ -5,9 +5,8 @@
 
 mod connected;
 mod measured;
-mod side_conditions;
 mod test_conditions;
 
 pub use connected::is_path;
 pub use measured::{compare, length};
-pub use test_conditions::{Scratch, final_bit, meets};
+pub use test_conditions::{Scratch, meets};

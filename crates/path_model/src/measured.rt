@@ -14,7 +14,7 @@ use std::cmp::Ordering;
 pub fn length(net: &Netlist, delays: &Delays, path: &Path) -> u64
     requires fits { Fits net.now delays.now }
     requires prefix { IsPrefix net.now path.now }
-    ensures { result ≡ length_of (delays_of delays.now) path.now }
+    ensures { result ≡ length_of (delays_of net.now delays.now) path.now }
 {
     // A prefix begins at a source, and the circuit's levels bound its steps: no sum of their delays overflows.
     let at_source = path.source().0 < net.sources();
@@ -32,9 +32,9 @@ pub fn compare(net: &Netlist, delays: &Delays, p: &Path, q: &Path) -> Ordering
     requires fits { Fits net.now delays.now }
     requires p_prefix { IsPrefix net.now p.now }
     requires q_prefix { IsPrefix net.now q.now }
-    ensures before { (result ≡ Ordering.Less) ↔ IsBefore (delays_of delays.now) p.now q.now }
+    ensures before { (result ≡ Ordering.Less) ↔ IsBefore (delays_of net.now delays.now) p.now q.now }
     ensures same { (result ≡ Ordering.Equal) ↔ (p.now ≡ q.now) }
-    ensures behind { (result ≡ Ordering.Greater) ↔ IsBefore (delays_of delays.now) q.now p.now }
+    ensures behind { (result ≡ Ordering.Greater) ↔ IsBefore (delays_of net.now delays.now) q.now p.now }
 {
     length(net, delays, q)
         .cmp(&length(net, delays, p))

@@ -2,19 +2,17 @@
 // values and the steadiness of all lines are computed first, into room that the caller hands in.
 ghost use Rattle.std.specs.Prelude.{◌≡◌, ◌≢◌, ◌<◌, ◌↔◌, IfOk, IsTrue, length, All};
 ghost use Rattle.netlist.specs.Circuit.{source_count, line_count};
-ghost use Rattle.netlist.specs.Conditions.{final_bit, Launches, Meets, SidesMeet};
+ghost use Rattle.netlist.specs.Conditions.{Launches, Meets, SidesMeet};
 ghost use Rattle.netlist.specs.Meaning.{Detects, DetectsSettled, DetectsSettledAlong, IsUnchangedBelow};
 ghost use Rattle.netlist.specs.Paths.{IsPrefix, IsPrefixOf, end_of, length_of};
 ghost use Rattle.netlist.specs.Values.{value};
 ghost use Rattle.netlist.specs.Waves.{Delays};
 ghost use Rattle.pd_base.specs.Route.{Route};
-ghost use Rattle.path_model.specs.Asked.{asked};
+ghost use Rattle.pd_base.specs.Target.{target_of};
 ghost use Rattle.path_model.specs.Sides.{SidesPass};
 
-use crate::connected::gate_line;
-use crate::side_conditions::{SideCondition, side_condition};
 use logic_values::{Steady, evaluate, steady};
-use netlist::Netlist;
+use netlist::{Netlist, SideCondition, final_bit, side_condition};
 use pd_base::{Direction, Kind, LineId, OutOfMemory, Pair, Path};
 use std::alloc::Global;
 use std::marker::Model;
@@ -69,7 +67,7 @@ pub fn meets(
     requires prefix { IsPrefix net.now path.now }
     requires bits { length pair.now.first ≡ source_count net.now }
     requires scratch { scratch.old ≡ line_count net.now }
-    ensures meets { IsTrue result ↔ Meets kind net.now path.now dir pair.now }
+    ensures meets { IsTrue result ↔ Meets net.now (target_of path.now dir kind) pair.now }
     ensures prefixes_change { IsTrue result → kind ≡ Kind.Robust → (prefix : Route) → IsPrefixOf prefix path.now
         → value net.now pair.now.first (end_of net.now prefix) ≢ value net.now pair.now.second (end_of net.now prefix) }
     ensures prefixes_hold_back { IsTrue result → kind ≡ Kind.Robust
@@ -78,9 +76,9 @@ pub fn meets(
     ensures late_is_wrong { IsTrue result → kind ≡ Kind.Robust → Detects net.now path.now pair.now }
     ensures late_is_wrong_where_settled { IsTrue result → DetectsSettled net.now path.now pair.now }
     ensures wrong_along_where_settled { IsTrue result → DetectsSettledAlong net.now path.now pair.now }
-    ensures robust_is_nonrobust { IsTrue result → Meets Kind.Nonrobust net.now path.now dir pair.now }
+    ensures robust_is_nonrobust { IsTrue result → Meets net.now (target_of path.now dir Kind.Nonrobust) pair.now }
     ensures prefix_meets { IsTrue result → (prefix : Route) → IsPrefixOf prefix path.now
-        → Meets kind net.now prefix dir pair.now }
+        → Meets net.now (target_of prefix dir kind) pair.now }
     ensures scratch { scratch.new ≡ scratch.old }
 {
     // A prefix begins at a source. What a test shows is shown of a circuit, as which a netlist knows itself.
@@ -96,16 +94,6 @@ pub fn meets(
             finals.as_mut_slice(),
             steadiness.as_mut_slice(),
         )
-}
-
-/// The value that a source has after its transition.
-pub fn final_bit(dir: Direction) -> bool
-    ensures { result ≡ final_bit dir }
-{
-    match dir {
-        Direction::Rise => true,
-        Direction::Fall => false,
-    }
 }
 
 // Whether the pair launches the transition at a source.
@@ -130,7 +118,7 @@ fn sides_meet(
     requires bits { length pair.now.first ≡ source_count net.now }
     requires finals { length finals.old ≡ line_count net.now }
     requires steadiness { length steadiness.old ≡ line_count net.now }
-    ensures { IsTrue result ↔ SidesMeet kind net.now pair.now path.now.source.0 path.now.steps }
+    ensures { IsTrue result ↔ SidesMeet net.now kind pair.now path.now.source.0 path.now.steps }
 {
     evaluate(net, pair.second(), finals);
     steady(net, pair, steadiness);
@@ -140,7 +128,7 @@ fn sides_meet(
         if !sides_pass(condition, net.pins(step.gate), step.pin, finals, steadiness) {
             return false;
         }
-        line = gate_line(net, step.gate);
+        line = net.line_of(step.gate);
     }
     true
 }
@@ -155,7 +143,7 @@ fn sides_pass(
 ) -> bool
     requires finals { All (λ line. line.0 < length finals.now) pins.now }
     requires steadiness { All (λ line. line.0 < length steadiness.now) pins.now }
-    ensures { IsTrue result ↔ SidesPass (asked condition) finals.now steadiness.now on_path pins.now }
+    ensures { IsTrue result ↔ SidesPass condition finals.now steadiness.now on_path pins.now }
 {
     for (pin, side) in pins.iter().enumerate() {
         let line = side.0 as usize;

@@ -1,5 +1,5 @@
 //! The text of the tests file: what a tester reads of a circuit's sources, observed lines and tests.
-//! Stands on pd_base, netlist, refutation_check (lawful tests) and text_pieces. The layer above uses `tests_text`.
+//! Stands on pd_base, netlist, runs (lawful tests) and text_pieces. The layer above uses `tests_text`.
 #![tactic(auto)]
 
 mod tests_file;

@@ -1,6 +1,6 @@
 // The tests file.
 ghost use Rattle.std.specs.Prelude.{◌≡◌, ◌++◌, IfOk, OnOk, codes};
-ghost use Rattle.refutation_check.specs.Lawful.{AreLawfulTests};
+ghost use Rattle.runs.specs.Lawful.{AreLawfulTests};
 ghost use Rattle.pattern_writer.specs.TestsText.{names_line, observed_names, test_line, tests_text};
 ghost use Rattle.text_pieces.specs.Tokens.{digits, after_space};
 

@@ -1,2 +1,4 @@
+pub mod FlatLists
 pub mod Pair
 pub mod Route
+pub mod Target

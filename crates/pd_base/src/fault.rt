@@ -12,7 +12,7 @@ pub enum Direction {
 /// The conditions that a test meets.
 #[derive(Clone, Copy, Debug, PartialEq, Eq, PartialOrd, Ord, Hash)]
 pub enum Kind {
-    /// Shows a late path whatever the other delays are (Lin and Reddy 1987).
+    /// Shows a late path whatever the other delays are (Lin and Reddy 1987; the condition of XOR and XNOR is this project's own).
     Robust,
     /// Shows a late path where the side pins have settled.
     Nonrobust,

@@ -1,8 +1,7 @@
-// A path through a circuit: where it begins, and the pins that it goes through. Most paths are short.
+// A path through a circuit: where it begins, and the pins that it goes through.
 ghost use Rattle.std.specs.Prelude.{◌≡◌, IfOk};
 
 use crate::{LineId, OutOfMemory, PinRef};
-use smallvec::SmallVec;
 use std::alloc::Global;
 use std::marker::Model;
 
@@ -11,7 +10,7 @@ use std::marker::Model;
 #[derive(Debug, Drop)]
 pub struct Path {
     source: LineId,
-    steps: SmallVec<PinRef, 8>,
+    steps: Vec<PinRef>,
 }
 
 impl Model for Path {
@@ -29,7 +28,7 @@ impl Path {
     {
         Ok(Path {
             source,
-            steps: SmallVec::from_slice(alloc, steps)?,
+            steps: Vec::from_slice(alloc, steps)?,
         })
     }
 

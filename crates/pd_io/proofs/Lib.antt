@@ -2,3 +2,4 @@ pub mod Handing
 pub mod Reading
 pub mod Tellings
 pub mod Writing
+mod NamedFiles

@@ -3,7 +3,7 @@ use Rattle.std.proofs.Common.{◌≡◌, ℕ, ◌+◌, ◌<◌, ◌≤◌, List,
 use Rattle.std.proofs.lemmas.List.{append-nil, take-append-le, drop_at, length-take-le}
 use Rattle.pd_io.specs.declared.fault.ReadFault.{ReadFault}
 use Rattle.pd_io.specs.Telling.{Tells, IsFrontOf}
-use Rattle.pd_io.specs.Folder.{Folder, Reader, Contents, bytes_at, reader_after, IsNext, GivesNext}
+use Rattle.pd_io.specs.Folder.{Folder, Reader, Contents, bytes_at, reader_after, HoldsNext, GivesNext}
 use Rattle.pd_io.specs.Whole.{folder_after_asking, AsksFor}
 use Rattle.pd_io.specs.Whole.AsksFor.{asked}
 use Rattle.pd_io.proofs.Tellings.{tells_weaker, tells_unchanged}
@@ -36,7 +36,7 @@ left_of content bytes rest e = ap (drop (length bytes)) e ∙ drop_at bytes rest
 
 -- the front with the next bytes is a front
 next_front : (content bytes buffer : List ℕ) (count : ℕ) → IsFrontOf bytes content
-    → IsNext (drop (length bytes) content) count buffer → IsFrontOf (bytes ++ take count buffer) content
+    → HoldsNext (drop (length bytes) content) count buffer → IsFrontOf (bytes ++ take count buffer) content
 next_front content bytes buffer count (rest, split) n =
     let piece : take count buffer ≡ take count rest = n.bytes ∙ ap (take count) (left_of content bytes rest split) in (
       drop count rest,
@@ -46,7 +46,7 @@ next_front content bytes buffer count (rest, split) n =
     )
 
 -- where nothing comes next the front is the whole
-next_none : (content bytes buffer : List ℕ) → IsFrontOf bytes content → IsNext (drop (length bytes) content) 0 buffer
+next_none : (content bytes buffer : List ℕ) → IsFrontOf bytes content → HoldsNext (drop (length bytes) content) 0 buffer
     → bytes ≡ content
 next_none content bytes buffer (rest, split) n =
     sym (split ∙ ap (λ l. bytes ++ l) (sym (left_of content bytes rest split) ∙ n.none_at_end refl) ∙ append-nil bytes)
@@ -54,10 +54,10 @@ next_none content bytes buffer (rest, split) n =
 -- what a read gave, at the place that is known
 given_at : (folder : Folder) (held : Contents) (reader : Option Reader) (name bytes buffer : List ℕ) (count : ℕ)
     → reader ≡ Some (record { name = name; place = length bytes }) → folder.held ≡ held → GivesNext folder reader count buffer
-    → IsNext (drop (length bytes) (bytes_at held name)) count buffer
+    → HoldsNext (drop (length bytes) (bytes_at held name)) count buffer
 given_at folder held reader name bytes buffer count e h g =
     let F : Option Reader → Type 0 = λ r. GivesNext folder r count buffer in
-    let H : Contents → Type 0 = λ c. IsNext (drop (length bytes) (bytes_at c name)) count buffer in
+    let H : Contents → Type 0 = λ c. HoldsNext (drop (length bytes) (bytes_at c name)) count buffer in
     subst H h (subst F e g)
 
 -- a front of a buffer is one of its first part

@@ -44,7 +44,7 @@ reader_after reader (Ok count) = option_map (λ r. record { name = r.name; place
 reader_after reader (Err error) = reader
 
 -- the first count bytes of a buffer are the next ones of these; there are none exactly at the end
-pub record IsNext (left : List ℕ) (count : ℕ) (buffer : List ℕ) : Type 0 where
+pub record HoldsNext (left : List ℕ) (count : ℕ) (buffer : List ℕ) : Type 0 where
   pub bytes : take count buffer ≡ take count left
   pub within : count ≤ length left
   pub none_at_end : count ≡ 0 → left ≡ []
@@ -52,7 +52,7 @@ pub record IsNext (left : List ℕ) (count : ℕ) (buffer : List ℕ) : Type 0 w
 -- a `read` gave the next bytes of the file that is open
 abbrev pub GivesNext : Folder → Option Reader → ℕ → List ℕ → Type 0
 GivesNext folder None count buffer = ⊥
-GivesNext folder (Some reader) count buffer = IsNext (drop reader.place (bytes_at folder.held reader.name)) count buffer
+GivesNext folder (Some reader) count buffer = HoldsNext (drop reader.place (bytes_at folder.held reader.name)) count buffer
 
 -- the contents after a `begin_write`: the name holds nothing; an error leaves them
 abbrev pub contents_after_begin : Result ⊤ FileFault → Contents → List ℕ → Contents

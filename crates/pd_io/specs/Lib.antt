@@ -4,3 +4,7 @@ pub mod Folder
 pub mod Seen
 pub mod Telling
 pub mod Whole
+pub mod Memory
+pub mod Plan
+pub mod Shelf
+pub mod Steady

@@ -60,9 +60,9 @@ pub fn read_whole<F: Files>(
     Err(ReadFault::TooLong)
 }
 
-/// Stores the bytes under the name. One file is begun, every write is offered all that was not yet taken, and then
-/// the file is finished. After an error the name has what it had, or a front of the bytes. `Failed` comes where a call
-/// of the object failed, and `NoMemory` where memory ran out.
+/// Makes the name hold these bytes, and leaves no file open for writing. After an error the name has what it had, or a front
+/// of the bytes. Every other name keeps its bytes, and no name is asked. `Failed` comes where a call of the object failed, and
+/// `NoMemory` where memory ran out.
 pub fn write_whole<F: Files>(files: &mut F, name: &str, bytes: &[u8]) -> Result<(), WriteFault>
     ensures ok { OnOk result (Tells (F.folder files.old) (F.folder files.new) (λ old new.
         new ≡ folder_with old name.now bytes.now)) }
@@ -75,6 +75,8 @@ pub fn write_whole<F: Files>(files: &mut F, name: &str, bytes: &[u8]) -> Result<
     ensures read_faults { F.read_faults files.new ≡ F.read_faults files.old }
 {
     files.begin_write(name)?;
+
+    // Each write is offered all that was not yet taken.
     let mut rest = bytes;
     while !rest.is_empty() {
         let count = files.write(rest)?;

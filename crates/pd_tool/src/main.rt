@@ -1,58 +1,10 @@
-//! The program `pdfgen`: a path delay fault test generator whose answers are proved. Stands on system_files and top_call.
-//! All that is promised stands on `top_call::run`, which is called here over the real files and streams.
+//! The program `pdfgen`: a path delay fault test generator whose answers are proved. It is one call of commands, whose `serve`
+//! hands the program's words, files and streams to `run`, on which all that is promised stands.
 #![tactic(auto)]
 
-use call_endings::{Ending, Status, tell};
-use std::alloc::Global;
+use commands::serve;
 use std::process::ExitCode;
-use std::{env, io};
-use system_files::{StdFiles, StdSink};
-use top_call::run;
 
 fn main(rt: HostRuntime) -> ExitCode {
-    let status = match arguments(&rt) {
-        Ok(arguments) => call(rt, arguments.as_slice()),
-        Err(error) => match error.kind() {
-            io::ErrorKind::OutOfMemory => end_without_memory(rt),
-            // Arguments that are not UTF-8 count as missing.
-            _ => call(rt, &[]),
-        },
-    };
-    ExitCode::from(status.number())
-}
-
-// The words behind the program's own name.
-fn arguments<R: env::Env + AllocGlobal>(rt: &R) -> io::Result<Vec<String>> {
-    let mut arguments = Vec::new(rt.alloc());
-    for argument in env::args(rt)?.skip(1) {
-        arguments.push(argument)?;
-    }
-    Ok(arguments)
-}
-
-// One call over the real files and streams.
-fn call(rt: HostRuntime, arguments: &[String]) -> Status {
-    let alloc = rt.alloc();
-    match words_of(alloc, arguments) {
-        Ok(words) => run(
-            alloc,
-            words.as_slice(),
-            &mut StdFiles::new(alloc, rt),
-            &mut StdSink::new(rt.stdout()),
-            &mut StdSink::new(rt.stderr()),
-        ),
-        Err(_) => end_without_memory(rt),
-    }
-}
-
-// Memory ran out before the call.
-fn end_without_memory(rt: HostRuntime) -> Status {
-    tell(&Ending::NoMemory, &mut StdSink::new(rt.stderr()))
-}
-
-fn words_of(alloc: Global, arguments: &[String]) -> Result<Vec<&str>, std::alloc::AllocError> {
-    arguments
-        .iter()
-        .map(|argument| argument.as_str())
-        .collect(alloc)
+    serve(rt)
 }

@@ -12,6 +12,7 @@ use Rattle.pd_base.specs.declared.fault.Direction.TheVariants.{Rise, Fall}
 use Rattle.pd_base.specs.declared.fault.Kind.{Kind}
 use Rattle.pd_base.specs.declared.fault.Kind.TheVariants.{Robust, Nonrobust}
 use Rattle.pd_base.specs.Route.{Route}
+use Rattle.pd_base.specs.Target.{target_of}
 use Rattle.netlist.specs.Circuit.{Circuit}
 use Rattle.verdict_runs.specs.declared.findings.Outcome.{Outcome}
 use Rattle.verdict_runs.specs.declared.findings.Outcome.TheVariants.{Unsearched, Tested, Refuted, Spent}
@@ -21,9 +22,9 @@ use Rattle.verdict_runs.specs.Findings.{IsOutcome, NoneRefutes, is_test}
 use Rattle.fault_search.specs.declared.targets.Aim.{Aim}
 use Rattle.prefix_sensitize.specs.Gathering.{AreNewFor, AreSearchedFor, IsGrownFor, both_kinds}
 use Rattle.fault_search.specs.Walks.{AreRefutations, IsAimedAt, IsGrown, outcome_at, searches_with}
-use Rattle.prefix_sensitize.specs.Passes.{AreNew, IsPassed}
+use Rattle.prefix_sensitize.specs.Passes.{AreNew, ArePassOutcomes}
 use Rattle.fault_search.proofs.Places.{in_either, in_first}
-use Rattle.prefix_sensitize.proofs.Walking.{settled_outcome}
+use Rattle.prefix_sensitize.proofs.Walking.{known_outcome}
 
 -- the refutation is for this kind and transition
 abbrev IsFor : Kind → Direction → Refutation → Type 0
@@ -31,8 +32,8 @@ IsFor kind direction refutation = (refutation.kind ≡ kind) × (refutation.dir 
 
 module _ (c : Circuit) (budget : ℕ) (routes : List Route) (kind : Kind) (direction : Direction) (old more new : List Refutation)
     (grown : new ≡ old ++ more) (others : All (λ refutation. ¬ IsFor kind direction refutation) more) where
-  none_grown : (route : Route) → NoneRefutes (searches_with budget routes old) kind direction route
-      → NoneRefutes (searches_with budget routes new) kind direction route
+  none_grown : (route : Route) → NoneRefutes (searches_with budget routes old) (target_of route direction kind)
+      → NoneRefutes (searches_with budget routes new) (target_of route direction kind)
   none_grown route none index refutation here refutes =
       let P : List Refutation → Type 0 = λ list. slice_get list index ≡ Some refutation in
       ⊎_elim (λ (before : slice_get old index ≡ Some refutation). none index refutation before refutes)
@@ -40,8 +41,8 @@ module _ (c : Circuit) (budget : ℕ) (routes : List Route) (kind : Kind) (direc
       (in_either (λ (r : Refutation). ¬ IsFor kind direction r) old more index refutation others (subst P grown here))
 
   -- an outcome stays as it is promised while refutations for others are added
-  pub outcome_grown : (route : Route) (outcome : Outcome) → IsOutcome c (searches_with budget routes old) kind direction route outcome
-      → IsOutcome c (searches_with budget routes new) kind direction route outcome
+  pub outcome_grown : (route : Route) (outcome : Outcome) → IsOutcome c (searches_with budget routes old) (target_of route direction kind) outcome
+      → IsOutcome c (searches_with budget routes new) (target_of route direction kind) outcome
   outcome_grown route Unsearched is = is
   outcome_grown route (Tested pair) is = is
   outcome_grown route (Refuted index) is = record {
@@ -112,7 +113,7 @@ module _ (c : Circuit) (budget : ℕ) (routes : List Route) (direction : Directi
   -- the two walks give the outcomes for the transition
   pub searched_for : (all needed : List Bool) (robust nonrobust : List Outcome) (outcomes : List Outcomes) (second third : List Refutation)
       → all ≡ replicate (length routes) true → needed ≡ map (λ outcome. not (is_test outcome)) robust
-      → IsPassed c routes all (aim_at Robust) robust second → IsPassed c routes needed (aim_at Nonrobust) nonrobust third
+      → ArePassOutcomes c routes all (aim_at Robust) robust second → ArePassOutcomes c routes needed (aim_at Nonrobust) nonrobust third
       → IsGrown (aim_at Nonrobust) second third → outcomes ≡ both_kinds robust nonrobust
       → AreSearchedFor c budget routes direction outcomes third
   searched_for all needed robust nonrobust outcomes second third alls needs one two grown is = record {
@@ -136,16 +137,16 @@ module _ (c : Circuit) (budget : ℕ) (routes : List Route) (direction : Directi
     where
       robust_at : (at : ℕ) (route : Route) (of_route : Outcomes) → slice_get routes at ≡ Some route → at < length routes
           → of_route.robust ≡ outcome_at robust at
-          → IsOutcome c (searches_with budget routes third) Robust direction route of_route.robust
+          → IsOutcome c (searches_with budget routes third) (target_of route direction Robust) of_route.robust
       robust_at at route of_route here inside its =
-          let P : Outcome → Type 0 = λ o. IsOutcome c (searches_with budget routes third) Robust direction route o in
+          let P : Outcome → Type 0 = λ o. IsOutcome c (searches_with budget routes third) (target_of route direction Robust) o in
           let need : slice_index_or all at false ≡ true =
           ap (λ (list : List Bool). slice_index_or list at false) alls ∙ get_or-replicate (length routes) at true false inside in
           subst P (sym its)
           (outcome_grown c budget routes Robust direction second grown.more third grown.grown
           (λ place d within aimed. differ (sym aimed.0 ∙ (grown.aimed place d within).of_kind)) route (outcome_at robust at)
-          (settled_outcome c (searches_with budget routes second) Robust direction route (outcome_at robust at)
-          (one.standing.stands at route here) (one.settled at inside need)))
+          (known_outcome c (searches_with budget routes second) (target_of route direction Robust) (outcome_at robust at)
+          (one.standing.stands at route here) (one.known at inside need)))
         where
           differ : Robust ≡ Nonrobust → ⊥
           differ same = cc
@@ -153,16 +154,16 @@ module _ (c : Circuit) (budget : ℕ) (routes : List Route) (direction : Directi
       nonrobust_at : (at : ℕ) (route : Route) (of_route : Outcomes) → slice_get routes at ≡ Some route → at < length routes
           → of_route.robust ≡ outcome_at robust at → of_route.nonrobust ≡ outcome_at nonrobust at
           → is_test of_route.robust ≡ false
-          → IsOutcome c (searches_with budget routes third) Nonrobust direction route of_route.nonrobust
+          → IsOutcome c (searches_with budget routes third) (target_of route direction Nonrobust) of_route.nonrobust
       nonrobust_at at route of_route here inside its other not_test =
-          let P : Outcome → Type 0 = λ o. IsOutcome c (searches_with budget routes third) Nonrobust direction route o in
+          let P : Outcome → Type 0 = λ o. IsOutcome c (searches_with budget routes third) (target_of route direction Nonrobust) o in
           let one_each = one.standing.one_each in
           let need : slice_index_or needed at false ≡ true =
           ap (λ (list : List Bool). slice_index_or list at false) needs
           ∙ untested_at robust at (omega (arith, inside, one_each)) (sym (ap is_test its) ∙ not_test) in
           subst P (sym other)
-          (settled_outcome c (searches_with budget routes third) Nonrobust direction route (outcome_at nonrobust at)
-          (two.standing.stands at route here) (two.settled at inside need))
+          (known_outcome c (searches_with budget routes third) (target_of route direction Nonrobust) (outcome_at nonrobust at)
+          (two.standing.stands at route here) (two.known at inside need))
 
 -- before all searches there is nothing
 pub none_new : (c : Circuit) (budget : ℕ) (routes : List Route) → AreNewFor c budget routes Rise []

@@ -2,6 +2,7 @@
 use Rattle.std.proofs.Common.{◌≡◌, ℕ, zero, suc, ◌≤◌, List, [], ◌∷◌, length, map, get_or, Some, All, refl, sym, ap, subst, ◌∙◌, arith}
 use Rattle.std.specs.Prelude.{slice_get}
 use Rattle.std.proofs.lemmas.Option.{none-some, same_Some}
+use Rattle.pd_base.specs.declared.limits.TheConstants.{MOST_PATHS}
 use Rattle.pd_base.specs.declared.fault.Direction.TheVariants.{Rise, Fall}
 use Rattle.pd_base.specs.Route.{Route}
 use Rattle.netlist.specs.Circuit.{Circuit}
@@ -10,13 +11,12 @@ use Rattle.netlist.specs.Order.{AreFirst, IsFull}
 use Rattle.netlist.specs.Order.IsFull.{so_many, all_paths}
 use Rattle.netlist.specs.Waves.{Delays}
 use Rattle.path_laws.proofs.StepCounts.{prefix_has_few_steps}
-use Rattle.refutation_check.specs.Lawful.{greatest_path_number}
 use Rattle.verdict_runs.specs.declared.findings.Findings.{Findings}
 use Rattle.verdict_runs.specs.declared.findings.Outcomes.{Outcomes}
 use Rattle.verdict_runs.specs.declared.findings.SearchedPath.{SearchedPath}
 use Rattle.verdict_runs.specs.Findings.{AreFindings, AreSearches, IsSearched}
 use Rattle.prefix_sensitize.specs.Gathering.{AreSearchedFor, both_ways}
-use Rattle.fault_search.specs.Walks.{AreListed, AreRefutations, searches_with}
+use Rattle.fault_search.specs.Walks.{AreSearchablePaths, AreRefutations, searches_with}
 use Rattle.fault_search.proofs.Places.{all_from}
 
 -- no more paths than were asked for
@@ -26,7 +26,7 @@ few_full c count routes (all_paths fewer all) = omega (arith, fewer)
 
 -- the first paths of a circuit, of which few enough were asked for
 pub listed_first : (c : Circuit) (delays : Delays) (count : ℕ) (routes : List Route) → IsCircuit c
-    → AreFirst c delays count routes → count ≤ greatest_path_number → AreListed c routes
+    → AreFirst c delays count routes → count ≤ MOST_PATHS → AreSearchablePaths c routes
 listed_first c delays count routes circuit first few = record {
   are_paths = first.are_paths;
   few = omega (arith, few_full c count routes first.full, few);
@@ -59,7 +59,7 @@ ways_at (route ∷ routes) (rise ∷ rises) (fall ∷ falls) zero searched here 
 ways_at (route ∷ routes) (rise ∷ rises) (fall ∷ falls) (suc at) searched here = ways_at routes rises falls at searched here
 
 pub are_findings : (c : Circuit) (delays : Delays) (findings : Findings) (routes : List Route) (rises falls : List Outcomes)
-    → AreFirst c delays findings.count routes → AreListed c routes → findings.paths.items ≡ both_ways routes rises falls
+    → AreFirst c delays findings.count routes → AreSearchablePaths c routes → findings.paths.items ≡ both_ways routes rises falls
     → AreSearchedFor c findings.budget routes Rise rises findings.refutations.items
     → AreSearchedFor c findings.budget routes Fall falls findings.refutations.items
     → AreRefutations c (searches_with findings.budget routes findings.refutations.items) → AreFindings c delays findings

@@ -6,20 +6,19 @@ use Rattle.std.proofs.lemmas.List.{length-replicate}
 use Rattle.std.proofs.lemmas.List.Elements.{All-append, All-nil}
 use Rattle.std.proofs.lemmas.Option.{slice_get-get_or, slice_get_within}
 use Rattle.std.proofs.Math.Seq.{drop-cons}
-use Rattle.pd_base.specs.declared.fault.Direction.{Direction}
-use Rattle.pd_base.specs.declared.fault.Kind.{Kind}
+use Rattle.pd_base.specs.Target.{Target}
 use Rattle.pd_base.specs.Route.{Route}
 use Rattle.netlist.specs.Circuit.{Circuit}
 use Rattle.verdict_runs.specs.declared.findings.Outcome.{Outcome}
 use Rattle.verdict_runs.specs.declared.findings.Outcome.TheVariants.{Unsearched, Tested, Refuted, Spent}
 use Rattle.verdict_runs.specs.declared.findings.Refutation.{Refutation}
 use Rattle.verdict_runs.specs.Findings.{IsOutcome, NoneRefutes, Searches}
-use Rattle.fault_search.specs.declared.targets.Entry.{Entry}
+use Rattle.fault_search.specs.declared.targets.PathEntry.{PathEntry}
 use Rattle.fault_search.specs.declared.targets.Aim.{Aim}
-use Rattle.fault_search.specs.Entries.{IsEntryOf}
+use Rattle.fault_search.specs.Entries.{IsPathEntry}
 use Rattle.prefix_sensitize.specs.Order.{AreRising, IsOrder}
-use Rattle.fault_search.specs.Walks.{IsAimedAt, IsGrown, IsWalked, KeepSettled, Stands, is_settled, outcome_at, searches_with}
-use Rattle.prefix_sensitize.specs.Passes.{AreNew, IsPassed, IsHalfway}
+use Rattle.fault_search.specs.Walks.{IsAimedAt, IsGrown, IsWalked, KeepKnown, Stands, is_known, outcome_at, searches_with, target_for}
+use Rattle.prefix_sensitize.specs.Passes.{AreNew, ArePassOutcomes, IsHalfway}
 use Rattle.fault_search.proofs.Places.{all_at, same_item}
 
 -- nothing is added
@@ -39,14 +38,14 @@ grown_on aim first second third one two = record {
   aimed = All-append (IsAimedAt aim) one.more two.more one.aimed two.aimed;
 }
 
--- an outcome that is settled and stands is as it is promised
-pub settled_outcome : (c : Circuit) (searches : Searches) (kind : Kind) (direction : Direction) (route : Route) (outcome : Outcome)
-    → Stands c searches kind direction route outcome → is_settled outcome ≡ true
-    → IsOutcome c searches kind direction route outcome
-settled_outcome c searches kind direction route Unsearched stands settled = absurd (true≢false (sym settled))
-settled_outcome c searches kind direction route (Tested pair) stands settled = stands
-settled_outcome c searches kind direction route (Refuted index) stands settled = stands
-settled_outcome c searches kind direction route (Spent tree) stands settled = stands
+-- an outcome that is known and stands is as it is promised
+pub known_outcome : (c : Circuit) (searches : Searches) (target : Target) (outcome : Outcome)
+    → Stands c searches target outcome → is_known outcome ≡ true
+    → IsOutcome c searches target outcome
+known_outcome c searches target Unsearched stands known = absurd (true≢false (sym known))
+known_outcome c searches target (Tested pair) stands known = stands
+known_outcome c searches target (Refuted index) stands known = stands
+known_outcome c searches target (Spent tree) stands known = stands
 
 module _ (c : Circuit) (routes : List Route) (aim : Aim) where
   -- paths with more steps may come
@@ -67,7 +66,7 @@ module _ (c : Circuit) (routes : List Route) (aim : Aim) where
   unsearched_at (suc count) (suc at) = unsearched_at count at
 
   none_yet : (refutations : List Refutation) → AreNew c routes aim refutations → (route : Route)
-      → NoneRefutes (searches_with aim.budget routes refutations) aim.kind aim.dir route
+      → NoneRefutes (searches_with aim.budget routes refutations) (target_for aim route)
   none_yet refutations new route index refutation here refutes =
       all_at (λ (r : Refutation). ¬ IsAimedAt aim r) refutations index refutation new.none here
       (record { of_kind = refutes.of_kind; of_direction = refutes.of_direction })
@@ -84,12 +83,12 @@ module _ (c : Circuit) (routes : List Route) (aim : Aim) where
       stands =
           λ at route here.
           (let P : Outcome → Type 0 =
-          λ o. Stands c (searches_with aim.budget routes refutations) aim.kind aim.dir route o in
+          λ o. Stands c (searches_with aim.budget routes refutations) (target_for aim route) o in
           subst P (sym (unsearched_at (length routes) at)) (none_yet refutations new route));
     };
   }
 
-  module _ (needed : List Bool) (order : List Entry) (is_order : IsOrder routes order) where
+  module _ (needed : List Bool) (order : List PathEntry) (is_order : IsOrder routes order) where
     pub halfway_none : (outcomes : List Outcome) (refutations : List Refutation) → AreNew c routes aim refutations
         → outcomes ≡ replicate (length routes) Unsearched → IsHalfway c routes needed aim order 0 outcomes refutations
     halfway_none outcomes refutations new none = record {
@@ -98,10 +97,10 @@ module _ (c : Circuit) (routes : List Route) (aim : Aim) where
           let P : List Outcome → Type 0 = λ o. IsWalked c routes aim 0 o refutations in
           subst P (sym none) (walked_not refutations new);
       rising = is_order.rising;
-      settled = λ place entry before here need. absurd (omega arith);
+      known = λ place entry before here need. absurd (omega arith);
     }
 
-    module _ (index : ℕ) (entry : Entry) (outcomes : List Outcome) (refutations : List Refutation)
+    module _ (index : ℕ) (entry : PathEntry) (outcomes : List Outcome) (refutations : List Refutation)
         (half : IsHalfway c routes needed aim order index outcomes refutations) (within : index < length order)
         (is : entry ≡ get_or order index entry) where
       -- the entry at this index, and those behind it
@@ -114,34 +113,34 @@ module _ (c : Circuit) (routes : List Route) (aim : Aim) where
       here : slice_get order index ≡ Some entry
       here = slice_get-get_or order index entry within ∙ ap Some (sym is)
 
-      pub entry_of : IsEntryOf routes entry
-      entry_of = all_at (IsEntryOf routes) order index entry is_order.of_paths here
+      pub entry_of : IsPathEntry routes entry
+      entry_of = all_at (IsPathEntry routes) order index entry is_order.of_paths here
 
       pub walked_up : IsWalked c routes aim entry.steps outcomes refutations
       walked_up = walked_longer half.longest entry.steps outcomes refutations its_rising.0 half.walked
 
       pub halfway_more : (outcomes' : List Outcome) (refutations' : List Refutation)
           → IsWalked c routes aim entry.steps outcomes' refutations'
-          → (slice_index_or needed entry.at false ≡ true → is_settled (outcome_at outcomes' entry.at) ≡ true)
-          → KeepSettled outcomes outcomes' → IsHalfway c routes needed aim order (index + 1) outcomes' refutations'
+          → (slice_index_or needed entry.at false ≡ true → is_known (outcome_at outcomes' entry.at) ≡ true)
+          → KeepKnown outcomes outcomes' → IsHalfway c routes needed aim order (index + 1) outcomes' refutations'
       halfway_more outcomes' refutations' walked own kept = record {
         longest = entry.steps;
         walked = walked;
         rising = its_rising.1;
-        settled =
+        known =
             λ place other before there need.
             ⊎_elim
             (λ (less : place < index).
-            let of = all_at (IsEntryOf routes) order place other is_order.of_paths there in
+            let of = all_at (IsPathEntry routes) order place other is_order.of_paths there in
             let one_each = half.walked.standing.one_each in
             let inside : other.at < length routes = slice_get_within routes other.at of.route of.is_listed in
-            kept other.at (omega (arith, inside, one_each)) (half.settled place other less there need))
+            kept other.at (omega (arith, inside, one_each)) (half.known place other less there need))
             (λ (last : index ≤ place).
             let same : place ≡ index = omega arith in
             let P : ℕ → Type 0 = λ n. slice_get order n ≡ Some other in
             let its : other ≡ entry = same_item order index other entry (subst P same there) here in
-            let Q : Entry → Type 0 = λ e. is_settled (outcome_at outcomes' e.at) ≡ true in
-            let R : Entry → Type 0 = λ e. slice_index_or needed e.at false ≡ true in
+            let Q : PathEntry → Type 0 = λ e. is_known (outcome_at outcomes' e.at) ≡ true in
+            let R : PathEntry → Type 0 = λ e. slice_index_or needed e.at false ≡ true in
             subst Q (sym its) (own (subst R its need)))
             (cases_lt place index);
       }
@@ -149,16 +148,16 @@ module _ (c : Circuit) (routes : List Route) (aim : Aim) where
     -- where all entries are done, all paths are
     pub passed : (outcomes : List Outcome) (refutations : List Refutation)
         → IsHalfway c routes needed aim order (length order) outcomes refutations
-        → IsPassed c routes needed aim outcomes refutations
+        → ArePassOutcomes c routes needed aim outcomes refutations
     passed outcomes refutations half = record {
       are_refutations = half.walked.are_refutations;
       standing = half.walked.standing;
-      settled =
+      known =
           λ at inside need.
           (let among = is_order.whole at inside in
-          let P : ℕ → Type 0 = λ n. is_settled (outcome_at outcomes n) ≡ true in
+          let P : ℕ → Type 0 = λ n. is_known (outcome_at outcomes n) ≡ true in
           let Q : ℕ → Type 0 = λ n. slice_index_or needed n false ≡ true in
           subst P among.is_of
-          (half.settled among.place among.entry (slice_get_within order among.place among.entry among.is_entry) among.is_entry
+          (half.known among.place among.entry (slice_get_within order among.place among.entry among.is_entry) among.is_entry
           (subst Q (sym among.is_of) need)));
     }

@@ -5,8 +5,8 @@ use Rattle.netlist.specs.Circuit.{Circuit}
 use Rattle.verdict_runs.specs.declared.findings.Outcome.{Outcome}
 use Rattle.verdict_runs.specs.declared.findings.Refutation.{Refutation}
 use Rattle.fault_search.specs.declared.targets.Aim.{Aim}
-use Rattle.fault_search.specs.declared.targets.Entry.{Entry}
-use Rattle.fault_search.specs.Walks.{AreRefutations, AreStanding, IsAimedAt, IsWalked, is_settled, outcome_at, searches_with}
+use Rattle.fault_search.specs.declared.targets.PathEntry.{PathEntry}
+use Rattle.fault_search.specs.Walks.{AreRefutations, AreStanding, IsAimedAt, IsWalked, is_known, outcome_at, searches_with}
 use Rattle.prefix_sensitize.specs.Order.{AreRising}
 
 -- nothing was searched for this aim
@@ -15,19 +15,19 @@ pub record AreNew (c : Circuit) (routes : List Route) (aim : Aim) (refutations :
   pub none : All (λ refutation. ¬ IsAimedAt aim refutation) refutations
 
 -- Each outcome stands for its path, and those that are needed are known.
-pub record IsPassed (c : Circuit) (routes : List Route) (needed : List Bool) (aim : Aim) (outcomes : List Outcome)
+pub record ArePassOutcomes (c : Circuit) (routes : List Route) (needed : List Bool) (aim : Aim) (outcomes : List Outcome)
     (refutations : List Refutation) : Type 0 where
   pub are_refutations : AreRefutations c (searches_with aim.budget routes refutations)
   pub standing : AreStanding c (searches_with aim.budget routes refutations) aim.kind aim.dir outcomes
-  pub settled : (at : ℕ) → at < length routes → slice_index_or needed at false ≡ true
-      → is_settled (outcome_at outcomes at) ≡ true
+  pub known : (at : ℕ) → at < length routes → slice_index_or needed at false ≡ true
+      → is_known (outcome_at outcomes at) ≡ true
 
 -- the walk has come to the entry of this index: no path before has more steps than one from here on, and the outcomes that are needed
 -- of those before are known
-pub record IsHalfway (c : Circuit) (routes : List Route) (needed : List Bool) (aim : Aim) (order : List Entry) (index : ℕ)
+pub record IsHalfway (c : Circuit) (routes : List Route) (needed : List Bool) (aim : Aim) (order : List PathEntry) (index : ℕ)
     (outcomes : List Outcome) (refutations : List Refutation) : Type 0 where
   pub longest : ℕ
   pub walked : IsWalked c routes aim longest outcomes refutations
   pub rising : AreRising longest (drop index order)
-  pub settled : (place : ℕ) (entry : Entry) → place < index → slice_get order place ≡ Some entry
-      → slice_index_or needed entry.at false ≡ true → is_settled (outcome_at outcomes entry.at) ≡ true
+  pub known : (place : ℕ) (entry : PathEntry) → place < index → slice_get order place ≡ Some entry
+      → slice_index_or needed entry.at false ≡ true → is_known (outcome_at outcomes entry.at) ≡ true

@@ -1,12 +1,12 @@
 // The searches for the tests of one kind and transition.
 ghost use Rattle.std.specs.Prelude.{◌≡◌, ◌+◌, ◌*◌, ◌<◌, ◌≤◌, ◌^◌, None, length, replicate, IfOk, OnOk};
-ghost use Rattle.refutation_check.specs.Lawful.{most_steps};
-ghost use Rattle.fault_search.specs.Entering.{IsAtRest};
+ghost use Rattle.netlist.specs.declared.limits.TheConstants.{MOST_LEVELS};
+ghost use Rattle.fault_search.specs.Entering.{IsIdleAgain};
 ghost use Rattle.prefix_sensitize.specs.Order.{IsOrder};
-ghost use Rattle.fault_search.specs.Walks.{AreListed, IsBudget, IsGrown};
-ghost use Rattle.prefix_sensitize.specs.Passes.{IsPassed, AreNew};
+ghost use Rattle.fault_search.specs.Walks.{AreSearchablePaths, IsBudget, IsGrown};
+ghost use Rattle.prefix_sensitize.specs.Passes.{ArePassOutcomes, AreNew};
 
-use fault_search::{Aim, Entry, visit};
+use fault_search::{Aim, PathEntry, search_fault};
 use implication::{Engine, HasNetlist};
 use pd_base::{OutOfMemory, Path, Steps};
 use state_sets::FourStates;
@@ -19,27 +19,27 @@ pub(crate) fn pass<N: HasNetlist, L>(
     alloc: Global,
     engine: &mut Engine<FourStates, N>,
     paths: &[Path],
-    order: &[Entry],
+    order: &[PathEntry],
     needed: &[bool],
     aim: Aim,
     refutations: &mut Vec<Refutation>,
     steps: &mut Steps<L>,
 ) -> Result<Vec<Outcome>, OutOfMemory>
     requires idle { engine.old.beginning ≡ None }
-    requires listed { AreListed engine.old.net paths.now }
+    requires listed { AreSearchablePaths engine.old.net paths.now }
     requires order { IsOrder paths.now order.now }
     requires needed { length needed.now ≡ length paths.now }
     requires budget { IsBudget aim.budget }
     requires fresh { AreNew engine.old.net paths.now aim refutations.old.items }
-    requires room { steps.old + length order.now * most_steps < 2 ^ 64 }
-    ensures rest { OnOk result (IsAtRest engine.old engine.new) }
-    ensures passed { IfOk result (λ outcomes. IsPassed engine.old.net paths.now needed.now aim outcomes.items refutations.new.items) }
+    requires room { steps.old + length order.now * MOST_LEVELS < 2 ^ 64 }
+    ensures rest { OnOk result (IsIdleAgain engine.old engine.new) }
+    ensures passed { IfOk result (λ outcomes. ArePassOutcomes engine.old.net paths.now needed.now aim outcomes.items refutations.new.items) }
     ensures grown { OnOk result (IsGrown aim refutations.old.items refutations.new.items) }
-    ensures steps { OnOk result (steps.new ≤ steps.old + length order.now * most_steps) }
+    ensures steps { OnOk result (steps.new ≤ steps.old + length order.now * MOST_LEVELS) }
 {
     let mut outcomes = unsearched(alloc, paths.len())?;
     for entry in order {
-        visit(
+        search_fault(
             alloc,
             engine,
             paths,

@@ -1,31 +1,33 @@
 // All searches for the first paths of a circuit, and the run that their findings make.
 ghost use Rattle.std.specs.Prelude.{◌≡◌, ◌+◌, ◌*◌, ◌<◌, ◌≤◌, ◌^◌, None, length, IfOk, OnOk};
+ghost use Rattle.pd_base.specs.declared.limits.TheConstants.{MOST_PATHS};
+ghost use Rattle.netlist.specs.declared.limits.TheConstants.{MOST_LEVELS};
+ghost use Rattle.pd_base.specs.declared.rules.Rules.TheVariants.{One};
 ghost use Rattle.delay_annotation.specs.Annotation.{delays_of, Fits};
 ghost use Rattle.netlist.specs.Order.{AreFirst};
 ghost use Rattle.good_runs.specs.GoodRun.{IsGoodRun};
-ghost use Rattle.refutation_check.specs.Lawful.{IsLawfulRun, greatest_path_number, most_steps};
-ghost use Rattle.fault_search.specs.Entering.{IsAtRest};
+ghost use Rattle.runs.specs.Lawful.{IsLawfulRun};
+ghost use Rattle.fault_search.specs.Entering.{IsIdleAgain};
 ghost use Rattle.prefix_sensitize.specs.Order.{IsOrder};
-ghost use Rattle.fault_search.specs.Walks.{AreListed, IsBudget, AreRefutations, searches_with};
+ghost use Rattle.fault_search.specs.Walks.{AreSearchablePaths, IsBudget, AreRefutations, searches_with};
 ghost use Rattle.prefix_sensitize.specs.Gathering.{AreSearchedFor, AreNewFor, IsGrownFor};
 
 use crate::gathering::{pair_kinds, pair_ways, untested};
 use crate::order::order_of;
 use crate::passes::pass;
 use delay_annotation::Delays;
-use fault_search::{Aim, Entry};
+use fault_search::{Aim, PathEntry};
 use implication::{Engine, HasNetlist};
 use netlist::Netlist;
 use pd_base::{Direction, Kind, OutOfMemory, Path, Steps};
-use refutation_check::Run;
+use runs::Run;
 use state_sets::FourStates;
 use std::alloc::Global;
 use verdict_runs::{Findings, Outcomes, Refutation, verdict_run};
 
-/// A good run for the first `count` paths of a circuit, which are given, and a budget of splits for each search. For each
-/// transition, a robust and then a nonrobust test of each path is searched for, from fewer steps to more; no nonrobust one where
-/// a robust one was found, and none where a refutation was found for a prefix of the path. Counts each pin that is entered.
-/// `OutOfMemory` comes where a growth was refused.
+/// A good run for the first `count` paths of a circuit, which are given, and a budget of splits for each search: each verdict has
+/// the test or the proofs that it asks for, and each test and each proof is what it says, under rules One. The run can be written
+/// as files. In which order it searches, and how far `steps` counts on, is not promised. The one error is that memory ran out.
 pub fn sensitize_all<L>(
     alloc: Global,
     net: &Netlist,
@@ -36,12 +38,13 @@ pub fn sensitize_all<L>(
     steps: &mut Steps<L>,
 ) -> Result<Run, OutOfMemory>
     requires fits { Fits net.now delays.now }
-    requires first { AreFirst net.now (delays_of delays.now) count paths.items }
-    requires count { count ≤ greatest_path_number }
+    requires first { AreFirst net.now (delays_of net.now delays.now) count paths.items }
+    requires count { count ≤ MOST_PATHS }
     requires budget { IsBudget budget }
     requires steps { steps.old ≤ 2 ^ 63 }
-    ensures good { IfOk result (λ run. IsGoodRun net.now (delays_of delays.now) count budget run) }
+    ensures good { IfOk result (λ run. IsGoodRun net.now (delays_of net.now delays.now) count budget run) }
     ensures lawful { IfOk result (λ run. IsLawfulRun net.now run) }
+    ensures rules { IfOk result (λ run. run.rules ≡ One) }
 {
     // a netlist has few levels, and so its paths have few steps
     let _ = net.sources();
@@ -74,7 +77,7 @@ fn search_all<N: HasNetlist, L>(
     steps: &mut Steps<L>,
 ) -> Result<Searched, OutOfMemory>
     requires idle { engine.old.beginning ≡ None }
-    requires listed { AreListed engine.old.net paths.now }
+    requires listed { AreSearchablePaths engine.old.net paths.now }
     requires budget { IsBudget budget }
     requires steps { steps.old ≤ 2 ^ 63 }
     ensures rises { IfOk result (λ s. AreSearchedFor engine.old.net budget paths.now Direction.Rise s.rises.items s.refutations.items) }
@@ -116,23 +119,23 @@ fn search_for<N: HasNetlist, L>(
     alloc: Global,
     engine: &mut Engine<FourStates, N>,
     paths: &[Path],
-    order: &[Entry],
+    order: &[PathEntry],
     dir: Direction,
     budget: u32,
     refutations: &mut Vec<Refutation>,
     steps: &mut Steps<L>,
 ) -> Result<Vec<Outcomes>, OutOfMemory>
     requires idle { engine.old.beginning ≡ None }
-    requires listed { AreListed engine.old.net paths.now }
+    requires listed { AreSearchablePaths engine.old.net paths.now }
     requires order { IsOrder paths.now order.now }
     requires budget { IsBudget budget }
     requires fresh { AreNewFor engine.old.net budget paths.now dir refutations.old.items }
-    requires room { steps.old + 2 * (length order.now * most_steps) < 2 ^ 64 }
-    ensures rest { OnOk result (IsAtRest engine.old engine.new) }
+    requires room { steps.old + 2 * (length order.now * MOST_LEVELS) < 2 ^ 64 }
+    ensures rest { OnOk result (IsIdleAgain engine.old engine.new) }
     ensures searched { IfOk result (λ outcomes. AreSearchedFor engine.old.net budget paths.now dir outcomes.items refutations.new.items) }
     ensures refutations { OnOk result (AreRefutations engine.old.net (searches_with budget paths.now refutations.new.items)) }
     ensures grown { OnOk result (IsGrownFor dir refutations.old.items refutations.new.items) }
-    ensures steps { OnOk result (steps.new ≤ steps.old + 2 * (length order.now * most_steps)) }
+    ensures steps { OnOk result (steps.new ≤ steps.old + 2 * (length order.now * MOST_LEVELS)) }
 {
     let aim = Aim {
         kind: Kind::Robust,

@@ -1,3 +1,6 @@
-pub mod Forests
-pub mod Preorders
-pub mod Nameable
+pub mod States
+pub mod Narrows
+pub mod Walking
+pub mod Told
+pub mod Checking
+pub mod Ends

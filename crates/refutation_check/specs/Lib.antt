@@ -1,3 +1,4 @@
-pub mod Lawful
-pub mod Trees
-pub mod Verdicts
+pub mod Walks
+pub mod TrialLabels
+pub mod Judged
+pub mod Answers

@@ -1,10 +1,16 @@
-//! What a run consists of: listed paths with their verdicts, tests, and proofs with trees of case splits; and which runs
-//! the three files can spell (specs/Lawful.antt). Which trees refute is said in tree_laws.
-//! Stands on pd_base and netlist. The layers above use `Run` and its parts, and the predicates of specs/.
+//! Whether a tree of cases refutes, and whether it shows that a budget was spent; if not, which node is first at fault.
+//! Stands on pd_base, netlist, logic_values, state_sets, state_laws, hulls, runs and tree_laws.
+//! The layers above use the contracts of `check_tree` and `check_spent`.
 #![tactic(auto)]
 
-mod run;
-mod tree;
+mod answer;
+mod halves;
+mod judging;
+mod labels;
+mod refutation;
+mod spent;
+mod walk;
 
-pub use run::{ListedPath, Proof, Run, Verdict};
-pub use tree::{Node, Tree};
+pub use answer::TreeCheck;
+pub use refutation::check_tree;
+pub use spent::check_spent;

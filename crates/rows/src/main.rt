@@ -1,16 +1,20 @@
-//! Plays rows of whole calls over files and streams in memory, and prints what came of each: its status, what err and out took,
-//! and each file that it changed. The rows are this crate's stdin; what they have to print, its stdout, was worked out by hand.
-//! It is no part of the product.
+//! Plays rows and prints what came of each: what a netlist's text says, values, delays, paths and tests, waves, hulls and trees of
+//! cases; and whole calls over files and streams in memory. The rows are this crate's stdin; what they have to print, its stdout,
+//! was worked out by hand. Stands on row_answers and commands, and is no part of the product.
 #![tactic(auto)]
 
-mod calls;
+mod questions;
 mod row;
+mod subject;
+mod table;
+mod wide;
 
-use calls::Table;
 use row::Row;
-use row_texts::Trouble;
+use row_answers::Trouble;
 use std::alloc::Global;
 use std::process::ExitCode;
+use subject::Subject;
+use table::Table;
 
 fn main(rt: HostRuntime) -> ExitCode {
     match play_all(&rt) {
@@ -22,35 +26,51 @@ fn main(rt: HostRuntime) -> ExitCode {
 // Plays one row after another, up to one that is none.
 fn play_all(rt: &HostRuntime) -> Result<(), Trouble> {
     let mut table = Table::new(rt.alloc());
+    let mut subject = Subject::new(rt.alloc());
     for line in rt.lines(rt.alloc()) {
         let line = line?;
-        play(rt, &mut table, line.as_str())?;
+        play(rt, &mut table, &mut subject, line.as_str())?;
     }
     Ok(())
 }
 
-// Plays a row. Rows that print something print themselves first.
-fn play(rt: &HostRuntime, table: &mut Table, line: &str) -> Result<(), Trouble> {
+// Plays a row. Rows print themselves first, but for those that only say what later calls find.
+fn play(
+    rt: &HostRuntime,
+    table: &mut Table,
+    subject: &mut Subject,
+    line: &str,
+) -> Result<(), Trouble> {
     match Row::of(line)? {
         Row::Put(name, text) => table.put(name, text)?,
         Row::Remove(name) => table.remove(name),
         Row::Fail(object, nth) => table.fail(object, nth)?,
         row => {
             println!(rt; "{line}")?;
-            print!(rt; "{}", answer(rt.alloc(), table, row)?)?;
+            print!(rt; "{}", answer(rt.alloc(), table, subject, row)?)?;
         }
     }
     Ok(())
 }
 
-// What came of a row that calls, or is a heading.
-fn answer(alloc: Global, table: &mut Table, row: Row<'_>) -> Result<String, Trouble> {
+// What came of a row that prints itself.
+fn answer(
+    alloc: Global,
+    table: &mut Table,
+    subject: &mut Subject,
+    row: Row<'_>,
+) -> Result<String, Trouble> {
     match row {
+        Row::Call(words) => called(alloc, table, words),
         Row::BareCall => table.call(&[]),
-        Row::Call(words) => {
-            let words: Vec<&str> = words.split(' ').collect(alloc)?;
-            table.call(words.as_slice())
-        }
+        Row::Wide(buffers) => wide::call(alloc, buffers),
+        Row::Ask(word, rest) => subject.answer(alloc, word, rest),
         _ => Ok(String::new(alloc)),
     }
+}
+
+// What came of a call with these words.
+fn called(alloc: Global, table: &mut Table, words: &str) -> Result<String, Trouble> {
+    let words: Vec<&str> = words.split(' ').collect(alloc)?;
+    table.call(words.as_slice())
 }

@@ -1,6 +1,6 @@
-// The rows: what stands in files, what is to fail, and calls.
-use memory_files::FileCall;
-use row_texts::{Trouble, number_of};
+// The rows: what stands in files, what is to fail, calls, and what is asked of a netlist.
+use pd_io::FileCall;
+use row_answers::{Trouble, number_of};
 
 /// What fails: a call of the files, or a write on out or err.
 #[derive(Clone, Copy, Debug)]
@@ -28,6 +28,10 @@ pub enum Row<'a> {
     BareCall,
     /// A call with these words, single spaces between.
     Call(&'a str),
+    /// A call on a netlist of one source and so many buffers of it, all observed.
+    Wide(u32),
+    /// A word of the rows about netlists, and what stands behind it.
+    Ask(&'a str, &'a str),
 }
 
 impl<'a> Row<'a> {
@@ -39,8 +43,8 @@ impl<'a> Row<'a> {
         if line == "call" {
             return Ok(Row::BareCall);
         }
-        let (key, rest) = line.split_once(' ').ok_or(Trouble::NoRow)?;
-        match key {
+        let (word, rest) = line.split_once(' ').unwrap_or((line, ""));
+        match word {
             "put" => {
                 let (name, text) = rest.split_once(' ').ok_or(Trouble::NoRow)?;
                 Ok(Row::Put(name, text))
@@ -48,7 +52,8 @@ impl<'a> Row<'a> {
             "remove" => Ok(Row::Remove(rest)),
             "fail" => failure(rest),
             "call" => Ok(Row::Call(rest)),
-            _ => Err(Trouble::NoRow),
+            "wide" => Ok(Row::Wide(number_of(rest)?)),
+            _ => Ok(Row::Ask(word, rest)),
         }
     }
 }

@@ -1,3 +1,17 @@
 pub mod Choices
 pub mod Narrowing
 pub mod PairStates
+pub mod Sets
+pub mod Steps
+pub mod Sweeps
+pub mod Hulls
+pub mod Restart
+pub mod Deciding
+pub mod Failing
+pub mod FanIns
+pub mod Pairs
+pub mod Singletons
+pub mod SourceStates
+pub mod StepConditions
+pub mod Knowing
+pub mod Steadied

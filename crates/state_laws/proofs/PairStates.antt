@@ -16,8 +16,8 @@ use Rattle.netlist.specs.Steadiness.{is_steady, steady_value, agreed_bit, is_kno
 use Rattle.netlist.specs.Conditions.{side_condition, Allows, SidesAllowed}
 use Rattle.netlist.proofs.Evaluation.{value_at_gate}
 use Rattle.path_laws.proofs.Steadiness.{steady_second}
-use Rattle.state_sets.specs.declared.op.Op.TheVariants as ops
-use Rattle.state_sets.specs.declared.op.Op.{Op}
+use Rattle.netlist.specs.declared.op.Op.TheVariants as ops
+use Rattle.netlist.specs.declared.op.Op.{Op}
 use Rattle.state_sets.specs.declared.state.State.{State}
 use Rattle.state_sets.specs.StateAlgebra.{joined}
 use Rattle.state_sets.specs.FourStates.{four_states, four_state, four_last, four_steady}
@@ -281,7 +281,7 @@ module _ (c : Circuit) (is : IsCircuit c) (pair : Vectors) where
     state_is k inside d = get_or-map (λ (l : LineId). state_under c pair l.0) (pins_at c gate) k d (four_states.unit ops.And) inside
 
     -- and with the condition of a step whose side pins the pair meets
-    pub pair_meets : SidesAllowed kind c pair line.0 (record { gate = record { 0 = gate }; pin = pin })
+    pub pair_meets : SidesAllowed c kind pair line.0 (record { gate = record { 0 = gate }; pin = pin })
         → SidesMeetAt four_states (kind_at c gate) (record { pin = pin; kind = kind }) states
     pair_meets allowed side inside other =
         let in_pins : side < length (pins_at c gate) = subst (λ n. side < n) (length-map (pins_at c gate) (λ (l : LineId). state_under c pair l.0)) inside in
@@ -303,6 +303,6 @@ module _ (c : Circuit) (is : IsCircuit c) (pair : Vectors) where
         (subst (λ b. Allows (side_condition kind (kind_at c gate) (value c pair.second line.0)) (value c pair.second side_line.0) b)
         (sym held) given))
 
-    pub pair_agrees_at_step : gate < gate_count c → SidesAllowed kind c pair line.0 (record { gate = record { 0 = gate }; pin = pin })
+    pub pair_agrees_at_step : gate < gate_count c → SidesAllowed c kind pair line.0 (record { gate = record { 0 = gate }; pin = pin })
         → AgreesAt four_states c gate (Some (record { pin = pin; kind = kind })) (state_under c pair)
     pair_agrees_at_step within allowed = record { at_gate = gate_state_under gate within; meets = pair_meets allowed }

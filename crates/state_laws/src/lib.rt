@@ -1,4 +1,9 @@
-//! The laws of states and of narrowing: what is true of the definitions of state_sets alone.
-//! Stands on pd_base, netlist, path_laws and state_sets, and has no code.
-//! The layers above cite the lemmas on narrowing at one gate, and that the states of a pair agree at each gate (proofs/).
+//! The laws of states, of narrowing and of hulls: what is true of the definitions of state_sets alone.
+//! Stands on pd_base, netlist, path_laws and state_sets, and has no code but the type `Half`.
+//! The layers above use `Half`, cite what lines may be in at a node of a tree of cases (specs/), and the lemmas that a hull loses no
+//! pair of vectors that meets the conditions, and that single states decide (proofs/).
 #![tactic(auto)]
+
+mod half;
+
+pub use half::Half;

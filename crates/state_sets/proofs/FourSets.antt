@@ -6,8 +6,8 @@ use Rattle.std.proofs.lemmas.Bool.{ltb-true, eqb-true, eq-eqb, and_parts}
 use Rattle.std.proofs.lemmas.Bool.Decides.{Decides-below_or, Decides-and, Decides-eqb}
 use Rattle.state_sets.specs.declared.state.State.{State}
 use Rattle.state_sets.specs.declared.state.StateSet.{StateSet}
-use Rattle.state_sets.specs.declared.op.Op.{Op}
-use Rattle.state_sets.specs.declared.op.Op.TheVariants.{And, Or, Xor}
+use Rattle.netlist.specs.declared.op.Op.{Op}
+use Rattle.netlist.specs.declared.op.Op.TheVariants.{And, Or, Xor}
 use Rattle.state_sets.specs.declared.four_tables.TheConstants.{AND_SETS, OR_SETS, XOR_SETS}
 use Rattle.state_sets.specs.States.{Has}
 use Rattle.state_sets.specs.StateSets.{IsJoin, AreJoins}

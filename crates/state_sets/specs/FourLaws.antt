@@ -3,8 +3,8 @@ use Rattle.std.proofs.Common.{◌≡◌, ℕ, zero, suc, ◌<◌, ◌==◌, Bool
 use Rattle.std.proofs.lemmas.Bool.{ltb-true, eqb-true, not-true}
 use Rattle.std.proofs.lemmas.Bool.Decides.{Decides-below_and}
 use Rattle.state_sets.specs.declared.state.State.{State}
-use Rattle.state_sets.specs.declared.op.Op.{Op}
-use Rattle.state_sets.specs.declared.op.Op.TheVariants.{And, Or, Xor}
+use Rattle.netlist.specs.declared.op.Op.{Op}
+use Rattle.netlist.specs.declared.op.Op.TheVariants.{And, Or, Xor}
 use Rattle.state_sets.specs.StateAlgebra.{HasLaws, joined_bit, unit_bit}
 use Rattle.state_sets.specs.FourStates.{four_states}
 

@@ -2,8 +2,8 @@
 -- project's own).
 use Rattle.std.specs.Prelude.{◌==◌, Bool, true, false, not, cond, nat_lt, ◌&&◌, ◌||◌}
 use Rattle.state_sets.specs.declared.state.State.{State}
-use Rattle.state_sets.specs.declared.op.Op.{Op}
-use Rattle.state_sets.specs.declared.op.Op.TheVariants.{And, Or, Xor}
+use Rattle.netlist.specs.declared.op.Op.{Op}
+use Rattle.netlist.specs.declared.op.Op.TheVariants.{And, Or, Xor}
 use Rattle.state_sets.specs.StateAlgebra.{StateAlgebra, joined_bit, unit_bit}
 
 -- the state that is steady or not and has this last value

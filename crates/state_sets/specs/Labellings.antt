@@ -27,7 +27,7 @@ HasStates count labels states lines = All (λ line. Has count (label_at labels l
 
 -- What a narrowing answers, read on the lines that it looks at: nothing changed, or something did, and each line has some
 -- state left; or no state is left at this line.
-abbrev pub Tells : List LineId → List StateSet → List StateSet → Narrowed → Type 0
-Tells lines old new Same = (new ≡ old) × All (λ line. label_at new line.0 ≢ no_states) lines
-Tells lines old new Shrunk = (new ≢ old) × All (λ line. label_at new line.0 ≢ no_states) lines
-Tells lines old new (Empty line) = Contains lines line × (label_at new line.0 ≡ no_states)
+abbrev pub TellsOfNarrowing : List LineId → List StateSet → List StateSet → Narrowed → Type 0
+TellsOfNarrowing lines old new Same = (new ≡ old) × All (λ line. label_at new line.0 ≢ no_states) lines
+TellsOfNarrowing lines old new Shrunk = (new ≢ old) × All (λ line. label_at new line.0 ≢ no_states) lines
+TellsOfNarrowing lines old new (Empty line) = Contains lines line × (label_at new line.0 ≡ no_states)

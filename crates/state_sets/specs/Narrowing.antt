@@ -2,39 +2,16 @@
 use Rattle.std.specs.Prelude.{◌≡◌, ◌≢◌, ⊤, ℕ, ◌<◌, Bool, true, false, List, [], ◌∷◌, ◌++◌, map, length, slice_get, slice_index_or, Option, Some, None, IsTrue, ◌↔◌}
 use Rattle.pd_base.specs.declared.ids.LineId.{LineId}
 use Rattle.netlist.specs.declared.kind.GateKind.{GateKind}
-use Rattle.netlist.specs.declared.kind.GateKind.TheVariants.{And, Nand, Or, Nor, Xor, Xnor, Not, Buff}
 use Rattle.netlist.specs.Circuit.{Circuit, kind_at, pins_at, gate_line}
 use Rattle.netlist.specs.Conditions.{side_condition, Allows}
+use Rattle.netlist.specs.Gates.{op_of, is_inverting}
 use Rattle.state_sets.specs.declared.state.State.{State}
 use Rattle.state_sets.specs.declared.state.StateSet.{StateSet}
-use Rattle.state_sets.specs.declared.op.Op.{Op}
-use Rattle.state_sets.specs.declared.op.Op.TheVariants as ops
+use Rattle.netlist.specs.declared.op.Op.TheVariants as ops
 use Rattle.state_sets.specs.declared.condition.Condition.{Condition}
 use Rattle.state_sets.specs.States.{Has}
 use Rattle.state_sets.specs.StateAlgebra.{StateAlgebra, joined}
 use Rattle.state_sets.specs.Labellings.{label_at, HasStates}
-
--- the operation by which a gate joins its pins; that of NOT and BUFF, which have one pin, does not matter
-abbrev pub op_of : GateKind → Op
-op_of And = ops.And
-op_of Nand = ops.And
-op_of Or = ops.Or
-op_of Nor = ops.Or
-op_of Xor = ops.Xor
-op_of Xnor = ops.Xor
-op_of Not = ops.And
-op_of Buff = ops.And
-
--- whether a gate inverts what it joins
-abbrev pub is_inverting : GateKind → Bool
-is_inverting And = false
-is_inverting Nand = true
-is_inverting Or = false
-is_inverting Nor = true
-is_inverting Xor = false
-is_inverting Xnor = true
-is_inverting Not = true
-is_inverting Buff = false
 
 -- a state, inverted or not
 abbrev pub inverted_if : StateAlgebra → Bool → State → State

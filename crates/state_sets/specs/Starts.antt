@@ -1,6 +1,9 @@
--- What lines may be in at the start of a search for a pair: a transition is launched at the path's source (this project's own).
+-- What lines may be in at the start of a search for a pair: a transition is launched at the path's source, and the rules say how the
+-- other sources may start (this project's own).
 use Rattle.std.specs.Prelude.{◌≡◌, ◌≢◌, ⊤, ℕ, ◌<◌, ◌≤◌, Bool, true, false, not}
 use Rattle.pd_base.specs.declared.fault.Direction.{Direction}
+use Rattle.pd_base.specs.declared.rules.Rules.{Rules}
+use Rattle.pd_base.specs.declared.rules.Rules.TheVariants.{One, Two}
 use Rattle.netlist.specs.Circuit.{Circuit, source_count}
 use Rattle.netlist.specs.Conditions.{final_bit}
 use Rattle.state_sets.specs.declared.state.State.{State}
@@ -13,15 +16,17 @@ pub record IsLaunching (a : StateAlgebra) (direction : Direction) (state : State
   pub moves : a.steady state ≡ false
   pub ends : a.last state ≡ final_bit direction
 
--- a source that is not the path's may be in every state
-abbrev pub IsOtherStart : StateAlgebra → State → Type 0
-IsOtherStart a state = ⊤
+-- a source that is not the path's may start in every state, or, where the rules hold such sources steady, in the steady ones
+abbrev pub IsOtherStart : StateAlgebra → Rules → State → Type 0
+IsOtherStart a One state = ⊤
+IsOtherStart a Two state = a.steady state ≡ true
 
--- what a line may be in at the start: the path's source launches the transition, the other sources may be in their states, and the
--- line of a gate in every state
-pub record MayStart (a : StateAlgebra) (c : Circuit) (source : ℕ) (direction : Direction) (line : ℕ) (state : State) : Type 0 where
+-- what a line may be in at the start: the path's source launches the transition, the other sources are as the rules leave them, and
+-- the line of a gate may be in every state
+pub record MayStart (a : StateAlgebra) (c : Circuit) (rules : Rules) (source : ℕ) (direction : Direction) (line : ℕ) (state : State)
+    : Type 0 where
   pub own : line ≡ source → IsLaunching a direction state
-  pub other : line < source_count c → line ≢ source → IsOtherStart a state
+  pub other : line < source_count c → line ≢ source → IsOtherStart a rules state
 
 -- one of two parts of the states of a source, by its last value or by its steadiness: last value 0, or steady, is the first part
 abbrev pub IsInHalf : StateAlgebra → Bool → Bool → State → Type 0

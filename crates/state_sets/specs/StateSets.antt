@@ -1,6 +1,6 @@
 -- What operations make of sets of states (this project's own).
 use Rattle.std.specs.Prelude.{◌≡◌, ◌↔◌}
-use Rattle.state_sets.specs.declared.op.Op.{Op}
+use Rattle.netlist.specs.declared.op.Op.{Op}
 use Rattle.state_sets.specs.declared.state.State.{State}
 use Rattle.state_sets.specs.declared.state.StateSet.{StateSet}
 use Rattle.state_sets.specs.StateAlgebra.{StateAlgebra}

@@ -4,7 +4,8 @@ ghost use Rattle.state_sets.specs.States.{IsWithin, all_states};
 ghost use Rattle.state_sets.specs.StateAlgebra.{StateAlgebra, HasLaws};
 ghost use Rattle.state_sets.specs.StateSets.{AreJoins};
 
-use crate::{Op, State, StateSet};
+use crate::{State, StateSet};
+use netlist::Op;
 
 /// A kind of states that a line may be in under a pair of vectors, with what gates make of them.
 pub trait Algebra {

@@ -5,7 +5,8 @@ ghost use Rattle.state_sets.specs.StateAlgebra.{joined_bit, unit_bit};
 ghost use Rattle.state_sets.specs.FourLaws.{four_laws};
 
 use crate::four_tables::{AND_SETS, OR_SETS, XOR_SETS};
-use crate::{Algebra, Op, State, StateSet};
+use crate::{Algebra, State, StateSet};
+use netlist::Op;
 
 /// S0, S1, N0, N1 as states 0 to 3: S where the line is steady, N where not, and the digit is the value under the second vector.
 #[derive(Clone, Copy, Debug, PartialEq, Eq)]

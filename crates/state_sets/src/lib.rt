@@ -9,7 +9,6 @@ mod four_states;
 mod four_tables;
 mod labels;
 mod narrowed;
-mod op;
 mod state;
 
 pub use algebra::{Algebra, count_states, every_state};
@@ -17,5 +16,5 @@ pub use condition::Condition;
 pub use four_states::FourStates;
 pub use labels::Labels;
 pub use narrowed::Narrowed;
-pub use op::Op;
+pub use netlist::Op;
 pub use state::{State, StateSet};

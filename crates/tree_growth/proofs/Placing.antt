@@ -4,60 +4,59 @@ use Rattle.std.specs.List.{Contains}
 use Rattle.std.proofs.lemmas.List.{take-take, take_all, length_push}
 use Rattle.std.proofs.Math.Seq.{take-append_seam}
 use Rattle.std.proofs.lemmas.List.Elements.{Contains-push_cases}
-use Rattle.pd_base.specs.Route.{Route}
+use Rattle.pd_base.specs.Target.{Target}
 use Rattle.pd_base.specs.declared.ids.LineId.{LineId}
-use Rattle.pd_base.specs.declared.fault.Direction.{Direction}
-use Rattle.pd_base.specs.declared.fault.Kind.{Kind}
+use Rattle.pd_base.specs.declared.rules.Rules.TheVariants.{One}
 use Rattle.netlist.specs.Circuit.{Circuit, source_count}
 use Rattle.state_sets.specs.declared.state.State.{State}
 use Rattle.state_sets.specs.declared.state.StateSet.{StateSet}
 use Rattle.state_sets.specs.States.{Has, both_sets}
 use Rattle.state_sets.specs.FourStates.{four_states}
 use Rattle.state_sets.specs.Starts.{IsInHalf}
-use Rattle.hull_laws.specs.declared.half.Half.{Half}
-use Rattle.hull_laws.specs.Nodes.{ClosesAtNode}
-use Rattle.hull_laws.proofs.Restart.{may_be_below, may_be_above}
-use Rattle.refutation_check.specs.declared.tree.Node.{Node}
-use Rattle.refutation_check.specs.declared.tree.Node.TheVariants.{Closed, Waiting}
-use Rattle.refutation_check.specs.Trees.{split_count}
+use Rattle.state_laws.specs.declared.half.Half.{Half}
+use Rattle.state_laws.specs.Nodes.{ClosesAtNode}
+use Rattle.state_laws.proofs.Restart.{may_be_below, may_be_above}
+use Rattle.runs.specs.declared.tree.Node.{Node}
+use Rattle.runs.specs.declared.tree.Node.TheVariants.{Closed, Waiting}
+use Rattle.runs.specs.Trees.{split_count}
 use Rattle.tree_laws.specs.Refutations.{below}
 use Rattle.tree_laws.specs.Spent.{IsDue, HasInHalf}
-use Rattle.search_laws.specs.Growing.{split_node, Grows}
-use Rattle.search_laws.proofs.Growing.{grows_by_closed, grows_by_waiting, grows_by_split}
-use Rattle.search_laws.proofs.Ending.{splits_with_split, splits_with_closed, splits_with_waiting}
+use Rattle.tree_laws.specs.Growing.{split_node, Grows}
+use Rattle.tree_laws.proofs.Growing.{grows_by_closed, grows_by_waiting, grows_by_split}
+use Rattle.tree_laws.proofs.Ending.{splits_with_split, splits_with_closed, splits_with_waiting}
 use Rattle.implication.specs.declared.assumption.Beginning.{Beginning}
 use Rattle.implication.specs.declared.assumption.Assumption.{Assumption}
 use Rattle.implication.specs.declared.scope.ScopeMark.{ScopeMark}
 use Rattle.implication.specs.declared.assumption.Assumption.TheVariants.{Assumed}
 use Rattle.implication.specs.Assumptions.{entered_pins, left_of, ClosesUnder}
 use Rattle.implication.specs.Moves.{with_assumed}
-use Rattle.pair_trial.specs.Nodes.{beginning_of, IsNode, IsCone, HasFailed}
+use Rattle.pair_trial.specs.Nodes.{beginning_of, AllowAsNode, IsCone, HasFailed}
 use Rattle.pair_trial.proofs.Assuming.{may_assumed, entered_assumed, assumed_cases}
 use Rattle.pair_trial.proofs.Nodes.{marked_support}
 use Rattle.tree_growth.specs.declared.choosing.Split.{Split}
 use Rattle.tree_growth.specs.declared.growing.Place.{Place}
-use Rattle.tree_growth.specs.Choices.{IsChoice}
-use Rattle.tree_growth.specs.Growths.{IsHalfPlace, IsNodeWith, IsPlace, AreStacked, IsGrowing}
+use Rattle.tree_growth.specs.Choices.{IsUsefulSplit}
+use Rattle.tree_growth.specs.Growths.{IsHalfPlace, AllowAsNodeWith, IsPlace, AreStacked, IsGrowing}
 
 -- a set assumed of a source is what the place says
-pub node_assumed : (c : Circuit) (begun : Beginning) (list : List Assumption) (source : LineId) (set : StateSet) (halves : List Half)
-    → IsNodeWith c begun list source set halves → IsNode c begun (with_assumed four_states.count list source set) halves
-node_assumed c begun list source set halves with_set line state in_circuit in_range =
-    let may = may_assumed four_states c begun list source set line state in_range in
+pub node_assumed : (c : Circuit) (target : Target) (list : List Assumption) (source : LineId) (set : StateSet) (halves : List Half)
+    → AllowAsNodeWith c target list source set halves → AllowAsNode c target (with_assumed four_states.count list source set) halves
+node_assumed c target list source set halves with_set line state in_circuit in_range =
+    let may = may_assumed four_states c (beginning_of target) list source set line state in_range in
     let same = with_set line state in_circuit in_range in
     (λ under. same.0 (may.0 under), λ be. may.1 (same.1 be))
 
 -- with the states of a half assumed of its source, the assumptions of a node leave the states of the node below the half
-pub node_half : (c : Circuit) (begun : Beginning) (list : List Assumption) (halves : List Half) (half : Half) (source : LineId) (set : StateSet)
+pub node_half : (c : Circuit) (target : Target) (list : List Assumption) (halves : List Half) (half : Half) (source : LineId) (set : StateSet)
     → source.0 ≡ half.source
     → ((state : State) → Has 4 set state ↔ ((state.0 < 4) × IsInHalf four_states half.steadiness half.second state))
-    → IsNode c begun list halves → IsNodeWith c begun list source set (halves ++ half ∷ [])
-node_half c begun list halves half source set same means node line state in_circuit in_range =
+    → AllowAsNode c target list halves → AllowAsNodeWith c target list source set (halves ++ half ∷ [])
+node_half c target list halves half source set same means node line state in_circuit in_range =
     let at = node line state in_circuit in_range in (
-      λ both. may_be_below four_states c begun.source.0 begun.direction halves half line state in_circuit in_range
+      λ both. may_be_below four_states c One target halves half line state in_circuit in_range
           (at.0 both.0, λ here. ((means state).0 (both.1 (here ∙ sym same))).1),
       λ be.
-          let parts = may_be_above four_states c begun.source.0 begun.direction halves half line state in_circuit in_range be in
+          let parts = may_be_above four_states c One target halves half line state in_circuit in_range be in
           (at.1 parts.0, λ here. (means state).1 (in_range, parts.1 (here ∙ same))),
     )
 
@@ -79,14 +78,14 @@ assumed_longer list source set = ⊎_elim
     omega (arith, e, f))
     (assumed_cases four_states.count list source set)
 
-module _ (c : Circuit) (path : Route) (direction : Direction) (kind : Kind) where
+module _ (c : Circuit) (target : Target) where
   abbrev begun : Beginning
-  begun = beginning_of path direction kind
+  begun = beginning_of target
 
   -- places stay where they are when the list goes on
   pub stacked_longer : (old new : List Assumption) → take (length old) new ≡ old → length old ≤ length new
-      → (places : List Place) (above : List (List Half)) → AreStacked c path direction kind old places above
-      → AreStacked c path direction kind new places above
+      → (places : List Place) (above : List (List Half)) → AreStacked c target old places above
+      → AreStacked c target new places above
   stacked_longer old new front longer [] [] stacked = tt
   stacked_longer old new front longer [] (halves ∷ above) stacked = absurd stacked
   stacked_longer old new front longer (place ∷ places) [] stacked = absurd stacked
@@ -94,8 +93,8 @@ module _ (c : Circuit) (path : Route) (direction : Direction) (kind : Kind) wher
       let within : place.mark.at ≤ length old = stacked.0 in
       let same : take place.mark.at old ≡ take place.mark.at new =
       ap (take place.mark.at) (sym front) ∙ take-take place.mark.at (length old) new within in
-      let P : List Assumption → Type 0 = λ list. IsPlace c path direction kind list place halves in
-      let Q : List Assumption → Type 0 = λ list. AreStacked c path direction kind list places above in
+      let P : List Assumption → Type 0 = λ list. IsPlace c target list place halves in
+      let Q : List Assumption → Type 0 = λ list. AreStacked c target list places above in
       (omega (arith, within, longer), subst P same stacked.1, subst Q same stacked.2)
 
   -- the next place, and the others
@@ -103,20 +102,20 @@ module _ (c : Circuit) (path : Route) (direction : Direction) (kind : Kind) wher
     pub halves : List Half
     pub above : List (List Half)
     pub at_mark : place.mark.at ≤ length assumptions
-    pub here : IsPlace c path direction kind (take place.mark.at assumptions) place halves
-    pub stacked : AreStacked c path direction kind (take place.mark.at assumptions) places above
-    pub grows : Grows c kind path direction nodes (halves ∷ above)
+    pub here : IsPlace c target (take place.mark.at assumptions) place halves
+    pub stacked : AreStacked c target (take place.mark.at assumptions) places above
+    pub grows : Grows c One target nodes (halves ∷ above)
     pub counted : split_count nodes ≡ splits
     pub within : splits ≤ budget
     pub waits : Contains nodes Waiting → splits ≡ budget
 
   pub next_place : (budget : ℕ) (assumptions : List Assumption) (place : Place) (places : List Place) (nodes : List Node) (splits : ℕ)
-      → IsGrowing c path direction kind budget assumptions (place ∷ places) nodes splits
+      → IsGrowing c target budget assumptions (place ∷ places) nodes splits
       → IsNext budget assumptions place places nodes splits
   next_place budget assumptions place places nodes splits growing = by growing.above growing.stacked growing.grows
     where
-      by : (above : List (List Half)) → AreStacked c path direction kind assumptions (place ∷ places) above
-          → Grows c kind path direction nodes above → IsNext budget assumptions place places nodes splits
+      by : (above : List (List Half)) → AreStacked c target assumptions (place ∷ places) above
+          → Grows c One target nodes above → IsNext budget assumptions place places nodes splits
       by [] stacked grows = absurd stacked
       by (halves ∷ above) stacked grows = record {
         halves = halves;
@@ -138,73 +137,73 @@ module _ (c : Circuit) (path : Route) (direction : Direction) (kind : Kind) wher
     abbrev at_node : List Assumption
     at_node = with_assumed four_states.count before place.source place.set
 
-    pub next_entered : entered_pins at_node ≡ path.steps
+    pub next_entered : entered_pins at_node ≡ target.path.steps
     next_entered = entered_assumed four_states.count before place.source place.set ∙ next.here.entered
 
-    pub next_node : IsNode c begun at_node next.halves
-    next_node = node_assumed c begun before place.source place.set next.halves next.here.node
+    pub next_node : AllowAsNode c target at_node next.halves
+    next_node = node_assumed c target before place.source place.set next.halves next.here.node
 
-    stacked_after : AreStacked c path direction kind at_node places next.above
+    stacked_after : AreStacked c target at_node places next.above
     stacked_after = stacked_longer before at_node (assumed_front before place.source place.set) (assumed_longer before place.source place.set)
         places next.above next.stacked
 
     -- a closed leaf there
-    pub growing_closed : ClosesAtNode c kind path direction next.halves
-        → IsGrowing c path direction kind budget before places (nodes ++ Closed ∷ []) splits
+    pub growing_closed : ClosesAtNode c One target next.halves
+        → IsGrowing c target budget before places (nodes ++ Closed ∷ []) splits
     growing_closed closes = record {
       above = next.above;
       stacked = next.stacked;
-      grows = grows_by_closed c kind path direction nodes next.halves next.above next.grows closes;
+      grows = grows_by_closed c One target nodes next.halves next.above next.grows closes;
       counted = splits_with_closed nodes ∙ next.counted;
       within = next.within;
       waits = λ has. ⊎_elim next.waits (λ (same : Closed ≡ Waiting). cc) (Contains-push_cases nodes Closed Waiting has);
     }
 
-    module _ (sets : List StateSet) (failed : HasFailed c kind path direction next.halves sets) where
+    module _ (sets : List StateSet) (failed : HasFailed c target next.halves sets) where
       -- a leaf that waits
-      pub growing_waiting : splits ≡ budget → IsGrowing c path direction kind budget at_node places (nodes ++ Waiting ∷ []) splits
+      pub growing_waiting : splits ≡ budget → IsGrowing c target budget at_node places (nodes ++ Waiting ∷ []) splits
       growing_waiting spent = record {
         above = next.above;
         stacked = stacked_after;
-        grows = grows_by_waiting c kind path direction nodes next.halves next.above next.grows failed.hull failed.is_open;
+        grows = grows_by_waiting c One target nodes next.halves next.above next.grows failed.hull failed.is_open;
         counted = splits_with_waiting nodes ∙ next.counted;
         within = next.within;
         waits = λ has. spent;
       }
 
       -- a split
-      module _ (left_open : ClosesUnder four_states c begun at_node → ⊥) (marks : List Bool) (cone : IsCone c path marks)
-          (places_are : length sets ≡ source_count c) (split : Split) (choice : IsChoice sets marks split) (mark : ScopeMark)
+      module _ (left_open : ClosesUnder four_states c begun at_node → ⊥) (marks : List Bool) (cone : IsCone c target.path marks)
+          (places_are : length sets ≡ source_count c) (split : Split) (choice : IsUsefulSplit sets marks split) (mark : ScopeMark)
           (at_end : mark.at ≡ length at_node) where
         abbrev in_circuit : split.source < source_count c
         in_circuit = let inside = choice.source in omega (arith, inside, places_are)
 
-        due : IsDue c kind path direction next.halves split.steadiness split.source
+        due : IsDue c One target next.halves split.steadiness split.source
         due =
             let P : Bool → StateSet → Type 0 = λ half set. HasInHalf set split.steadiness half in
             let same = failed.reads split.source in_circuit in
             record {
               hull = failed.hull;
               is_open = failed.is_open;
-              in_support = marked_support c path marks cone split.source in_circuit choice.marked;
+              in_support = marked_support c target.path marks cone split.source in_circuit choice.marked;
               in_first = subst (P false) same choice.in_first;
               in_second = subst (P true) same choice.in_second;
             }
 
         half_at : (half_place : Place) (half : Bool) → IsHalfPlace split mark half half_place
-            → IsPlace c path direction kind at_node half_place (below next.halves split.steadiness split.source half)
+            → IsPlace c target at_node half_place (below next.halves split.steadiness split.source half)
         half_at half_place half is = record {
           longer = let one = next.here.longer in let two = assumed_longer before place.source place.set in omega (arith, one, two);
           entered = next_entered;
           left_open = left_open;
           in_circuit = let same = is.at_source in omega (arith, same, in_circuit);
           within = is.within;
-          node = node_half c begun at_node next.halves (record { source = split.source; steadiness = split.steadiness; second = half })
+          node = node_half c target at_node next.halves (record { source = split.source; steadiness = split.steadiness; second = half })
               half_place.source half_place.set is.at_source is.means next_node;
         }
 
         pub growing_split : (first second : Place) → IsHalfPlace split mark false first → IsHalfPlace split mark true second → splits < budget
-            → IsGrowing c path direction kind budget at_node (first ∷ second ∷ places)
+            → IsGrowing c target budget at_node (first ∷ second ∷ places)
             (nodes ++ split_node split.steadiness split.source ∷ []) (splits + 1)
         growing_split first second in_first in_second less =
             let one : first.mark.at ≡ length at_node = ap (λ (m : ScopeMark). m.at) in_first.at_mark ∙ at_end in
@@ -213,15 +212,15 @@ module _ (c : Circuit) (path : Route) (direction : Direction) (kind : Kind) wher
             let all_second : at_node ≡ take second.mark.at at_node = sym (take_all second.mark.at at_node (omega (arith, two))) in
             let above_first = below next.halves split.steadiness split.source false in
             let above_second = below next.halves split.steadiness split.source true in
-            let P : List Assumption → Type 0 = λ list. IsPlace c path direction kind list first above_first in
-            let Q : List Assumption → Type 0 = λ list. IsPlace c path direction kind list second above_second in
-            let R : List Assumption → Type 0 = λ list. AreStacked c path direction kind list places next.above in
-            let S : List Assumption → Type 0 = λ list. AreStacked c path direction kind list (second ∷ places) (above_second ∷ next.above) in
+            let P : List Assumption → Type 0 = λ list. IsPlace c target list first above_first in
+            let Q : List Assumption → Type 0 = λ list. IsPlace c target list second above_second in
+            let R : List Assumption → Type 0 = λ list. AreStacked c target list places next.above in
+            let S : List Assumption → Type 0 = λ list. AreStacked c target list (second ∷ places) (above_second ∷ next.above) in
             let stacked_second : S at_node = (omega (arith, two), subst Q all_second (half_at second true in_second), subst R all_second stacked_after) in
             record {
               above = above_first ∷ above_second ∷ next.above;
               stacked = (omega (arith, one), subst P all_first (half_at first false in_first), subst S all_first stacked_second);
-              grows = grows_by_split c kind path direction nodes next.halves next.above next.grows split.steadiness split.source due;
+              grows = grows_by_split c One target nodes next.halves next.above next.grows split.steadiness split.source due;
               counted = let e = splits_with_split nodes split.steadiness split.source in let f = next.counted in omega (arith, e, f);
               within = omega (arith, less);
               waits = λ has. ⊎_elim

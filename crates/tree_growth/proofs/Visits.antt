@@ -3,16 +3,14 @@ use Rattle.std.proofs.Common.{◌≡◌, ℕ, ◌+◌, ◌<◌, ◌≤◌, Bool,
 use Rattle.std.specs.Prelude.{is_some, IfNone}
 use Rattle.std.proofs.lemmas.Bool.{false≢true}
 use Rattle.std.proofs.lemmas.List.{take-take, length-take, length_push, reverse-append}
-use Rattle.pd_base.specs.Route.{Route}
-use Rattle.pd_base.specs.declared.fault.Direction.{Direction}
-use Rattle.pd_base.specs.declared.fault.Kind.{Kind}
+use Rattle.pd_base.specs.Target.{Target}
 use Rattle.netlist.specs.Circuit.{Circuit}
 use Rattle.state_sets.specs.declared.state.StateSet.{StateSet}
 use Rattle.state_sets.specs.FourStates.{four_states}
-use Rattle.hull_laws.specs.declared.half.Half.{Half}
-use Rattle.refutation_check.specs.declared.tree.Node.{Node}
-use Rattle.refutation_check.specs.declared.tree.Node.TheVariants.{Closed, Waiting}
-use Rattle.search_laws.specs.Growing.{split_node}
+use Rattle.state_laws.specs.declared.half.Half.{Half}
+use Rattle.runs.specs.declared.tree.Node.{Node}
+use Rattle.runs.specs.declared.tree.Node.TheVariants.{Closed, Waiting}
+use Rattle.tree_laws.specs.Growing.{split_node}
 use Rattle.implication.specs.declared.assumption.Beginning.{Beginning}
 use Rattle.implication.specs.declared.assumption.Assumption.{Assumption}
 use Rattle.implication.specs.declared.scope.ScopeMark.{ScopeMark}
@@ -22,13 +20,13 @@ use Rattle.implication.specs.Standing.{Standing, IsEmptiedFrom, IsOpenIn}
 use Rattle.implication.specs.Moves.{with_assumed, grown, back_at, conflict_at}
 use Rattle.pair_trial.specs.declared.desk.Desk.{Desk}
 use Rattle.pair_trial.specs.Desks.{IsDesk}
-use Rattle.pair_trial.specs.Nodes.{beginning_of, IsAtNode, IsNode, HasFailed}
+use Rattle.pair_trial.specs.Nodes.{beginning_of, StandsAtNode, AllowAsNode, HasFailed}
 use Rattle.pair_trial.proofs.Nodes.{closes_at_node}
 use Rattle.pair_trial.proofs.Resting.{open_under}
 use Rattle.tree_growth.specs.declared.choosing.Split.{Split}
 use Rattle.tree_growth.specs.declared.growing.Growth.{Growth}
 use Rattle.tree_growth.specs.declared.growing.Place.{Place}
-use Rattle.tree_growth.specs.Choices.{IsChoice}
+use Rattle.tree_growth.specs.Choices.{IsUsefulSplit}
 use Rattle.tree_growth.specs.Growths.{IsEntered, IsShut, IsGrowing, IsExtended, IsSplitAt}
 use Rattle.tree_growth.specs.Growths.IsExtended.{waits, splits}
 use Rattle.tree_growth.specs.UnderWay.{entered_steps, IsUnderWay}
@@ -56,22 +54,22 @@ reverse_none [] none = refl
 reverse_none (x ∷ xs) none = absurd (omega arith)
 
 -- the same growth, seen otherwise
-pub growing_same : (c d : Circuit) (path : Route) (direction : Direction) (kind : Kind) (budget : ℕ) (list others : List Assumption)
+pub growing_same : (c d : Circuit) (target : Target) (budget : ℕ) (list others : List Assumption)
     (places rest : List Place) (nodes more : List Node) (m n : ℕ) → c ≡ d → list ≡ others → places ≡ rest → nodes ≡ more → m ≡ n
-    → IsGrowing c path direction kind budget list places nodes m → IsGrowing d path direction kind budget others rest more n
-growing_same c d path direction kind budget list others places rest nodes more m n same_c same_list same_places same_nodes same_count growing =
-    let A : Circuit → Type 0 = λ x. IsGrowing x path direction kind budget list places nodes m in
-    let B : List Assumption → Type 0 = λ x. IsGrowing d path direction kind budget x places nodes m in
-    let C : List Place → Type 0 = λ x. IsGrowing d path direction kind budget others x nodes m in
-    let D : List Node → Type 0 = λ x. IsGrowing d path direction kind budget others rest x m in
-    let E : ℕ → Type 0 = λ x. IsGrowing d path direction kind budget others rest more x in
+    → IsGrowing c target budget list places nodes m → IsGrowing d target budget others rest more n
+growing_same c d target budget list others places rest nodes more m n same_c same_list same_places same_nodes same_count growing =
+    let A : Circuit → Type 0 = λ x. IsGrowing x target budget list places nodes m in
+    let B : List Assumption → Type 0 = λ x. IsGrowing d target budget x places nodes m in
+    let C : List Place → Type 0 = λ x. IsGrowing d target budget others x nodes m in
+    let D : List Node → Type 0 = λ x. IsGrowing d target budget others rest x m in
+    let E : ℕ → Type 0 = λ x. IsGrowing d target budget others rest more x in
     subst E same_count (subst D same_nodes (subst C same_places (subst B same_list (subst A same_c growing))))
 
-module _ (path : Route) (direction : Direction) (kind : Kind) (budget : ℕ) (old : Standing) (way : IsUnderWay path direction kind old)
+module _ (target : Target) (budget : ℕ) (old : Standing) (way : IsUnderWay target old)
     (place : Place) (places : List Place) (nodes : List Node) (splits_before : ℕ)
-    (next : IsNext old.net path direction kind budget old.assumptions place places nodes splits_before) where
+    (next : IsNext old.net target budget old.assumptions place places nodes splits_before) where
   abbrev begun : Beginning
-  begun = beginning_of path direction kind
+  begun = beginning_of target
 
   abbrev before : List Assumption
   before = take place.mark.at old.assumptions
@@ -79,22 +77,22 @@ module _ (path : Route) (direction : Direction) (kind : Kind) (budget : ℕ) (ol
   abbrev at_node : List Assumption
   at_node = with_assumed four_states.count before place.source place.set
 
-  early : length path.steps ≤ place.mark.at
+  early : length target.path.steps ≤ place.mark.at
   early = let e = next.here.longer in let f = length-take place.mark.at old.assumptions in omega arith
 
-  front_before : take (length path.steps) before ≡ entered_steps path
-  front_before = take-take (length path.steps) place.mark.at old.assumptions early ∙ way.front
+  front_before : take (length target.path.steps) before ≡ entered_steps target.path
+  front_before = take-take (length target.path.steps) place.mark.at old.assumptions early ∙ way.front
 
-  front_at_node : take (length path.steps) at_node ≡ entered_steps path
+  front_at_node : take (length target.path.steps) at_node ≡ entered_steps target.path
   front_at_node =
-      sym (take-take (length path.steps) (length before) at_node next.here.longer)
-      ∙ ap (take (length path.steps)) (assumed_front before place.source place.set) ∙ front_before
+      sym (take-take (length target.path.steps) (length before) at_node next.here.longer)
+      ∙ ap (take (length target.path.steps)) (assumed_front before place.source place.set) ∙ front_before
 
   -- where the place's set leaves some line no state, the scope is at the mark, and a closed leaf is due
   module _ (new : Standing) (shut : IsShut place old new) where
-    pub shut_under_way : IsUnderWay path direction kind new
+    pub shut_under_way : IsUnderWay target new
     shut_under_way =
-        let P : Standing → Type 0 = λ s. IsUnderWay path direction kind s in
+        let P : Standing → Type 0 = λ s. IsUnderWay target s in
         subst P (sym shut.now) (record {
           beginning = way.beginning;
           longer = next.here.longer;
@@ -109,38 +107,38 @@ module _ (path : Route) (direction : Direction) (kind : Kind) (budget : ℕ) (ol
         record { line = shut.line; in_circuit = emptied.0; emptied = emptied.1 }
 
     pub shut_growing : (more : List Node) → more ≡ nodes ++ Closed ∷ []
-        → IsGrowing new.net path direction kind budget new.assumptions places more splits_before
+        → IsGrowing new.net target budget new.assumptions places more splits_before
     shut_growing more is =
-        growing_same old.net new.net path direction kind budget before new.assumptions places places (nodes ++ Closed ∷ []) more
+        growing_same old.net new.net target budget before new.assumptions places places (nodes ++ Closed ∷ []) more
         splits_before splits_before (sym (ap (λ (s : Standing). s.net) shut.now)) (sym (ap (λ (s : Standing). s.assumptions) shut.now)) refl
         (sym is) refl
-        (growing_closed old.net path direction kind budget old.assumptions place places nodes splits_before next
-        (closes_at_node old.net kind path direction at_node
-        (next_entered old.net path direction kind budget old.assumptions place places nodes splits_before next) next.halves
-        (next_node old.net path direction kind budget old.assumptions place places nodes splits_before next) shut_closes))
+        (growing_closed old.net target budget old.assumptions place places nodes splits_before next
+        (closes_at_node old.net target at_node
+        (next_entered old.net target budget old.assumptions place places nodes splits_before next) next.halves
+        (next_node old.net target budget old.assumptions place places nodes splits_before next) shut_closes))
 
   -- else the scope is at the node
   module _ (new : Standing) (entered : IsEntered place old new) where
-    pub entered_at_node : IsAtNode path direction kind new
+    pub entered_at_node : StandsAtNode target new
     entered_at_node = record {
       beginning = ap (λ (s : Standing). s.beginning) entered.now ∙ way.beginning;
       entered = ap (λ (s : Standing). entered_pins s.assumptions) entered.now
-          ∙ next_entered old.net path direction kind budget old.assumptions place places nodes splits_before next;
+          ∙ next_entered old.net target budget old.assumptions place places nodes splits_before next;
       free = ap (λ (s : Standing). s.conflict) entered.now ∙ free_at old place.mark.at way.free;
       left_open = entered.left_open;
     }
 
-    pub entered_below : (halves : List Half) × IsNode new.net begun new.assumptions halves
+    pub entered_below : (halves : List Half) × AllowAsNode new.net target new.assumptions halves
     entered_below =
-        let P : Standing → Type 0 = λ s. IsNode s.net begun s.assumptions next.halves in (
+        let P : Standing → Type 0 = λ s. AllowAsNode s.net target s.assumptions next.halves in (
           next.halves,
           subst P (sym entered.now)
-              (next_node old.net path direction kind budget old.assumptions place places nodes splits_before next),
+              (next_node old.net target budget old.assumptions place places nodes splits_before next),
         )
 
-    pub entered_under_way : IsUnderWay path direction kind new
+    pub entered_under_way : IsUnderWay target new
     entered_under_way =
-        let P : Standing → Type 0 = λ s. IsUnderWay path direction kind s in
+        let P : Standing → Type 0 = λ s. IsUnderWay target s in
         let one = next.here.longer in let two = assumed_longer before place.source place.set in
         subst P (sym entered.now) (record {
           beginning = way.beginning;
@@ -151,11 +149,11 @@ module _ (path : Route) (direction : Direction) (kind : Kind) (budget : ℕ) (ol
 
     -- and after a trial it still is
     module _ (last : Standing) (restored : IsRestored new last) where
-      pub last_under_way : IsUnderWay path direction kind last
+      pub last_under_way : IsUnderWay target last
       last_under_way = record {
         beginning = restored.beginning ∙ entered_under_way.beginning;
         longer = let e = ap length restored.assumptions in let f = entered_under_way.longer in omega (arith, e, f);
-        front = ap (take (length path.steps)) restored.assumptions ∙ entered_under_way.front;
+        front = ap (take (length target.path.steps)) restored.assumptions ∙ entered_under_way.front;
         free = restored.conflict ∙ entered_under_way.free;
       }
 
@@ -173,68 +171,68 @@ module _ (path : Route) (direction : Direction) (kind : Kind) (budget : ℕ) (ol
           (subst (IsOpenIn four_states) entered.now entered.left_open)
 
       -- where the pair failed, the tree grows by a leaf that waits or a split
-      module _ (desk : Desk) (made : IsDesk new.net path desk)
-          (failed : (halves : List Half) → IsNode new.net begun new.assumptions halves
-          → HasFailed new.net kind path direction halves desk.sets.items)
+      module _ (desk : Desk) (made : IsDesk new.net target.path desk)
+          (failed : (halves : List Half) → AllowAsNode new.net target new.assumptions halves
+          → HasFailed new.net target halves desk.sets.items)
           (mark : ScopeMark) (at_end : mark.at ≡ length last.assumptions) where
-        failed_there : HasFailed old.net kind path direction next.halves desk.sets.items
+        failed_there : HasFailed old.net target next.halves desk.sets.items
         unfolding entered_below
         failed_there =
-            let P : Circuit → Type 0 = λ c. HasFailed c kind path direction next.halves desk.sets.items in
+            let P : Circuit → Type 0 = λ c. HasFailed c target next.halves desk.sets.items in
             subst P same_net (failed next.halves entered_below.1)
 
-        there : IsDesk old.net path desk
-        there = let P : Circuit → Type 0 = λ c. IsDesk c path desk in subst P same_net made
+        there : IsDesk old.net target.path desk
+        there = let P : Circuit → Type 0 = λ c. IsDesk c target.path desk in subst P same_net made
 
         waiting_growing : (more : List Node) (rest : List Place) (n : ℕ) → more ≡ nodes ++ Waiting ∷ [] → rest ≡ places → n ≡ splits_before
-            → splits_before ≡ budget → IsGrowing last.net path direction kind budget last.assumptions rest more n
+            → splits_before ≡ budget → IsGrowing last.net target budget last.assumptions rest more n
         waiting_growing more rest n same_nodes same_places same_count spent =
-            growing_same old.net last.net path direction kind budget at_node last.assumptions places rest (nodes ++ Waiting ∷ []) more
+            growing_same old.net last.net target budget at_node last.assumptions places rest (nodes ++ Waiting ∷ []) more
             splits_before n last_net (sym same_list) (sym same_places) (sym same_nodes) (sym same_count)
-            (growing_waiting old.net path direction kind budget old.assumptions place places nodes splits_before next desk.sets.items
+            (growing_waiting old.net target budget old.assumptions place places nodes splits_before next desk.sets.items
             failed_there spent)
 
-        split_growing : (split : Split) → IsChoice desk.sets.items desk.marks.items split → splits_before < budget
+        split_growing : (split : Split) → IsUsefulSplit desk.sets.items desk.marks.items split → splits_before < budget
             → (before_it after_it : Growth) → IsSplitAt split mark before_it after_it → reverse before_it.places.items ≡ places
             → before_it.nodes.items ≡ nodes → before_it.splits ≡ splits_before
-            → IsGrowing last.net path direction kind budget last.assumptions (reverse after_it.places.items) after_it.nodes.items after_it.splits
+            → IsGrowing last.net target budget last.assumptions (reverse after_it.places.items) after_it.nodes.items after_it.splits
         split_growing split choice less before_it after_it at same_places same_nodes same_count =
             let first = at.first_place in let second = at.second_place in
             let turned : reverse after_it.places.items ≡ first ∷ second ∷ places =
             reverse_push (before_it.places.items ++ second ∷ []) after_it.places.items first at.places
             ∙ ap (λ (ps : List Place). first ∷ ps) (reverse_push before_it.places.items (before_it.places.items ++ second ∷ []) second refl
             ∙ ap (λ (ps : List Place). second ∷ ps) same_places) in
-            growing_same old.net last.net path direction kind budget at_node last.assumptions (first ∷ second ∷ places)
+            growing_same old.net last.net target budget at_node last.assumptions (first ∷ second ∷ places)
             (reverse after_it.places.items) (nodes ++ split_node split.steadiness split.source ∷ []) after_it.nodes.items
             (splits_before + 1) after_it.splits last_net (sym same_list) (sym turned)
             (sym (at.nodes ∙ ap (λ (ns : List Node). ns ++ split_node split.steadiness split.source ∷ []) same_nodes))
             (sym (at.counted ∙ ap (λ k. k + 1) same_count))
-            (growing_split old.net path direction kind budget old.assumptions place places nodes splits_before next desk.sets.items
+            (growing_split old.net target budget old.assumptions place places nodes splits_before next desk.sets.items
             failed_there node_left_open desk.marks.items there.cone there.places split choice mark (at_end ∙ ap length same_list)
             first second at.in_first at.in_second less)
 
 -- so it does after a trial that failed
-pub extended_growing : (path : Route) (direction : Direction) (kind : Kind) (budget : ℕ) (old : Standing) (way : IsUnderWay path direction kind old)
+pub extended_growing : (target : Target) (budget : ℕ) (old : Standing) (way : IsUnderWay target old)
     (place : Place) (before_it after_it : Growth)
-    (next : IsNext old.net path direction kind budget old.assumptions place (reverse before_it.places.items) before_it.nodes.items before_it.splits)
+    (next : IsNext old.net target budget old.assumptions place (reverse before_it.places.items) before_it.nodes.items before_it.splits)
     (new : Standing) (entered : IsEntered place old new) (last : Standing) (restored : IsRestored new last) (desk : Desk)
-    (made : IsDesk new.net path desk)
-    (failed : (halves : List Half) → IsNode new.net (beginning_of path direction kind) new.assumptions halves
-    → HasFailed new.net kind path direction halves desk.sets.items)
+    (made : IsDesk new.net target.path desk)
+    (failed : (halves : List Half) → AllowAsNode new.net target new.assumptions halves
+    → HasFailed new.net target halves desk.sets.items)
     (mark : ScopeMark) (at_end : mark.at ≡ length last.assumptions)
     (sets : List StateSet) (marks : List Bool) → sets ≡ desk.sets.items → marks ≡ desk.marks.items
     → IsExtended sets marks mark budget before_it after_it
-    → IsGrowing last.net path direction kind budget last.assumptions (reverse after_it.places.items) after_it.nodes.items after_it.splits
-extended_growing path direction kind budget old way place before_it after_it next new entered last restored desk made failed mark at_end sets marks
+    → IsGrowing last.net target budget last.assumptions (reverse after_it.places.items) after_it.nodes.items after_it.splits
+extended_growing target budget old way place before_it after_it next new entered last restored desk made failed mark at_end sets marks
     same_sets same_marks (waits spent at) =
-    waiting_growing path direction kind budget old way place (reverse before_it.places.items) before_it.nodes.items before_it.splits next new entered
+    waiting_growing target budget old way place (reverse before_it.places.items) before_it.nodes.items before_it.splits next new entered
     last restored desk made failed mark at_end after_it.nodes.items (reverse after_it.places.items) after_it.splits at.nodes
     (ap reverse at.places) at.counted spent
-extended_growing path direction kind budget old way place before_it after_it next new entered last restored desk made failed mark at_end sets marks
+extended_growing target budget old way place before_it after_it next new entered last restored desk made failed mark at_end sets marks
     same_sets same_marks (splits split choice less at) =
-    let P : List StateSet → Type 0 = λ ss. IsChoice ss marks split in
-    let Q : List Bool → Type 0 = λ ms. IsChoice desk.sets.items ms split in
-    split_growing path direction kind budget old way place (reverse before_it.places.items) before_it.nodes.items before_it.splits next new entered
+    let P : List StateSet → Type 0 = λ ss. IsUsefulSplit ss marks split in
+    let Q : List Bool → Type 0 = λ ms. IsUsefulSplit desk.sets.items ms split in
+    split_growing target budget old way place (reverse before_it.places.items) before_it.nodes.items before_it.splits next new entered
     last restored desk made failed mark at_end split (subst Q same_marks (subst P same_sets choice)) less before_it after_it at refl refl refl
 
 -- by one node

@@ -1,22 +1,20 @@
 -- The growth of a tree on a scope (this project's own).
 use Rattle.std.specs.Prelude.{◌≡◌, ⊤, ℕ, ◌+◌, ◌<◌, ◌≤◌, ◌↔◌, Bool, true, false, List, [], ◌∷◌, ◌++◌, length, take, Contains}
-use Rattle.pd_base.specs.Route.{Route}
+use Rattle.pd_base.specs.Target.{Target}
 use Rattle.pd_base.specs.declared.ids.LineId.{LineId}
-use Rattle.pd_base.specs.declared.fault.Direction.{Direction}
-use Rattle.pd_base.specs.declared.fault.Kind.{Kind}
+use Rattle.pd_base.specs.declared.rules.Rules.TheVariants.{One}
 use Rattle.netlist.specs.Circuit.{Circuit, source_count}
 use Rattle.state_sets.specs.declared.state.State.{State}
 use Rattle.state_sets.specs.declared.state.StateSet.{StateSet}
 use Rattle.state_sets.specs.States.{Has, IsWithin}
 use Rattle.state_sets.specs.FourStates.{four_states}
 use Rattle.state_sets.specs.Starts.{IsInHalf}
-use Rattle.hull_laws.specs.declared.half.Half.{Half}
-use Rattle.hull_laws.specs.Nodes.{MayBe}
-use Rattle.refutation_check.specs.declared.tree.Node.{Node}
-use Rattle.refutation_check.specs.declared.tree.Node.TheVariants.{Waiting}
-use Rattle.refutation_check.specs.Trees.{split_count}
-use Rattle.search_laws.specs.Growing.{split_node, Grows}
-use Rattle.implication.specs.declared.assumption.Beginning.{Beginning}
+use Rattle.state_laws.specs.declared.half.Half.{Half}
+use Rattle.state_laws.specs.Nodes.{MayBe}
+use Rattle.runs.specs.declared.tree.Node.{Node}
+use Rattle.runs.specs.declared.tree.Node.TheVariants.{Waiting}
+use Rattle.runs.specs.Trees.{split_count}
+use Rattle.tree_laws.specs.Growing.{split_node, Grows}
 use Rattle.implication.specs.declared.assumption.Assumption.{Assumption}
 use Rattle.implication.specs.declared.scope.ScopeMark.{ScopeMark}
 use Rattle.implication.specs.Assumptions.{entered_pins, MayUnder, ClosesUnder}
@@ -26,7 +24,7 @@ use Rattle.pair_trial.specs.Nodes.{beginning_of, AllowSame}
 use Rattle.tree_growth.specs.declared.choosing.Split.{Split}
 use Rattle.tree_growth.specs.declared.growing.Growth.{Growth}
 use Rattle.tree_growth.specs.declared.growing.Place.{Place}
-use Rattle.tree_growth.specs.Choices.{IsChoice}
+use Rattle.tree_growth.specs.Choices.{IsUsefulSplit}
 
 -- the place of a half of a split: the states of that half are assumed of its source
 pub record IsHalfPlace (split : Split) (mark : ScopeMark) (second : Bool) (place : Place) : Type 0 where
@@ -54,42 +52,42 @@ pub record IsWaitingAt (old new : Growth) : Type 0 where
 -- an open node becomes a leaf that waits where the budget is spent, and else a split that may be chosen
 pub data IsExtended (sets : List StateSet) (marks : List Bool) (mark : ScopeMark) (budget : ℕ) (old new : Growth) : Type 0 where
   waits : old.splits ≡ budget → IsWaitingAt old new → IsExtended sets marks mark budget old new
-  splits : (split : Split) → IsChoice sets marks split → old.splits < budget → IsSplitAt split mark old new
+  splits : (split : Split) → IsUsefulSplit sets marks split → old.splits < budget → IsSplitAt split mark old new
       → IsExtended sets marks mark budget old new
 
 -- with this set assumed of a source, the assumptions leave lines the same states as the node of a tree below these halves
-abbrev pub IsNodeWith : Circuit → Beginning → List Assumption → LineId → StateSet → List Half → Type 0
-IsNodeWith c begun assumptions source set halves =
-    AllowSame c (λ line state. MayUnder four_states c begun assumptions line state × (line ≡ source.0 → Has four_states.count set state))
-    (MayBe four_states c begun.source.0 begun.direction halves)
+abbrev pub AllowAsNodeWith : Circuit → Target → List Assumption → LineId → StateSet → List Half → Type 0
+AllowAsNodeWith c target assumptions source set halves =
+    AllowSame c
+    (λ line state. MayUnder four_states c (beginning_of target) assumptions line state × (line ≡ source.0 → Has four_states.count set state))
+    (MayBe four_states c One target halves)
 
 -- At this place a tree is due below these halves: with the place's set assumed, the assumptions at its mark leave lines the states
 -- that the node there has. They are the path's pins and sets of sources, and close nothing.
-pub record IsPlace (c : Circuit) (path : Route) (direction : Direction) (kind : Kind) (assumptions : List Assumption) (place : Place)
-    (halves : List Half) : Type 0 where
-  pub longer : length path.steps ≤ length assumptions
-  pub entered : entered_pins assumptions ≡ path.steps
-  pub left_open : ¬ ClosesUnder four_states c (beginning_of path direction kind) assumptions
+pub record IsPlace (c : Circuit) (target : Target) (assumptions : List Assumption) (place : Place) (halves : List Half) : Type 0 where
+  pub longer : length target.path.steps ≤ length assumptions
+  pub entered : entered_pins assumptions ≡ target.path.steps
+  pub left_open : ¬ ClosesUnder four_states c (beginning_of target) assumptions
   pub in_circuit : place.source.0 < source_count c
   pub within : IsWithin 4 place.set
-  pub node : IsNodeWith c (beginning_of path direction kind) assumptions place.source place.set halves
+  pub node : AllowAsNodeWith c target assumptions place.source place.set halves
 
 -- these places, the next one first, are such below these halves, each at its mark in the assumptions that stand at the mark before
-abbrev pub AreStacked : Circuit → Route → Direction → Kind → List Assumption → List Place → List (List Half) → Type 0
-AreStacked c path direction kind assumptions [] [] = ⊤
-AreStacked c path direction kind assumptions [] (halves ∷ above) = ⊥
-AreStacked c path direction kind assumptions (place ∷ places) [] = ⊥
-AreStacked c path direction kind assumptions (place ∷ places) (halves ∷ above) =
+abbrev pub AreStacked : Circuit → Target → List Assumption → List Place → List (List Half) → Type 0
+AreStacked c target assumptions [] [] = ⊤
+AreStacked c target assumptions [] (halves ∷ above) = ⊥
+AreStacked c target assumptions (place ∷ places) [] = ⊥
+AreStacked c target assumptions (place ∷ places) (halves ∷ above) =
     (place.mark.at ≤ length assumptions)
-    × IsPlace c path direction kind (take place.mark.at assumptions) place halves
-    × AreStacked c path direction kind (take place.mark.at assumptions) places above
+    × IsPlace c target (take place.mark.at assumptions) place halves
+    × AreStacked c target (take place.mark.at assumptions) places above
 
 -- a tree has grown to these nodes, with these places left, the next one first
-pub record IsGrowing (c : Circuit) (path : Route) (direction : Direction) (kind : Kind) (budget : ℕ) (assumptions : List Assumption)
+pub record IsGrowing (c : Circuit) (target : Target) (budget : ℕ) (assumptions : List Assumption)
     (places : List Place) (nodes : List Node) (splits : ℕ) : Type 0 where
   pub above : List (List Half)
-  pub stacked : AreStacked c path direction kind assumptions places above
-  pub grows : Grows c kind path direction nodes above
+  pub stacked : AreStacked c target assumptions places above
+  pub grows : Grows c One target nodes above
   pub counted : split_count nodes ≡ splits
   pub within : splits ≤ budget
   pub waits : Contains nodes Waiting → splits ≡ budget

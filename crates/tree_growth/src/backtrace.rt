@@ -9,9 +9,9 @@ ghost use Rattle.implication.specs.Scopes.{standing};
 use crate::choosing::Split;
 use crate::halves::has_both_halves;
 use implication::{HasNetlist, Scope};
-use netlist::GateKind;
+use netlist::{GateKind, Op};
 use pd_base::{GateId, LineId};
-use state_sets::{Algebra, FourStates, Op, State, StateSet, every_state};
+use state_sets::{Algebra, FourStates, State, StateSet, every_state};
 
 // A line with states of both halves, by steadiness or by the last value.
 #[derive(Clone, Copy, Debug)]
@@ -44,8 +44,7 @@ fn unjustified<N: HasNetlist>(scope: &Scope<FourStates, N>, marks: &[bool]) -> O
     let order = net.order();
     for place in (0..order.len()).rev() {
         let gate = order[place];
-        let line = net.sources() + gate.0;
-        if marks[line as usize] && !is_justified(scope, gate) {
+        if marks[net.line_of(gate).0 as usize] && !is_justified(scope, gate) {
             return Some(gate);
         }
     }
@@ -58,8 +57,8 @@ fn is_justified<N: HasNetlist>(scope: &Scope<FourStates, N>, gate: GateId) -> bo
 {
     let net = scope.net();
     let kind = net.kind(gate);
-    let made = made_of(kind, joined_pins(scope, op_of(kind), net.pins(gate)));
-    made.intersect(label_at(scope, LineId(net.sources() + gate.0))) == made
+    let made = made_of(kind, joined_pins(scope, kind.operation(), net.pins(gate)));
+    made.intersect(label_at(scope, net.line_of(gate))) == made
 }
 
 // What an operation makes of the states of these lines.
@@ -82,20 +81,12 @@ fn label_at<N: HasNetlist>(scope: &Scope<FourStates, N>, line: LineId) -> StateS
     every_state::<FourStates>().intersect(scope.label(line))
 }
 
-// The operation by which a gate of this kind joins its pins.
-fn op_of(kind: GateKind) -> Op {
-    match kind {
-        GateKind::And | GateKind::Nand | GateKind::Not | GateKind::Buff => Op::And,
-        GateKind::Or | GateKind::Nor => Op::Or,
-        GateKind::Xor | GateKind::Xnor => Op::Xor,
-    }
-}
-
 // The states of the gate's line where its pins join to one of these: inverted, if the gate inverts.
 fn made_of(kind: GateKind, joined: StateSet) -> StateSet {
-    match kind {
-        GateKind::Nand | GateKind::Nor | GateKind::Xnor | GateKind::Not => inverted(joined),
-        GateKind::And | GateKind::Or | GateKind::Xor | GateKind::Buff => joined,
+    if kind.inverts() {
+        inverted(joined)
+    } else {
+        joined
     }
 }
 
@@ -117,10 +108,10 @@ fn trace<N: HasNetlist>(scope: &Scope<FourStates, N>, gate: GateId) -> Option<Le
     let net = scope.net();
     let mut lead = follow(scope, gate, false)?;
     for _ in 0..net.levels() {
-        if lead.line.0 < net.sources() {
+        let Some(gate) = net.gate_of(lead.line) else {
             return Some(lead);
-        }
-        lead = follow(scope, GateId(lead.line.0 - net.sources()), lead.steadiness)?;
+        };
+        lead = follow(scope, gate, lead.steadiness)?;
     }
     Some(lead)
 }

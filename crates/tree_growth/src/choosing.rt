@@ -5,7 +5,7 @@ ghost use Rattle.state_sets.specs.States.{Has, IsWithin, AreWithin};
 ghost use Rattle.state_sets.specs.declared.state.State.{State};
 ghost use Rattle.tree_laws.specs.Spent.{HasInHalf};
 ghost use Rattle.pair_trial.specs.Nodes.{IsSingleAt};
-ghost use Rattle.tree_growth.specs.Choices.{IsChoice};
+ghost use Rattle.tree_growth.specs.Choices.{IsUsefulSplit};
 
 use crate::halves::{has_both_halves, way_to_split};
 use state_sets::StateSet;
@@ -23,7 +23,7 @@ pub(crate) fn choose(lead: Option<Split>, sets: &[StateSet], marks: &[bool]) -> 
     requires within { AreWithin 4 sets.now }
     requires few { length sets.now < 2 ^ 32 }
     requires marks { length sets.now ≤ length marks.now }
-    ensures some { IfSome result (IsChoice sets.now marks.now) }
+    ensures some { IfSome result (IsUsefulSplit sets.now marks.now) }
     ensures none { IfNone result ((source : ℕ) → source < length sets.now → IsSingleAt sets.now marks.now source) }
 {
     if let Some(split) = lead
@@ -42,7 +42,7 @@ pub(crate) fn choose(lead: Option<Split>, sets: &[StateSet], marks: &[bool]) -> 
 fn can_choose(split: Split, sets: &[StateSet], marks: &[bool]) -> bool
     requires within { AreWithin 4 sets.now }
     requires marks { length sets.now ≤ length marks.now }
-    ensures { IsTrue result → IsChoice sets.now marks.now split }
+    ensures { IsTrue result → IsUsefulSplit sets.now marks.now split }
 {
     let source = split.source as usize;
     source < sets.len() && marks[source] && has_both_halves(sets[source], split.steadiness)
@@ -53,7 +53,7 @@ fn first_by_value(sets: &[StateSet], marks: &[bool]) -> Option<Split>
     requires within { AreWithin 4 sets.now }
     requires few { length sets.now < 2 ^ 32 }
     requires marks { length sets.now ≤ length marks.now }
-    ensures { IfSome result (IsChoice sets.now marks.now) }
+    ensures { IfSome result (IsUsefulSplit sets.now marks.now) }
 {
     for source in 0..sets.len() {
         let split = Split {
@@ -72,7 +72,7 @@ fn first(sets: &[StateSet], marks: &[bool]) -> Option<Split>
     requires within { AreWithin 4 sets.now }
     requires few { length sets.now < 2 ^ 32 }
     requires marks { length sets.now ≤ length marks.now }
-    ensures some { IfSome result (IsChoice sets.now marks.now) }
+    ensures some { IfSome result (IsUsefulSplit sets.now marks.now) }
     ensures none { IfNone result ((source : ℕ) → source < length sets.now → IsSingleAt sets.now marks.now source) }
 {
     for (source, set) in sets.iter().enumerate() {

@@ -1,7 +1,7 @@
 // The tree that a search grows: its nodes in preorder, and the places behind them at which trees are still due.
 ghost use Rattle.std.specs.Prelude.{◌≡◌, ◌-◌, ◌<◌, ◌≤◌, ◌^◌, ◌∷◌, [], IfOk, length};
 ghost use Rattle.state_sets.specs.States.{AreWithin, all_states};
-ghost use Rattle.search_laws.specs.Growing.{split_node};
+ghost use Rattle.tree_laws.specs.Growing.{split_node};
 ghost use Rattle.pair_trial.specs.Nodes.{HasTwo};
 ghost use Rattle.tree_growth.specs.Growths.{IsExtended, IsSplitAt, IsHalfPlace};
 
@@ -9,7 +9,7 @@ use crate::choosing::{Split, choose};
 use hulls::half_states;
 use implication::ScopeMark;
 use pd_base::{LineId, OutOfMemory};
-use refutation_check::Node;
+use runs::Node;
 use state_sets::{FourStates, StateSet, every_state};
 use std::alloc::Global;
 

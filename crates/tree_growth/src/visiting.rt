@@ -1,5 +1,6 @@
 // A visit of the place that is due next: pairs are tried at the node there, and where none is a test the tree grows by that node.
 ghost use Rattle.std.specs.Prelude.{◌≡◌, ◌+◌, ◌*◌, ◌-◌, ◌≤◌, ◌∷◌, IfOk, IfSome, IfNone, length, reverse};
+ghost use Rattle.pd_base.specs.Target.{target_of};
 ghost use Rattle.netlist.specs.Paths.{IsPrefix};
 ghost use Rattle.implication.specs.Moves.{risen, start_at};
 ghost use Rattle.implication.specs.Scopes.{IsSameScope, standing};
@@ -14,7 +15,7 @@ use crate::{Growth, Place};
 use implication::{HasNetlist, Scope};
 use pair_trial::{Desk, try_pair, try_proposed};
 use pd_base::{Direction, Kind, OutOfMemory, Pair, Path};
-use refutation_check::Node;
+use runs::Node;
 use state_sets::FourStates;
 use std::alloc::Global;
 
@@ -34,22 +35,22 @@ pub fn visit<N: HasNetlist>(
     place: Place,
 ) -> Result<Option<Pair>, OutOfMemory>
     requires prefix { IsPrefix (standing scope.old).net path.now }
-    requires under_way { IsUnderWay path.now dir kind (standing scope.old) }
+    requires under_way { IsUnderWay (target_of path.now dir kind) (standing scope.old) }
     requires origin { start_at scope.old.origin ≤ length path.now.steps }
     requires desk { IsDesk (standing scope.old).net path.now desk.old }
-    requires growing { IsGrowing (standing scope.old).net path.now dir kind budget (standing scope.old).assumptions
+    requires growing { IsGrowing (standing scope.old).net (target_of path.now dir kind) budget (standing scope.old).assumptions
         (place ∷ reverse growth.old.places.items) growth.old.nodes.items growth.old.splits }
     ensures scope { IsSameScope scope.old scope.new }
-    ensures under_way { IsUnderWay path.now dir kind (standing scope.new) }
+    ensures under_way { IsUnderWay (target_of path.now dir kind) (standing scope.new) }
     ensures net { (standing scope.new).net ≡ (standing scope.old).net }
     ensures later { (standing scope.old).closings ≤ (standing scope.new).closings }
     ensures desk { IsDesk (standing scope.new).net path.now desk.new }
-    ensures test { IfOk result (λ test. IfSome test (IsFitTest (standing scope.old).net kind path.now dir)) }
+    ensures test { IfOk result (λ test. IfSome test (IsFitTest (standing scope.old).net (target_of path.now dir kind))) }
     ensures counted { IfOk result (λ test. IfNone test (risen (standing scope.old).closings ≤ (standing scope.new).closings)) }
     ensures one_more { IfOk result (λ test. IfNone test (length growth.new.nodes.items ≡ length growth.old.nodes.items + 1)) }
     ensures left { IfOk result (λ test. IfNone test (2 * (budget - growth.new.splits) + length growth.new.places.items
         ≤ 2 * (budget - growth.old.splits) + length growth.old.places.items)) }
-    ensures growing { IfOk result (λ test. IfNone test (IsGrowing (standing scope.new).net path.now dir kind budget
+    ensures growing { IfOk result (λ test. IfNone test (IsGrowing (standing scope.new).net (target_of path.now dir kind) budget
         (standing scope.new).assumptions (reverse growth.new.places.items) growth.new.nodes.items growth.new.splits)) }
 {
     if !enter(scope, place) {

@@ -1,27 +1,28 @@
--- A spent tree has less splits than four to the power of the number of sources in the support, the path's own not counted: each
--- leaf below a node takes one of the combinations of states that the halves leave the other sources.
+-- A spent tree has less splits than the number of states that the rules leave a source to the power of the number of sources in the
+-- support, the path's own not counted: each leaf below a node takes one of the combinations of states that the halves leave these.
 use Rattle.std.proofs.Common.{◌≡◌, ◌≢◌, ℕ, zero, suc, ◌+◌, ◌-◌, ◌*◌, ◌^◌, ◌<◌, ◌≤◌, Bool, true, false, cond, ◌&&◌, ◌==◌, List, [], ◌∷◌, ◌++◌, length, refl, sym, ap, ◌∙◌, subst, arith, pow-suc, eq-eqb}
 use Rattle.std.proofs.lemmas.List.Sums.{sum_by-append}
 use Rattle.std.proofs.lemmas.Bool.{eqb-true, false≢true}
+use Rattle.pd_base.specs.Target.{Target}
+use Rattle.pd_base.specs.declared.rules.Rules.{Rules}
+use Rattle.pd_base.specs.declared.rules.Rules.TheVariants.{One, Two}
 use Rattle.pd_base.specs.Route.{Route}
-use Rattle.pd_base.specs.declared.fault.Direction.{Direction}
-use Rattle.pd_base.specs.declared.fault.Kind.{Kind}
-use Rattle.netlist.specs.Circuit.{Circuit}
+use Rattle.netlist.specs.Circuit.{Circuit, source_count}
 use Rattle.netlist.specs.Paths.{IsPrefix}
 use Rattle.state_sets.specs.declared.state.StateSet.{StateSet}
 use Rattle.state_sets.specs.Labellings.{label_at}
 use Rattle.state_sets.specs.FourStates.{four_states}
 use Rattle.state_sets.specs.Starts.{IsLaunching}
-use Rattle.hull_laws.specs.declared.half.Half.{Half}
-use Rattle.hull_laws.specs.Nodes.{MayBe}
-use Rattle.refutation_check.specs.declared.tree.Node.{Node}
-use Rattle.refutation_check.specs.declared.tree.Node.TheVariants.{Value, Steadiness}
-use Rattle.refutation_check.specs.Trees.{Cases, preorder, is_split, split_count}
-use Rattle.refutation_check.specs.Trees.Cases.{closed, waiting, by_value, by_steadiness}
-use Rattle.pair_laws.proofs.FanIns.{leads_in_fan_in}
+use Rattle.state_laws.specs.declared.half.Half.{Half}
+use Rattle.state_laws.specs.Nodes.{MayBe}
+use Rattle.runs.specs.declared.tree.Node.{Node}
+use Rattle.runs.specs.declared.tree.Node.TheVariants.{Value, Steadiness}
+use Rattle.runs.specs.Trees.{Cases, preorder, is_split, split_count}
+use Rattle.runs.specs.Trees.Cases.{closed, waiting, by_value, by_steadiness}
+use Rattle.state_laws.proofs.FanIns.{leads_in_fan_in}
 use Rattle.tree_laws.specs.Refutations.{below}
 use Rattle.tree_laws.specs.Spent.{IsInSupport, IsDue, IsOpen, HasInHalf, IsSpentBelow, IsSpent}
-use Rattle.tree_laws.specs.Bounds.{AreSupport, IsBelowBound}
+use Rattle.tree_laws.specs.Bounds.{AreSupport, IsBelowBound, states_of_source}
 use Rattle.tree_laws.proofs.Products.{product_by, product-pos, product_parts, product_fewer}
 use Rattle.tree_laws.proofs.Weights.{states_left, leaves_all, cut_passes, counted, other_stays, split_parts, in_half, in_half_passes, leaves_more}
 
@@ -55,50 +56,51 @@ leaves_and_splits (by_steadiness source first second) =
     splits_append (Steadiness source ∷ []) (preorder first ++ preorder second) in
     omega (arith, splits_append (preorder first) (preorder second), leaves_and_splits first, leaves_and_splits second)
 
-module _ (c : Circuit) (kind : Kind) (path : Route) (direction : Direction) where
+module _ (c : Circuit) (rules : Rules) (target : Target) where
   -- how many states the halves leave a source: one to the path's own
   abbrev pub weight_of : List Half → ℕ → ℕ
-  weight_of halves source = cond (source == path.source.0) 1 (states_left halves source)
+  weight_of halves source = cond (source == target.path.source.0) 1 (states_left rules halves source)
 
   -- a state in the hull of a half, at a node that is open, is left in that half
   half_left : (halves : List Half) (hull : List StateSet) (steadiness : Bool) (source : ℕ) (second : Bool)
-      → IsOpen c kind path direction halves hull → HasInHalf (label_at hull source) steadiness second
-      → 1 ≤ states_left (below halves steadiness source second) source
-  half_left halves hull steadiness source second open_here has =
-      let may : MayBe four_states c path.source.0 direction halves source has.0 =
+      → source < source_count c → source ≢ target.path.source.0 → IsOpen c rules target halves hull → HasInHalf (label_at hull source) steadiness second
+      → 1 ≤ states_left rules (below halves steadiness source second) source
+  half_left halves hull steadiness source second within apart open_here has =
+      let may : MayBe four_states c rules target halves source has.0 =
       open_here.is_hull.rest.among source has.0 has.1 in
       let in_it : in_half steadiness second has.0 ≡ true = in_half_passes steadiness second has.0 has.2 in
-      let left : leaves_all halves source has.0 ≡ true = cut_passes halves source has.0 may.cut in
-      counted has.0.0 has.1.in_range (leaves_all (below halves steadiness source second) source)
-      (leaves_more halves (record { source = source; steadiness = steadiness; second = second }) source has.0
-      ∙ both (leaves_all halves source has.0) (source == source) (in_half steadiness second has.0) left in_it)
+      let left : leaves_all rules halves source has.0 ≡ true =
+      cut_passes rules halves source has.0 (may.start.other within apart) may.cut in
+      counted has.0.0 has.1.in_range (leaves_all rules (below halves steadiness source second) source)
+      (leaves_more rules halves (record { source = source; steadiness = steadiness; second = second }) source has.0
+      ∙ both (leaves_all rules halves source has.0) (source == source) (in_half steadiness second has.0) left in_it)
     where
       both : (a b d : Bool) → a ≡ true → d ≡ true → (a && cond b d true) ≡ true
       both a true d is_a is_d = cc
       both a false d is_a is_d = cc
 
   -- a due split is not on the path's own source, which has one state
-  due_other : (halves : List Half) (steadiness : Bool) (source : ℕ) → IsDue c kind path direction halves steadiness source
-      → source ≢ path.source.0
+  due_other : (halves : List Half) (steadiness : Bool) (source : ℕ) → IsDue c rules target halves steadiness source
+      → source ≢ target.path.source.0
   due_other halves steadiness source due own =
       by steadiness due.in_first due.in_second
     where
       by : (st : Bool) → HasInHalf (label_at due.hull source) st false → HasInHalf (label_at due.hull source) st true → ⊥
       by true first second =
-          let moves : IsLaunching four_states direction first.0 =
+          let moves : IsLaunching four_states target.direction first.0 =
           (due.is_open.is_hull.rest.among source first.0 first.1).start.own own in
           false≢true (sym moves.moves ∙ first.2)
       by false first second =
-          let ends : IsLaunching four_states direction first.0 =
+          let ends : IsLaunching four_states target.direction first.0 =
           (due.is_open.is_hull.rest.among source first.0 first.1).start.own own in
-          let ends_too : IsLaunching four_states direction second.0 =
+          let ends_too : IsLaunching four_states target.direction second.0 =
           (due.is_open.is_hull.rest.among source second.0 second.1).start.own own in
           false≢true (sym first.2 ∙ ends.ends ∙ sym ends_too.ends ∙ second.2)
 
-  module _ (sources : List ℕ) (support : AreSupport c path sources) where
+  module _ (sources : List ℕ) (support : AreSupport c target.path sources) where
     -- the leaves of both halves together are no more than the combinations that the node leaves
     halves_fit : (halves : List Half) (steadiness : Bool) (source : ℕ) (first second : Cases)
-        → IsDue c kind path direction halves steadiness source
+        → IsDue c rules target halves steadiness source
         → ((s : ℕ) → 1 ≤ weight_of halves s)
         → (((s : ℕ) → 1 ≤ weight_of (below halves steadiness source false) s)
         → leaf_count first ≤ product_by (weight_of (below halves steadiness source false)) sources)
@@ -111,10 +113,11 @@ module _ (c : Circuit) (kind : Kind) (path : Route) (direction : Direction) wher
         (weight_of (below halves steadiness source true)) source parts (same false) (same true) sources support.once place.0 place.1 place.2 in
         omega (arith, sum, below_first (still false due.in_first), below_second (still true due.in_second))
       where
-        here : (h : List Half) → weight_of h source ≡ states_left h source
-        here h = by (source == path.source.0) (λ e. eqb-true source path.source.0 e)
+        here : (h : List Half) → weight_of h source ≡ states_left rules h source
+        here h = by (source == target.path.source.0) (λ e. eqb-true source target.path.source.0 e)
           where
-            by : (own : Bool) → (own ≡ true → source ≡ path.source.0) → cond own 1 (states_left h source) ≡ states_left h source
+            by : (own : Bool) → (own ≡ true → source ≡ target.path.source.0)
+                → cond own 1 (states_left rules h source) ≡ states_left rules h source
             by true tells = absurd (due_other halves steadiness source due (tells refl))
             by false tells = refl
 
@@ -125,12 +128,12 @@ module _ (c : Circuit) (kind : Kind) (path : Route) (direction : Direction) wher
           here halves,
           here (below halves steadiness source false),
           here (below halves steadiness source true),
-          split_parts halves steadiness source,
+          split_parts rules halves steadiness source,
         )
 
         same : (half : Bool) (s : ℕ) → s ≢ source → weight_of halves s ≡ weight_of (below halves steadiness source half) s
         same half s other =
-            ap (λ n. cond (s == path.source.0) 1 n) (sym (other_stays halves steadiness source half s other))
+            ap (λ n. cond (s == target.path.source.0) 1 n) (sym (other_stays rules halves steadiness source half s other))
 
         still : (half : Bool) → HasInHalf (label_at due.hull source) steadiness half
             → (s : ℕ) → 1 ≤ weight_of (below halves steadiness source half) s
@@ -147,12 +150,13 @@ module _ (c : Circuit) (kind : Kind) (path : Route) (direction : Direction) wher
                 (omega (
                   arith,
                   here (below halves steadiness source half),
-                  half_left halves due.hull steadiness source half due.is_open has,
+                  half_left halves due.hull steadiness source half due.in_support.is_source
+                      (due_other halves steadiness source due) due.is_open has,
                 ))
             by false tells tells_not = omega (arith, some s, same half s (tells_not refl))
 
     -- a spent tree below some halves has no more leaves than they leave combinations
-    leaves_fit : (cases : Cases) (halves : List Half) → IsSpentBelow c kind path direction halves cases
+    leaves_fit : (cases : Cases) (halves : List Half) → IsSpentBelow c rules target halves cases
         → ((s : ℕ) → 1 ≤ weight_of halves s) → leaf_count cases ≤ product_by (weight_of halves) sources
     leaves_fit closed halves spent some = product-pos (weight_of halves) sources some
     leaves_fit waiting halves spent some = product-pos (weight_of halves) sources some
@@ -164,40 +168,47 @@ module _ (c : Circuit) (kind : Kind) (path : Route) (direction : Direction) wher
         (leaves_fit first (below halves true source false) spent.1) (leaves_fit second (below halves true source true) spent.2)
 
 -- what the bound says of a product
-below_power : (n leaves product : ℕ) → 0 < n → leaves ≤ product → 4 * product ≤ 4 ^ n → leaves ≤ 4 ^ (n - 1)
-below_power zero leaves product some fit few = absurd (omega arith)
-below_power (suc n) leaves product some fit few =
+below_power : (rules : Rules) (n leaves product : ℕ) → 0 < n → leaves ≤ product
+    → states_of_source rules * product ≤ states_of_source rules ^ n → leaves ≤ states_of_source rules ^ (n - 1)
+below_power rules zero leaves product some fit few = absurd (omega arith)
+below_power One (suc n) leaves product some fit few =
     let power : 4 ^ suc n ≡ 4 ^ n * 4 = pow-suc 4 n in
     let e : suc n - 1 ≡ n = omega arith in
     rw e (omega arith)
+below_power Two (suc n) leaves product some fit few =
+    let power : 2 ^ suc n ≡ 2 ^ n * 2 = pow-suc 2 n in
+    let e : suc n - 1 ≡ n = omega arith in
+    rw e (omega arith)
+
+-- the weight of a source before any split: one of the path's own, and as many states as the rules leave it of another
+first_some : (rules : Rules) (own : Bool) (source : ℕ) → 1 ≤ cond own 1 (states_left rules [] source)
+first_some rules true source = omega arith
+first_some One false source = omega arith
+first_some Two false source = omega arith
+
+first_few : (rules : Rules) (own : Bool) (source : ℕ) → cond own 1 (states_left rules [] source) ≤ states_of_source rules
+first_few One true source = omega arith
+first_few One false source = omega arith
+first_few Two true source = omega arith
+first_few Two false source = omega arith
 
 -- a spent budget is below the bound
-pub spent_below_bound : (c : Circuit) (kind : Kind) (path : Route) (direction : Direction) (budget : ℕ) (nodes : List Node)
-    → IsPrefix c path → IsSpent c kind path direction budget nodes → IsBelowBound c path budget
-spent_below_bound c kind path direction budget nodes prefix spent sources support =
+pub spent_below_bound : (c : Circuit) (rules : Rules) (target : Target) (budget : ℕ) (nodes : List Node)
+    → IsPrefix c target.path → IsSpent c rules target budget nodes → IsBelowBound c rules target.path budget
+spent_below_bound c rules target budget nodes prefix spent sources support =
+    let path = target.path in
+    let most = states_of_source rules in
     let own = (support.exactly path.source.0).1 (own_in_support c path prefix) in
-    let fit : leaf_count spent.cases ≤ product_by (weight_of c kind path direction []) sources =
-    leaves_fit c kind path direction sources support spent.cases [] spent.spent some in
-    let few : 4 * product_by (weight_of c kind path direction []) sources ≤ 4 ^ length sources =
-    product_fewer (weight_of c kind path direction []) four path.source.0 one sources own.0 own.1 own.2 in
-    let bound : leaf_count spent.cases ≤ 4 ^ (length sources - 1) =
-    below_power (length sources) (leaf_count spent.cases) (product_by (weight_of c kind path direction []) sources)
+    let fit : leaf_count spent.cases ≤ product_by (weight_of c rules target []) sources =
+    leaves_fit c rules target sources support spent.cases [] spent.spent
+    (λ s. first_some rules (s == path.source.0) s) in
+    let few : most * product_by (weight_of c rules target []) sources ≤ most ^ length sources =
+    product_fewer most (weight_of c rules target []) (λ s. first_few rules (s == path.source.0) s) path.source.0 one sources
+    own.0 own.1 own.2 in
+    let bound : leaf_count spent.cases ≤ most ^ (length sources - 1) =
+    below_power rules (length sources) (leaf_count spent.cases) (product_by (weight_of c rules target []) sources)
     (omega (arith, own.1)) fit few in
     omega (arith, bound, leaves_and_splits spent.cases, ap split_count spent.tree, spent.splits)
   where
-    some : (s : ℕ) → 1 ≤ cond (s == path.source.0) 1 4
-    some s = by (s == path.source.0)
-      where
-        by : (b : Bool) → 1 ≤ cond b 1 4
-        by true = omega arith
-        by false = omega arith
-
-    four : (s : ℕ) → cond (s == path.source.0) 1 4 ≤ 4
-    four s = by (s == path.source.0)
-      where
-        by : (b : Bool) → cond b 1 4 ≤ 4
-        by true = omega arith
-        by false = omega arith
-
-    one : cond (path.source.0 == path.source.0) 1 4 ≤ 1
-    one = rw (eq-eqb path.source.0 path.source.0 refl) (omega arith)
+    one : cond (target.path.source.0 == target.path.source.0) 1 (states_left rules [] target.path.source.0) ≤ 1
+    one = rw (eq-eqb target.path.source.0 target.path.source.0 refl) (omega arith)

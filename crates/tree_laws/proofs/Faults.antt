@@ -1,14 +1,13 @@
 -- Which trees are right at each node, and that no tree is so that has a first node at fault.
 use Rattle.std.proofs.Common.{ℕ, Bool, true, false, List, [], sym, subst, ◌∙◌}
-use Rattle.pd_base.specs.Route.{Route}
-use Rattle.pd_base.specs.declared.fault.Direction.{Direction}
-use Rattle.pd_base.specs.declared.fault.Kind.{Kind}
+use Rattle.pd_base.specs.Target.{Target}
+use Rattle.pd_base.specs.declared.rules.Rules.{Rules}
 use Rattle.netlist.specs.Circuit.{Circuit}
-use Rattle.hull_laws.specs.declared.half.Half.{Half}
-use Rattle.refutation_check.specs.declared.tree.Node.{Node}
-use Rattle.refutation_check.specs.Trees.{Cases}
-use Rattle.refutation_check.specs.Trees.Cases.{closed, waiting, by_value, by_steadiness}
-use Rattle.refutation_check.proofs.Preorders.{preorder_unique}
+use Rattle.state_laws.specs.declared.half.Half.{Half}
+use Rattle.runs.specs.declared.tree.Node.{Node}
+use Rattle.runs.specs.Trees.{Cases}
+use Rattle.runs.specs.Trees.Cases.{closed, waiting, by_value, by_steadiness}
+use Rattle.runs.proofs.Preorders.{preorder_unique}
 use Rattle.tree_laws.specs.Refutations.{below, RefutesBelow, IsRefutation}
 use Rattle.tree_laws.specs.Spent.{IsSpentBelow, IsSpent}
 use Rattle.tree_laws.specs.Faults.{IsRightInRefutation, IsRightInSpent, AreRight, IsSplit, IsFirstFault, IsFaultOfRefutation, IsFaultOfSpent, root_of}
@@ -16,10 +15,10 @@ use Rattle.tree_laws.specs.Faults.IsSplit.{value, steadiness}
 use Rattle.tree_laws.specs.Faults.IsFirstFault.{at_root, in_first, in_second}
 use Rattle.tree_laws.specs.Faults.IsFaultOfSpent.{other_splits, none_open, at_node}
 
-module _ (c : Circuit) (kind : Kind) (path : Route) (direction : Direction) where
+module _ (c : Circuit) (rules : Rules) (target : Target) where
   -- cases that are right at each node refute
-  pub right_refutes : (cases : Cases) (halves : List Half) → AreRight (IsRightInRefutation c kind path direction) halves cases
-      → RefutesBelow c kind path direction halves cases
+  pub right_refutes : (cases : Cases) (halves : List Half) → AreRight (IsRightInRefutation c rules target) halves cases
+      → RefutesBelow c rules target halves cases
   right_refutes closed halves right = right
   right_refutes waiting halves right = right
   right_refutes (by_value source first second) halves right =
@@ -27,8 +26,8 @@ module _ (c : Circuit) (kind : Kind) (path : Route) (direction : Direction) wher
   right_refutes (by_steadiness source first second) halves right =
       (right.0, right_refutes first (below halves true source false) right.1, right_refutes second (below halves true source true) right.2)
 
-  pub refutes_right : (cases : Cases) (halves : List Half) → RefutesBelow c kind path direction halves cases
-      → AreRight (IsRightInRefutation c kind path direction) halves cases
+  pub refutes_right : (cases : Cases) (halves : List Half) → RefutesBelow c rules target halves cases
+      → AreRight (IsRightInRefutation c rules target) halves cases
   refutes_right closed halves right = right
   refutes_right waiting halves right = right
   refutes_right (by_value source first second) halves right =
@@ -36,8 +35,8 @@ module _ (c : Circuit) (kind : Kind) (path : Route) (direction : Direction) wher
   refutes_right (by_steadiness source first second) halves right =
       (right.0, refutes_right first (below halves true source false) right.1, refutes_right second (below halves true source true) right.2)
 
-  pub right_spent : (cases : Cases) (halves : List Half) → AreRight (IsRightInSpent c kind path direction) halves cases
-      → IsSpentBelow c kind path direction halves cases
+  pub right_spent : (cases : Cases) (halves : List Half) → AreRight (IsRightInSpent c rules target) halves cases
+      → IsSpentBelow c rules target halves cases
   right_spent closed halves right = right
   right_spent waiting halves right = right
   right_spent (by_value source first second) halves right =
@@ -45,8 +44,8 @@ module _ (c : Circuit) (kind : Kind) (path : Route) (direction : Direction) wher
   right_spent (by_steadiness source first second) halves right =
       (right.0, right_spent first (below halves true source false) right.1, right_spent second (below halves true source true) right.2)
 
-  pub spent_right : (cases : Cases) (halves : List Half) → IsSpentBelow c kind path direction halves cases
-      → AreRight (IsRightInSpent c kind path direction) halves cases
+  pub spent_right : (cases : Cases) (halves : List Half) → IsSpentBelow c rules target halves cases
+      → AreRight (IsRightInSpent c rules target) halves cases
   spent_right closed halves right = right
   spent_right waiting halves right = right
   spent_right (by_value source first second) halves right =
@@ -76,21 +75,21 @@ module _ (IsRight : List Half → Node → Type 0) where
   fault_not_right {halves} (in_second split here first fault) right = fault_not_right fault (halves_right split halves right).1
 
 -- a tree with a fault does not refute
-pub fault_refutes_not : (c : Circuit) (kind : Kind) (path : Route) (direction : Direction) (nodes : List Node) (place : ℕ)
-    → IsFaultOfRefutation c kind path direction nodes place → IsRefutation c kind path direction nodes → ⊥
-fault_refutes_not c kind path direction nodes place fault refutation =
+pub fault_refutes_not : (c : Circuit) (rules : Rules) (target : Target) (nodes : List Node) (place : ℕ)
+    → IsFaultOfRefutation c rules target nodes place → IsRefutation c rules target nodes → ⊥
+fault_refutes_not c rules target nodes place fault refutation =
     let same = preorder_unique refutation.cases fault.cases (sym refutation.tree ∙ fault.tree) in
-    fault_not_right (IsRightInRefutation c kind path direction) fault.first
-    (subst (AreRight (IsRightInRefutation c kind path direction) []) same
-    (refutes_right c kind path direction refutation.cases [] refutation.refutes))
+    fault_not_right (IsRightInRefutation c rules target) fault.first
+    (subst (AreRight (IsRightInRefutation c rules target) []) same
+    (refutes_right c rules target refutation.cases [] refutation.refutes))
 
 -- nor does such a tree show that the budget was spent
-pub fault_spent_not : (c : Circuit) (kind : Kind) (path : Route) (direction : Direction) (budget : ℕ) (nodes : List Node) (place : ℕ)
-    → IsFaultOfSpent c kind path direction budget nodes place → IsSpent c kind path direction budget nodes → ⊥
-fault_spent_not c kind path direction budget nodes place (other_splits differ) spent = differ spent.splits
-fault_spent_not c kind path direction budget nodes place (none_open none) spent = none spent.waits
-fault_spent_not c kind path direction budget nodes place (at_node splits waits fault) spent =
+pub fault_spent_not : (c : Circuit) (rules : Rules) (target : Target) (budget : ℕ) (nodes : List Node) (place : ℕ)
+    → IsFaultOfSpent c rules target budget nodes place → IsSpent c rules target budget nodes → ⊥
+fault_spent_not c rules target budget nodes place (other_splits differ) spent = differ spent.splits
+fault_spent_not c rules target budget nodes place (none_open none) spent = none spent.waits
+fault_spent_not c rules target budget nodes place (at_node splits waits fault) spent =
     let same = preorder_unique spent.cases fault.cases (sym spent.tree ∙ fault.tree) in
-    fault_not_right (IsRightInSpent c kind path direction) fault.first
-    (subst (AreRight (IsRightInSpent c kind path direction) []) same
-    (spent_right c kind path direction spent.cases [] spent.spent))
+    fault_not_right (IsRightInSpent c rules target) fault.first
+    (subst (AreRight (IsRightInSpent c rules target) []) same
+    (spent_right c rules target spent.cases [] spent.spent))

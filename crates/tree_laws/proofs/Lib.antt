@@ -5,3 +5,6 @@ pub mod Weights
 pub mod Bound
 pub mod Faults
 pub mod Walks
+pub mod Growing
+pub mod Ending
+pub mod Trying

@@ -1,6 +1,7 @@
 -- Products of numbers over a list of sources without repeats.
-use Rattle.std.proofs.Common.{◌≡◌, ◌≢◌, ℕ, zero, suc, ◌+◌, ◌*◌, ◌^◌, ◌<◌, ◌≤◌, List, [], ◌∷◌, length, get_or, refl, sym, ap, ◌∙◌, arith, mul-add, add-mul, pow-suc, mul_comm, mul-le-mul}
+use Rattle.std.proofs.Common.{◌≡◌, ◌≢◌, ℕ, zero, suc, ◌+◌, ◌*◌, ◌^◌, ◌<◌, ◌≤◌, List, [], ◌∷◌, length, get_or, refl, sym, ap, ◌∙◌, arith, mul-add, add-mul, pow-suc, mul_comm, mul_left_comm, mul-le-mul}
 use Rattle.std.specs.List.{AllPairs}
+use native.Mathlib.Nat.{pow-zero}
 
 -- the product of what a function has at each number of a list
 abbrev pub product_by : (ℕ → ℕ) → List ℕ → ℕ
@@ -51,19 +52,24 @@ product_parts f g h q parts same_g same_h (x ∷ xs) differ (suc k) within at =
     ∙ ap (λ n. n * product_by g xs + f x * product_by h xs) (same_g x other)
     ∙ ap (λ n. g x * product_by g xs + n * product_by h xs) (same_h x other)
 
--- a product of numbers up to four, one of which is 1 at most: a power of four with one factor less
-pub product_few : (f : ℕ → ℕ) → ((x : ℕ) → f x ≤ 4) → (xs : List ℕ) → product_by f xs ≤ 4 ^ length xs
-product_few f few [] = omega arith
-product_few f few (x ∷ xs) = rw (pow-suc 4 (length xs)) (rw (mul_comm (4 ^ length xs) 4) (mul-le-mul (few x) (product_few f few xs)))
+-- a product of numbers up to a most one, one of which is 1 at most: a power of the most one with one factor less
+pub product_few : (most : ℕ) (f : ℕ → ℕ) → ((x : ℕ) → f x ≤ most) → (xs : List ℕ) → product_by f xs ≤ most ^ length xs
+product_few most f few [] = rw (pow-zero most) (omega arith)
+product_few most f few (x ∷ xs) =
+    rw (pow-suc most (length xs)) (rw (mul_comm (most ^ length xs) most) (mul-le-mul (few x) (product_few most f few xs)))
 
-pub product_fewer : (f : ℕ → ℕ) → ((x : ℕ) → f x ≤ 4) → (own : ℕ) → f own ≤ 1
-    → (xs : List ℕ) (k : ℕ) → k < length xs → get_or xs k own ≡ own → 4 * product_by f xs ≤ 4 ^ length xs
-product_fewer f few own single [] k within at = absurd (omega arith)
-product_fewer f few own single (x ∷ xs) zero within at =
+pub product_fewer : (most : ℕ) (f : ℕ → ℕ) → ((x : ℕ) → f x ≤ most) → (own : ℕ) → f own ≤ 1
+    → (xs : List ℕ) (k : ℕ) → k < length xs → get_or xs k own ≡ own → most * product_by f xs ≤ most ^ length xs
+product_fewer most f few own single [] k within at = absurd (omega arith)
+product_fewer most f few own single (x ∷ xs) zero within at =
     let one : f x ≤ 1 = rw at single in
-    let rest : f x * product_by f xs ≤ 1 * (4 ^ length xs) = mul-le-mul one (product_few f few xs) in
-    rw (pow-suc 4 (length xs)) (omega (arith, rest))
-product_fewer f few own single (x ∷ xs) (suc k) within at =
-    let rest : 4 * product_by f xs ≤ 4 ^ length xs = product_fewer f few own single xs k (omega arith) at in
-    let all : f x * (4 * product_by f xs) ≤ 4 * (4 ^ length xs) = mul-le-mul (few x) rest in
-    rw (pow-suc 4 (length xs)) (omega (arith, all))
+    let all : f x * product_by f xs ≤ 1 * (most ^ length xs) = mul-le-mul one (product_few most f few xs) in
+    let rest : f x * product_by f xs ≤ most ^ length xs = omega (arith, all) in
+    let same : most ≤ most = omega arith in
+    rw (pow-suc most (length xs)) (rw (mul_comm (most ^ length xs) most) (mul-le-mul same rest))
+product_fewer most f few own single (x ∷ xs) (suc k) within at =
+    let rest : most * product_by f xs ≤ most ^ length xs = product_fewer most f few own single xs k (omega arith) at in
+    let all : f x * (most * product_by f xs) ≤ most * (most ^ length xs) = mul-le-mul (few x) rest in
+    let swapped : most * (f x * product_by f xs) ≡ f x * (most * product_by f xs) =
+    mul_left_comm most (f x) (product_by f xs) in
+    rw (pow-suc most (length xs)) (rw (mul_comm (most ^ length xs) most) (rw swapped all))

@@ -4,8 +4,8 @@ use Rattle.std.proofs.Common.{◌≡◌, ℕ, ◌<◌, List, get_or, refl, ap, a
 use Rattle.std.specs.List.{All}
 use Rattle.pd_base.specs.Pair.{Vectors}
 use Rattle.pd_base.specs.Route.{Route}
-use Rattle.pd_base.specs.declared.fault.Direction.{Direction}
-use Rattle.pd_base.specs.declared.fault.Kind.{Kind}
+use Rattle.pd_base.specs.declared.rules.Rules.{Rules}
+use Rattle.pd_base.specs.Target.{Target}
 use Rattle.netlist.specs.Circuit.{Circuit, source_count}
 use Rattle.netlist.specs.Lawful.{IsCircuit}
 use Rattle.netlist.specs.Pins.{IsInFanIn}
@@ -18,11 +18,12 @@ use Rattle.state_sets.specs.LineStates.{state_under}
 use Rattle.state_sets.specs.Labellings.{label_at}
 use Rattle.state_sets.specs.Starts.{IsInHalf, IsLeast}
 use Rattle.state_sets.specs.Hulls.{IsNarrowingOf, IsRestAmong, HasNoEmptySet, Closes}
-use Rattle.hull_laws.specs.declared.half.Half.{Half}
-use Rattle.hull_laws.specs.Nodes.{IsNodeHull}
-use Rattle.pair_laws.proofs.Pairs.{never_closes, pair_may_be}
-use Rattle.pair_laws.proofs.Deciding.{rest_decides}
-use Rattle.pair_laws.proofs.Failing.{closes_unless_met}
+use Rattle.state_laws.specs.declared.half.Half.{Half}
+use Rattle.state_laws.specs.Nodes.{IsNodeHull}
+use Rattle.state_laws.specs.Steadied.{KeepsRules}
+use Rattle.state_laws.proofs.Pairs.{never_closes, pair_may_be}
+use Rattle.state_laws.proofs.Deciding.{rest_decides}
+use Rattle.state_laws.proofs.Failing.{closes_unless_met}
 use Rattle.tree_laws.specs.Spent.{IsInSupport, MayTry}
 
 -- a set has one least state
@@ -36,44 +37,45 @@ abbrev pub TakesLeast : Circuit → Route → List StateSet → Vectors → Type
 TakesLeast c path hull pair =
     (source : ℕ) → IsInSupport c path source → IsLeast four_states.count (label_at hull source) (state_under c pair source)
 
-module _ (c : Circuit) (circuit : IsCircuit c) (kind : Kind) (path : Route) (is : IsPrefix c path) (direction : Direction)
-    (halves : List Half) (hull : List StateSet) (pair : Vectors) (takes : TakesLeast c path hull pair) where
+module _ (c : Circuit) (circuit : IsCircuit c) (rules : Rules) (target : Target) (is : IsPrefix c target.path)
+    (halves : List Half) (hull : List StateSet) (pair : Vectors) (takes : TakesLeast c target.path hull pair) where
   -- at the trial the sources of the support may only be in the states of the pair
-  only_least : (source : ℕ) → source < source_count c → IsInFanIn c (end_of c path) source
-      → (state : State) → MayTry c path direction halves hull source state → state ≡ state_under c pair source
+  only_least : (source : ℕ) → source < source_count c → IsInFanIn c (end_of c target.path) source
+      → (state : State) → MayTry c rules target halves hull source state → state ≡ state_under c pair source
   only_least source within further state may =
-      let support : IsInSupport c path source = record { is_source = within; in_fan_in = further } in
+      let support : IsInSupport c target.path source = record { is_source = within; in_fan_in = further } in
       least_is_one four_states.count (label_at hull source) state (state_under c pair source) (may.least support)
       (takes source support)
 
   -- the trial closes where the pair does not meet the conditions
-  pub trial_closes : (SidesMeet kind c pair path.source.0 path.steps → ⊥)
-      → Closes four_states c (IsNarrowingOf c kind path.steps) (MayTry c path direction halves hull)
-  trial_closes unmet = closes_unless_met c circuit kind path is pair (MayTry c path direction halves hull) only_least unmet
+  pub trial_closes : (SidesMeet c target.kind pair target.path.source.0 target.path.steps → ⊥)
+      → Closes four_states c (IsNarrowingOf c target.kind target.path.steps) (MayTry c rules target halves hull)
+  trial_closes unmet = closes_unless_met c circuit target.kind target.path is pair (MayTry c rules target halves hull) only_least unmet
 
   -- where labels at rest at the trial leave no line empty, the pair is a test
   pub trial_gives_test : (labels : List StateSet)
-      → IsRestAmong four_states c (IsNarrowingOf c kind path.steps) (MayTry c path direction halves hull) labels
-      → HasNoEmptySet c labels → Meets kind c path direction pair
+      → IsRestAmong four_states c (IsNarrowingOf c target.kind target.path.steps) (MayTry c rules target halves hull) labels
+      → HasNoEmptySet c labels → Meets c target pair
   trial_gives_test labels among none_empty =
-      rest_decides c circuit kind path is (MayTry c path direction halves hull) labels among none_empty pair
+      rest_decides c circuit target.kind target.path is (MayTry c rules target halves hull) labels among none_empty pair
       (λ source within further state has. only_least source within further state (among.among source state has))
-      direction (λ state may. may.at_node.start.own refl)
+      target.direction (λ state may. may.at_node.start.own refl)
 
   -- the pair's states lie in the halves above the node, where these are of sources of the support
-  pub least_in_halves : IsNodeHull c kind path direction halves hull → All (λ half. IsInSupport c path half.source) halves
+  pub least_in_halves : IsNodeHull c rules target halves hull → All (λ half. IsInSupport c target.path half.source) halves
       → All (λ half. IsInHalf four_states half.steadiness half.second (state_under c pair half.source)) halves
   least_in_halves of on k d inside =
       let half = get_or halves k d in
       (of.rest.among half.source (state_under c pair half.source) (takes half.source (on k d inside)).has).cut k d inside refl
 
-  -- and the trial does not close where the pair is a test whose states lie in the halves above the node
-  pub trial_stays_open : Meets kind c path direction pair
+  -- and the trial does not close where the pair is a test under which the other sources start as the rules leave them, and whose
+  -- states lie in the halves above the node
+  pub trial_stays_open : Meets c target pair → KeepsRules c rules target.path.source.0 pair
       → All (λ half. IsInHalf four_states half.steadiness half.second (state_under c pair half.source)) halves
-      → ¬ Closes four_states c (IsNarrowingOf c kind path.steps) (MayTry c path direction halves hull)
-  trial_stays_open meets lie =
-      never_closes c circuit pair kind path is meets.sides (MayTry c path direction halves hull)
+      → ¬ Closes four_states c (IsNarrowingOf c target.kind target.path.steps) (MayTry c rules target halves hull)
+  trial_stays_open meets keeps lie =
+      never_closes c circuit pair target.kind target.path is meets.sides (MayTry c rules target halves hull)
       (λ line within. record {
-        at_node = pair_may_be c circuit pair kind path is direction meets halves lie line;
+        at_node = pair_may_be c circuit rules target is pair meets keeps halves lie line;
         least = takes line;
       })

@@ -4,11 +4,11 @@ use Rattle.std.proofs.Common.{◌≡◌, ℕ, ◌+◌, ◌⊎◌, inl, inr, Bool
 use Rattle.std.specs.List.{flat_map}
 use Rattle.std.proofs.lemmas.List.{append-nil, length-append}
 use Rattle.std.proofs.lemmas.Bool.{false≢true}
-use Rattle.hull_laws.specs.declared.half.Half.{Half}
-use Rattle.refutation_check.specs.declared.tree.Node.{Node}
-use Rattle.refutation_check.specs.declared.tree.Node.TheVariants.{Value, Steadiness}
-use Rattle.refutation_check.specs.Trees.{Cases, preorder, is_split}
-use Rattle.refutation_check.specs.Trees.Cases.{closed, waiting, by_value, by_steadiness}
+use Rattle.state_laws.specs.declared.half.Half.{Half}
+use Rattle.runs.specs.declared.tree.Node.{Node}
+use Rattle.runs.specs.declared.tree.Node.TheVariants.{Value, Steadiness}
+use Rattle.runs.specs.Trees.{Cases, preorder, is_split}
+use Rattle.runs.specs.Trees.Cases.{closed, waiting, by_value, by_steadiness}
 use Rattle.tree_laws.specs.Refutations.{below}
 use Rattle.tree_laws.specs.Halves.{halves_of, turns, GoesOn}
 use Rattle.tree_laws.specs.Faults.{AreRight, IsSplit, IsFirstFault, root_of}

@@ -1,14 +1,17 @@
--- How many states of a source the halves above a node leave, and how a split parts them.
+-- How many states of a source the rules and the halves above a node leave, and how a split parts them.
 use Rattle.std.proofs.Common.{◌≡◌, ◌≢◌, ℕ, zero, suc, ◌+◌, ◌<◌, ◌≤◌, Bool, true, false, cond, not, ◌&&◌, ◌==◌, List, [], ◌∷◌, ◌++◌, refl, sym, ap, ◌∙◌, arith, eq-eqb}
 use Rattle.std.specs.Prelude.{All}
 use Rattle.std.proofs.lemmas.List.Elements.{All-tail}
 use Rattle.std.proofs.lemmas.Bool.{eqb-true, false≢true}
+use Rattle.pd_base.specs.declared.rules.Rules.{Rules}
+use Rattle.pd_base.specs.declared.rules.Rules.TheVariants.{One, Two}
 use Rattle.state_sets.specs.declared.state.State.{State}
 use Rattle.state_sets.specs.FourStates.{four_states}
 use Rattle.state_sets.specs.FourLaws.{state_of, same_bit}
-use Rattle.state_sets.specs.Starts.{IsInHalf}
-use Rattle.hull_laws.specs.declared.half.Half.{Half}
-use Rattle.hull_laws.specs.Nodes.{IsCut}
+use Rattle.state_sets.specs.Starts.{IsInHalf, IsOtherStart}
+use Rattle.state_laws.specs.declared.half.Half.{Half}
+use Rattle.state_laws.specs.Nodes.{IsCut}
+use Rattle.tree_laws.specs.Bounds.{states_of_source}
 use Rattle.tree_laws.specs.Refutations.{below}
 
 -- whether the state is in this half
@@ -20,10 +23,15 @@ in_half false second state = same_bit (four_states.last state) second
 abbrev pub leaves_one : ℕ → State → Half → Bool
 leaves_one source state half = cond (source == half.source) (in_half half.steadiness half.second state) true
 
--- whether all halves do
-abbrev pub leaves_all : List Half → ℕ → State → Bool
-leaves_all [] source state = true
-leaves_all (half ∷ halves) source state = leaves_one source state half && leaves_all halves source state
+-- whether a source that is not the path's own may start in the state
+abbrev pub may_start_in : Rules → State → Bool
+may_start_in One state = true
+may_start_in Two state = four_states.steady state
+
+-- whether it may, and all halves leave it the state
+abbrev pub leaves_all : Rules → List Half → ℕ → State → Bool
+leaves_all rules [] source state = may_start_in rules state
+leaves_all rules (half ∷ halves) source state = leaves_one source state half && leaves_all rules halves source state
 
 -- 1 for a test that passes
 abbrev pub one_if : Bool → ℕ
@@ -34,9 +42,14 @@ one_if false = 0
 abbrev pub count_four : (State → Bool) → ℕ
 count_four test = one_if (test (state_of 0)) + one_if (test (state_of 1)) + one_if (test (state_of 2)) + one_if (test (state_of 3))
 
--- how many states the halves leave a source
-abbrev pub states_left : List Half → ℕ → ℕ
-states_left halves source = count_four (leaves_all halves source)
+-- how many states the rules and the halves leave a source
+abbrev pub states_left : Rules → List Half → ℕ → ℕ
+states_left rules halves source = count_four (leaves_all rules halves source)
+
+-- without halves these are all in which it may start
+pub states_at_first : (rules : Rules) (source : ℕ) → states_left rules [] source ≡ states_of_source rules
+states_at_first One source = refl
+states_at_first Two source = refl
 
 same_bit_itself : (a b : Bool) → a ≡ b → same_bit a b ≡ true
 same_bit_itself true true e = refl
@@ -61,14 +74,18 @@ one_passes source state half cut = by (source == half.source) (λ e. eqb-true so
 both_pass : (a b : Bool) → a ≡ true → b ≡ true → (a && b) ≡ true
 both_pass a b is_a is_b = cc
 
--- a state that all halves cut out passes
-pub cut_passes : (halves : List Half) (source : ℕ) (state : State) → All (IsCut four_states source state) halves
-    → leaves_all halves source state ≡ true
-cut_passes [] source state cut = refl
-cut_passes (half ∷ halves) source state cut =
-    both_pass (leaves_one source state half) (leaves_all halves source state)
+start_passes : (rules : Rules) (state : State) → IsOtherStart four_states rules state → may_start_in rules state ≡ true
+start_passes One state start = refl
+start_passes Two state start = start
+
+-- a state in which the source may start, and which all halves cut out, passes
+pub cut_passes : (rules : Rules) (halves : List Half) (source : ℕ) (state : State) → IsOtherStart four_states rules state
+    → All (IsCut four_states source state) halves → leaves_all rules halves source state ≡ true
+cut_passes rules [] source state start cut = start_passes rules state start
+cut_passes rules (half ∷ halves) source state start cut =
+    both_pass (leaves_one source state half) (leaves_all rules halves source state)
     (one_passes source state half (cut 0 half (omega arith)))
-    (cut_passes halves source state (All-tail (IsCut four_states source state) half halves cut))
+    (cut_passes rules halves source state start (All-tail (IsCut four_states source state) half halves cut))
 
 -- what a line may be in is counted
 pub counted : (n : ℕ) → n < 4 → (test : State → Bool) → test (state_of n) ≡ true → 1 ≤ count_four test
@@ -109,28 +126,30 @@ count_few test = omega (
 )
 
 -- one half more behind the others
-pub leaves_more : (halves : List Half) (half : Half) (source : ℕ) (state : State)
-    → leaves_all (halves ++ half ∷ []) source state ≡ (leaves_all halves source state && leaves_one source state half)
-leaves_more [] half source state = by (leaves_one source state half)
+pub leaves_more : (rules : Rules) (halves : List Half) (half : Half) (source : ℕ) (state : State)
+    → leaves_all rules (halves ++ half ∷ []) source state ≡ (leaves_all rules halves source state && leaves_one source state half)
+leaves_more rules [] half source state = by (leaves_one source state half) (may_start_in rules state)
   where
-    by : (b : Bool) → (b && true) ≡ (true && b)
-    by true = refl
-    by false = refl
-leaves_more (first ∷ halves) half source state =
-    ap (λ b. leaves_one source state first && b) (leaves_more halves half source state)
-    ∙ by (leaves_one source state first) (leaves_all halves source state) (leaves_one source state half)
+    by : (a b : Bool) → (a && b) ≡ (b && a)
+    by true true = refl
+    by true false = refl
+    by false true = refl
+    by false false = refl
+leaves_more rules (first ∷ halves) half source state =
+    ap (λ b. leaves_one source state first && b) (leaves_more rules halves half source state)
+    ∙ by (leaves_one source state first) (leaves_all rules halves source state) (leaves_one source state half)
   where
     by : (a b c : Bool) → (a && (b && c)) ≡ ((a && b) && c)
     by true b c = refl
     by false b c = refl
 
 -- a half of another source leaves a source all its states
-pub other_stays : (halves : List Half) (steadiness : Bool) (split : ℕ) (second : Bool) (source : ℕ) → source ≢ split
-    → states_left (below halves steadiness split second) source ≡ states_left halves source
-other_stays halves steadiness split second source other =
-    let same : (state : State) → leaves_all (below halves steadiness split second) source state ≡ leaves_all halves source state =
-    λ state. leaves_more halves (record { source = split; steadiness = steadiness; second = second }) source state
-    ∙ by (source == split) (λ e. eqb-true source split e) (leaves_all halves source state) (in_half steadiness second state) in
+pub other_stays : (rules : Rules) (halves : List Half) (steadiness : Bool) (split : ℕ) (second : Bool) (source : ℕ) → source ≢ split
+    → states_left rules (below halves steadiness split second) source ≡ states_left rules halves source
+other_stays rules halves steadiness split second source other =
+    let same : (state : State) → leaves_all rules (below halves steadiness split second) source state ≡ leaves_all rules halves source state =
+    λ state. leaves_more rules halves (record { source = split; steadiness = steadiness; second = second }) source state
+    ∙ by (source == split) (λ e. eqb-true source split e) (leaves_all rules halves source state) (in_half steadiness second state) in
     cong4 (same (state_of 0)) (same (state_of 1)) (same (state_of 2)) (same (state_of 3))
   where
     by : (same : Bool) → (same ≡ true → source ≡ split) → (a b : Bool) → (a && cond same b true) ≡ a
@@ -143,19 +162,19 @@ other_stays halves steadiness split second source other =
     cong4 e f g h = cc
 
 -- a split parts the states of its source
-pub split_parts : (halves : List Half) (steadiness : Bool) (split : ℕ)
-    → states_left halves split ≡ states_left (below halves steadiness split false) split + states_left (below halves steadiness split true) split
-split_parts halves steadiness split =
-    let parts : (state : State) → one_if (leaves_all halves split state)
-    ≡ one_if (leaves_all (below halves steadiness split false) split state) + one_if (leaves_all (below halves steadiness split true) split state) =
+pub split_parts : (rules : Rules) (halves : List Half) (steadiness : Bool) (split : ℕ)
+    → states_left rules halves split ≡ states_left rules (below halves steadiness split false) split + states_left rules (below halves steadiness split true) split
+split_parts rules halves steadiness split =
+    let parts : (state : State) → one_if (leaves_all rules halves split state)
+    ≡ one_if (leaves_all rules (below halves steadiness split false) split state) + one_if (leaves_all rules (below halves steadiness split true) split state) =
     λ state.
-    let first = leaves_more halves (record { source = split; steadiness = steadiness; second = false }) split state in
-    let second = leaves_more halves (record { source = split; steadiness = steadiness; second = true }) split state in
-    by steadiness (leaves_all halves split state) state
-    ∙ ap (λ b. one_if (leaves_all halves split state && cond b (in_half steadiness false state) true)
-    + one_if (leaves_all halves split state && cond b (in_half steadiness true state) true)) (sym itself)
-    ∙ ap (λ b. one_if b + one_if (leaves_all halves split state && cond (split == split) (in_half steadiness true state) true)) (sym first)
-    ∙ ap (λ b. one_if (leaves_all (below halves steadiness split false) split state) + one_if b) (sym second) in
+    let first = leaves_more rules halves (record { source = split; steadiness = steadiness; second = false }) split state in
+    let second = leaves_more rules halves (record { source = split; steadiness = steadiness; second = true }) split state in
+    by steadiness (leaves_all rules halves split state) state
+    ∙ ap (λ b. one_if (leaves_all rules halves split state && cond b (in_half steadiness false state) true)
+    + one_if (leaves_all rules halves split state && cond b (in_half steadiness true state) true)) (sym itself)
+    ∙ ap (λ b. one_if b + one_if (leaves_all rules halves split state && cond (split == split) (in_half steadiness true state) true)) (sym first)
+    ∙ ap (λ b. one_if (leaves_all rules (below halves steadiness split false) split state) + one_if b) (sym second) in
     omega (arith, parts (state_of 0), parts (state_of 1), parts (state_of 2), parts (state_of 3))
   where
     itself : (split == split) ≡ true

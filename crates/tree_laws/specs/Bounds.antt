@@ -1,6 +1,8 @@
--- The bound on the budgets that can be spent on a path, by the number of sources in its support (this project's own).
+-- The bound on the budgets that can be spent on a path, by the rules and the number of sources in its support (this project's own).
 use Rattle.std.specs.Prelude.{◌≢◌, ℕ, ◌-◌, ◌^◌, ◌<◌, ◌↔◌, List, length, AllPairs, Contains}
 use Rattle.pd_base.specs.Route.{Route}
+use Rattle.pd_base.specs.declared.rules.Rules.{Rules}
+use Rattle.pd_base.specs.declared.rules.Rules.TheVariants.{One, Two}
 use Rattle.netlist.specs.Circuit.{Circuit}
 use Rattle.tree_laws.specs.Spent.{IsInSupport}
 
@@ -9,6 +11,13 @@ pub record AreSupport (c : Circuit) (path : Route) (sources : List ℕ) : Type 0
   pub once : AllPairs (λ a b. a ≢ b) sources
   pub exactly : (source : ℕ) → Contains sources source ↔ IsInSupport c path source
 
--- the budget is below four to the power of the number of sources in the support, the path's own not counted
-abbrev pub IsBelowBound : Circuit → Route → ℕ → Type 0
-IsBelowBound c path budget = (sources : List ℕ) → AreSupport c path sources → budget < 4 ^ (length sources - 1)
+-- how many of the four states a source other than the path's own may start in
+abbrev pub states_of_source : Rules → ℕ
+states_of_source One = 4
+states_of_source Two = 2
+
+-- the budget is below the number of states of a source to the power of the number of sources in the support, the path's own not
+-- counted
+abbrev pub IsBelowBound : Circuit → Rules → Route → ℕ → Type 0
+IsBelowBound c rules path budget =
+    (sources : List ℕ) → AreSupport c path sources → budget < states_of_source rules ^ (length sources - 1)

@@ -1,33 +1,32 @@
 -- Where a tree of cases is first at fault, as nodes are counted in preorder from 0 (this project's own).
 use Rattle.std.specs.Prelude.{◌≡◌, ◌≢◌, ℕ, ◌+◌, ◌<◌, Bool, true, false, List, [], length, Contains}
-use Rattle.pd_base.specs.Route.{Route}
-use Rattle.pd_base.specs.declared.fault.Direction.{Direction}
-use Rattle.pd_base.specs.declared.fault.Kind.{Kind}
+use Rattle.pd_base.specs.Target.{Target}
+use Rattle.pd_base.specs.declared.rules.Rules.{Rules}
 use Rattle.netlist.specs.Circuit.{Circuit, source_count}
 use Rattle.state_sets.specs.declared.state.StateSet.{StateSet}
-use Rattle.hull_laws.specs.declared.half.Half.{Half}
-use Rattle.hull_laws.specs.Nodes.{ClosesAtNode}
-use Rattle.refutation_check.specs.declared.tree.Node.{Node}
-use Rattle.refutation_check.specs.declared.tree.Node.TheVariants.{Closed, Waiting, Value, Steadiness}
-use Rattle.refutation_check.specs.Trees.{Cases, preorder, split_count}
-use Rattle.refutation_check.specs.Trees.Cases.{closed, waiting, by_value, by_steadiness}
+use Rattle.state_laws.specs.declared.half.Half.{Half}
+use Rattle.state_laws.specs.Nodes.{ClosesAtNode}
+use Rattle.runs.specs.declared.tree.Node.{Node}
+use Rattle.runs.specs.declared.tree.Node.TheVariants.{Closed, Waiting, Value, Steadiness}
+use Rattle.runs.specs.Trees.{Cases, preorder, split_count}
+use Rattle.runs.specs.Trees.Cases.{closed, waiting, by_value, by_steadiness}
 use Rattle.tree_laws.specs.Refutations.{below}
 use Rattle.tree_laws.specs.Spent.{IsOpen, IsDue}
 
 -- what a refutation asks of a node below these halves: a closed leaf closes there, no leaf is open, a split is on a source
-abbrev pub IsRightInRefutation : Circuit → Kind → Route → Direction → List Half → Node → Type 0
-IsRightInRefutation c kind prefix direction halves Closed = ClosesAtNode c kind prefix direction halves
-IsRightInRefutation c kind prefix direction halves Waiting = ⊥
-IsRightInRefutation c kind prefix direction halves (Value source) = source < source_count c
-IsRightInRefutation c kind prefix direction halves (Steadiness source) = source < source_count c
+abbrev pub IsRightInRefutation : Circuit → Rules → Target → List Half → Node → Type 0
+IsRightInRefutation c rules target halves Closed = ClosesAtNode c rules target halves
+IsRightInRefutation c rules target halves Waiting = ⊥
+IsRightInRefutation c rules target halves (Value source) = source < source_count c
+IsRightInRefutation c rules target halves (Steadiness source) = source < source_count c
 
 -- what a spent tree asks of a node below these halves: a closed leaf closes there, an open one does not and its trial does, a
 -- split is due
-abbrev pub IsRightInSpent : Circuit → Kind → Route → Direction → List Half → Node → Type 0
-IsRightInSpent c kind path direction halves Closed = ClosesAtNode c kind path direction halves
-IsRightInSpent c kind path direction halves Waiting = (hull : List StateSet) × IsOpen c kind path direction halves hull
-IsRightInSpent c kind path direction halves (Value source) = IsDue c kind path direction halves false source
-IsRightInSpent c kind path direction halves (Steadiness source) = IsDue c kind path direction halves true source
+abbrev pub IsRightInSpent : Circuit → Rules → Target → List Half → Node → Type 0
+IsRightInSpent c rules target halves Closed = ClosesAtNode c rules target halves
+IsRightInSpent c rules target halves Waiting = (hull : List StateSet) × IsOpen c rules target halves hull
+IsRightInSpent c rules target halves (Value source) = IsDue c rules target halves false source
+IsRightInSpent c rules target halves (Steadiness source) = IsDue c rules target halves true source
 
 -- each node is right, below these halves
 abbrev pub AreRight : (List Half → Node → Type 0) → List Half → Cases → Type 0
@@ -76,16 +75,16 @@ pub record IsFirstFaultOf (IsRight : List Half → Node → Type 0) (nodes : Lis
   pub first : IsFirstFault IsRight [] cases place
 
 -- the first node at which a tree fails to refute
-abbrev pub IsFaultOfRefutation : Circuit → Kind → Route → Direction → List Node → ℕ → Type 0
-IsFaultOfRefutation c kind prefix direction nodes place =
-    IsFirstFaultOf (IsRightInRefutation c kind prefix direction) nodes place
+abbrev pub IsFaultOfRefutation : Circuit → Rules → Target → List Node → ℕ → Type 0
+IsFaultOfRefutation c rules target nodes place =
+    IsFirstFaultOf (IsRightInRefutation c rules target) nodes place
 
 -- Where a tree fails to show that this budget was spent: at node 0 where it has more or fewer splits, or no open leaf; else at the
 -- first node that is not right.
-pub data IsFaultOfSpent (c : Circuit) (kind : Kind) (path : Route) (direction : Direction) (budget : ℕ) (nodes : List Node)
+pub data IsFaultOfSpent (c : Circuit) (rules : Rules) (target : Target) (budget : ℕ) (nodes : List Node)
     : ℕ → Type 0 where
-  other_splits : split_count nodes ≢ budget → IsFaultOfSpent c kind path direction budget nodes 0
-  none_open : (Contains nodes Waiting → ⊥) → IsFaultOfSpent c kind path direction budget nodes 0
+  other_splits : split_count nodes ≢ budget → IsFaultOfSpent c rules target budget nodes 0
+  none_open : (Contains nodes Waiting → ⊥) → IsFaultOfSpent c rules target budget nodes 0
   at_node : {place : ℕ} → split_count nodes ≡ budget → Contains nodes Waiting
-      → IsFirstFaultOf (IsRightInSpent c kind path direction) nodes place
-      → IsFaultOfSpent c kind path direction budget nodes place
+      → IsFirstFaultOf (IsRightInSpent c rules target) nodes place
+      → IsFaultOfSpent c rules target budget nodes place

@@ -1,6 +1,6 @@
 -- The halves above a node of a tree, from the deepest up, and where a walk in preorder goes on to (this project's own).
 use Rattle.std.specs.Prelude.{◌≡◌, ◌⊎◌, true, List, [], ◌∷◌, ◌++◌, cond}
-use Rattle.hull_laws.specs.declared.half.Half.{Half}
+use Rattle.state_laws.specs.declared.half.Half.{Half}
 
 -- these halves in the order from the root down
 abbrev pub halves_of : List Half → List Half

@@ -3,3 +3,4 @@ pub mod Spent
 pub mod Bounds
 pub mod Halves
 pub mod Faults
+pub mod Growing

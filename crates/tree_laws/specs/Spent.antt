@@ -1,9 +1,9 @@
 -- When a tree of cases shows that a search spent its budget: so many splits, each of which was due, and at each open node a pair
 -- was tried and failed (this project's own).
 use Rattle.std.specs.Prelude.{◌≡◌, ℕ, ◌<◌, Bool, true, false, List, [], Contains}
+use Rattle.pd_base.specs.Target.{Target}
+use Rattle.pd_base.specs.declared.rules.Rules.{Rules}
 use Rattle.pd_base.specs.Route.{Route}
-use Rattle.pd_base.specs.declared.fault.Direction.{Direction}
-use Rattle.pd_base.specs.declared.fault.Kind.{Kind}
 use Rattle.netlist.specs.Circuit.{Circuit, source_count}
 use Rattle.netlist.specs.Pins.{IsInFanIn}
 use Rattle.netlist.specs.Paths.{end_of}
@@ -14,12 +14,12 @@ use Rattle.state_sets.specs.Labellings.{label_at}
 use Rattle.state_sets.specs.FourStates.{four_states}
 use Rattle.state_sets.specs.Starts.{IsInHalf, IsLeast}
 use Rattle.state_sets.specs.Hulls.{IsNarrowingOf, HasNoEmptySet, Closes}
-use Rattle.hull_laws.specs.declared.half.Half.{Half}
-use Rattle.hull_laws.specs.Nodes.{MayBe, IsNodeHull, ClosesAtNode}
-use Rattle.refutation_check.specs.declared.tree.Node.{Node}
-use Rattle.refutation_check.specs.declared.tree.Node.TheVariants.{Waiting}
-use Rattle.refutation_check.specs.Trees.{Cases, preorder, split_count}
-use Rattle.refutation_check.specs.Trees.Cases.{closed, waiting, by_value, by_steadiness}
+use Rattle.state_laws.specs.declared.half.Half.{Half}
+use Rattle.state_laws.specs.Nodes.{MayBe, IsNodeHull, ClosesAtNode}
+use Rattle.runs.specs.declared.tree.Node.{Node}
+use Rattle.runs.specs.declared.tree.Node.TheVariants.{Waiting}
+use Rattle.runs.specs.Trees.{Cases, preorder, split_count}
+use Rattle.runs.specs.Trees.Cases.{closed, waiting, by_value, by_steadiness}
 use Rattle.tree_laws.specs.Refutations.{below}
 
 -- the support of a path: the sources in the transitive fan-in of its end
@@ -29,16 +29,16 @@ pub record IsInSupport (c : Circuit) (path : Route) (source : ℕ) : Type 0 wher
 
 -- what a line may be in at the trial of a node: as at the node, and each source of the support only in the least state that it has
 -- in the hull there
-pub record MayTry (c : Circuit) (path : Route) (direction : Direction) (halves : List Half) (hull : List StateSet)
-    (line : ℕ) (state : State) : Type 0 where
-  pub at_node : MayBe four_states c path.source.0 direction halves line state
-  pub least : IsInSupport c path line → IsLeast four_states.count (label_at hull line) state
+pub record MayTry (c : Circuit) (rules : Rules) (target : Target) (halves : List Half) (hull : List StateSet) (line : ℕ) (state : State)
+    : Type 0 where
+  pub at_node : MayBe four_states c rules target halves line state
+  pub least : IsInSupport c target.path line → IsLeast four_states.count (label_at hull line) state
 
 -- a node that does not close, and whose trial does; this is its hull
-pub record IsOpen (c : Circuit) (kind : Kind) (path : Route) (direction : Direction) (halves : List Half) (hull : List StateSet) : Type 0 where
-  pub is_hull : IsNodeHull c kind path direction halves hull
+pub record IsOpen (c : Circuit) (rules : Rules) (target : Target) (halves : List Half) (hull : List StateSet) : Type 0 where
+  pub is_hull : IsNodeHull c rules target halves hull
   pub none_empty : HasNoEmptySet c hull
-  pub trial : Closes four_states c (IsNarrowingOf c kind path.steps) (MayTry c path direction halves hull)
+  pub trial : Closes four_states c (IsNarrowingOf c target.kind target.path.steps) (MayTry c rules target halves hull)
 
 -- some state of the set is in this half
 abbrev pub HasInHalf : StateSet → Bool → Bool → Type 0
@@ -47,32 +47,32 @@ HasInHalf set steadiness second =
 
 -- a split is due: its node does not close, its trial does, and the split is on a source of the support that has a state of each
 -- half in the hull
-pub record IsDue (c : Circuit) (kind : Kind) (path : Route) (direction : Direction) (halves : List Half)
+pub record IsDue (c : Circuit) (rules : Rules) (target : Target) (halves : List Half)
     (steadiness : Bool) (source : ℕ) : Type 0 where
   pub hull : List StateSet
-  pub is_open : IsOpen c kind path direction halves hull
-  pub in_support : IsInSupport c path source
+  pub is_open : IsOpen c rules target halves hull
+  pub in_support : IsInSupport c target.path source
   pub in_first : HasInHalf (label_at hull source) steadiness false
   pub in_second : HasInHalf (label_at hull source) steadiness true
 
 -- the cases are such, below these halves: each closed leaf's node closes, each open leaf's does not and its trial does, and each
 -- split is due
-abbrev pub IsSpentBelow : Circuit → Kind → Route → Direction → List Half → Cases → Type 0
-IsSpentBelow c kind path direction halves closed = ClosesAtNode c kind path direction halves
-IsSpentBelow c kind path direction halves waiting = (hull : List StateSet) × IsOpen c kind path direction halves hull
-IsSpentBelow c kind path direction halves (by_value source first second) =
-    IsDue c kind path direction halves false source
-    × IsSpentBelow c kind path direction (below halves false source false) first
-    × IsSpentBelow c kind path direction (below halves false source true) second
-IsSpentBelow c kind path direction halves (by_steadiness source first second) =
-    IsDue c kind path direction halves true source
-    × IsSpentBelow c kind path direction (below halves true source false) first
-    × IsSpentBelow c kind path direction (below halves true source true) second
+abbrev pub IsSpentBelow : Circuit → Rules → Target → List Half → Cases → Type 0
+IsSpentBelow c rules target halves closed = ClosesAtNode c rules target halves
+IsSpentBelow c rules target halves waiting = (hull : List StateSet) × IsOpen c rules target halves hull
+IsSpentBelow c rules target halves (by_value source first second) =
+    IsDue c rules target halves false source
+    × IsSpentBelow c rules target (below halves false source false) first
+    × IsSpentBelow c rules target (below halves false source true) second
+IsSpentBelow c rules target halves (by_steadiness source first second) =
+    IsDue c rules target halves true source
+    × IsSpentBelow c rules target (below halves true source false) first
+    × IsSpentBelow c rules target (below halves true source true) second
 
 -- the nodes are those of a tree that spent this budget on a path: it has exactly so many splits, and an open leaf
-pub record IsSpent (c : Circuit) (kind : Kind) (path : Route) (direction : Direction) (budget : ℕ) (nodes : List Node) : Type 0 where
+pub record IsSpent (c : Circuit) (rules : Rules) (target : Target) (budget : ℕ) (nodes : List Node) : Type 0 where
   pub cases : Cases
   pub tree : nodes ≡ preorder cases
   pub splits : split_count nodes ≡ budget
   pub waits : Contains nodes Waiting
-  pub spent : IsSpentBelow c kind path direction [] cases
+  pub spent : IsSpentBelow c rules target [] cases

@@ -1,4 +1,5 @@
-//! Trees of cases against a circuit: which trees refute, and which show that a budget was spent; and the laws of both.
-//! Stands on pd_base, netlist, state_sets, hull_laws and refutation_check, and has no code.
-//! The layers above cite the definitions (specs/) and that a refutation excludes every pair of vectors (proofs/).
+//! Trees of cases against a circuit: which trees refute, which show that a budget was spent, and how a tree grows node by node.
+//! Stands on pd_base, netlist, path_laws, state_sets, state_laws and runs, and has no code.
+//! The layers above cite the definitions (specs/), that a refutation excludes every pair of vectors, and what the pair that is tried at
+//! a node tells (proofs/).
 #![tactic(auto)]

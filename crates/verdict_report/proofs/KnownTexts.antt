@@ -4,14 +4,15 @@ use Rattle.std.proofs.lemmas.Fmt.{decimal_digit}
 use Rattle.pd_base.specs.declared.ids.PinRef.{PinRef}
 use Rattle.pd_base.specs.declared.fault.Direction.TheVariants.{Rise, Fall}
 use Rattle.pd_base.specs.declared.fault.Kind.TheVariants as kind
+use Rattle.pd_base.specs.declared.rules.Rules.TheVariants.{One}
 use Rattle.netlist.specs.declared.kind.GateKind.TheVariants.{Not}
 use Rattle.netlist.specs.Circuit.{Circuit}
-use Rattle.refutation_check.specs.declared.run.ListedPath.{ListedPath}
-use Rattle.refutation_check.specs.declared.run.Proof.{Proof}
-use Rattle.refutation_check.specs.declared.run.Run.{Run}
-use Rattle.refutation_check.specs.declared.run.Verdict.{Verdict}
-use Rattle.refutation_check.specs.declared.run.Verdict.TheVariants.{Robust, Nonrobust, Untestable, Aborted}
-use Rattle.refutation_check.specs.declared.tree.Node.TheVariants.{Closed, Waiting, Value, Steadiness}
+use Rattle.runs.specs.declared.run.ListedPath.{ListedPath}
+use Rattle.runs.specs.declared.run.Proof.{Proof}
+use Rattle.runs.specs.declared.run.Run.{Run}
+use Rattle.runs.specs.declared.run.Verdict.{Verdict}
+use Rattle.runs.specs.declared.run.Verdict.TheVariants.{Robust, Nonrobust, Untestable, Aborted}
+use Rattle.runs.specs.declared.tree.Node.TheVariants.{Closed, Waiting, Value, Steadiness}
 use Rattle.verdict_report.specs.ReportText.{report_text}
 use Rattle.verdict_report.specs.ProofsText.{proofs_text}
 use Rattle.verdict_report.specs.Summary.{summary_text}
@@ -66,7 +67,7 @@ two_proofs = rw (decimal_digit 0 (lit< tt), decimal_digit 1 (lit< tt), decimal_d
 
 -- a run of these paths, as far as a summary counts it
 abbrev run_of : List ListedPath → Run
-run_of paths = record { paths = paths; tests = []; proofs = [] }
+run_of paths = record { rules = One; paths = paths; tests = []; proofs = [] }
 
 nothing_counted : summary_text (run_of []) ≡ codes "paths 0 robust 0 nonrobust 0 untestable 0 aborted 0\n"
 nothing_counted = rw (decimal_digit 0 (lit< tt)) refl

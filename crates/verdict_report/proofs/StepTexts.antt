@@ -7,7 +7,7 @@ use Rattle.pd_base.specs.declared.ids.PinRef.{PinRef}
 use Rattle.netlist.specs.Circuit.{Circuit, gate_at, gate_line, line_count}
 use Rattle.netlist.specs.Names.{name_at}
 use Rattle.netlist.proofs.CircuitLines.{line_names-length, name_of_gate}
-use Rattle.refutation_check.specs.Lawful.{IsPinOf}
+use Rattle.netlist.specs.Pins.{IsPin}
 use Rattle.text_pieces.specs.Tokens.{space, after_space}
 use Rattle.verdict_report.specs.PlainTexts.{HasPlainNames, IsPlain, IsPlainByte}
 use Rattle.verdict_report.specs.ReportText.{nothing, step_text, steps_text}
@@ -37,16 +37,16 @@ module _ (c : Circuit) where
     name_plain line within = names line [] (omega (arith, line_names-length c))
 
     -- so is the text of a step through one of the circuit's pins
-    step_plain : (step : PinRef) → IsPinOf c step → IsPlain (step_text c step)
+    step_plain : (step : PinRef) → IsPin c step → IsPlain (step_text c step)
     step_plain step is =
         let gate = step.gate.0 in
-        let within : gate_line c gate < line_count c = omega (arith, is.gate) in
-        let name : IsPlain (gate_at c gate).name = subst IsPlain (name_of_gate c gate is.gate) (name_plain (gate_line c gate) within) in
+        let within : gate_line c gate < line_count c = omega (arith, is.in_circuit) in
+        let name : IsPlain (gate_at c gate).name = subst IsPlain (name_of_gate c gate is.in_circuit) (name_plain (gate_line c gate) within) in
         All-append IsPlainByte ((gate_at c gate).name ++ codes ":") (decimal step.pin)
         (All-append IsPlainByte (gate_at c gate).name (codes ":") name (plain_by_test (codes ":") refl)) (decimal_plain step.pin)
 
     -- so are further steps, each behind a space
-    spaced_plain : (steps : List PinRef) → AllByRecursion (IsPinOf c) steps → IsPlain (spaced_steps steps)
+    spaced_plain : (steps : List PinRef) → AllByRecursion (IsPin c) steps → IsPlain (spaced_steps steps)
     spaced_plain [] all = λ k d within. absurd (omega arith)
     spaced_plain (step ∷ steps) all =
         All-append IsPlainByte (after_space (step_text c step)) (spaced_steps steps)
@@ -54,9 +54,9 @@ module _ (c : Circuit) where
         (spaced_plain steps all.1)
 
     -- so is the text of all steps
-    pub steps_plain : (steps : List PinRef) → All (IsPinOf c) steps → IsPlain (steps_text c steps)
+    pub steps_plain : (steps : List PinRef) → All (IsPin c) steps → IsPlain (steps_text c steps)
     steps_plain [] all = plain_by_test nothing refl
     steps_plain (step ∷ steps) all =
-        let each = recursion_from_All (IsPinOf c) (step ∷ steps) all in
+        let each = recursion_from_All (IsPin c) (step ∷ steps) all in
         subst IsPlain (sym (steps_joined step steps))
         (All-append IsPlainByte (step_text c step) (spaced_steps steps) (step_plain step each.0) (spaced_plain steps each.1))

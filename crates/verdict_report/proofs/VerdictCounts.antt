@@ -2,15 +2,15 @@
 use Rattle.std.proofs.Common.{◌≡◌, ℕ, ◌+◌, ◌<◌, List, Bool, [], ◌∷◌, ◌++◌, length, get_or, take, cond, count_by, refl, ap, ◌∙◌, sym, arith}
 use Rattle.std.proofs.lemmas.List.{take_more}
 use Rattle.std.proofs.lemmas.List.Sums.{sum_by_push}
-use Rattle.refutation_check.specs.declared.run.ListedPath.{ListedPath}
-use Rattle.refutation_check.specs.declared.run.Verdict.{Verdict}
-use Rattle.refutation_check.specs.declared.run.Verdict.TheVariants.{Robust, Nonrobust, Untestable, Aborted}
-use Rattle.refutation_check.specs.Verdicts.{is_aborted, is_nonrobust, is_robust, is_untestable, verdicts_of}
+use Rattle.runs.specs.declared.run.ListedPath.{ListedPath}
+use Rattle.runs.specs.declared.run.Verdict.{Verdict}
+use Rattle.runs.specs.declared.run.Verdict.TheVariants.{Robust, Nonrobust, Untestable, Aborted}
+use Rattle.runs.specs.Verdicts.{is_aborted, is_nonrobust, is_robust, is_untestable, verdicts_of}
 use Rattle.verdict_report.specs.declared.summary.Counts.{Counts}
-use Rattle.verdict_report.specs.VerdictCounts.{AreCountsOf, CountsOneMore, total}
+use Rattle.verdict_report.specs.VerdictCounts.{AreCountsOf, CountsOneMore, verdict_total}
 
 -- a verdict is of one sort, so the total rises by one
-pub total_rises : (before after : Counts) (verdict : Verdict) → CountsOneMore before after verdict → total after ≡ total before + 1
+pub total_rises : (before after : Counts) (verdict : Verdict) → CountsOneMore before after verdict → verdict_total after ≡ verdict_total before + 1
 total_rises before after (Robust test) counted = omega (arith, counted.robust, counted.nonrobust, counted.untestable, counted.aborted)
 total_rises before after (Nonrobust test proof) counted = omega (arith, counted.robust, counted.nonrobust, counted.untestable, counted.aborted)
 total_rises before after (Untestable proof) counted = omega (arith, counted.robust, counted.nonrobust, counted.untestable, counted.aborted)

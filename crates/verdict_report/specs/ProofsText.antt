@@ -1,8 +1,8 @@
 -- The text of the proofs file: one line per proof, the tree in preorder (this project's own format).
 use Rattle.std.specs.Prelude.{ℕ, ◌+◌, List, [], ◌∷◌, ◌++◌, Bool, true, false, flat_map, codes, decimal}
-use Rattle.refutation_check.specs.declared.run.Proof.{Proof}
-use Rattle.refutation_check.specs.declared.tree.Node.{Node}
-use Rattle.refutation_check.specs.declared.tree.Node.TheVariants.{Closed, Waiting, Value, Steadiness}
+use Rattle.runs.specs.declared.run.Proof.{Proof}
+use Rattle.runs.specs.declared.tree.Node.{Node}
+use Rattle.runs.specs.declared.tree.Node.TheVariants.{Closed, Waiting, Value, Steadiness}
 use Rattle.text_pieces.specs.Tokens.{after_space, line, direction_word, kind_word}
 
 -- a closed leaf X, an open one O, a split on a source's final value V, or on its steadiness H

@@ -6,8 +6,8 @@ use Rattle.csv.specs.Writing.{default_writer, writer_setup, fields_written, has_
 use Rattle.csv.specs.declared.writer.Writer.{Writer}
 use Rattle.pd_base.specs.declared.fault.Direction.{Direction}
 use Rattle.pd_base.specs.declared.fault.Direction.TheVariants.{Rise, Fall}
-use Rattle.refutation_check.specs.declared.run.ListedPath.{ListedPath}
-use Rattle.refutation_check.specs.declared.run.Verdict.{Verdict}
+use Rattle.runs.specs.declared.run.ListedPath.{ListedPath}
+use Rattle.runs.specs.declared.run.Verdict.{Verdict}
 use Rattle.text_pieces.specs.Tokens.{direction_word}
 use Rattle.verdict_report.specs.declared.rows.PathTexts.{PathTexts}
 use Rattle.verdict_report.specs.declared.rows.VerdictTexts.{VerdictTexts}
@@ -35,11 +35,15 @@ pub record ArePlain (path : PathTexts) : Type 0 where
   pub source : IsPlain path.source.now
   pub steps : IsPlain path.steps.now
 
+-- the texts of what a row says of a verdict, in order
+abbrev pub verdict_texts : VerdictTexts → List (List ℕ)
+verdict_texts verdict =
+    verdict.word.now ∷ verdict.test.now ∷ verdict.robust_proof.now ∷ verdict.nonrobust_proof.now ∷ []
+
 -- the texts of a row, in order
 abbrev pub row_texts : PathTexts → List ℕ → VerdictTexts → List (List ℕ)
 row_texts path direction verdict =
-    path.number.now ∷ direction ∷ path.length.now ∷ path.source.now ∷ path.steps.now
-    ∷ verdict.word.now ∷ verdict.test.now ∷ verdict.robust_proof.now ∷ verdict.nonrobust_proof.now ∷ []
+    path.number.now ∷ direction ∷ path.length.now ∷ path.source.now ∷ path.steps.now ∷ verdict_texts verdict
 
 -- the texts of a path's row for a transition with this verdict
 abbrev pub fault_texts : PathTexts → Direction → Verdict → List (List ℕ)

@@ -1,7 +1,7 @@
 -- The line that `gen` prints on out (this project's own format).
 use Rattle.std.specs.Prelude.{ℕ, List, ◌++◌, length, count_by, codes, decimal}
-use Rattle.refutation_check.specs.declared.run.Run.{Run}
-use Rattle.refutation_check.specs.Verdicts.{verdicts_of, is_robust, is_nonrobust, is_untestable, is_aborted}
+use Rattle.runs.specs.declared.run.Run.{Run}
+use Rattle.runs.specs.Verdicts.{verdicts_of, is_robust, is_nonrobust, is_untestable, is_aborted}
 use Rattle.text_pieces.specs.Tokens.{line}
 
 -- how many paths there are, and how many faults have each verdict

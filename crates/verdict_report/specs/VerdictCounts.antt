@@ -1,12 +1,12 @@
 -- How many of some verdicts are of each sort (this project's own).
 use Rattle.std.specs.Prelude.{◌≡◌, ℕ, ◌+◌, List, count_by, if◌then◌else◌}
-use Rattle.refutation_check.specs.declared.run.Verdict.{Verdict}
-use Rattle.refutation_check.specs.Verdicts.{is_robust, is_nonrobust, is_untestable, is_aborted}
+use Rattle.runs.specs.declared.run.Verdict.{Verdict}
+use Rattle.runs.specs.Verdicts.{is_robust, is_nonrobust, is_untestable, is_aborted}
 use Rattle.verdict_report.specs.declared.summary.Counts.{Counts}
 
 -- how many verdicts were counted
-abbrev pub total : Counts → ℕ
-total counts = counts.robust + counts.nonrobust + counts.untestable + counts.aborted
+abbrev pub verdict_total : Counts → ℕ
+verdict_total counts = counts.robust + counts.nonrobust + counts.untestable + counts.aborted
 
 -- the counts are those of these verdicts
 pub record AreCountsOf (counts : Counts) (verdicts : List Verdict) : Type 0 where

@@ -1,6 +1,6 @@
 //! The texts of the report and of the proofs file, and the line of counts that a run ends with.
-//! Stands on pd_base, netlist, refutation_check (lawful reports and proofs), text_pieces, csv and itoa. The layer above
-//! uses `report_text`, `proofs_text` and `summary_text`; a program that measures uses `steps_text`.
+//! Stands on pd_base, netlist, runs (lawful reports and proofs), text_pieces, csv and itoa. The layer above uses
+//! `report_text`, `proofs_text` and `summary_text`; a program that measures uses `steps_text`.
 #![tactic(auto)]
 
 mod proofs_file;

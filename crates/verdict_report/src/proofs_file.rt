@@ -1,11 +1,11 @@
 // The proofs file.
 ghost use Rattle.std.specs.Prelude.{◌≡◌, ◌++◌, IfOk, OnOk, decimal, flat_map};
-ghost use Rattle.refutation_check.specs.Lawful.{AreLawfulProofs};
+ghost use Rattle.runs.specs.Lawful.{AreLawfulProofs};
 ghost use Rattle.verdict_report.specs.ProofsText.{claim_word, node_text, proof_line, proofs_text};
 ghost use Rattle.text_pieces.specs.Tokens.{after_space};
 
 use pd_base::{OutOfMemory, push_decimal};
-use refutation_check::{Node, Proof, Run};
+use runs::{Node, Proof, Run};
 use std::alloc::Global;
 use text_pieces::{direction_word, kind_word, push_spaced, push_spaced_number};
 

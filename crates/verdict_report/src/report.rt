@@ -1,6 +1,6 @@
 // The report: its header and two rows per listed path, each written with csv.
 ghost use Rattle.std.specs.Prelude.{◌≡◌, ◌++◌, IfOk, OnOk, flat_map};
-ghost use Rattle.refutation_check.specs.Lawful.{IsLawfulReport, IsNameable};
+ghost use Rattle.runs.specs.Lawful.{IsLawfulReport, IsNameable};
 ghost use Rattle.verdict_report.specs.PlainTexts.{HasPlainNames};
 ghost use Rattle.verdict_report.specs.ReportRows.{ArePlain, IsBetweenRows, both_rows, rows_text};
 ghost use Rattle.verdict_report.specs.ReportText.{path_rows, report_text, row_line};
@@ -11,7 +11,7 @@ use csv::{Writer, WriterBuilder};
 use itoa::Buffer;
 use netlist::Netlist;
 use pd_base::{Direction, OutOfMemory};
-use refutation_check::{ListedPath, Run};
+use runs::{ListedPath, Run};
 use std::alloc::Global;
 
 /// The text of the report of a run: the header, and for each path a row for the rising transition and one for the

@@ -2,13 +2,13 @@
 ghost use Rattle.std.specs.Prelude.{◌≡◌, ◌++◌, ◌≤◌, OnOk, decimal, length};
 ghost use Rattle.std.specs.List.{AllByRecursion};
 ghost use Rattle.verdict_report.specs.PlainTexts.{IsPlain};
-ghost use Rattle.verdict_report.specs.ReportRows.{ArePlain, IsBetweenRows, fault_texts, row_texts, rows_text, texts_of};
-ghost use Rattle.verdict_report.specs.ReportText.{header_fields, row_line};
+ghost use Rattle.verdict_report.specs.ReportRows.{ArePlain, IsBetweenRows, fault_texts, row_texts, rows_text, texts_of, verdict_texts};
+ghost use Rattle.verdict_report.specs.ReportText.{header_fields, row_line, verdict_fields};
 
 use csv::Writer;
 use itoa::Buffer;
 use pd_base::{Direction, OutOfMemory};
-use refutation_check::Verdict;
+use runs::Verdict;
 use text_pieces::direction_word;
 
 /// What both rows of a path say alike, as texts.
@@ -62,46 +62,46 @@ pub(crate) fn write_fault(
     ensures text { OnOk result (rows_text rows.new
         ≡ rows_text rows.old ++ row_line (fault_texts path.now direction verdict)) }
 {
-    let direction = direction_word(direction);
     let mut first = Buffer::new();
     let mut second = Buffer::new();
+    let texts = verdict_texts(verdict, &mut first, &mut second);
+    write_texts(rows, path, direction_word(direction), &texts)
+}
+
+// The texts of a verdict's fields. The buffers lend the digits of its numbers.
+fn verdict_texts<'a>(
+    verdict: Verdict,
+    first: &'a mut Buffer,
+    second: &'a mut Buffer,
+) -> VerdictTexts<'a>
+    ensures fields { verdict_texts result ≡ verdict_fields verdict }
+    ensures plain { AllByRecursion IsPlain (verdict_texts result) }
+{
     match verdict {
-        Verdict::Robust { test } => {
-            let texts = VerdictTexts {
-                word: b"robust",
-                test: digits_of(&mut first, u64::from(test)),
-                robust_proof: b"-",
-                nonrobust_proof: b"-",
-            };
-            write_texts(rows, path, direction, &texts)
-        }
-        Verdict::Nonrobust { test, proof } => {
-            let texts = VerdictTexts {
-                word: b"nonrobust",
-                test: digits_of(&mut first, u64::from(test)),
-                robust_proof: digits_of(&mut second, u64::from(proof)),
-                nonrobust_proof: b"-",
-            };
-            write_texts(rows, path, direction, &texts)
-        }
-        Verdict::Untestable { proof } => {
-            let texts = VerdictTexts {
-                word: b"untestable",
-                test: b"-",
-                robust_proof: b"-",
-                nonrobust_proof: digits_of(&mut first, u64::from(proof)),
-            };
-            write_texts(rows, path, direction, &texts)
-        }
-        Verdict::Aborted { robust, nonrobust } => {
-            let texts = VerdictTexts {
-                word: b"aborted",
-                test: b"-",
-                robust_proof: digits_of(&mut first, u64::from(robust)),
-                nonrobust_proof: digits_of(&mut second, u64::from(nonrobust)),
-            };
-            write_texts(rows, path, direction, &texts)
-        }
+        Verdict::Robust { test } => VerdictTexts {
+            word: b"robust",
+            test: digits_of(first, u64::from(test)),
+            robust_proof: b"-",
+            nonrobust_proof: b"-",
+        },
+        Verdict::Nonrobust { test, proof } => VerdictTexts {
+            word: b"nonrobust",
+            test: digits_of(first, u64::from(test)),
+            robust_proof: digits_of(second, u64::from(proof)),
+            nonrobust_proof: b"-",
+        },
+        Verdict::Untestable { proof } => VerdictTexts {
+            word: b"untestable",
+            test: b"-",
+            robust_proof: b"-",
+            nonrobust_proof: digits_of(first, u64::from(proof)),
+        },
+        Verdict::Aborted { robust, nonrobust } => VerdictTexts {
+            word: b"aborted",
+            test: b"-",
+            robust_proof: digits_of(first, u64::from(robust)),
+            nonrobust_proof: digits_of(second, u64::from(nonrobust)),
+        },
     }
 }
 

@@ -1,11 +1,11 @@
 // The line of counts that a run ends with.
 ghost use Rattle.std.specs.Prelude.{◌≡◌, ◌+◌, ◌-◌, ◌++◌, ◌^◌, ◌<◌, IfOk, OnOk, decimal};
-ghost use Rattle.refutation_check.specs.Verdicts.{verdicts_of};
+ghost use Rattle.runs.specs.Verdicts.{verdicts_of};
 ghost use Rattle.verdict_report.specs.Summary.{summary_text};
-ghost use Rattle.verdict_report.specs.VerdictCounts.{AreCountsOf, CountsOneMore, total};
+ghost use Rattle.verdict_report.specs.VerdictCounts.{AreCountsOf, CountsOneMore, verdict_total};
 
 use pd_base::{OutOfMemory, push_decimal};
-use refutation_check::{ListedPath, Run, Verdict};
+use runs::{ListedPath, Run, Verdict};
 use std::alloc::Global;
 
 // How many faults have each verdict.
@@ -60,7 +60,7 @@ fn count_verdicts(paths: &[ListedPath]) -> Counts
 
 // The counts with one more verdict counted.
 fn count_one(counts: Counts, verdict: Verdict) -> Counts
-    requires { total counts < 2 ^ 64 - 1 }
+    requires { verdict_total counts < 2 ^ 64 - 1 }
     ensures { CountsOneMore counts result verdict }
 {
     match verdict {

@@ -4,6 +4,7 @@ use Rattle.std.proofs.lemmas.Bool.{false≢true}
 use Rattle.std.proofs.lemmas.List.{length-map, length_push}
 use Rattle.pd_base.specs.Pair.{Vectors}
 use Rattle.pd_base.specs.Route.{Route}
+use Rattle.pd_base.specs.Target.{Target, target_of}
 use Rattle.pd_base.specs.declared.test.Test.{Test}
 use Rattle.pd_base.specs.declared.fault.Direction.{Direction}
 use Rattle.pd_base.specs.declared.fault.Kind.{Kind}
@@ -12,24 +13,24 @@ use Rattle.netlist.specs.Circuit.{Circuit, observed_lines}
 use Rattle.netlist.specs.Conditions.{Meets}
 use Rattle.netlist.specs.Paths.{IsPath}
 use Rattle.netlist.specs.Values.{value}
-use Rattle.refutation_check.specs.declared.run.Verdict.TheVariants.{Robust, Nonrobust, Untestable, Aborted}
-use Rattle.refutation_check.specs.declared.tree.Node.{Node}
+use Rattle.runs.specs.declared.run.Verdict.TheVariants.{Robust, Nonrobust, Untestable, Aborted}
+use Rattle.runs.specs.declared.tree.Node.{Node}
 use Rattle.good_runs.specs.Faults.{IsNumber}
 use Rattle.good_runs.specs.GoodRun.{IsTestOf}
 use Rattle.verdict_runs.specs.declared.findings.Outcome.{Outcome}
 use Rattle.verdict_runs.specs.declared.findings.Outcome.TheVariants.{Unsearched, Tested, Refuted, Spent}
 use Rattle.verdict_runs.specs.Answers.{CitesFor, HasProof, HasRefutation, HasSpentProof, IsAnswered, IsBook, IsRightTest, Keeps}
 use Rattle.verdict_runs.specs.Answers.HasProof.{refuted, spent}
-use Rattle.verdict_runs.specs.Book.{AddsTest, Book, Cites, Writes, spent_proof}
+use Rattle.verdict_runs.specs.Book.{AddsTest, Book, Cites, AddsProof, spent_proof}
 use Rattle.verdict_runs.specs.Findings.{AreSearches, HasSpent, IsOutcome, IsRefutedBy, IsTestPair, Searches, is_test}
 use Rattle.verdict_runs.specs.Made.{IsMadeOf}
 use Rattle.verdict_runs.proofs.Books.{HasCited, citation_is_cited, keeps_on, test_is_added, written_is_cited}
 use Rattle.good_runs.proofs.Numbers.{all_at_number, number_within}
 
 -- a proof that is cited stays so
-pub refutation_kept : (searches : Searches) (old new : Book) (kind : Kind) (direction : Direction) (path : Route) (number : ℕ)
-    → Keeps old new → HasRefutation searches old kind direction path number → HasRefutation searches new kind direction path number
-refutation_kept searches old new kind direction path number keeps has = record {
+pub refutation_kept : (searches : Searches) (old new : Book) (target : Target) (number : ℕ)
+    → Keeps old new → HasRefutation searches old target number → HasRefutation searches new target number
+refutation_kept searches old new target number keeps has = record {
   index = has.index;
   refutation = has.refutation;
   is_found = has.is_found;
@@ -37,10 +38,10 @@ refutation_kept searches old new kind direction path number keeps has = record {
   applies = has.applies;
 }
 
-pub spent_kept : (searches : Searches) (old new : Book) (kind : Kind) (direction : Direction) (path : Route) (path_number number : ℕ)
-    → Keeps old new → HasSpentProof searches old kind direction path path_number number
-    → HasSpentProof searches new kind direction path path_number number
-spent_kept searches old new kind direction path path_number number keeps has = record {
+pub spent_kept : (searches : Searches) (old new : Book) (target : Target) (path_number number : ℕ)
+    → Keeps old new → HasSpentProof searches old target path_number number
+    → HasSpentProof searches new target path_number number
+spent_kept searches old new target path_number number keeps has = record {
   proof = has.proof;
   is_proof = keeps.proofs number has.proof has.is_proof;
   spent = has.spent;
@@ -49,13 +50,13 @@ spent_kept searches old new kind direction path path_number number keeps has = r
   none_refutes = has.none_refutes;
 }
 
-pub proof_kept : (searches : Searches) (old new : Book) (kind : Kind) (direction : Direction) (path : Route) (path_number number : ℕ)
-    → Keeps old new → HasProof searches old kind direction path path_number number
-    → HasProof searches new kind direction path path_number number
-proof_kept searches old new kind direction path path_number number keeps (refuted has) =
-    refuted (refutation_kept searches old new kind direction path number keeps has)
-proof_kept searches old new kind direction path path_number number keeps (spent has) =
-    spent (spent_kept searches old new kind direction path path_number number keeps has)
+pub proof_kept : (searches : Searches) (old new : Book) (target : Target) (path_number number : ℕ)
+    → Keeps old new → HasProof searches old target path_number number
+    → HasProof searches new target path_number number
+proof_kept searches old new target path_number number keeps (refuted has) =
+    refuted (refutation_kept searches old new target number keeps has)
+proof_kept searches old new target path_number number keeps (spent has) =
+    spent (spent_kept searches old new target path_number number keeps has)
 
 module _ (c : Circuit) (searches : Searches) (are : AreSearches c searches) (path_number : ℕ) (path : Route)
     (listed : IsNumber searches.routes path_number path) (direction : Direction) where
@@ -64,7 +65,7 @@ module _ (c : Circuit) (searches : Searches) (are : AreSearches c searches) (pat
   is_path = all_at_number (IsPath c) searches.routes path_number path are.are_paths listed
 
   -- a test that is made of a pair for the path is right
-  made_is_right : (kind : Kind) (pair : Vectors) (test : Test) → IsTestPair c kind direction path pair
+  made_is_right : (kind : Kind) (pair : Vectors) (test : Test) → IsTestPair c (target_of path direction kind) pair
       → IsMadeOf c path_number direction kind pair test → IsRightTest c test
   made_is_right kind pair test for made =
       let some = listed.positive in
@@ -84,29 +85,29 @@ module _ (c : Circuit) (searches : Searches) (are : AreSearches c searches) (pat
       }
 
   -- and a test of the fault
-  made_is_of_fault : (kind : Kind) (pair : Vectors) (test : Test) → IsTestPair c kind direction path pair
-      → IsMadeOf c path_number direction kind pair test → IsTestOf c path_number direction kind path test
+  made_is_of_fault : (kind : Kind) (pair : Vectors) (test : Test) → IsTestPair c (target_of path direction kind) pair
+      → IsMadeOf c path_number direction kind pair test → IsTestOf c path_number (target_of path direction kind) test
   made_is_of_fault kind pair test for made = record {
     of_path = made.of_path;
     of_direction = made.of_direction;
     of_kind = made.of_kind;
     first_fits = ap (λ (p : Vectors). length p.first) made.of_pair ∙ for.first_fits;
     second_fits = ap (λ (p : Vectors). length p.second) made.of_pair ∙ for.second_fits;
-    meets = subst (Meets kind c path direction) (sym made.of_pair) for.meets;
+    meets = subst (Meets c (target_of path direction kind)) (sym made.of_pair) for.meets;
   }
 
   -- a proof is cited for an outcome that is no test
   pub record HasCitedFor (kind : Kind) (old new : Book) (number : ℕ) : Type 0 where
     pub cited : HasCited c searches old new number
-    pub proof : HasProof searches new kind direction path path_number number
+    pub proof : HasProof searches new (target_of path direction kind) path_number number
 
   module _ (old : Book) (is : IsBook c searches old) where
     -- the spent tree of an outcome, when its proof is written
-    pub spent_is_cited : (new : Book) (kind : Kind) (number : ℕ) (tree : List Node) → HasSpent c searches kind direction path tree
-        → Writes old new (spent_proof kind direction path_number path tree) number
-        → HasCited c searches old new number × HasSpentProof searches new kind direction path path_number number
+    pub spent_is_cited : (new : Book) (kind : Kind) (number : ℕ) (tree : List Node) → HasSpent c searches (target_of path direction kind) tree
+        → AddsProof old new (spent_proof (target_of path direction kind) path_number tree) number
+        → HasCited c searches old new number × HasSpentProof searches new (target_of path direction kind) path_number number
     spent_is_cited new kind number tree has writes =
-        let proof = spent_proof kind direction path_number path tree in
+        let proof = spent_proof (target_of path direction kind) path_number tree in
         let cited = written_is_cited c searches old is new proof number writes refl
         (record { listed = path; is_listed = listed; whole = refl; is_spent = has.is_spent }) in (
           cited.0,
@@ -121,9 +122,9 @@ module _ (c : Circuit) (searches : Searches) (are : AreSearches c searches) (pat
         )
 
     -- the refutation of an outcome, when it is cited
-    pub refuted_is_cited : (new : Book) (kind : Kind) (index number : ℕ) → IsRefutedBy searches kind direction path index
+    pub refuted_is_cited : (new : Book) (kind : Kind) (index number : ℕ) → IsRefutedBy searches (target_of path direction kind) index
         → Cites old new index number
-        → HasCited c searches old new number × HasRefutation searches new kind direction path number
+        → HasCited c searches old new number × HasRefutation searches new (target_of path direction kind) number
     refuted_is_cited new kind index number by cites =
         let cited = citation_is_cited c searches old is new index number by.refutation by.is_found cites in (
           cited.0,
@@ -138,8 +139,8 @@ module _ (c : Circuit) (searches : Searches) (are : AreSearches c searches) (pat
 
     -- either
     pub outcome_is_cited : (new : Book) (kind : Kind) (number : ℕ) (outcome : Outcome)
-        → IsOutcome c searches kind direction path outcome → is_test outcome ≡ false
-        → CitesFor old new kind direction path_number path outcome number → HasCitedFor kind old new number
+        → IsOutcome c searches (target_of path direction kind) outcome → is_test outcome ≡ false
+        → CitesFor old new (target_of path direction kind) path_number outcome number → HasCitedFor kind old new number
     outcome_is_cited new kind number Unsearched is_outcome no_test cites = absurd is_outcome
     outcome_is_cited new kind number (Tested pair) is_outcome no_test cites = absurd (false≢true (sym no_test))
     outcome_is_cited new kind number (Refuted index) is_outcome no_test cites =
@@ -151,7 +152,7 @@ module _ (c : Circuit) (searches : Searches) (are : AreSearches c searches) (pat
 
   module _ (old : Book) (is : IsBook c searches old) where
     -- by a robust test
-    pub robust_answers : (new : Book) (pair : Vectors) (test : Test) (number : ℕ) → IsTestPair c kinds.Robust direction path pair
+    pub robust_answers : (new : Book) (pair : Vectors) (test : Test) (number : ℕ) → IsTestPair c (target_of path direction kinds.Robust) pair
         → IsMadeOf c path_number direction kinds.Robust pair test → AddsTest old new test number
         → IsAnswered c searches path_number direction path old new (Robust number)
     robust_answers new pair test number for made adds =
@@ -170,9 +171,9 @@ module _ (c : Circuit) (searches : Searches) (are : AreSearches c searches) (pat
 
     -- by a nonrobust test, behind the proof that there is no robust one
     pub nonrobust_answers : (middle new : Book) (robust : Outcome) (pair : Vectors) (test : Test) (proof number : ℕ)
-        → IsOutcome c searches kinds.Robust direction path robust → is_test robust ≡ false
-        → CitesFor old middle kinds.Robust direction path_number path robust proof
-        → IsTestPair c kinds.Nonrobust direction path pair → ¬ Meets kinds.Robust c path direction pair
+        → IsOutcome c searches (target_of path direction kinds.Robust) robust → is_test robust ≡ false
+        → CitesFor old middle (target_of path direction kinds.Robust) path_number robust proof
+        → IsTestPair c (target_of path direction kinds.Nonrobust) pair → ¬ Meets c (target_of path direction kinds.Robust) pair
         → IsMadeOf c path_number direction kinds.Nonrobust pair test → AddsTest middle new test number
         → IsAnswered c searches path_number direction path old new (Nonrobust number proof)
     nonrobust_answers middle new robust pair test proof number is_outcome no_test cites for not_robust made adds =
@@ -193,9 +194,9 @@ module _ (c : Circuit) (searches : Searches) (are : AreSearches c searches) (pat
               test = test;
               is_test = added.2;
               of_fault = made_is_of_fault kinds.Nonrobust pair test for made;
-              not_robust = λ meets. not_robust (subst (Meets kinds.Robust c path direction) made.of_pair meets);
+              not_robust = λ meets. not_robust (subst (Meets c (target_of path direction kinds.Robust)) made.of_pair meets);
             },
-            proof_kept searches middle new kinds.Robust direction path path_number proof added.1 cited.proof,
+            proof_kept searches middle new (target_of path direction kinds.Robust) path_number proof added.1 cited.proof,
           );
           names = (adds.next ∙ ap (λ (n : ℕ). n + 1) same, cited.cited.names);
           named = λ i. record { tests = more i; proofs = (named ∙ sym kept) i };
@@ -204,7 +205,7 @@ module _ (c : Circuit) (searches : Searches) (are : AreSearches c searches) (pat
         }
 
     -- by a refutation of the nonrobust conditions
-    pub untestable_answers : (new : Book) (index number : ℕ) → IsRefutedBy searches kinds.Nonrobust direction path index
+    pub untestable_answers : (new : Book) (index number : ℕ) → IsRefutedBy searches (target_of path direction kinds.Nonrobust) index
         → Cites old new index number → IsAnswered c searches path_number direction path old new (Untestable number)
     untestable_answers new index number by cites =
         let cited = refuted_is_cited old is new kinds.Nonrobust index number by cites in
@@ -222,10 +223,10 @@ module _ (c : Circuit) (searches : Searches) (are : AreSearches c searches) (pat
 
     -- by a spent budget, behind the proof that there is no robust test
     pub aborted_answers : (middle new : Book) (robust : Outcome) (tree : List Node) (proof number : ℕ)
-        → IsOutcome c searches kinds.Robust direction path robust → is_test robust ≡ false
-        → CitesFor old middle kinds.Robust direction path_number path robust proof
-        → HasSpent c searches kinds.Nonrobust direction path tree
-        → Writes middle new (spent_proof kinds.Nonrobust direction path_number path tree) number
+        → IsOutcome c searches (target_of path direction kinds.Robust) robust → is_test robust ≡ false
+        → CitesFor old middle (target_of path direction kinds.Robust) path_number robust proof
+        → HasSpent c searches (target_of path direction kinds.Nonrobust) tree
+        → AddsProof middle new (spent_proof (target_of path direction kinds.Nonrobust) path_number tree) number
         → IsAnswered c searches path_number direction path old new (Aborted proof number)
     aborted_answers middle new robust tree proof number is_outcome no_test cites has writes =
         let cited = outcome_is_cited old is middle kinds.Robust proof robust is_outcome no_test cites in
@@ -241,7 +242,7 @@ module _ (c : Circuit) (searches : Searches) (are : AreSearches c searches) (pat
           book = last.0.book;
           keeps = keeps_on old middle new cited.cited.keeps last.0.keeps;
           answer = (
-            proof_kept searches middle new kinds.Robust direction path path_number proof last.0.keeps cited.proof,
+            proof_kept searches middle new (target_of path direction kinds.Robust) path_number proof last.0.keeps cited.proof,
             last.1,
           );
           names = (

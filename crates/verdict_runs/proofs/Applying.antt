@@ -6,14 +6,13 @@ use Rattle.std.proofs.lemmas.List.{take-append-drop, take-take}
 use Rattle.std.proofs.lemmas.Option.{slice_get_cases, slice_get_within}
 use Rattle.pd_base.specs.declared.ids.PinRef.{PinRef}
 use Rattle.pd_base.specs.Route.{Route}
-use Rattle.pd_base.specs.declared.fault.Direction.{Direction}
-use Rattle.pd_base.specs.declared.fault.Kind.{Kind}
+use Rattle.pd_base.specs.Target.{Target}
 use Rattle.netlist.specs.Circuit.{Circuit}
 use Rattle.netlist.specs.Paths.{IsPrefixOf, prefix_of}
 use Rattle.path_laws.proofs.Prefixes.{is_prefix_of}
-use Rattle.refutation_check.specs.declared.run.ListedPath.{ListedPath}
-use Rattle.refutation_check.specs.declared.run.Proof.{Proof}
-use Rattle.refutation_check.specs.declared.run.Run.{Run}
+use Rattle.runs.specs.declared.run.ListedPath.{ListedPath}
+use Rattle.runs.specs.declared.run.Proof.{Proof}
+use Rattle.runs.specs.declared.run.Run.{Run}
 use Rattle.good_runs.specs.Faults.{Applies, CitesRefutation, IsNumber, NoneApplies}
 use Rattle.verdict_runs.specs.declared.draft.Slot.TheVariants.{Written}
 use Rattle.verdict_runs.specs.declared.findings.Refutation.{Refutation}
@@ -53,17 +52,17 @@ partner items others place item same found =
 
 module _ (c : Circuit) (searches : Searches) (are : AreSearches c searches) where
   -- at most one refutation of a kind and direction applies to a path
-  same_refutation : (kind : Kind) (direction : Direction) (path : Route) (i j : ℕ) (r s : Refutation)
+  same_refutation : (target : Target) (i j : ℕ) (r s : Refutation)
       → slice_get searches.refutations i ≡ Some r → slice_get searches.refutations j ≡ Some s
-      → Refutes searches.routes kind direction path r → Refutes searches.routes kind direction path s → i ≡ j
-  same_refutation kind direction path i j r s found_r found_s by_r by_s =
+      → Refutes searches.routes target r → Refutes searches.routes target s → i ≡ j
+  same_refutation target i j r s found_r found_s by_r by_s =
       let kinds = by_r.of_kind ∙ sym by_s.of_kind in
       let directions = by_r.of_direction ∙ sym by_s.of_direction in
       ⊎_elim
       (λ upper. are.apart i j r s by_r.prefix by_s.prefix found_r found_s kinds directions by_r.has_prefix by_s.has_prefix upper)
       (λ lower. sym (are.apart j i s r by_s.prefix by_r.prefix found_s found_r (sym kinds) (sym directions) by_s.has_prefix
       by_r.has_prefix lower))
-      (one_of_two by_r.prefix by_s.prefix path by_r.is_prefix by_s.is_prefix)
+      (one_of_two by_r.prefix by_s.prefix target.path by_r.is_prefix by_s.is_prefix)
 
   module _ (book : Book) (is : IsBook c searches book) (run : Run) (proofs_are : run.proofs ≡ book.proofs)
       (paths_are : map (λ (listed : ListedPath). listed.path) run.paths ≡ searches.routes) where
@@ -89,9 +88,9 @@ module _ (c : Circuit) (searches : Searches) (are : AreSearches c searches) wher
         }
 
     -- it applies to a path of the run just where the one that was found does
-    refutes_of_applies : (kind : Kind) (direction : Direction) (path : Route) (refutation : Refutation)
-        → Applies run kind direction path (proof_of refutation) → Refutes searches.routes kind direction path refutation
-    refutes_of_applies kind direction path refutation applies = record {
+    refutes_of_applies : (target : Target) (refutation : Refutation)
+        → Applies run target (proof_of refutation) → Refutes searches.routes target refutation
+    refutes_of_applies target refutation applies = record {
       of_kind = applies.is_about.of_kind;
       of_direction = applies.is_about.of_direction;
       prefix = prefix_of refutation.steps applies.listed.path;
@@ -112,11 +111,11 @@ module _ (c : Circuit) (searches : Searches) (are : AreSearches c searches) wher
         let P : List Route → Type 0 = λ routes. IsNumber routes number route in
         number_of_map (λ (listed : ListedPath). listed.path) run.paths number route (subst P (sym paths_are) numbered)
 
-    applies_of_refutes : (kind : Kind) (direction : Direction) (path : Route) (refutation : Refutation)
-        → Refutes searches.routes kind direction path refutation → Applies run kind direction path (proof_of refutation)
-    applies_of_refutes kind direction path refutation refutes =
+    applies_of_refutes : (target : Target) (refutation : Refutation)
+        → Refutes searches.routes target refutation → Applies run target (proof_of refutation)
+    applies_of_refutes target refutation refutes =
         let at = listed_at refutation.path refutes.has_prefix.listed refutes.has_prefix.is_listed in
-        let P : Route → Type 0 = λ prefix. IsPrefixOf prefix path in
+        let P : Route → Type 0 = λ prefix. IsPrefixOf prefix target.path in
         record {
           refutes = refl;
           is_about = record { of_kind = refutes.of_kind; of_direction = refutes.of_direction };
@@ -126,26 +125,26 @@ module _ (c : Circuit) (searches : Searches) (are : AreSearches c searches) wher
         }
 
     -- each written refutation that applies is of a slot whose refutation does
-    applying : (kind : Kind) (direction : Direction) (path : Route) (number : ℕ) (proof : Proof) → IsNumber run.proofs number proof
-        → Applies run kind direction path proof
-        → (of : IsOfSlot number proof) × Refutes searches.routes kind direction path of.refutation
-    applying kind direction path number proof numbered applies =
+    applying : (target : Target) (number : ℕ) (proof : Proof) → IsNumber run.proofs number proof
+        → Applies run target proof
+        → (of : IsOfSlot number proof) × Refutes searches.routes target of.refutation
+    applying target number proof numbered applies =
         let P : List Proof → Type 0 = λ proofs. IsNumber proofs number proof in
         let of = of_slot number proof (subst P proofs_are numbered) applies.refutes in
-        let Q : Proof → Type 0 = λ p. Applies run kind direction path p in
-        (of, refutes_of_applies kind direction path of.refutation (subst Q (sym of.is_proof) applies))
+        let Q : Proof → Type 0 = λ p. Applies run target p in
+        (of, refutes_of_applies target of.refutation (subst Q (sym of.is_proof) applies))
 
     -- the refutation that a fault cites is the only one that applies to it
-    pub cites_refutation : (kind : Kind) (direction : Direction) (path : Route) (number : ℕ)
-        → HasRefutation searches book kind direction path number → CitesRefutation run kind direction path number
-    cites_refutation kind direction path number has = record {
+    pub cites_refutation : (target : Target) (number : ℕ)
+        → HasRefutation searches book target number → CitesRefutation run target number
+    cites_refutation target number has = record {
       proof = proof_of has.refutation;
       is_proof = let P : List Proof → Type 0 = λ proofs. IsNumber proofs number (proof_of has.refutation) in
           subst P (sym proofs_are) (is.written has.index number has.refutation has.is_written has.is_found);
-      applies = applies_of_refutes kind direction path has.refutation has.applies;
+      applies = applies_of_refutes target has.refutation has.applies;
       least = λ other proof numbered applies.
-          let by = applying kind direction path other proof numbered applies in
-          let same = same_refutation kind direction path by.0.index has.index by.0.refutation has.refutation by.0.is_found
+          let by = applying target other proof numbered applies in
+          let same = same_refutation target by.0.index has.index by.0.refutation has.refutation by.0.is_found
           has.is_found by.1 has.applies in
           one_number number other (sym has.is_written ∙ ap (slice_get book.slots) (sym same) ∙ by.0.is_written);
     }
@@ -154,8 +153,8 @@ module _ (c : Circuit) (searches : Searches) (are : AreSearches c searches) wher
         one_number n m same = let e : n ≡ m = cc in omega arith
 
     -- where none that was found applies, none that is written does
-    pub none_applies : (kind : Kind) (direction : Direction) (path : Route) → NoneRefutes searches kind direction path
-        → NoneApplies run kind direction path
-    none_applies kind direction path none number proof numbered applies =
-        let by = applying kind direction path number proof numbered applies in
+    pub none_applies : (target : Target) → NoneRefutes searches target
+        → NoneApplies run target
+    none_applies target none number proof numbered applies =
+        let by = applying target number proof numbered applies in
         none by.0.index by.0.refutation by.0.is_found by.1

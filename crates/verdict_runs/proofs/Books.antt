@@ -7,14 +7,14 @@ use Rattle.std.proofs.lemmas.List.Elements.{All-push}
 use Rattle.std.proofs.lemmas.Option.{same_Some, slice_get_within}
 use Rattle.pd_base.specs.declared.test.Test.{Test}
 use Rattle.netlist.specs.Circuit.{Circuit}
-use Rattle.refutation_check.specs.declared.run.Proof.{Proof}
-use Rattle.refutation_check.specs.Lawful.{IsProofNumber}
+use Rattle.runs.specs.declared.run.Proof.{Proof}
+use Rattle.runs.specs.Lawful.{IsProofNumber}
 use Rattle.good_runs.specs.Faults.{IsNumber}
 use Rattle.verdict_runs.specs.declared.draft.Slot.{Slot}
 use Rattle.verdict_runs.specs.declared.draft.Slot.TheVariants.{Unwritten, Written}
 use Rattle.verdict_runs.specs.declared.findings.Refutation.{Refutation}
 use Rattle.verdict_runs.specs.Answers.{IsBook, IsRightTest, IsSpentProof, Keeps}
-use Rattle.verdict_runs.specs.Book.{AddsTest, Book, Cites, Writes, proof_of}
+use Rattle.verdict_runs.specs.Book.{AddsTest, Book, Cites, AddsProof, proof_of}
 use Rattle.verdict_runs.specs.Book.Cites.{again, first}
 use Rattle.verdict_runs.specs.Findings.{Searches}
 use Rattle.good_runs.proofs.Numbers.{get_set_other, get_set_same, number_kept, number_new, number_of_push, number_within}
@@ -71,7 +71,7 @@ module _ (c : Circuit) (searches : Searches) (old : Book) (is : IsBook c searche
   }
 
   -- a spent proof that is written is cited by the next number
-  pub written_is_cited : (new : Book) (proof : Proof) (number : ℕ) → Writes old new proof number → proof.spent ≡ true
+  pub written_is_cited : (new : Book) (proof : Proof) (number : ℕ) → AddsProof old new proof number → proof.spent ≡ true
       → IsSpentProof c searches proof → HasCited c searches old new number × IsNumber new.proofs number proof
   written_is_cited new proof number writes spent good =
       let next = writes.next in

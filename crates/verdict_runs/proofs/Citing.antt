@@ -2,7 +2,7 @@
 use Rattle.std.proofs.Common.{◌≡◌, ℕ, ◌+◌, ◌<◌, List, ◌∷◌, [], ◌++◌, length, get_or, set, Some, sym, ap, subst, ◌∙◌}
 use Rattle.std.proofs.lemmas.List.{set-get_or, set-set}
 use Rattle.std.proofs.lemmas.Option.{slice_get-get_or}
-use Rattle.refutation_check.specs.declared.run.Proof.{Proof}
+use Rattle.runs.specs.declared.run.Proof.{Proof}
 use Rattle.verdict_runs.specs.declared.draft.Slot.{Slot}
 use Rattle.verdict_runs.specs.declared.draft.Slot.TheVariants.{Unwritten, Written}
 use Rattle.verdict_runs.specs.declared.findings.Refutation.{Refutation}

@@ -3,25 +3,26 @@ use Rattle.std.proofs.Common.{◌≡◌, ℕ, ◌<◌, ◌≤◌, Bool, true, fa
 use Rattle.std.specs.List.{All}
 use Rattle.std.proofs.lemmas.List.{get_or-map, length-map}
 use Rattle.std.proofs.lemmas.List.Elements.{All-append, All-cons, All-nil, All-weaker}
+use Rattle.pd_base.specs.declared.limits.TheConstants.{MOST_PATHS}
 use Rattle.pd_base.specs.Route.{Route}
-use Rattle.pd_base.specs.declared.fault.Direction.{Direction}
-use Rattle.pd_base.specs.declared.fault.Kind.{Kind}
+use Rattle.pd_base.specs.Target.{Target}
+use Rattle.pd_base.specs.declared.rules.Rules.{Rules}
 use Rattle.netlist.specs.Circuit.{Circuit}
 use Rattle.netlist.specs.Lawful.{IsCircuit}
 use Rattle.netlist.specs.Paths.{IsPath}
 use Rattle.netlist.specs.Waves.{Delays}
-use Rattle.hull_laws.specs.declared.half.Half.{Half}
+use Rattle.state_laws.specs.declared.half.Half.{Half}
 use Rattle.path_laws.proofs.StepCounts.{prefix_has_few_steps}
-use Rattle.refutation_check.specs.declared.run.ListedPath.{ListedPath}
-use Rattle.refutation_check.specs.declared.run.Proof.{Proof}
-use Rattle.refutation_check.specs.declared.run.Run.{Run}
-use Rattle.refutation_check.specs.declared.tree.Node.{Node}
-use Rattle.refutation_check.specs.declared.tree.Node.TheVariants.{Closed, Waiting, Value, Steadiness}
-use Rattle.refutation_check.specs.Lawful.{AreNumbered, IsLawfulProof, IsLawfulRun, IsLawfulTest, IsOnSource, greatest_path_number, none_named}
-use Rattle.refutation_check.specs.Trees.{Cases, preorder}
-use Rattle.refutation_check.specs.Trees.Cases.{closed, waiting, by_value, by_steadiness}
-use Rattle.refutation_check.specs.Verdicts.{verdicts_of}
-use Rattle.refutation_check.proofs.Nameable.{path_is_nameable}
+use Rattle.runs.specs.declared.run.ListedPath.{ListedPath}
+use Rattle.runs.specs.declared.run.Proof.{Proof}
+use Rattle.runs.specs.declared.run.Run.{Run}
+use Rattle.runs.specs.declared.tree.Node.{Node}
+use Rattle.runs.specs.declared.tree.Node.TheVariants.{Closed, Waiting, Value, Steadiness}
+use Rattle.runs.specs.Lawful.{AreNumbered, IsLawfulProof, IsLawfulRun, IsLawfulTest, IsOnSource, none_named}
+use Rattle.runs.specs.Trees.{Cases, preorder}
+use Rattle.runs.specs.Trees.Cases.{closed, waiting, by_value, by_steadiness}
+use Rattle.runs.specs.Verdicts.{verdicts_of}
+use Rattle.runs.proofs.Nameable.{path_is_nameable}
 use Rattle.tree_laws.specs.Refutations.{RefutesBelow, below}
 use Rattle.tree_laws.specs.Spent.{IsSpentBelow}
 use Rattle.good_runs.specs.Faults.{IsNumber}
@@ -29,7 +30,7 @@ use Rattle.good_runs.specs.GoodRun.{IsGoodRefutation, IsGoodRun, IsGoodSpent}
 use Rattle.verdict_runs.specs.Answers.{IsRightTest}
 use Rattle.verdict_runs.specs.Book.{Book}
 use Rattle.verdict_runs.specs.Findings.{AreSearches, Searches}
-use Rattle.verdict_runs.specs.Listed.{AreListed}
+use Rattle.verdict_runs.specs.Listed.{ArePathsAnswered}
 use Rattle.good_runs.proofs.Numbers.{all_at_number, number_in_map, number_within}
 
 module _ (c : Circuit) where
@@ -41,35 +42,35 @@ module _ (c : Circuit) where
       (All-append (IsOnSource c) (preorder first) (preorder second) left right)
 
   -- the splits of a refutation are on sources
-  refutes_on_sources : (kind : Kind) (prefix : Route) (direction : Direction) (halves : List Half) (cases : Cases)
-      → RefutesBelow c kind prefix direction halves cases → All (IsOnSource c) (preorder cases)
-  refutes_on_sources kind prefix direction halves closed refutes = All-cons (IsOnSource c) Closed [] tt (All-nil (IsOnSource c))
-  refutes_on_sources kind prefix direction halves waiting refutes = absurd refutes
-  refutes_on_sources kind prefix direction halves (by_value source first second) refutes =
+  refutes_on_sources : (rules : Rules) (target : Target) (halves : List Half) (cases : Cases)
+      → RefutesBelow c rules target halves cases → All (IsOnSource c) (preorder cases)
+  refutes_on_sources rules target halves closed refutes = All-cons (IsOnSource c) Closed [] tt (All-nil (IsOnSource c))
+  refutes_on_sources rules target halves waiting refutes = absurd refutes
+  refutes_on_sources rules target halves (by_value source first second) refutes =
       split_on_sources (Value source) first second refutes.0
-      (refutes_on_sources kind prefix direction (below halves false source false) first refutes.1)
-      (refutes_on_sources kind prefix direction (below halves false source true) second refutes.2)
-  refutes_on_sources kind prefix direction halves (by_steadiness source first second) refutes =
+      (refutes_on_sources rules target (below halves false source false) first refutes.1)
+      (refutes_on_sources rules target (below halves false source true) second refutes.2)
+  refutes_on_sources rules target halves (by_steadiness source first second) refutes =
       split_on_sources (Steadiness source) first second refutes.0
-      (refutes_on_sources kind prefix direction (below halves true source false) first refutes.1)
-      (refutes_on_sources kind prefix direction (below halves true source true) second refutes.2)
+      (refutes_on_sources rules target (below halves true source false) first refutes.1)
+      (refutes_on_sources rules target (below halves true source true) second refutes.2)
 
   -- and so are those of a spent tree
-  spent_on_sources : (kind : Kind) (path : Route) (direction : Direction) (halves : List Half) (cases : Cases)
-      → IsSpentBelow c kind path direction halves cases → All (IsOnSource c) (preorder cases)
-  spent_on_sources kind path direction halves closed spends = All-cons (IsOnSource c) Closed [] tt (All-nil (IsOnSource c))
-  spent_on_sources kind path direction halves waiting spends = All-cons (IsOnSource c) Waiting [] tt (All-nil (IsOnSource c))
-  spent_on_sources kind path direction halves (by_value source first second) spends =
+  spent_on_sources : (rules : Rules) (target : Target) (halves : List Half) (cases : Cases)
+      → IsSpentBelow c rules target halves cases → All (IsOnSource c) (preorder cases)
+  spent_on_sources rules target halves closed spends = All-cons (IsOnSource c) Closed [] tt (All-nil (IsOnSource c))
+  spent_on_sources rules target halves waiting spends = All-cons (IsOnSource c) Waiting [] tt (All-nil (IsOnSource c))
+  spent_on_sources rules target halves (by_value source first second) spends =
       split_on_sources (Value source) first second spends.0.in_support.is_source
-      (spent_on_sources kind path direction (below halves false source false) first spends.1)
-      (spent_on_sources kind path direction (below halves false source true) second spends.2)
-  spent_on_sources kind path direction halves (by_steadiness source first second) spends =
+      (spent_on_sources rules target (below halves false source false) first spends.1)
+      (spent_on_sources rules target (below halves false source true) second spends.2)
+  spent_on_sources rules target halves (by_steadiness source first second) spends =
       split_on_sources (Steadiness source) first second spends.0.in_support.is_source
-      (spent_on_sources kind path direction (below halves true source false) first spends.1)
-      (spent_on_sources kind path direction (below halves true source true) second spends.2)
+      (spent_on_sources rules target (below halves true source false) first spends.1)
+      (spent_on_sources rules target (below halves true source true) second spends.2)
 
   module _ (circuit : IsCircuit c) (routes : List Route) (are_paths : All (IsPath c) routes)
-      (few : length routes ≤ greatest_path_number) (run : Run)
+      (few : length routes ≤ MOST_PATHS) (run : Run)
       (paths_are : map (λ (listed : ListedPath). listed.path) run.paths ≡ routes) where
     -- a listed path of the run
     listed_route : (number : ℕ) (listed : ListedPath) → IsNumber run.paths number listed → IsNumber routes number listed.path
@@ -96,7 +97,7 @@ module _ (c : Circuit) where
     refutation_is_lawful budget proof good = (
       names_listed proof good.listed good.is_listed good.has_steps,
       subst (All (IsOnSource c)) (sym good.refutation.tree)
-          (refutes_on_sources proof.kind _ proof.dir [] good.refutation.cases good.refutation.refutes),
+          (refutes_on_sources run.rules _ [] good.refutation.cases good.refutation.refutes),
     )
 
     spent_is_lawful : (budget : ℕ) (proof : Proof) → IsGoodSpent c budget run proof
@@ -105,7 +106,7 @@ module _ (c : Circuit) where
         let whole = good.whole in (
           names_listed proof good.listed good.is_listed (omega arith),
           subst (All (IsOnSource c)) (sym good.is_spent.tree)
-              (spent_on_sources proof.kind good.listed.path proof.dir [] good.is_spent.cases good.is_spent.spent),
+              (spent_on_sources run.rules _ [] good.is_spent.cases good.is_spent.spent),
         )
 
     -- each proof of a good run is lawful
@@ -121,7 +122,7 @@ module _ (c : Circuit) where
 
 -- a good run whose tests are lawful and whose verdicts are numbered is lawful
 pub listed_is_lawful : (c : Circuit) (delays : Delays) (searches : Searches) (count : ℕ) (listed : List ListedPath) (book : Book)
-    (run : Run) → IsCircuit c → AreSearches c searches → AreListed c delays searches searches.routes listed book
+    (run : Run) → IsCircuit c → AreSearches c searches → ArePathsAnswered c delays searches searches.routes listed book
     → run.paths ≡ listed → run.tests ≡ book.tests → IsGoodRun c delays count searches.budget run → IsLawfulRun c run
 listed_is_lawful c delays searches count listed book run circuit are all paths_are tests_are good =
     let routes_are : map (λ (l : ListedPath). l.path) run.paths ≡ searches.routes =

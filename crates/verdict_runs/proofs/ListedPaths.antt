@@ -5,24 +5,25 @@ use Rattle.std.proofs.lemmas.List.{length-map, length_push, map-append}
 use Rattle.std.proofs.lemmas.List.Elements.{All-nil, All-push}
 use Rattle.std.proofs.lemmas.Option.{none-some}
 use Rattle.pd_base.specs.Route.{Route}
+use Rattle.pd_base.specs.Target.{target_of}
 use Rattle.pd_base.specs.declared.fault.Direction.{Direction}
 use Rattle.pd_base.specs.declared.fault.Direction.TheVariants.{Rise, Fall}
 use Rattle.pd_base.specs.declared.fault.Kind.TheVariants as kinds
 use Rattle.netlist.specs.Circuit.{Circuit}
 use Rattle.netlist.specs.Paths.{length_of}
 use Rattle.netlist.specs.Waves.{Delays}
-use Rattle.refutation_check.specs.declared.run.ListedPath.{ListedPath}
-use Rattle.refutation_check.specs.declared.run.Verdict.{Verdict}
-use Rattle.refutation_check.specs.declared.run.Verdict.TheVariants.{Robust, Nonrobust, Untestable, Aborted}
-use Rattle.refutation_check.specs.Lawful.{AreNumbered, Named, none_named}
-use Rattle.refutation_check.specs.Verdicts.{verdicts_of}
+use Rattle.runs.specs.declared.run.ListedPath.{ListedPath}
+use Rattle.runs.specs.declared.run.Verdict.{Verdict}
+use Rattle.runs.specs.declared.run.Verdict.TheVariants.{Robust, Nonrobust, Untestable, Aborted}
+use Rattle.runs.specs.Lawful.{AreNumbered, Named, none_named}
+use Rattle.runs.specs.Verdicts.{verdicts_of}
 use Rattle.good_runs.specs.Faults.{IsNumber, verdict_for}
 use Rattle.verdict_runs.specs.declared.draft.Slot.TheVariants.{Unwritten, Written}
 use Rattle.verdict_runs.specs.declared.findings.Refutation.{Refutation}
-use Rattle.verdict_runs.specs.Answers.{IsAnswer, IsBook, IsRightTest, Keeps, named_in}
+use Rattle.verdict_runs.specs.Answers.{IsBackedVerdict, IsBook, IsRightTest, Keeps, named_in}
 use Rattle.verdict_runs.specs.Book.{Book, unwritten}
 use Rattle.verdict_runs.specs.Findings.{Searches}
-use Rattle.verdict_runs.specs.Listed.{AreListed, IsListed, named_after}
+use Rattle.verdict_runs.specs.Listed.{ArePathsAnswered, IsPathAnswered, named_after}
 use Rattle.verdict_runs.proofs.Answered.{proof_kept, refutation_kept, spent_kept}
 use Rattle.verdict_runs.proofs.Books.{keeps_on}
 use Rattle.verdict_runs.proofs.Naming.{named_after-append, numbered_on, verdicts_more}
@@ -30,8 +31,8 @@ use Rattle.good_runs.proofs.Numbers.{number_of_push}
 
 -- an answer stays one
 answer_kept : (c : Circuit) (searches : Searches) (old new : Book) (number : ℕ) (direction : Direction) (path : Route)
-    (verdict : Verdict) → Keeps old new → IsAnswer c searches old number direction path verdict
-    → IsAnswer c searches new number direction path verdict
+    (verdict : Verdict) → Keeps old new → IsBackedVerdict c searches old number direction path verdict
+    → IsBackedVerdict c searches new number direction path verdict
 answer_kept c searches old new number direction path (Robust test) keeps answer =
     record { test = answer.test; is_test = keeps.tests test answer.test answer.is_test; of_fault = answer.of_fault }
 answer_kept c searches old new number direction path (Nonrobust test proof) keeps answer = (
@@ -41,13 +42,13 @@ answer_kept c searches old new number direction path (Nonrobust test proof) keep
     of_fault = answer.0.of_fault;
     not_robust = answer.0.not_robust;
   },
-  proof_kept searches old new kinds.Robust direction path number proof keeps answer.1,
+  proof_kept searches old new (target_of path direction kinds.Robust) number proof keeps answer.1,
 )
 answer_kept c searches old new number direction path (Untestable proof) keeps answer =
-    refutation_kept searches old new kinds.Nonrobust direction path proof keeps answer
+    refutation_kept searches old new (target_of path direction kinds.Nonrobust) proof keeps answer
 answer_kept c searches old new number direction path (Aborted robust nonrobust) keeps answer = (
-  proof_kept searches old new kinds.Robust direction path number robust keeps answer.0,
-  spent_kept searches old new kinds.Nonrobust direction path number nonrobust keeps answer.1,
+  proof_kept searches old new (target_of path direction kinds.Robust) number robust keeps answer.0,
+  spent_kept searches old new (target_of path direction kinds.Nonrobust) number nonrobust keeps answer.1,
 )
 
 -- a book in which nothing is written yet
@@ -77,9 +78,9 @@ unwritten_is_book c searches = record {
 
 module _ (c : Circuit) (delays : Delays) (searches : Searches) where
   -- before the first path
-  pub none_listed : (book : Book) → book ≡ unwritten searches.refutations → AreListed c delays searches [] [] book
+  pub none_listed : (book : Book) → book ≡ unwritten searches.refutations → ArePathsAnswered c delays searches [] [] book
   none_listed book is =
-      subst (AreListed c delays searches [] []) (sym is) (record {
+      subst (ArePathsAnswered c delays searches [] []) (sym is) (record {
         are_routes = refl;
         lengths = All-nil (λ entry. entry.length ≡ length_of delays entry.path);
         is_book = unwritten_is_book c searches;
@@ -91,20 +92,20 @@ module _ (c : Circuit) (delays : Delays) (searches : Searches) where
       })
 
   module _ (routes : List Route) (listed : List ListedPath) (old new : Book) (path_number : ℕ) (path : Route) (entry : ListedPath)
-      (are : AreListed c delays searches routes listed old) (next : path_number ≡ length listed + 1)
-      (is : IsListed c delays searches path_number path old new entry) where
+      (are : ArePathsAnswered c delays searches routes listed old) (next : path_number ≡ length listed + 1)
+      (is : IsPathAnswered c delays searches path_number path old new entry) where
     -- both verdicts answer their faults in the end
-    own_answer : (direction : Direction) → IsAnswer c searches new path_number direction path (verdict_for entry direction)
+    own_answer : (direction : Direction) → IsBackedVerdict c searches new path_number direction path (verdict_for entry direction)
     own_answer Rise = answer_kept c searches is.middle new path_number Rise path entry.rise is.fall.keeps is.rise.answer
     own_answer Fall = is.fall.answer
 
     own_answer_at : (number : ℕ) (own : ListedPath) (direction : Direction) → number ≡ length listed + 1 → entry ≡ own
-        → IsAnswer c searches new number direction own.path (verdict_for own direction)
+        → IsBackedVerdict c searches new number direction own.path (verdict_for own direction)
     own_answer_at number own direction last same =
-        let P : ListedPath → Type 0 = λ e. IsAnswer c searches new number direction e.path (verdict_for e direction) in
+        let P : ListedPath → Type 0 = λ e. IsBackedVerdict c searches new number direction e.path (verdict_for e direction) in
         let at_number : path_number ≡ number = next ∙ sym last in
-        let Q : ℕ → Type 0 = λ n. IsAnswer c searches new n direction entry.path (verdict_for entry direction) in
-        let R : Route → Type 0 = λ route. IsAnswer c searches new path_number direction route (verdict_for entry direction) in
+        let Q : ℕ → Type 0 = λ n. IsBackedVerdict c searches new n direction entry.path (verdict_for entry direction) in
+        let R : Route → Type 0 = λ route. IsBackedVerdict c searches new path_number direction route (verdict_for entry direction) in
         subst P same (subst Q at_number (subst R (sym is.of_path) (own_answer direction)))
 
     keeps : Keeps old new
@@ -129,7 +130,7 @@ module _ (c : Circuit) (delays : Delays) (searches : Searches) where
         subst (AreNumbered none_named) (sym (verdicts_more listed entry))
         (numbered_on none_named (verdicts_of listed) (entry.rise ∷ entry.fall ∷ []) are.numbered (subst Q (sym are.named) both))
 
-    pub listed_more : AreListed c delays searches (routes ++ path ∷ []) (listed ++ entry ∷ []) new
+    pub listed_more : ArePathsAnswered c delays searches (routes ++ path ∷ []) (listed ++ entry ∷ []) new
     listed_more =
         let grown = length_push listed entry in
         let few_tests = are.few_tests in

@@ -3,11 +3,11 @@ use Rattle.std.proofs.Common.{◌≡◌, ℕ, ◌+◌, max, cond, List, [], ◌�
 use Rattle.std.specs.List.{count_by}
 use Rattle.std.proofs.lemmas.List.Sums.{sum_by-cons}
 use Rattle.netlist.specs.Greatest.{greatest}
-use Rattle.refutation_check.specs.declared.run.ListedPath.{ListedPath}
-use Rattle.refutation_check.specs.declared.run.Verdict.{Verdict}
-use Rattle.refutation_check.specs.declared.run.Verdict.TheVariants.{Robust, Nonrobust, Untestable, Aborted}
-use Rattle.refutation_check.specs.Lawful.{AreNumbered, Named, named_with}
-use Rattle.refutation_check.specs.Verdicts.{verdicts_of}
+use Rattle.runs.specs.declared.run.ListedPath.{ListedPath}
+use Rattle.runs.specs.declared.run.Verdict.{Verdict}
+use Rattle.runs.specs.declared.run.Verdict.TheVariants.{Robust, Nonrobust, Untestable, Aborted}
+use Rattle.runs.specs.Lawful.{AreNumbered, Named, named_with}
+use Rattle.runs.specs.Verdicts.{verdicts_of}
 use Rattle.good_runs.specs.GoodRun.{is_tested, greatest_cited}
 use Rattle.verdict_runs.specs.Listed.{named_after}
 

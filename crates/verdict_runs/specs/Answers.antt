@@ -1,17 +1,18 @@
 -- What a verdict asks of the tests and proofs so far, and what stays of it as more are written (this project's own).
 use Rattle.std.specs.Prelude.{◌≡◌, ℕ, ◌+◌, ◌<◌, ◌≤◌, ◌^◌, true, false, length, slice_get, Some, All}
 use Rattle.pd_base.specs.Route.{Route}
+use Rattle.pd_base.specs.Target.{Target, target_of}
 use Rattle.pd_base.specs.declared.test.Test.{Test}
 use Rattle.pd_base.specs.declared.fault.Direction.{Direction}
-use Rattle.pd_base.specs.declared.fault.Kind.{Kind}
 use Rattle.pd_base.specs.declared.fault.Kind.TheVariants as kinds
+use Rattle.pd_base.specs.declared.rules.Rules.TheVariants.{One}
 use Rattle.netlist.specs.Circuit.{Circuit}
 use Rattle.netlist.specs.Conditions.{Meets}
 use Rattle.netlist.specs.Values.{observed_values}
-use Rattle.refutation_check.specs.declared.run.Proof.{Proof}
-use Rattle.refutation_check.specs.declared.run.Verdict.{Verdict}
-use Rattle.refutation_check.specs.declared.run.Verdict.TheVariants.{Robust, Nonrobust, Untestable, Aborted}
-use Rattle.refutation_check.specs.Lawful.{IsLawfulTest, Named, NamesOn, named_with}
+use Rattle.runs.specs.declared.run.Proof.{Proof}
+use Rattle.runs.specs.declared.run.Verdict.{Verdict}
+use Rattle.runs.specs.declared.run.Verdict.TheVariants.{Robust, Nonrobust, Untestable, Aborted}
+use Rattle.runs.specs.Lawful.{IsLawfulTest, Named, NamesOn, named_with}
 use Rattle.tree_laws.specs.Spent.{IsSpent}
 use Rattle.good_runs.specs.Faults.{IsNumber, IsAbout}
 use Rattle.good_runs.specs.GoodRun.{IsTestOf}
@@ -19,7 +20,7 @@ use Rattle.verdict_runs.specs.declared.draft.Slot.TheVariants.{Unwritten, Writte
 use Rattle.verdict_runs.specs.declared.findings.Outcome.{Outcome}
 use Rattle.verdict_runs.specs.declared.findings.Outcome.TheVariants.{Unsearched, Tested, Refuted, Spent}
 use Rattle.verdict_runs.specs.declared.findings.Refutation.{Refutation}
-use Rattle.verdict_runs.specs.Book.{Book, Cites, Writes, proof_of, spent_proof}
+use Rattle.verdict_runs.specs.Book.{Book, Cites, AddsProof, proof_of, spent_proof}
 use Rattle.verdict_runs.specs.Findings.{AreSearches, Searches, NoneRefutes, Refutes}
 
 -- the test is lawful, and expects what the circuit gives
@@ -32,7 +33,7 @@ pub record IsSpentProof (c : Circuit) (searches : Searches) (proof : Proof) : Ty
   pub listed : Route
   pub is_listed : IsNumber searches.routes proof.path listed
   pub whole : proof.steps ≡ length listed.steps
-  pub is_spent : IsSpent c proof.kind listed proof.dir searches.budget proof.tree
+  pub is_spent : IsSpent c One (target_of listed proof.dir proof.kind) searches.budget proof.tree
 
 -- What is written is of these searches: a slot is still a refutation of its place, or has the number of that refutation's proof;
 -- each refuting proof is that of a slot; each spent proof is one, and each test is right.
@@ -56,53 +57,52 @@ pub record Keeps (old new : Book) : Type 0 where
   pub proofs : (number : ℕ) (proof : Proof) → IsNumber old.proofs number proof → IsNumber new.proofs number proof
 
 -- the proof of this number is a refutation that applies to the path
-pub record HasRefutation (searches : Searches) (book : Book) (kind : Kind) (direction : Direction) (path : Route) (number : ℕ) : Type 0 where
+pub record HasRefutation (searches : Searches) (book : Book) (target : Target) (number : ℕ) : Type 0 where
   pub index : ℕ
   pub refutation : Refutation
   pub is_found : slice_get searches.refutations index ≡ Some refutation
   pub is_written : slice_get book.slots index ≡ Some (Written number)
-  pub applies : Refutes searches.routes kind direction path refutation
+  pub applies : Refutes searches.routes target refutation
 
 -- the proof of this number shows that the budget was spent on the path of this number, to which no refutation applies
-pub record HasSpentProof (searches : Searches) (book : Book) (kind : Kind) (direction : Direction) (path : Route) (path_number number : ℕ) : Type 0 where
+pub record HasSpentProof (searches : Searches) (book : Book) (target : Target) (path_number number : ℕ) : Type 0 where
   pub proof : Proof
   pub is_proof : IsNumber book.proofs number proof
   pub spent : proof.spent ≡ true
-  pub is_about : IsAbout kind direction proof
+  pub is_about : IsAbout target.kind target.direction proof
   pub of_path : proof.path ≡ path_number
-  pub none_refutes : NoneRefutes searches kind direction path
+  pub none_refutes : NoneRefutes searches target
 
 -- one or the other
-pub data HasProof (searches : Searches) (book : Book) (kind : Kind) (direction : Direction) (path : Route) (path_number number : ℕ) : Type 0 where
-  refuted : HasRefutation searches book kind direction path number
-      → HasProof searches book kind direction path path_number number
-  spent : HasSpentProof searches book kind direction path path_number number
-      → HasProof searches book kind direction path path_number number
+pub data HasProof (searches : Searches) (book : Book) (target : Target) (path_number number : ℕ) : Type 0 where
+  refuted : HasRefutation searches book target number → HasProof searches book target path_number number
+  spent : HasSpentProof searches book target path_number number → HasProof searches book target path_number number
 
 -- the test of this number is one of the fault
-pub record HasTest (c : Circuit) (book : Book) (path_number : ℕ) (direction : Direction) (kind : Kind) (path : Route) (number : ℕ) : Type 0 where
+pub record HasWrittenTest (c : Circuit) (book : Book) (path_number : ℕ) (target : Target) (number : ℕ) : Type 0 where
   pub test : Test
   pub is_test : IsNumber book.tests number test
-  pub of_fault : IsTestOf c path_number direction kind path test
+  pub of_fault : IsTestOf c path_number target test
 
 -- the same of a nonrobust test, whose pair does not meet the robust conditions
-pub record HasNonrobustTest (c : Circuit) (book : Book) (path_number : ℕ) (direction : Direction) (path : Route) (number : ℕ) : Type 0 where
+pub record HasWrittenNonrobustTest (c : Circuit) (book : Book) (path_number : ℕ) (direction : Direction) (path : Route) (number : ℕ) : Type 0 where
   pub test : Test
   pub is_test : IsNumber book.tests number test
-  pub of_fault : IsTestOf c path_number direction kinds.Nonrobust path test
-  pub not_robust : ¬ Meets kinds.Robust c path direction test.pair
+  pub of_fault : IsTestOf c path_number (target_of path direction kinds.Nonrobust) test
+  pub not_robust : ¬ Meets c (target_of path direction kinds.Robust) test.pair
 
 -- what a verdict on a fault asks of what is written
-abbrev pub IsAnswer : Circuit → Searches → Book → ℕ → Direction → Route → Verdict → Type 0
-IsAnswer c searches book path_number direction path (Robust test) = HasTest c book path_number direction kinds.Robust path test
-IsAnswer c searches book path_number direction path (Nonrobust test proof) =
-    HasNonrobustTest c book path_number direction path test
-    × HasProof searches book kinds.Robust direction path path_number proof
-IsAnswer c searches book path_number direction path (Untestable proof) =
-    HasRefutation searches book kinds.Nonrobust direction path proof
-IsAnswer c searches book path_number direction path (Aborted robust nonrobust) =
-    HasProof searches book kinds.Robust direction path path_number robust
-    × HasSpentProof searches book kinds.Nonrobust direction path path_number nonrobust
+abbrev pub IsBackedVerdict : Circuit → Searches → Book → ℕ → Direction → Route → Verdict → Type 0
+IsBackedVerdict c searches book path_number direction path (Robust test) =
+    HasWrittenTest c book path_number (target_of path direction kinds.Robust) test
+IsBackedVerdict c searches book path_number direction path (Nonrobust test proof) =
+    HasWrittenNonrobustTest c book path_number direction path test
+    × HasProof searches book (target_of path direction kinds.Robust) path_number proof
+IsBackedVerdict c searches book path_number direction path (Untestable proof) =
+    HasRefutation searches book (target_of path direction kinds.Nonrobust) proof
+IsBackedVerdict c searches book path_number direction path (Aborted robust nonrobust) =
+    HasProof searches book (target_of path direction kinds.Robust) path_number robust
+    × HasSpentProof searches book (target_of path direction kinds.Nonrobust) path_number nonrobust
 
 -- how many tests and proofs are written
 abbrev pub named_in : Book → Named
@@ -124,7 +124,7 @@ pub record IsAnswered (c : Circuit) (searches : Searches) (path_number : ℕ) (d
     (old new : Book) (verdict : Verdict) : Type 0 where
   pub book : IsBook c searches new
   pub keeps : Keeps old new
-  pub answer : IsAnswer c searches new path_number direction path verdict
+  pub answer : IsBackedVerdict c searches new path_number direction path verdict
   pub names : NamesOn (named_in old) verdict
   pub named : named_with (named_in old) verdict ≡ named_in new
   pub few_tests : length new.tests ≤ length old.tests + 1
@@ -138,9 +138,9 @@ IsCitable refutations (Refuted index) = index < refutations
 IsCitable refutations (Spent tree) = Unit {0}
 
 -- a proof is cited for the outcome: the refutation's, or one with the spent tree
-abbrev pub CitesFor : Book → Book → Kind → Direction → ℕ → Route → Outcome → ℕ → Type 0
-CitesFor old new kind direction path_number path Unsearched number = ⊥
-CitesFor old new kind direction path_number path (Tested pair) number = ⊥
-CitesFor old new kind direction path_number path (Refuted index) number = Cites old new index number
-CitesFor old new kind direction path_number path (Spent tree) number =
-    Writes old new (spent_proof kind direction path_number path tree) number
+abbrev pub CitesFor : Book → Book → Target → ℕ → Outcome → ℕ → Type 0
+CitesFor old new target path_number Unsearched number = ⊥
+CitesFor old new target path_number (Tested pair) number = ⊥
+CitesFor old new target path_number (Refuted index) number = Cites old new index number
+CitesFor old new target path_number (Spent tree) number =
+    AddsProof old new (spent_proof target path_number tree) number

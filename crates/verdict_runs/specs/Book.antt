@@ -1,11 +1,9 @@
 -- The tests and proofs of a run while its verdicts are given (this project's own).
 use Rattle.std.specs.Prelude.{◌≡◌, ℕ, ◌+◌, true, false, List, [], ◌∷◌, ◌++◌, length, map, slice_get, slice_set, Some}
-use Rattle.pd_base.specs.Route.{Route}
+use Rattle.pd_base.specs.Target.{Target}
 use Rattle.pd_base.specs.declared.test.Test.{Test}
-use Rattle.pd_base.specs.declared.fault.Direction.{Direction}
-use Rattle.pd_base.specs.declared.fault.Kind.{Kind}
-use Rattle.refutation_check.specs.declared.run.Proof.{Proof}
-use Rattle.refutation_check.specs.declared.tree.Node.{Node}
+use Rattle.runs.specs.declared.run.Proof.{Proof}
+use Rattle.runs.specs.declared.tree.Node.{Node}
 use Rattle.verdict_runs.specs.declared.findings.Refutation.{Refutation}
 use Rattle.verdict_runs.specs.declared.draft.Slot.{Slot}
 use Rattle.verdict_runs.specs.declared.draft.Slot.TheVariants.{Unwritten, Written}
@@ -27,14 +25,14 @@ proof_of refutation = record {
   tree = refutation.tree;
 }
 
--- the proof that the budget was spent on a path, by this tree
-abbrev pub spent_proof : Kind → Direction → ℕ → Route → List Node → Proof
-spent_proof kind direction path_number path tree = record {
+-- the proof that the budget was spent on the path of this number, by this tree
+abbrev pub spent_proof : Target → ℕ → List Node → Proof
+spent_proof target path_number tree = record {
   spent = true;
-  kind = kind;
-  dir = direction;
+  kind = target.kind;
+  dir = target.direction;
   path = path_number;
-  steps = length path.steps;
+  steps = length target.path.steps;
   tree = tree;
 }
 
@@ -48,7 +46,7 @@ pub record AddsTest (old new : Book) (test : Test) (number : ℕ) : Type 0 where
   pub adds : new ≡ record old { tests = old.tests ++ test ∷ [] }
 
 -- a proof is written under the next number
-pub record Writes (old new : Book) (proof : Proof) (number : ℕ) : Type 0 where
+pub record AddsProof (old new : Book) (proof : Proof) (number : ℕ) : Type 0 where
   pub next : number ≡ length old.proofs + 1
   pub adds : new ≡ record old { proofs = old.proofs ++ proof ∷ [] }
 

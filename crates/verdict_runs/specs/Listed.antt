@@ -6,14 +6,14 @@ use Rattle.pd_base.specs.declared.fault.Direction.TheVariants.{Rise, Fall}
 use Rattle.netlist.specs.Circuit.{Circuit}
 use Rattle.netlist.specs.Paths.{IsPath, length_of}
 use Rattle.netlist.specs.Waves.{Delays}
-use Rattle.refutation_check.specs.declared.run.ListedPath.{ListedPath}
-use Rattle.refutation_check.specs.declared.run.Verdict.{Verdict}
-use Rattle.refutation_check.specs.Lawful.{AreNumbered, Named, named_with, none_named}
-use Rattle.refutation_check.specs.Verdicts.{verdicts_of}
+use Rattle.runs.specs.declared.run.ListedPath.{ListedPath}
+use Rattle.runs.specs.declared.run.Verdict.{Verdict}
+use Rattle.runs.specs.Lawful.{AreNumbered, Named, named_with, none_named}
+use Rattle.runs.specs.Verdicts.{verdicts_of}
 use Rattle.good_runs.specs.Faults.{IsNumber, verdict_for}
 use Rattle.verdict_runs.specs.declared.findings.Findings.{Findings}
 use Rattle.verdict_runs.specs.declared.findings.SearchedPath.{SearchedPath}
-use Rattle.verdict_runs.specs.Answers.{IsAnswer, IsAnswered, IsBook, named_in}
+use Rattle.verdict_runs.specs.Answers.{IsBackedVerdict, IsAnswered, IsBook, named_in}
 use Rattle.verdict_runs.specs.Book.{Book}
 use Rattle.verdict_runs.specs.Findings.{AreSearches, IsSearched, Searches}
 
@@ -25,7 +25,7 @@ pub record AreOf (c : Circuit) (searches : Searches) (findings : Findings) : Typ
   pub searched : All (IsSearched c searches) findings.paths.items
 
 -- this path is the next one to be listed, and numbers are far from the greatest that the program counts to
-pub record IsNext (c : Circuit) (searches : Searches) (path_number : ℕ) (searched : SearchedPath) (book : Book) : Type 0 where
+pub record IsNextPath (c : Circuit) (searches : Searches) (path_number : ℕ) (searched : SearchedPath) (book : Book) : Type 0 where
   pub are_searches : AreSearches c searches
   pub is_listed : IsNumber searches.routes path_number searched.path
   pub is_path : IsPath c searched.path
@@ -36,7 +36,7 @@ pub record IsNext (c : Circuit) (searches : Searches) (path_number : ℕ) (searc
   pub few_proofs : length book.proofs + 4 < 2 ^ 32
 
 -- the path is listed with its length, and with a verdict on its rising fault and then one on its falling fault
-pub record IsListed (c : Circuit) (delays : Delays) (searches : Searches) (path_number : ℕ) (path : Route)
+pub record IsPathAnswered (c : Circuit) (delays : Delays) (searches : Searches) (path_number : ℕ) (path : Route)
     (old new : Book) (listed : ListedPath) : Type 0 where
   pub of_path : listed.path ≡ path
   pub long : listed.length ≡ length_of delays path
@@ -51,13 +51,13 @@ named_after named (verdict ∷ verdicts) = named_after (named_with named verdict
 
 -- The listed paths are these, with their lengths, and what is written answers all of their faults. The verdicts name the tests and
 -- the proofs in their order, and all of them: at most a test and two proofs each.
-pub record AreListed (c : Circuit) (delays : Delays) (searches : Searches) (routes : List Route) (listed : List ListedPath)
+pub record ArePathsAnswered (c : Circuit) (delays : Delays) (searches : Searches) (routes : List Route) (listed : List ListedPath)
     (book : Book) : Type 0 where
   pub are_routes : map (λ entry. entry.path) listed ≡ routes
   pub lengths : All (λ entry. entry.length ≡ length_of delays entry.path) listed
   pub is_book : IsBook c searches book
   pub answers : (number : ℕ) (entry : ListedPath) (direction : Direction) → IsNumber listed number entry
-      → IsAnswer c searches book number direction entry.path (verdict_for entry direction)
+      → IsBackedVerdict c searches book number direction entry.path (verdict_for entry direction)
   pub numbered : AreNumbered none_named (verdicts_of listed)
   pub named : named_after none_named (verdicts_of listed) ≡ named_in book
   pub few_tests : length book.tests ≤ 2 * length listed

@@ -1,11 +1,11 @@
 // The tests and proofs of a run while its verdicts are given. A refutation is written as a proof when it is first cited, and keeps
 // its number from then on.
 ghost use Rattle.std.specs.Prelude.{◌≡◌, ◌+◌, ◌<◌, ◌^◌, [], ◌∷◌, ◌++◌, length, IfOk};
-ghost use Rattle.verdict_runs.specs.Book.{AddsTest, Cites, Writes, proof_of, unwritten};
+ghost use Rattle.verdict_runs.specs.Book.{AddsTest, Cites, AddsProof, proof_of, unwritten};
 
 use crate::Refutation;
 use pd_base::{Items, OutOfMemory, Test};
-use refutation_check::Proof;
+use runs::Proof;
 use std::alloc::Global;
 use std::marker::Model;
 use std::mem;
@@ -73,7 +73,7 @@ impl Draft {
     /// Writes a proof under the next number.
     pub(crate) fn write(&mut self, proof: Proof) -> Result<u32, OutOfMemory>
         requires { length self.old.proofs + 1 < 2 ^ 32 }
-        ensures { IfOk result (λ number. Writes self.old self.new proof number) }
+        ensures { IfOk result (λ number. AddsProof self.old self.new proof number) }
     {
         self.proofs.push(proof)?;
         Ok(self.proofs.len() as u32)

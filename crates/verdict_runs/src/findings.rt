@@ -1,6 +1,6 @@
 // What searches found: for each listed path, direction and kind of test a pair, a refutation or a spent budget.
 use pd_base::{Direction, Kind, Pair, Path};
-use refutation_check::Tree;
+use runs::Tree;
 
 /// A refutation: no pair of vectors meets the conditions of a kind of test on a prefix of a listed path. It speaks of every
 /// path that has this prefix.

@@ -1,5 +1,5 @@
 //! From what searches found to a run: a verdict for each fault in report order, its test or the proofs that it cites, each proof
-//! written once, where it is first cited. Stands on path_model, logic_values, refutation_check, tree_laws and good_runs.
+//! written once, where it is first cited. Stands on path_model, logic_values, runs, tree_laws and good_runs.
 //! The layer above uses `verdict_run`, and promises of its `Findings` what specs/Findings.antt asks.
 #![tactic(auto)]
 

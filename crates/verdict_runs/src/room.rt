@@ -1,6 +1,7 @@
 // Room in which pairs are judged and tests are made: the lines' values are computed there, and each call writes over the last one's.
 ghost use Rattle.std.specs.Prelude.{◌≡◌, ◌↔◌, IfOk, IsTrue, length, map};
 ghost use Rattle.logic_values.specs.Known.{bit_at, HasPlaces};
+ghost use Rattle.pd_base.specs.Target.{target_of};
 ghost use Rattle.netlist.specs.Circuit.{line_count, source_count};
 ghost use Rattle.netlist.specs.Conditions.{Meets};
 ghost use Rattle.netlist.specs.Lawful.{IsCircuit};
@@ -58,7 +59,7 @@ impl Room {
         requires room { self.old ≡ line_count net.now }
         requires prefix { IsPrefix net.now path.now }
         requires bits { length pair.now.first ≡ source_count net.now }
-        ensures robust { IsTrue result ↔ Meets Kind.Robust net.now path.now dir pair.now }
+        ensures robust { IsTrue result ↔ Meets net.now (target_of path.now dir Kind.Robust) pair.now }
         ensures room { self.new ≡ self.old }
     {
         meets(net, path, dir, Kind::Robust, pair, &mut self.scratch)

@@ -4,23 +4,23 @@ ghost use Rattle.delay_annotation.specs.Annotation.{delays_of, Fits};
 ghost use Rattle.good_runs.specs.GoodRun.{IsGoodRun};
 ghost use Rattle.netlist.specs.Circuit.{line_count};
 ghost use Rattle.netlist.specs.Lawful.{IsCircuit};
-ghost use Rattle.refutation_check.specs.Lawful.{IsLawfulRun};
+ghost use Rattle.runs.specs.Lawful.{IsLawfulRun};
 ghost use Rattle.verdict_runs.specs.Findings.{AreFindings, Searches};
-ghost use Rattle.verdict_runs.specs.Listed.{AreListed, AreOf, IsListed, IsNext};
+ghost use Rattle.verdict_runs.specs.Listed.{ArePathsAnswered, AreOf, IsPathAnswered, IsNextPath};
 
 use crate::writer::Writer;
 use crate::{Findings, SearchedPath};
 use delay_annotation::Delays;
 use netlist::Netlist;
 use path_model::length;
-use pd_base::{Direction, Items, OutOfMemory};
-use refutation_check::{ListedPath, Run};
+use pd_base::{Direction, Items, OutOfMemory, Rules};
+use runs::{ListedPath, Run};
 use std::alloc::Global;
 
 /// The run that these findings make: each listed path with its length and a verdict for each direction. A fault is robust where a
 /// search gave a robust test, or a nonrobust one that is robust after all; nonrobust where one gave a test that is nonrobust only;
 /// untestable where the nonrobust conditions are refuted; and aborted where the budget was spent. A refutation is written when it
-/// is first cited, and one that nobody cites is left out. `OutOfMemory` comes where a growth was refused.
+/// is first cited, and one that nobody cites is left out. It is a run under rules One. `OutOfMemory` comes where a growth was refused.
 pub fn verdict_run(
     alloc: Global,
     net: &Netlist,
@@ -28,13 +28,15 @@ pub fn verdict_run(
     findings: Findings,
 ) -> Result<Run, OutOfMemory>
     requires fits { Fits net.now delays.now }
-    requires findings { AreFindings net.now (delays_of delays.now) findings }
-    ensures good { IfOk result (λ run. IsGoodRun net.now (delays_of delays.now) findings.count findings.budget run) }
+    requires findings { AreFindings net.now (delays_of net.now delays.now) findings }
+    ensures good { IfOk result (λ run. IsGoodRun net.now (delays_of net.now delays.now) findings.count findings.budget run) }
     ensures lawful { IfOk result (λ run. IsLawfulRun net.now run) }
+    ensures rules { IfOk result (λ run. run.rules ≡ Rules.One) }
 {
     let (listed, writer) = list_paths(alloc, net, delays, findings)?;
     let (tests, proofs) = writer.draft.into_parts();
     Ok(Run {
+        rules: Rules::One,
         paths: Items::new(listed),
         tests,
         proofs,
@@ -51,7 +53,7 @@ fn list_paths(
     ghost searches: { Searches }
     requires fits { Fits net.now delays.now }
     requires findings { AreOf net.now searches findings }
-    ensures listed { IfOk result (λ written. AreListed net.now (delays_of delays.now) searches searches.routes written.0.items written.1.draft) }
+    ensures listed { IfOk result (λ written. ArePathsAnswered net.now (delays_of net.now delays.now) searches searches.routes written.0.items written.1.draft) }
     ensures circuit { IfOk result (λ _. IsCircuit net.now) }
 {
     let Findings {
@@ -80,9 +82,9 @@ fn list_path(
 ) -> Result<ListedPath, OutOfMemory>
     ghost searches: { Searches }
     requires fits { Fits net.now delays.now }
-    requires next { IsNext net.now searches number searched writer.old.draft }
+    requires next { IsNextPath net.now searches number searched writer.old.draft }
     requires room { writer.old.room ≡ line_count net.now }
-    ensures listed { IfOk result (λ listed. IsListed net.now (delays_of delays.now) searches number searched.path writer.old.draft writer.new.draft listed) }
+    ensures listed { IfOk result (λ listed. IsPathAnswered net.now (delays_of net.now delays.now) searches number searched.path writer.old.draft writer.new.draft listed) }
     ensures room { writer.new.room ≡ writer.old.room }
 {
     let SearchedPath { path, rise, fall } = searched;

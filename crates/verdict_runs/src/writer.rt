@@ -1,5 +1,6 @@
 // Gives the verdicts: each fault's test is made, and each proof that it needs is cited, fault by fault in the order of the report.
 ghost use Rattle.std.specs.Prelude.{◌≡◌, ◌+◌, ◌<◌, ◌^◌, length, IfOk, false};
+ghost use Rattle.pd_base.specs.Target.{target_of};
 ghost use Rattle.netlist.specs.Circuit.{line_count};
 ghost use Rattle.netlist.specs.Conditions.{Meets};
 ghost use Rattle.netlist.specs.Lawful.{IsCircuit};
@@ -12,7 +13,7 @@ use crate::room::Room;
 use crate::{Outcome, Outcomes, Refutation};
 use netlist::Netlist;
 use pd_base::{Direction, Kind, OutOfMemory, Pair, Path};
-use refutation_check::{Proof, Tree, Verdict};
+use runs::{Proof, Tree, Verdict};
 use std::alloc::Global;
 
 /// What is written of a run so far, and the room in which its tests are made.
@@ -74,9 +75,9 @@ impl Writer {
     ) -> Result<Verdict, OutOfMemory>
         ghost searches: { Searches }
         requires asked { IsAsked net.now searches number path.now self.old.draft }
-        requires robust { IsOutcome net.now searches Kind.Robust dir path.now robust }
+        requires robust { IsOutcome net.now searches (target_of path.now dir Kind.Robust) robust }
         requires no_test { is_test robust ≡ false }
-        requires nonrobust { IsOutcome net.now searches Kind.Nonrobust dir path.now nonrobust }
+        requires nonrobust { IsOutcome net.now searches (target_of path.now dir Kind.Nonrobust) nonrobust }
         requires room { self.old.room ≡ line_count net.now }
         ensures answered { IfOk result (λ verdict. IsAnswered net.now searches number dir path.now self.old.draft self.new.draft verdict) }
         ensures room { self.new.room ≡ self.old.room }
@@ -106,7 +107,7 @@ impl Writer {
     ) -> Result<Verdict, OutOfMemory>
         ghost searches: { Searches }
         requires asked { IsAsked net.now searches number path.now self.old.draft }
-        requires pair { IsTestPair net.now Kind.Robust dir path.now pair }
+        requires pair { IsTestPair net.now (target_of path.now dir Kind.Robust) pair }
         requires room { self.old.room ≡ line_count net.now }
         ensures answered { IfOk result (λ verdict. IsAnswered net.now searches number dir path.now self.old.draft self.new.draft verdict) }
         ensures room { self.new.room ≡ self.old.room }
@@ -128,10 +129,10 @@ impl Writer {
     ) -> Result<Verdict, OutOfMemory>
         ghost searches: { Searches }
         requires asked { IsAsked net.now searches number path.now self.old.draft }
-        requires robust { IsOutcome net.now searches Kind.Robust dir path.now robust }
+        requires robust { IsOutcome net.now searches (target_of path.now dir Kind.Robust) robust }
         requires no_test { is_test robust ≡ false }
-        requires pair { IsTestPair net.now Kind.Nonrobust dir path.now pair }
-        requires not_robust { ¬ Meets Kind.Robust net.now path.now dir pair }
+        requires pair { IsTestPair net.now (target_of path.now dir Kind.Nonrobust) pair }
+        requires not_robust { ¬ Meets net.now (target_of path.now dir Kind.Robust) pair }
         requires room { self.old.room ≡ line_count net.now }
         ensures answered { IfOk result (λ verdict. IsAnswered net.now searches number dir path.now self.old.draft self.new.draft verdict) }
         ensures room { self.new.room ≡ self.old.room }
@@ -153,7 +154,7 @@ impl Writer {
     ) -> Result<Verdict, OutOfMemory>
         ghost searches: { Searches }
         requires asked { IsAsked net.now searches number path.now self.old.draft }
-        requires refuted { IsRefutedBy searches Kind.Nonrobust dir path.now index }
+        requires refuted { IsRefutedBy searches (target_of path.now dir Kind.Nonrobust) index }
         ensures answered { IfOk result (λ verdict. IsAnswered net.now searches number dir path.now self.old.draft self.new.draft verdict) }
         ensures room { self.new.room ≡ self.old.room }
     {
@@ -173,9 +174,9 @@ impl Writer {
     ) -> Result<Verdict, OutOfMemory>
         ghost searches: { Searches }
         requires asked { IsAsked net.now searches number path.now self.old.draft }
-        requires robust { IsOutcome net.now searches Kind.Robust dir path.now robust }
+        requires robust { IsOutcome net.now searches (target_of path.now dir Kind.Robust) robust }
         requires no_test { is_test robust ≡ false }
-        requires spent { HasSpent net.now searches Kind.Nonrobust dir path.now tree }
+        requires spent { HasSpent net.now searches (target_of path.now dir Kind.Nonrobust) tree }
         ensures answered { IfOk result (λ verdict. IsAnswered net.now searches number dir path.now self.old.draft self.new.draft verdict) }
         ensures room { self.new.room ≡ self.old.room }
     {
@@ -199,7 +200,7 @@ fn cite_for(
     requires citable { IsCitable (length draft.old.slots) outcome }
     requires few_steps { length path.now.steps < 2 ^ 32 }
     requires few_proofs { length draft.old.proofs + 1 < 2 ^ 32 }
-    ensures { IfOk result (λ proof. CitesFor draft.old draft.new kind dir number path.now outcome proof) }
+    ensures { IfOk result (λ proof. CitesFor draft.old draft.new (target_of path.now dir kind) number outcome proof) }
 {
     match outcome {
         Outcome::Unsearched | Outcome::Tested(_) => unreachable!(),
@@ -211,7 +212,7 @@ fn cite_for(
 // The proof that the budget was spent on a path.
 fn spent_proof(number: u32, path: &Path, dir: Direction, kind: Kind, tree: Tree) -> Proof
     requires { length path.now.steps < 2 ^ 32 }
-    ensures { result ≡ spent_proof kind dir number path.now tree }
+    ensures { result ≡ spent_proof (target_of path.now dir kind) number tree }
 {
     Proof {
         spent: true,

@@ -2,8 +2,8 @@
 use Rattle.std.proofs.Common.{◌+◌, ◌++◌, ◌∷◌, [], ◌≡◌, refl, sym, ap, subst, ◌∙◌, append-nil, append_assoc, arith}
 use Rattle.std.proofs.lemmas.List.{length_push}
 use Rattle.std.proofs.lemmas.List.Elements.{All-push}
-use Rattle.waveform.specs.Changes.{IsBounded}
-use Rattle.delay_replay.specs.Turns.{AddsWaves}
+use Rattle.delay_replay.specs.Changes.{IsBounded}
+use Rattle.delay_replay.specs.ReplayTurns.{AddsWaves}
 use Rattle.delay_replay.proofs.Replaying.{still_bounded}
 use Rattle.delay_replay.proofs.line_waves.add_still_waves.Goals as goal
 

@@ -1,4 +1,4 @@
-use Rattle.delay_replay.specs.Turns.{AddsWaves}
+use Rattle.delay_replay.specs.ReplayTurns.{AddsWaves}
 use Rattle.delay_replay.proofs.line_waves.add_still_waves.Given as goal
 
 -- so many waves are added as there were turns

@@ -1,12 +1,13 @@
 -- The replay of the sources, of each gate, and what is known behind the last one.
 use Rattle.std.proofs.Common.{◌+◌, length, get_or, set, take, sum_by, sym, ap, subst, subst₂, ◌∙◌, arith}
 use Rattle.std.proofs.lemmas.Result.{err_from_is_err_and}
+use Rattle.pd_base.specs.declared.ids.LineId.{LineId}
 use Rattle.netlist.specs.Circuit.{gate_line}
 use Rattle.netlist.specs.Waves.{delay_copy}
-use Rattle.waveform.specs.Changes.{Changes, AreChangesOf}
-use Rattle.waveform.specs.GateWaves.{gate_wave, line_wave}
+use Rattle.delay_replay.specs.Changes.{Changes, AreChangesOf}
+use Rattle.delay_replay.specs.GateWaves.{gate_wave, line_wave}
 use Rattle.delay_annotation.specs.Annotation.{delays_of}
-use Rattle.delay_replay.specs.Turns.{AddsWaves, RefusesTurn}
+use Rattle.delay_replay.specs.ReplayTurns.{AddsWaves, RefusesGate}
 use Rattle.delay_replay.proofs.EndValues.{latest_small, small_delay}
 use Rattle.delay_replay.proofs.PrefixLengths.{latest_is_greatest}
 use Rattle.delay_replay.proofs.Replaying.{IsReplayed, all_few, all_waves, begun, few_source_changes, line_goes, turn_refused, turned}
@@ -25,15 +26,15 @@ returns-in_err-add_still_waves-clause-refused c =
 
 pub change_total-total-requires : goal.change_total-total-requires
 change_total-total-requires c =
-    let few = few_source_changes c.args.net.now c.args.pair.now (delays_of c.args.delays.now) c.sources-sources.ensures.circuit
+    let few = few_source_changes c.args.net.now c.args.pair.now (delays_of c.args.net.now c.args.delays.now) c.sources.ensures.circuit
     c.in_ok-waves.waves.items c.in_ok-waves.ensures in
     let same = ap (sum_by (λ (own : Changes). length own.times)) c.deref.ensures.value in
-    let lines = c.sources-sources.ensures.circuit.few_lines in
+    let lines = c.sources.ensures.circuit.few_lines in
     omega arith
 
 pub loop-gate-init : goal.loop-gate-init
 loop-gate-init c =
-    begun c.args.net.now c.args.pair.now (delays_of c.args.delays.now) c.sources-sources.ensures.circuit
+    begun c.args.net.now c.args.pair.now (delays_of c.args.net.now c.args.delays.now) c.sources.ensures.circuit
     c.in_ok-waves.waves.items c.in_ok-waves.ensures c.add_still_waves.new.waves.items
     (subst (λ gates. AddsWaves gates c.in_ok-waves.waves.items c.add_still_waves.new.waves.items) c.gates.ensures
     c.in_ok-add_still_waves.ensures)
@@ -43,28 +44,28 @@ loop-gate-init c =
 pub returns-in_err-wave-clause-refused : goal.returns-in_err-wave-clause-refused
 returns-in_err-wave-clause-refused c =
     let net = c.args.net.now in
-    let delays = delays_of c.args.delays.now in
+    let delays = delays_of c.args.net.now c.args.delays.now in
     let order = c.order-gate-items in
     let place = c.loop-gate.gate-index in
     let fault = c.in_err-wave.field-0.0 in
     let gate = (get_or order.result.now place (record { 0 = 0 })).0 in
     let answer = err_from_is_err_and c.from_residual-in_err-wave.result c.from_residual-in_err-wave.ensures.1 in
-    rw (answer.1, answer.2) (turn_refused net c.args.pair.now delays c.sources-sources.ensures.circuit
+    rw (answer.1, answer.2) (turn_refused net c.args.pair.now delays c.sources.ensures.circuit
     (small_delay net c.args.delays.now c.requires.fits) order.result.now order.ensures.rank order.ensures.reads
     place c.loop-gate-test.true c.loop-gate.waves.items c.loop-gate.total c.loop-gate.invariant fault
-    (subst (λ waves. RefusesTurn (gate_wave (delay_copy delays) net gate (line_wave waves)) (gate_line net gate) c.loop-gate.total
+    (subst (λ waves. RefusesGate (gate_wave (delay_copy delays) net gate (line_wave waves)) (gate_line net gate) c.loop-gate.total
     fault) c.deref-in-loop-gate.ensures.value c.in_err-wave.ensures.refused))
 
 pub loop-gate-preserved : goal.loop-gate-preserved
 loop-gate-preserved c =
     let net = c.args.net.now in
     let pair = c.args.pair.now in
-    let delays = delays_of c.args.delays.now in
+    let delays = delays_of c.args.net.now c.args.delays.now in
     let order = c.order-gate-items in
     let place = c.loop-gate.gate-index in
     let wave = c.in_ok-wave.wave in
     let gate = (get_or order.result.now place (record { 0 = 0 })).0 in
-    let more = turned net pair delays c.sources-sources.ensures.circuit
+    let more = turned net pair delays c.sources.ensures.circuit
     (small_delay net c.args.delays.now c.requires.fits) order.result.now order.ensures.rank order.ensures.reads
     place c.loop-gate-test.true c.loop-gate.waves.items c.loop-gate.total c.loop-gate.invariant wave
     (subst (λ waves. AreChangesOf (gate_wave (delay_copy delays) net gate (line_wave waves)) wave)
@@ -72,13 +73,13 @@ loop-gate-preserved c =
     c.in_ok-wave.ensures.few c.in_ok-wave.ensures.few_of_all in
     subst₂ (λ line count. IsReplayed net pair delays (take (place + 1) order.result.now)
     (set c.loop-gate.waves.items line wave) (c.loop-gate.total + count))
-    (ap (λ sources. sources + gate) (sym c.sources-sources.ensures.count)) (ap length (sym c.changes.ensures.times)) more
+    (ap (λ (l : LineId). l.0) (sym c.line_of.ensures.line)) (ap length (sym c.changes.ensures.times)) more
 
 pub returns-clause-waves : goal.returns-clause-waves
 returns-clause-waves c =
     let net = c.args.net.now in
     let order = c.order-gate-items in
-    all_waves net c.args.pair.now (delays_of c.args.delays.now) c.sources-sources.ensures.circuit
+    all_waves net c.args.pair.now (delays_of c.args.net.now c.args.delays.now) c.sources.ensures.circuit
     (small_delay net c.args.delays.now c.requires.fits) order.result.now order.ensures.rank order.ensures.reads
     c.loop-gate.gate-index c.loop-gate-test.false c.loop-gate.waves.items c.loop-gate.total c.loop-gate.invariant
 
@@ -86,25 +87,25 @@ pub returns-clause-values : goal.returns-clause-values
 returns-clause-values c =
     let net = c.args.net.now in
     let order = c.order-gate-items in
-    let waves = all_waves net c.args.pair.now (delays_of c.args.delays.now) c.sources-sources.ensures.circuit
+    let waves = all_waves net c.args.pair.now (delays_of c.args.net.now c.args.delays.now) c.sources.ensures.circuit
     (small_delay net c.args.delays.now c.requires.fits) order.result.now order.ensures.rank order.ensures.reads
     c.loop-gate.gate-index c.loop-gate-test.false c.loop-gate.waves.items c.loop-gate.total c.loop-gate.invariant in
-    λ line within. line_goes net c.args.pair.now (delays_of c.args.delays.now) c.sources-sources.ensures.circuit line within _
+    λ line within. line_goes net c.args.pair.now (delays_of c.args.net.now c.args.delays.now) c.sources.ensures.circuit line within _
     (waves.each line within)
 
 pub returns-clause-latest : goal.returns-clause-latest
 returns-clause-latest c =
-    latest_small c.args.net.now c.sources-sources.ensures.circuit (delays_of c.args.delays.now)
+    latest_small c.args.net.now c.sources.ensures.circuit (delays_of c.args.net.now c.args.delays.now)
     (small_delay c.args.net.now c.args.delays.now c.requires.fits)
 
 pub returns-clause-few : goal.returns-clause-few
 returns-clause-few c =
     let net = c.args.net.now in
     let order = c.order-gate-items in
-    all_few net c.args.pair.now (delays_of c.args.delays.now) c.sources-sources.ensures.circuit
+    all_few net c.args.pair.now (delays_of c.args.net.now c.args.delays.now) c.sources.ensures.circuit
     (small_delay net c.args.delays.now c.requires.fits) order.result.now order.ensures.rank order.ensures.reads
     c.loop-gate.gate-index c.loop-gate-test.false c.loop-gate.waves.items c.loop-gate.total c.loop-gate.invariant
 
 pub returns-clause-greatest : goal.returns-clause-greatest
 returns-clause-greatest c =
-    latest_is_greatest (delays_of c.args.delays.now) c.args.net.now c.sources-sources.ensures.circuit
+    latest_is_greatest (delays_of c.args.net.now c.args.delays.now) c.args.net.now c.sources.ensures.circuit

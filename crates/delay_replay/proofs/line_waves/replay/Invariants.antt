@@ -5,4 +5,4 @@ use Rattle.delay_replay.proofs.line_waves.replay.Given as goal
 
 -- the sources and the gates before this one have their waves
 abbrev pub invariant-loop-gate : goal.invariant-loop-gate
-invariant-loop-gate l = IsReplayed l.net l.pair (delays_of l.delays) (take l.gate-index l.gate-items) l.waves.items l.total
+invariant-loop-gate l = IsReplayed l.net l.pair (delays_of l.net l.delays) (take l.gate-index l.gate-items) l.waves.items l.total

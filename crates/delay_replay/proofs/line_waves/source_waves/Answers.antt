@@ -4,7 +4,7 @@ use Rattle.std.proofs.lemmas.Bool.{cases_lt}
 use Rattle.std.proofs.lemmas.List.{get_or_append_left, get_or_push, length_push}
 use Rattle.netlist.specs.Values.{bit_of}
 use Rattle.netlist.specs.Waves.{source_wave}
-use Rattle.waveform.specs.Changes.{AreChangesOf}
+use Rattle.delay_replay.specs.Changes.{AreChangesOf}
 use Rattle.delay_replay.specs.LineWaves.{kept_wave, no_changes}
 use Rattle.delay_replay.proofs.Replaying.{wave_of_bits}
 use Rattle.delay_replay.proofs.line_waves.source_waves.Goals as goal

@@ -1,6 +1,6 @@
 use Rattle.std.proofs.Common.{◌≡◌, ◌<◌, ℕ, length}
 use Rattle.netlist.specs.Waves.{source_wave}
-use Rattle.waveform.specs.Changes.{AreChangesOf}
+use Rattle.delay_replay.specs.Changes.{AreChangesOf}
 use Rattle.delay_replay.specs.LineWaves.{kept_wave}
 use Rattle.delay_replay.proofs.line_waves.source_waves.Given as goal
 

@@ -5,8 +5,8 @@ use Rattle.std.specs.Int.{w128}
 use Rattle.std.specs.Int.RustNames.{int_le}
 use Rattle.std.proofs.lemmas.Int.{ints}
 use Rattle.std.proofs.lemmas.List.Sorted.{IsPartitionPoint-from_clause}
-use Rattle.waveform.specs.Changes.{wave_at}
-use Rattle.waveform.proofs.Turning.{is_odd, at_count, rising_parted}
+use Rattle.delay_replay.specs.Changes.{wave_at}
+use Rattle.delay_replay.proofs.Turning.{is_odd, at_count, rising_parted}
 use Rattle.delay_replay.proofs.settling.at_earlier.Goals as goal
 
 pub returns : goal.returns

@@ -3,7 +3,7 @@ use Rattle.std.proofs.Common.{length, get_or, ap, subst, ◌∙◌, to_z, of_z, 
 use Rattle.std.proofs.lemmas.List.{get_or_read}
 use Rattle.std.proofs.lemmas.Int.{to_z-of_z}
 use Rattle.netlist.specs.Circuit.{HasLines}
-use Rattle.waveform.specs.Changes.{wave_at}
+use Rattle.delay_replay.specs.Changes.{wave_at}
 use Rattle.delay_replay.specs.LineWaves.{no_changes}
 use Rattle.delay_replay.specs.Settling.{samples}
 use Rattle.delay_replay.proofs.Sampling.{all_sampled, one_sample_more, samples_of_waves}

@@ -22,7 +22,7 @@ sides_settled-requires-clause-behind c =
     let path = c.args.path.now in
     let net = c.args.net.now in
     let connects = subst (Connects net path.source.0) (sym c.steps-steps.ensures) c.requires.prefix.connects in
-    let rest = rest_small (delays_of c.args.delays.now) net c.lines-lines.ensures.circuit
+    let rest = rest_small (delays_of c.args.net.now c.args.delays.now) net c.lines-lines.ensures.circuit
     (small_delay net c.args.delays.now c.requires.fits) path.source.0 c.steps-steps.result.now c.loop-place.place
     (let source = c.requires.prefix.source in omega arith) connects in
     omega (arith, c.loop-place.invariant.behind)
@@ -31,7 +31,7 @@ pub returns-then-not-sides_settled-clause-exactly :
     goal.returns-then-not-sides_settled-clause-exactly
 returns-then-not-sides_settled-clause-exactly c =
     let net = c.args.net.now in
-    let delays = delays_of c.args.delays.now in
+    let delays = delays_of c.args.net.now c.args.delays.now in
     let time = to_z w64 (of_z w64 c.args.time) in
     let not_settled = one_step_not net delays c.args.waves.now time c.steps-steps.result.now c.loop-place.place
     (record { gate = record { 0 = 0 }; pin = 0 }) c.loop-place-test.true c.loop-place.auto.place
@@ -45,7 +45,7 @@ returns-then-not-sides_settled-clause-exactly c =
 pub returns-then-not-sides_settled-clause-of_waves :
     goal.returns-then-not-sides_settled-clause-of_waves
 returns-then-not-sides_settled-clause-of_waves c = λ pair are.
-    let both = steps_settled c.args.net.now c.lines-lines.ensures.circuit pair (delays_of c.args.delays.now) c.args.waves.now are
+    let both = steps_settled c.args.net.now c.lines-lines.ensures.circuit pair (delays_of c.args.net.now c.args.delays.now) c.args.waves.now are
     c.args.path.now.source.0 c.args.path.now.steps c.requires.prefix.connects c.args.time in
     let exactly = returns-then-not-sides_settled-clause-exactly c in
     (λ is. both.0 (exactly.0 is), λ settled. exactly.1 (both.1 settled))
@@ -69,7 +69,7 @@ overflow_add-behind c =
     let path = c.args.path.now in
     let net = c.args.net.now in
     let connects = subst (Connects net path.source.0) (sym c.steps-steps.ensures) c.requires.prefix.connects in
-    let rest = rest_small (delays_of c.args.delays.now) net c.lines-lines.ensures.circuit
+    let rest = rest_small (delays_of c.args.net.now c.args.delays.now) net c.lines-lines.ensures.circuit
     (small_delay net c.args.delays.now c.requires.fits) path.source.0 c.steps-steps.result.now c.loop-place.place
     (let source = c.requires.prefix.source in omega arith) connects in
     omega (arith, c.loop-place.invariant.behind, c.from-behind.ensures, c.delay.ensures.bounded)
@@ -77,7 +77,7 @@ overflow_add-behind c =
 pub loop-place-preserved : goal.loop-place-preserved
 loop-place-preserved c =
     let net = c.args.net.now in
-    let delays = delays_of c.args.delays.now in
+    let delays = delays_of c.args.net.now c.args.delays.now in
     let time = to_z w64 (of_z w64 c.args.time) in
     let steps = c.steps-steps.result.now in
     let place = c.loop-place.place in
@@ -93,16 +93,16 @@ loop-place-preserved c =
 pub returns-clause-exactly : goal.returns-clause-exactly
 returns-clause-exactly c =
     let none : c.loop-place.place ≡ 0 = omega arith in
-    let all = subst (λ place. HaveSettled c.args.net.now (delays_of c.args.delays.now) c.args.waves.now
+    let all = subst (λ place. HaveSettled c.args.net.now (delays_of c.args.net.now c.args.delays.now) c.args.waves.now
     (to_z w64 (of_z w64 c.args.time)) (drop place c.steps-steps.result.now)) none c.loop-place.invariant.settled in (
-      λ is. subst₂ (λ t steps. HaveSettled c.args.net.now (delays_of c.args.delays.now) c.args.waves.now t steps)
+      λ is. subst₂ (λ t steps. HaveSettled c.args.net.now (delays_of c.args.net.now c.args.delays.now) c.args.waves.now t steps)
           (to_z-of_z w64 c.args.time c.ranges.time) c.steps-steps.ensures all,
       λ have. refl,
     )
 
 pub returns-clause-of_waves : goal.returns-clause-of_waves
 returns-clause-of_waves c = λ pair are.
-    let both = steps_settled c.args.net.now c.lines-lines.ensures.circuit pair (delays_of c.args.delays.now) c.args.waves.now are
+    let both = steps_settled c.args.net.now c.lines-lines.ensures.circuit pair (delays_of c.args.net.now c.args.delays.now) c.args.waves.now are
     c.args.path.now.source.0 c.args.path.now.steps c.requires.prefix.connects c.args.time in
     let exactly = returns-clause-exactly c in
     (λ is. both.0 (exactly.0 is), λ settled. exactly.1 (both.1 settled))

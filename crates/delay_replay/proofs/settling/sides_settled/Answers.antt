@@ -19,7 +19,7 @@ returns-then-not-pin_settled c =
     let in_circuit = pins.ensures.in_circuit pin (record { 0 = 0 }) c.loop-pin-test.true in
     let kept = get_or_read c.args.waves.now line.0 c.index-waves-line.result (omega (arith, in_circuit)) c.index-waves-line.is
     no_changes in
-    let test = tested_at c.pin_settled.result (delays_of c.args.delays.now) c.index-waves-line.result
+    let test = tested_at c.pin_settled.result (delays_of c.args.net.now c.args.delays.now) c.index-waves-line.result
     (kept_wave c.args.waves.now line.0) (to_z w64 (of_z w64 c.args.time)) c.args.time c.args.behind c.args.step pin
     kept (to_z-of_z w64 c.args.time c.ranges.time) c.pin_settled.ensures in
     let reads = ap (λ lines. slice_get lines pin) (sym pins.ensures.pins)
@@ -34,7 +34,7 @@ loop-pin-preserved c =
     let here = c.loop-pin.pin in
     let waves = c.args.waves.now in
     let time = to_z w64 (of_z w64 c.args.time) in
-    let delays = delays_of c.args.delays.now in
+    let delays = delays_of c.args.net.now c.args.delays.now in
     let line = get_or pins.result.now here (record { 0 = 0 }) in
     let in_circuit = pins.ensures.in_circuit here (record { 0 = 0 }) c.loop-pin-test.true in
     let kept = get_or_read waves line.0 c.index-waves-line.result (omega (arith, in_circuit)) c.index-waves-line.is no_changes in
@@ -54,7 +54,7 @@ loop-pin-preserved c =
 pub returns : goal.returns
 returns c =
     let pins = c.pins-line-items in
-    let delays = delays_of c.args.delays.now in (
+    let delays = delays_of c.args.net.now c.args.delays.now in (
       λ is. λ pin side is_side.
           let reads = ap (λ lines. slice_get lines pin) pins.ensures.pins ∙ is_side.reads in
           let within = slice_get_within pins.result.now pin side reads in

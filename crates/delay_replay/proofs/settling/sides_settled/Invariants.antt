@@ -9,4 +9,4 @@ use Rattle.delay_replay.proofs.settling.sides_settled.Given as goal
 abbrev pub invariant-loop-pin : goal.invariant-loop-pin
 invariant-loop-pin l =
     (pin : ℕ) (line : LineId) → pin < l.pin → slice_get l.line-items pin ≡ Some line
-    → IsOwnOrSettled (delays_of l.delays) (kept_wave l.waves line.0) (l.time -ℤ pos l.behind) l.step pin
+    → IsOwnOrSettled (delays_of l.net l.delays) (kept_wave l.waves line.0) (l.time -ℤ pos l.behind) l.step pin

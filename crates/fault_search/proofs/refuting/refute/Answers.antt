@@ -2,7 +2,7 @@
 use Rattle.std.proofs.Common.{◌≡◌, ℕ, ◌+◌, [], ◌∷◌, ◌++◌, length, ap, subst, ◌∙◌, arith}
 use Rattle.pd_base.specs.Route.{Route}
 use Rattle.verdict_runs.specs.declared.findings.Refutation.{Refutation}
-use Rattle.fault_search.specs.Refuting.{AreSettled}
+use Rattle.fault_search.specs.Refuting.{AreRefutedUnder}
 use Rattle.fault_search.proofs.Places.{at_index, same_item}
 use Rattle.fault_search.proofs.refuting.refute.Goals as goal
 
@@ -17,10 +17,10 @@ returns c =
     ap length c.steps.ensures ∙ ap (λ (r : Route). length r.steps) own in
     let made : ℕ → Refutation =
     λ n. record { kind = c.args.aim.kind; dir = c.args.aim.dir; path = c.first_with.result + 1; steps = n; tree = c.args.tree } in
-    let P : ℕ → Type 0 = λ n. AreSettled paths c.args.at n c.args.outcomes.now c.settle_all.new.outcomes in
+    let P : ℕ → Type 0 = λ n. AreRefutedUnder paths c.args.at n c.args.outcomes.now c.share_refutation.new.outcomes in
     record {
       first = c.first_with.result;
       is_first = first;
       added = c.in_ok-push.ensures.items ∙ ap (λ n. c.args.refutations.now.items ++ made n ∷ []) steps;
-      settled = subst P (omega arith) c.settle_all.ensures;
+      shared = subst P (omega arith) c.share_refutation.ensures;
     }

@@ -26,9 +26,9 @@ loop-gate-preserved c =
     let out = c.loop-gate.out in
     let value = λ (lines : List LineId). map (λ pin. five_at out pin.0) lines in
     one_set net (five_at c.args.partial.now) (λ gate values. gate_five (kind_at net gate) values)
-    c.sources-sources.ensures.circuit order.result.now order.ensures.rank order.ensures.reads
+    c.sources.ensures.circuit order.result.now order.ensures.rank order.ensures.reads
     c.loop-gate.gate-index c.loop-gate-test.true (λ (value : Five). value) XX out _ c.gate_five.result
-    (omega arith) (omega arith)
+    (ap (λ (l : LineId). l.0) c.line_of-line.ensures.line) (omega arith)
     (c.gate_five.ensures ∙ ap₂ gate_five c.kind.ensures (ap value c.pins.ensures.pins))
     c.loop-gate.invariant
 
@@ -46,6 +46,6 @@ returns c =
       exactly = exactly;
       completions = λ pair sources line within.
           subst (λ v. Has 4 (states_of v) (state_under net pair line)) (sym (exactly line within))
-          (line_holds net c.sources-sources.ensures.circuit pair partial
+          (line_holds net c.sources.ensures.circuit pair partial
           (λ source inside. sources source (omega arith)) line (omega arith));
     }

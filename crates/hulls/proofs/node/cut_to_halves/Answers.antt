@@ -4,8 +4,8 @@ use Rattle.std.specs.List.{All}
 use Rattle.std.proofs.lemmas.List.{take_more, take_all}
 use Rattle.std.proofs.lemmas.List.Elements.{All-push, All-pop}
 use Rattle.state_sets.specs.Hulls.{HasAt}
-use Rattle.hull_laws.specs.declared.half.Half.{Half}
-use Rattle.hull_laws.specs.Nodes.{IsCut}
+use Rattle.state_laws.specs.declared.half.Half.{Half}
+use Rattle.state_laws.specs.Nodes.{IsCut}
 use Rattle.hulls.proofs.node.cut_to_halves.Goals as goal
 
 pub loop-half-preserved : goal.loop-half-preserved

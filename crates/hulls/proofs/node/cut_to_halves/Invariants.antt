@@ -3,7 +3,7 @@ use Rattle.std.specs.List.{All}
 use Rattle.state_sets.specs.declared.state.State.{State}
 use Rattle.state_sets.specs.Labellings.{IsLabelling}
 use Rattle.state_sets.specs.Hulls.{HasAt}
-use Rattle.hull_laws.specs.Nodes.{IsCut}
+use Rattle.state_laws.specs.Nodes.{IsCut}
 use Rattle.hulls.proofs.node.cut_to_halves.Given as goal
 
 abbrev pub invariant-loop-half : goal.invariant-loop-half

@@ -5,8 +5,9 @@ use Rattle.std.proofs.lemmas.List.{take_all}
 use Rattle.pd_base.specs.declared.ids.PinRef.{PinRef}
 use Rattle.netlist.specs.Circuit.{line_count}
 use Rattle.netlist.specs.Paths.{Connects}
+use Rattle.netlist.specs.Pins.{IsPin}
 use Rattle.state_sets.specs.Hulls.{condition_at}
-use Rattle.hulls.specs.Conditions.{Entered, IsPinOf}
+use Rattle.hulls.specs.Conditions.{Entered}
 use Rattle.hulls.proofs.Prefixes.{pin_fits, pins_of_steps, step_is_first, step_has_room, step_is_pin}
 use Rattle.hulls.proofs.node.enter_all.Goals as goal
 
@@ -17,7 +18,7 @@ enter-requires-clause-gate c =
     let is = step_is_pin c.args.net.now c.requires.circuit source steps connects c.loop-step.step-index c.loop-step-test.true
     (record { gate = record { 0 = 0 }; pin = 0 }) in
     let e = ap (λ (e : Entered). e.gates) c.loop-step.invariant in
-    omega (arith, is.gate, c.requires.gates)
+    omega (arith, is.in_circuit, c.requires.gates)
 
 pub enter-requires-clause-pin : goal.enter-requires-clause-pin
 enter-requires-clause-pin c =
@@ -58,7 +59,7 @@ returns-clause-on c =
     let connects = subst (Connects net source) (sym c.steps-step-items.ensures) c.requires.prefix.connects in
     record {
       gates = ap (λ (e : Entered). e.gates) c.loop-step.invariant ∙ c.requires.gates;
-      steps = subst (λ (list : List PinRef). All (IsPinOf net) list)
+      steps = subst (λ (list : List PinRef). All (IsPin net) list)
           (sym (ap (λ (e : Entered). e.steps) c.loop-step.invariant ∙ take_all c.loop-step.step-index steps c.loop-step-test.false))
           (pins_of_steps net c.requires.circuit source steps connects);
     }

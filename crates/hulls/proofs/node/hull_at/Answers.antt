@@ -1,12 +1,13 @@
 -- The labels settled are those of the node.
 use Rattle.std.proofs.Common.{ap, ◌∙◌}
+use Rattle.pd_base.specs.Target.{target_of}
 use Rattle.hulls.specs.Conditions.{Entered}
 use Rattle.hulls.proofs.Nodes.{entered_hull, entered_emptied}
 use Rattle.hulls.proofs.node.hull_at.Goals as goal
 
 pub returns-in-None-clause-hull : goal.returns-in-None-clause-hull
 returns-in-None-clause-hull c = (
-  entered_hull c.args.net.now c.args.kind c.args.prefix.now c.args.dir c.args.halves.now c.launch.new.labels c.cut_to_halves.new.labels
+  entered_hull c.args.net.now c.args.rules.now (target_of c.args.prefix.now c.args.dir c.args.kind) c.args.halves.now c.launch.new.labels c.cut_to_halves.new.labels
       c.enter_all.new.conditions c.source.result
       (ap (λ (e : Entered). e.kind) c.enter_all.ensures.steps ∙ ap (λ (e : Entered). e.kind) c.in_ok-conditions.ensures.empty)
       (ap (λ (e : Entered). e.steps) c.enter_all.ensures.steps) c.source.ensures c.launch.ensures.start c.cut_to_halves.ensures.cut
@@ -17,7 +18,7 @@ returns-in-None-clause-hull c = (
 pub returns-clause-hull : goal.returns-clause-hull
 returns-clause-hull c = (
   c.in-Some.ensures.emptied.0,
-  entered_emptied c.args.net.now c.args.kind c.args.prefix.now c.args.dir c.args.halves.now c.launch.new.labels c.cut_to_halves.new.labels
+  entered_emptied c.args.net.now c.args.rules.now (target_of c.args.prefix.now c.args.dir c.args.kind) c.args.halves.now c.launch.new.labels c.cut_to_halves.new.labels
       c.enter_all.new.conditions c.source.result
       (ap (λ (e : Entered). e.kind) c.enter_all.ensures.steps ∙ ap (λ (e : Entered). e.kind) c.in_ok-conditions.ensures.empty)
       (ap (λ (e : Entered). e.steps) c.enter_all.ensures.steps) c.source.ensures c.launch.ensures.start c.cut_to_halves.ensures.cut

@@ -1,6 +1,6 @@
 -- Sweeps keep each labelling at rest, and the last one shows that the labels are at rest.
 use Rattle.state_sets.specs.Hulls.{IsNarrowingOf}
-use Rattle.hull_laws.proofs.Sweeps.{keeps_none, keeps_on, hull_of_rest, emptied_of_kept}
+use Rattle.state_laws.proofs.Sweeps.{keeps_none, keeps_on, hull_of_rest, emptied_of_kept}
 use Rattle.hulls.proofs.settling.settle.Goals as goal
 
 pub returns-in-Some-clause-emptied : goal.returns-in-Some-clause-emptied

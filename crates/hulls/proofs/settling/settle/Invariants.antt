@@ -1,5 +1,5 @@
 use Rattle.state_sets.specs.Hulls.{IsNarrowingOf, HasNoEmptySet}
-use Rattle.hull_laws.specs.Sweeps.{KeepsRests, total}
+use Rattle.state_laws.specs.Sweeps.{KeepsRests, label_total}
 use Rattle.hulls.proofs.settling.settle.Given as goal
 
 abbrev pub invariant-sweeps : goal.invariant-sweeps
@@ -9,4 +9,4 @@ invariant-sweeps g l = record {
 }
 
 abbrev pub decreases-sweeps : goal.decreases-sweeps
-decreases-sweeps g l = total l.labels
+decreases-sweeps g l = label_total l.labels

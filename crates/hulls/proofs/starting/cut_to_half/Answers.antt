@@ -2,7 +2,7 @@
 use Rattle.std.proofs.Common.{◌↔◌, sym, subst}
 use Rattle.state_sets.specs.Hulls.{HasAt}
 use Rattle.state_sets.specs.Labellings.{IsLabelling}
-use Rattle.hull_laws.specs.Nodes.{IsCut}
+use Rattle.state_laws.specs.Nodes.{IsCut}
 use Rattle.hulls.proofs.Starts.{is_cut, cut_labelling}
 use Rattle.hulls.proofs.starting.cut_to_half.Goals as goal
 

@@ -1,7 +1,7 @@
 -- A state more is gathered exactly where it is in the half.
 use Rattle.std.proofs.Common.{arith}
 use Rattle.state_sets.specs.Starts.{IsInHalf}
-use Rattle.narrowing.proofs.Sets.{gathers_next}
+use Rattle.hulls.proofs.Sets.{gathers_next}
 use Rattle.hulls.proofs.starting.half_states.Goals as goal
 
 pub loop-number-preserved : goal.loop-number-preserved

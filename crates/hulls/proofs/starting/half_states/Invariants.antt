@@ -1,5 +1,5 @@
 use Rattle.state_sets.specs.Starts.{IsInHalf}
-use Rattle.narrowing.specs.Sets.{Gathers}
+use Rattle.hulls.specs.Sets.{Gathers}
 use Rattle.hulls.proofs.starting.half_states.Given as goal
 
 abbrev pub invariant-loop-number : goal.invariant-loop-number

@@ -4,7 +4,7 @@ use Rattle.netlist.specs.Circuit.{line_count}
 use Rattle.state_sets.specs.declared.state.StateSet.{StateSet}
 use Rattle.state_sets.specs.Hulls.{HasAt}
 use Rattle.state_sets.specs.Starts.{MayStart}
-use Rattle.narrowing.proofs.Whole.{lent_back}
+use Rattle.hulls.proofs.Whole.{lent_back}
 use Rattle.hulls.proofs.Starts.{is_start}
 use Rattle.hulls.proofs.starting.launch.Goals as goal
 
@@ -16,9 +16,9 @@ returns-clause-start g c line state =
     let value : length c.as_mut_slice.result.now ≡ length old = ap length c.as_mut_slice.ensures.value in
     let same : length new ≡ length old = omega arith in
     subst (λ (labels : List StateSet). HasAt a.count labels line state
-    ↔ ((line < line_count net) × (state.0 < a.count) × MayStart a net c.args.source.0 c.args.direction line state))
+    ↔ ((line < line_count net) × (state.0 < a.count) × MayStart a net c.args.rules.now c.args.source.0 c.args.direction line state))
     (sym (lent_back old new same))
-    (is_start a net c.args.source.0 c.args.direction c.requires.source new
+    (is_start a net c.args.rules.now c.args.source.0 c.args.direction c.requires.source new
     (record { one_each = same ∙ c.requires.lines; within = c.launch_in.ensures.within })
     c.launch_in.ensures.own
     (λ l in_sources away. c.launch_in.ensures.others l (omega arith) away)

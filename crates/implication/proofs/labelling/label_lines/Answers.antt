@@ -12,11 +12,11 @@ cut_sources-requires-clause-sources g c =
 pub settle-requires-clause-conditions : goal.settle-requires-clause-conditions
 settle-requires-clause-conditions g c =
     entered_on c.args.net.now c.args.begun.source.0 c.args.assumptions.now c.requires.assumptions.connects c.set_steps.new.conditions
-    c.set_steps.ensures.room c.set_steps.ensures.steps
+    c.set_steps.ensures.steps.room c.set_steps.ensures.steps.entered
 
 pub returns-clause-answer : goal.returns-clause-answer
 returns-clause-answer g c =
     settled_under g.A.Algebra.algebra c.args.net.now c.args.begun c.args.assumptions.now c.launch.new.labels c.cut_sources.new.labels
     c.launch.ensures.start c.cut_sources.ensures.cut c.set_steps.new.conditions.kind c.set_steps.new.conditions.steps
-    c.set_steps.ensures.kind c.set_steps.ensures.steps c.settle.new.labels c.settle.result c.settle.ensures.hull
+    c.set_steps.ensures.kind c.set_steps.ensures.steps.entered c.settle.new.labels c.settle.result c.settle.ensures.hull
     c.settle.ensures.none_empty c.settle.ensures.emptied

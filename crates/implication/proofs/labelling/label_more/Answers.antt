@@ -24,7 +24,7 @@ set_step-requires g c =
     subst P (sym c.set_kind.ensures)
     (can_step c.args.net.now c.requires.circuit c.args.begun.source.0 within list c.requires.assumptions.connects (length list - 1) nowhere inside
     (record c.args.conditions.now { kind = c.args.begun.kind }) (get_or list (length list - 1) nowhere) refl
-    (record { gates = c.requires.room.gates; levels = c.requires.room.levels }) c.requires.steps)
+    (record { gates = c.requires.steps.room.gates; levels = c.requires.steps.room.levels }) c.requires.steps.entered)
 
 pub cut_source-requires : goal.cut_source-requires
 cut_source-requires g c =
@@ -36,21 +36,24 @@ pub settle-requires-clause-conditions : goal.settle-requires-clause-conditions
 settle-requires-clause-conditions g c =
     entered_on c.args.net.now c.args.begun.source.0 c.args.assumptions.now c.requires.assumptions.connects c.set_step.new.conditions
     (last_room c.args.conditions.now c.set_kind.new.self c.set_step.new.conditions c.args.begun.kind c.set_kind.ensures c.args.assumptions.now nowhere
-    c.set_step.ensures c.args.net.now c.requires.room)
+    c.set_step.ensures c.args.net.now c.requires.steps.room)
     (last_stepped c.args.conditions.now c.set_kind.new.self c.set_step.new.conditions c.args.begun.kind c.set_kind.ensures
-    c.args.assumptions.now nowhere c.set_step.ensures c.requires.some c.requires.steps)
+    c.args.assumptions.now nowhere c.set_step.ensures c.requires.some c.requires.steps.entered)
 
 pub returns-clause-steps : goal.returns-clause-steps
-returns-clause-steps g c =
-    last_stepped c.args.conditions.now c.set_kind.new.self c.set_step.new.conditions c.args.begun.kind c.set_kind.ensures
-    c.args.assumptions.now nowhere c.set_step.ensures c.requires.some c.requires.steps
+returns-clause-steps g c = record {
+  room = last_room c.args.conditions.now c.set_kind.new.self c.set_step.new.conditions c.args.begun.kind c.set_kind.ensures
+      c.args.assumptions.now nowhere c.set_step.ensures c.args.net.now c.requires.steps.room;
+  entered = last_stepped c.args.conditions.now c.set_kind.new.self c.set_step.new.conditions c.args.begun.kind c.set_kind.ensures
+      c.args.assumptions.now nowhere c.set_step.ensures c.requires.some c.requires.steps.entered;
+}
 
 pub returns-clause-answer : goal.returns-clause-answer
 returns-clause-answer g c =
     let list = c.args.assumptions.now in
     let whole = whole_list list nowhere c.requires.some in
     let steps = last_stepped c.args.conditions.now c.set_kind.new.self c.set_step.new.conditions c.args.begun.kind c.set_kind.ensures list nowhere
-    c.set_step.ensures c.requires.some c.requires.steps in
+    c.set_step.ensures c.requires.some c.requires.steps.entered in
     let P : List Assumption → Type 0 = λ xs. AreLabelsUnder g.A.Algebra.algebra c.args.net.now c.args.begun xs c.settle.new.labels c.settle.result in
     subst P whole
     (settled_more g.A.Algebra.algebra c.args.net.now c.args.begun (take (length list - 1) list) (get_or list (length list - 1) nowhere) c.args.labels.now c.cut_source.new.labels

@@ -1,4 +1,5 @@
 use Rattle.std.proofs.Common.{ap}
+use Rattle.pd_base.specs.Target.{target_of}
 use Rattle.implication.specs.Scopes.{standing}
 use Rattle.implication.specs.Standing.{Standing}
 use Rattle.justify.proofs.Starting.{ended_restored, ended_mark}
@@ -7,7 +8,7 @@ use Rattle.justify.proofs.searching.search.Goals as goal
 
 pub back_to-requires-clause-now : goal.back_to-requires-clause-now
 back_to-requires-clause-now g c =
-    ended_mark c.args.path.now c.args.dir c.args.kind (standing c.args.scope.now) (standing c.find-found.new.scope) c.requires.start
+    ended_mark (target_of c.args.path.now c.args.dir c.args.kind) (standing c.args.scope.now) (standing c.find-found.new.scope) c.requires.start
     c.find-found.ensures.under_way c.mark-mark.result.at c.mark-mark.ensures
 
 pub returns-clause-counted : goal.returns-clause-counted
@@ -17,6 +18,6 @@ returns-clause-counted g c =
 
 pub returns-clause-restored : goal.returns-clause-restored
 returns-clause-restored g c =
-    ended_restored c.args.path.now c.args.dir c.args.kind (standing c.args.scope.now) (standing c.find-found.new.scope)
+    ended_restored (target_of c.args.path.now c.args.dir c.args.kind) (standing c.args.scope.now) (standing c.find-found.new.scope)
     (standing c.back_to.new.self) c.requires.start c.find-found.ensures.under_way c.find-found.ensures.net c.find-found.ensures.later
     c.mark-mark.result.at c.mark-mark.ensures c.back_to.ensures.back

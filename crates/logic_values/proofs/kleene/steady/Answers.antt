@@ -7,8 +7,14 @@ use Rattle.netlist.specs.Steadiness.{agreed_bit, known_gate_value}
 use Rattle.path_laws.proofs.Steadiness.{steady_wave_of, steady_first, steady_second}
 use Rattle.logic_values.specs.Known.{known, known_at}
 use Rattle.logic_values.specs.declared.steadiness.Steady.TheVariants.{Zero}
-use Rattle.logic_values.proofs.RankPass.{all_read, one_set}
+use Rattle.logic_values.proofs.RankPass.{all_read, begun, one_set}
 use Rattle.logic_values.proofs.kleene.steady.Goals as goal
+
+pub loop-gate-init : goal.loop-gate-init
+loop-gate-init c =
+    let net = c.args.net.now in
+    begun net (agreed_bit c.args.pair.now) (λ gate values. known_gate_value (kind_at net gate) values)
+    (known_at c.set_sources.new.out) (λ source inside. c.set_sources.ensures source (omega arith))
 
 pub loop-gate-preserved : goal.loop-gate-preserved
 loop-gate-preserved c =
@@ -17,9 +23,9 @@ loop-gate-preserved c =
     let out = c.loop-gate.out in
     let told = λ (lines : List LineId). map (λ pin. known_at out pin.0) lines in
     one_set net (agreed_bit c.args.pair.now) (λ gate values. known_gate_value (kind_at net gate) values)
-    c.sources.ensures.circuit order.result.now order.ensures.rank order.ensures.reads
+    c.lines.ensures.circuit order.result.now order.ensures.rank order.ensures.reads
     c.loop-gate.gate-index c.loop-gate-test.true known Zero out _ c.gate_steadiness.result
-    (omega arith) (omega arith)
+    (ap (λ (l : LineId). l.0) c.line_of-line.ensures.line) (omega arith)
     (c.gate_steadiness.ensures ∙ ap₂ known_gate_value c.kind.ensures (ap told c.pins.ensures.pins))
     c.loop-gate.invariant
 

@@ -8,8 +8,8 @@ use Rattle.net_builder.proofs.Assembly.{gates_counted, keys_counted, stored_itse
 use Rattle.net_builder.proofs.Deep.{few_lines}
 use Rattle.net_builder.proofs.building.build.Goals as goal
 
-pub pins_of-requires : goal.pins_of-requires
-pins_of-requires c =
+pub pins_of-requires-clause-few : goal.pins_of-requires-clause-few
+pins_of-requires-clause-few c =
     let st = c.args.raw.now in
     omega (arith, keys_counted st c.in_ok-names.names.keys c.in_ok-names.ensures.names, few_lines st c.in_ok-check_limits.ensures.within)
 
@@ -22,9 +22,8 @@ overflow_sub-sources c =
       arith,
       lines,
       c.len-2.ensures,
-      c.in_ok-pins.pins.ok.0,
       keys_counted st c.in_ok-names.names.keys c.in_ok-names.ensures.names,
-      gates_counted st c.in_ok-pins.pins.items pins,
+      gates_counted st c.in_ok-pins.pins pins,
     )
 
 pub overflow_cast-sources : goal.overflow_cast-sources
@@ -42,10 +41,19 @@ wires_of-requires-clause-sources c =
       arith,
       lines,
       c.len-2.ensures,
-      c.in_ok-pins.pins.ok.0,
       keys_counted st c.in_ok-names.names.keys c.in_ok-names.ensures.names,
-      gates_counted st c.in_ok-pins.pins.items pins,
+      gates_counted st c.in_ok-pins.pins pins,
     )
+
+pub wires_of-requires-clause-pins : goal.wires_of-requires-clause-pins
+wires_of-requires-clause-pins c =
+    let st = c.args.raw.now in
+    c.in_ok-pins.ensures ∙ ap (λ names. map (λ gate. map (line_named names) gate.arguments) (gates st)) c.in_ok-names.ensures.names
+
+pub layout_of-requires-clause-pins : goal.layout_of-requires-clause-pins
+layout_of-requires-clause-pins c =
+    let st = c.args.raw.now in
+    c.in_ok-pins.ensures ∙ ap (λ names. map (λ gate. map (line_named names) gate.arguments) (gates st)) c.in_ok-names.ensures.names
 
 pub layout_of-requires-clause-sources : goal.layout_of-requires-clause-sources
 layout_of-requires-clause-sources c =
@@ -56,9 +64,8 @@ layout_of-requires-clause-sources c =
       arith,
       lines,
       c.len-2.ensures,
-      c.in_ok-pins.pins.ok.0,
       keys_counted st c.in_ok-names.names.keys c.in_ok-names.ensures.names,
-      gates_counted st c.in_ok-pins.pins.items pins,
+      gates_counted st c.in_ok-pins.pins pins,
     )
 
 pub new-requires : goal.new-requires
@@ -75,6 +82,6 @@ returns-clause-circuit c =
         defined = c.in_ok-check_uses.ensures.defined;
       };
       is = same;
-      loop_free = subst IsLoopFree (sym same) c.in_ok-wires.ensures.loop_free;
-      few_levels = subst (λ d. greatest_level d ≤ MOST_LEVELS) (sym same) c.in_ok-wires.ensures.few_levels;
+      loop_free = subst IsLoopFree (sym same) c.in_ok-wires.ensures.wires.loop_free;
+      few_levels = subst (λ d. greatest_level d ≤ MOST_LEVELS) (sym same) c.in_ok-wires.ensures.wires.few_levels;
     }

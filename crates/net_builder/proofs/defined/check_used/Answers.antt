@@ -5,7 +5,7 @@ use Rattle.std.proofs.lemmas.List.{take_all}
 use Rattle.std.proofs.lemmas.List.Elements.{All-more}
 use Rattle.netlist.specs.Description.{defined_names}
 use Rattle.netlist.specs.Statements.{used_by}
-use Rattle.raw_netlist.specs.Reading.{statement_at}
+use Rattle.net_builder.specs.Reading.{statement_at}
 use Rattle.net_builder.specs.Refusals.{RefusesUndefined, mention_of}
 use Rattle.net_builder.proofs.ByLine.{is_defined, is_line}
 use Rattle.net_builder.proofs.Defining.{undefined_here}

@@ -2,7 +2,7 @@ use Rattle.std.proofs.Common.{take}
 use Rattle.std.specs.List.{All, Contains}
 use Rattle.netlist.specs.Description.{defined_names}
 use Rattle.netlist.specs.Statements.{used_by}
-use Rattle.raw_netlist.specs.Reading.{statement_at}
+use Rattle.net_builder.specs.Reading.{statement_at}
 use Rattle.net_builder.proofs.defined.check_used.Given as goal
 
 abbrev pub invariant-loop-argument : goal.invariant-loop-argument

@@ -4,13 +4,13 @@ use Rattle.std.specs.List.{All, Contains}
 use Rattle.std.proofs.lemmas.List.Elements.{All-weaker}
 use Rattle.pd_base.specs.declared.ids.LineId.{LineId}
 use Rattle.netlist.specs.Description.{defined_names, gates, used_names}
-use Rattle.netlist.specs.Stored.{lists, small_lists}
-use Rattle.netlist.proofs.StoredLists.{lists-length}
 use Rattle.net_builder.proofs.Assembly.{keys_counted}
 use Rattle.net_builder.proofs.ByLine.{is_defined}
 use Rattle.net_builder.proofs.Deep.{few_lines}
+use Rattle.net_builder.proofs.Looking.{names_of_keys}
 use Rattle.net_builder.proofs.KnownUses.{all_used, arguments_have_lines}
 use Rattle.net_builder.proofs.defined.check_uses.Goals as goal
+use Rattle.net_builder.specs.KeyNames.{key_names}
 
 pub overflow_cast-len : goal.overflow_cast-len
 overflow_cast-len c =
@@ -20,10 +20,10 @@ overflow_cast-len c =
 pub returns-then-others_defined-clause-defined : goal.returns-then-others_defined-clause-defined
 returns-then-others_defined-clause-defined c =
     let st = c.args.raw.now in
-    let names = lists c.args.names.now.keys in
-    let many : c.len.result ≡ length names = c.len.ensures.len ∙ sym (lists-length c.args.names.now.keys) in
+    let names = key_names c.args.names.now.keys in
+    let many : c.len.result ≡ length names = c.len.ensures.len ∙ sym (names_of_keys c.args.names.now.keys) in
     let below = c.if-are_lines.ensures refl in
-    let read = subst (λ (n : ℕ). All (λ (gate : List LineId). All (λ (line : LineId). line.0 < n) gate) (small_lists c.args.pins.now)) many below in
+    let read = subst (λ (n : ℕ). All (λ (gate : List LineId). All (λ (line : LineId). line.0 < n) gate) c.args.pins.now) many below in
     let arguments = arguments_have_lines names (gates st)
     (subst (All (λ (gate : List LineId). All (λ (line : LineId). line.0 < length names) gate)) c.requires.pins read) in
     All-weaker (Contains names) (Contains (defined_names st))

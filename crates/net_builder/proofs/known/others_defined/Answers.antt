@@ -2,17 +2,17 @@
 use Rattle.std.proofs.Common.{refl, arith, ap, subst}
 use Rattle.std.specs.List.{All, Contains, flat_map}
 use Rattle.std.proofs.lemmas.List.{take_all}
-use Rattle.netlist.specs.Stored.{lists}
 use Rattle.net_builder.specs.Groups.{other_uses}
 use Rattle.net_builder.proofs.KnownUses.{others_more}
 use Rattle.net_builder.proofs.known.others_defined.Goals as goal
+use Rattle.net_builder.specs.KeyNames.{key_names}
 
 pub loop-place-preserved : goal.loop-place-preserved
 loop-place-preserved c =
-    others_more c.args.raw.now c.loop-place.place (omega arith) (Contains (lists c.args.names.now.keys)) c.loop-place.invariant
+    others_more c.args.raw.now c.loop-place.place (omega arith) (Contains (key_names c.args.names.now.keys)) c.loop-place.invariant
     (c.if-not-other_defined.ensures refl)
 
 pub returns : goal.returns
 returns c =
-    λ yes. subst (All (Contains (lists c.args.names.now.keys)))
+    λ yes. subst (All (Contains (key_names c.args.names.now.keys)))
     (ap (flat_map (λ s. other_uses s.statement)) (take_all c.loop-place.place c.args.raw.now (omega arith))) c.loop-place.invariant

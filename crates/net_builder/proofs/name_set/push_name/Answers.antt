@@ -1,10 +1,10 @@
 -- The name goes last.
 use Rattle.std.proofs.Common.{◌∙◌, ap}
-use Rattle.netlist.specs.Stored.{lists}
 use Rattle.net_builder.proofs.Inserting.{insert_fresh}
 use Rattle.net_builder.proofs.name_set.push_name.Goals as goal
+use Rattle.net_builder.specs.KeyNames.{key_names}
 
 pub returns : goal.returns
 returns c =
-    ap lists c.in_ok-insert.ensures.keys
+    ap key_names c.in_ok-insert.ensures.keys
     ∙ insert_fresh _ _ _ c.in_ok-from_slice.ensures.items c.requires

@@ -1,8 +1,8 @@
 use Rattle.std.proofs.Common.{◌≡◌, map, take}
 use Rattle.netlist.specs.Description.{flop_on, flops}
-use Rattle.netlist.specs.Stored.{lists}
 use Rattle.net_builder.proofs.parts.flops_of.Given as goal
+use Rattle.net_builder.specs.KeyNames.{key_names}
 
 abbrev pub invariant-loop-place : goal.invariant-loop-place
 invariant-loop-place l =
-    l.found.items ≡ map (flop_on (lists l.names.keys)) (flops (take l.place l.raw))
+    l.found.items ≡ map (flop_on (key_names l.names.keys)) (flops (take l.place l.raw))

@@ -1,6 +1,6 @@
 -- The pins are those of the circuit, so its levels are found, or its first looped gate.
 use Rattle.std.proofs.Common.{subst, arith}
-use Rattle.levelization.specs.Faults.{MayFault}
+use Rattle.net_builder.specs.Faults.{MayFault}
 use Rattle.netlist.specs.Description.{described}
 use Rattle.net_builder.proofs.Assembly.{described_fits, described_wired, wire_lines}
 use Rattle.net_builder.proofs.Deep.{gates_mentioned, refuses_loop}

@@ -4,7 +4,7 @@ use Rattle.std.specs.Prelude.{IsTrue, Bool}
 use Rattle.std.proofs.lemmas.List.{with_items_is}
 use Rattle.netlist.specs.Circuit.{Circuit, line_count, source_count}
 use Rattle.netlist.specs.Pins.{IsInFanIn}
-use Rattle.fan_in.specs.Marks.{is_marked}
+use Rattle.logic_values.specs.Marks.{is_marked}
 use Rattle.implication.specs.Scopes.{standing}
 use Rattle.implication.specs.Standing.{end_of_scope}
 use Rattle.pair_trial.proofs.desk.make_desk.Goals as goal

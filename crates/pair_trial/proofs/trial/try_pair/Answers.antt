@@ -2,6 +2,7 @@
 use Rattle.std.proofs.Common.{◌∙◌, sym, ap, length, subst}
 use Rattle.std.proofs.lemmas.Bool.{false≢true}
 use Rattle.std.proofs.lemmas.List.{with_items_is}
+use Rattle.pd_base.specs.Target.{target_of}
 use Rattle.netlist.specs.Circuit.{Circuit}
 use Rattle.netlist.specs.Conditions.{Meets}
 use Rattle.implication.specs.Scopes.{standing}
@@ -13,8 +14,8 @@ unreachable-requires g c =
     let now = standing c.args.scope.now in
     let long = c.read_sources.ensures.places ∙ ap length c.as_mut_slice.ensures.value ∙ sym c.args.desk.now.sets.ok.0 in
     let kept = with_items_is c.args.desk.now.sets c.read_sources.new.sets long in
-    let P : Circuit → Type 0 = λ n. Meets c.args.kind n c.args.path.now c.args.dir c.in_ok-pair.pair in
-    tried_closes now c.read_sources.ensures.circuit c.args.kind c.args.path.now c.requires.prefix c.args.dir c.requires.node
+    let P : Circuit → Type 0 = λ n. Meets n (target_of c.args.path.now c.args.dir c.args.kind) c.in_ok-pair.pair in
+    tried_closes now c.read_sources.ensures.circuit (target_of c.args.path.now c.args.dir c.args.kind) c.requires.prefix c.requires.node
     c.args.desk.now.marks.items c.requires.desk.cone _ c.read_sources.new.sets kept
     (ap length kept ∙ c.read_sources.ensures.places ∙ ap length c.as_mut_slice.ensures.value ∙ c.requires.desk.places)
     c.read_sources.ensures.reads c.in_ok-pair.pair c.as_slice.result.now c.as_slice-2.result.now c.as_slice.ensures.value c.as_slice-2.ensures.value
@@ -29,8 +30,8 @@ returns-clause-failed g c =
     let now = standing c.args.scope.now in
     let long = c.read_sources.ensures.places ∙ ap length c.as_mut_slice.ensures.value ∙ sym c.args.desk.now.sets.ok.0 in
     let kept = with_items_is c.args.desk.now.sets c.read_sources.new.sets long in
-    let P : Circuit → Type 0 = λ n. Meets c.args.kind n c.args.path.now c.args.dir c.in_ok-pair.pair in
-    tried_failed now c.read_sources.ensures.circuit c.args.kind c.args.path.now c.requires.prefix c.args.dir c.requires.node
+    let P : Circuit → Type 0 = λ n. Meets n (target_of c.args.path.now c.args.dir c.args.kind) c.in_ok-pair.pair in
+    tried_failed now c.read_sources.ensures.circuit (target_of c.args.path.now c.args.dir c.args.kind) c.requires.prefix c.requires.node
     c.args.desk.now.marks.items c.requires.desk.cone _ c.read_sources.new.sets kept
     (ap length kept ∙ c.read_sources.ensures.places ∙ ap length c.as_mut_slice.ensures.value ∙ c.requires.desk.places)
     c.read_sources.ensures.reads c.in_ok-pair.pair c.as_slice.result.now c.as_slice-2.result.now c.as_slice.ensures.value c.as_slice-2.ensures.value
@@ -42,8 +43,8 @@ returns-clause-within g c =
     let now = standing c.args.scope.now in
     let long = c.read_sources.ensures.places ∙ ap length c.as_mut_slice.ensures.value ∙ sym c.args.desk.now.sets.ok.0 in
     let kept = with_items_is c.args.desk.now.sets c.read_sources.new.sets long in
-    let P : Circuit → Type 0 = λ n. Meets c.args.kind n c.args.path.now c.args.dir c.in_ok-pair.pair in
-    tried_within now c.read_sources.ensures.circuit c.args.kind c.args.path.now c.requires.prefix c.args.dir c.requires.node
+    let P : Circuit → Type 0 = λ n. Meets n (target_of c.args.path.now c.args.dir c.args.kind) c.in_ok-pair.pair in
+    tried_within now c.read_sources.ensures.circuit (target_of c.args.path.now c.args.dir c.args.kind) c.requires.prefix c.requires.node
     c.args.desk.now.marks.items c.requires.desk.cone _ c.read_sources.new.sets kept
     (ap length kept ∙ c.read_sources.ensures.places ∙ ap length c.as_mut_slice.ensures.value ∙ c.requires.desk.places)
     c.read_sources.ensures.reads c.in_ok-pair.pair c.as_slice.result.now c.as_slice-2.result.now c.as_slice.ensures.value c.as_slice-2.ensures.value
@@ -55,8 +56,8 @@ returns-clause-two g c =
     let now = standing c.args.scope.now in
     let long = c.read_sources.ensures.places ∙ ap length c.as_mut_slice.ensures.value ∙ sym c.args.desk.now.sets.ok.0 in
     let kept = with_items_is c.args.desk.now.sets c.read_sources.new.sets long in
-    let P : Circuit → Type 0 = λ n. Meets c.args.kind n c.args.path.now c.args.dir c.in_ok-pair.pair in
-    tried_two now c.read_sources.ensures.circuit c.args.kind c.args.path.now c.requires.prefix c.args.dir c.requires.node
+    let P : Circuit → Type 0 = λ n. Meets n (target_of c.args.path.now c.args.dir c.args.kind) c.in_ok-pair.pair in
+    tried_two now c.read_sources.ensures.circuit (target_of c.args.path.now c.args.dir c.args.kind) c.requires.prefix c.requires.node
     c.args.desk.now.marks.items c.requires.desk.cone _ c.read_sources.new.sets kept
     (ap length kept ∙ c.read_sources.ensures.places ∙ ap length c.as_mut_slice.ensures.value ∙ c.requires.desk.places)
     c.read_sources.ensures.reads c.in_ok-pair.pair c.as_slice.result.now c.as_slice-2.result.now c.as_slice.ensures.value c.as_slice-2.ensures.value

@@ -6,4 +6,4 @@ use Rattle.path_lister.proofs.arcs.arc_delays.Given as goal
 -- the arcs of the sources, and those of the pins before this one, have their delays
 abbrev pub invariant-loop-pin : goal.invariant-loop-pin
 invariant-loop-pin l =
-    l.times.items ≡ replicate (source_count l.net) 0 ++ map (delays_of l.delays) (take l.pin-index l.pins)
+    l.times.items ≡ replicate (source_count l.net) 0 ++ map (delays_of l.net l.delays) (take l.pin-index l.pins)

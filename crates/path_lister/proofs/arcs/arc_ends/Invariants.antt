@@ -1,6 +1,6 @@
 use Rattle.std.proofs.Common.{◌≡◌, ◌++◌, map, take}
 use Rattle.netlist.specs.Circuit.{gate_line, source_count}
-use Rattle.path_walks.specs.CircuitGraph.{node_of}
+use Rattle.path_laws.specs.CircuitGraph.{node_of}
 use Rattle.path_lister.proofs.arcs.arc_ends.Given as goal
 
 -- the arcs of the sources, and those of the pins before this one, have their ends

@@ -2,7 +2,7 @@
 use Rattle.std.proofs.Common.{List, get_or, set, take, true, sym, subst}
 use Rattle.std.proofs.lemmas.List.{take_more}
 use Rattle.pd_base.specs.declared.ids.LineId.{LineId}
-use Rattle.path_walks.specs.CircuitGraph.{node_of}
+use Rattle.path_laws.specs.CircuitGraph.{node_of}
 use Rattle.path_lister.proofs.Stopping.{AreMarked, marked_more}
 use Rattle.path_lister.proofs.arcs.stops_of.Goals as goal
 

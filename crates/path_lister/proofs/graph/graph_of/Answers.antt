@@ -5,8 +5,8 @@ use Rattle.pd_base.specs.declared.ids.PinRef.{PinRef}
 use Rattle.netlist.specs.Circuit.{Circuit, gate_line, source_count}
 use Rattle.netlist.specs.Waves.{Delays}
 use Rattle.delay_annotation.specs.Annotation.{delays_of}
-use Rattle.walk_laws.specs.Graph.{Graph}
-use Rattle.path_walks.specs.CircuitGraph.{node_of}
+use Rattle.path_laws.specs.Graph.{Graph}
+use Rattle.path_laws.specs.CircuitGraph.{node_of}
 use Rattle.path_lister.specs.Graphs.{IsGraphUnder}
 use Rattle.path_lister.specs.Ranking.{AreNodes, AreNodesWithin, IsRanking}
 use Rattle.path_lister.specs.Rows.{AreRows}
@@ -47,7 +47,7 @@ stops_of-requires c =
 pub new-requires : goal.new-requires
 new-requires c =
     let net = c.args.net.now in
-    let delays = delays_of c.args.delays.now in
+    let delays = delays_of c.args.net.now c.args.delays.now in
     let lines = c.in_ok-lines.lines.items in
     let nodes = c.in_ok-nodes.nodes.items in
     let pins = c.in_ok-rows.rows.pins.items in
@@ -61,7 +61,7 @@ new-requires c =
 pub returns-clause-graph : goal.returns-clause-graph
 returns-clause-graph c =
     let net = c.args.net.now in
-    let delays = delays_of c.args.delays.now in
+    let delays = delays_of c.args.net.now c.args.delays.now in
     let lines = c.in_ok-lines.lines.items in
     let nodes = c.in_ok-nodes.nodes.items in
     let pins = c.in_ok-rows.rows.pins.items in

@@ -5,8 +5,8 @@ use Rattle.std.proofs.lemmas.Result.{IfOk-weaker}
 use Rattle.pd_base.specs.declared.ids.PinRef.{PinRef}
 use Rattle.netlist.specs.Order.{AreFirst}
 use Rattle.delay_annotation.specs.Annotation.{delays_of}
-use Rattle.path_walks.specs.CircuitGraph.{GoesOnThroughPins, route_of}
-use Rattle.path_walks.proofs.FirstPaths.{first_paths_from_walks}
+use Rattle.path_laws.specs.CircuitGraph.{GoesOnThroughPins, route_of}
+use Rattle.path_laws.proofs.FirstPaths.{first_paths_from_walks}
 use Rattle.path_lister.proofs.Bounds.{short_walks, walks_go_on}
 use Rattle.path_lister.proofs.paths.first_paths.Goals as goal
 
@@ -19,13 +19,13 @@ pub paths_of-requires : goal.paths_of-requires
 paths_of-requires c =
     subst (λ (pins : List PinRef). All (GoesOnThroughPins c.args.net.now pins) c.in_ok-listing.listing)
     (sym c.as_slice.ensures.value)
-    (walks_go_on c.args.net.now (delays_of c.args.delays.now) c.in_ok-own.own.pins.items c.in_ok-own.own.graph
+    (walks_go_on c.args.net.now (delays_of c.args.net.now c.args.delays.now) c.in_ok-own.own.pins.items c.in_ok-own.own.graph
     c.in_ok-own.ensures.graph c.in_ok-listing.listing c.in_ok-listing.ensures.are_walks)
 
 pub returns : goal.returns
 returns c =
     let net = c.args.net.now in
-    let delays = delays_of c.args.delays.now in
+    let delays = delays_of c.args.net.now c.args.delays.now in
     let under = c.in_ok-own.ensures.graph in
     let pins = c.in_ok-own.own.pins.items in
     let walks = c.in_ok-listing.listing in

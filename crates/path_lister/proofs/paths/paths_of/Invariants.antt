@@ -1,5 +1,5 @@
 use Rattle.std.proofs.Common.{◌≡◌, map, take}
-use Rattle.path_walks.specs.CircuitGraph.{route_of}
+use Rattle.path_laws.specs.CircuitGraph.{route_of}
 use Rattle.path_lister.proofs.paths.paths_of.Given as goal
 
 -- the paths of the walks before this one are there

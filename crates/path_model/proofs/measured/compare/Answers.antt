@@ -13,6 +13,6 @@ returns c =
     let sources = c.cmp-2.ensures ∙ ap₂ (λ (a b : LineId). nat_cmp a.0 b.0) c.source.ensures c.source-2.ensures in
     let steps = c.cmp-3.ensures ∙ ap₂ (slice_cmp pin_cmp) c.steps.ensures c.steps-2.ensures in
     let compared =
-    route_compared (delays_of c.args.delays.now) c.args.p.now c.args.q.now c.then-2.result
+    route_compared (delays_of c.args.net.now c.args.delays.now) c.args.p.now c.args.q.now c.then-2.result
     (c.then-2.ensures ∙ ap₂ ordering_then (c.then.ensures ∙ ap₂ ordering_then lengths sources) steps) in
     record { before = compared.before; same = compared.same; behind = compared.behind }

@@ -1,7 +1,7 @@
 -- Steps that connect are pins of the circuit, and there are too few of them for their delays to overflow.
 use Rattle.std.proofs.Common.{length, ap, subst, sym, arith}
 use Rattle.std.specs.List.{All}
-use Rattle.delay_annotation.specs.Places.{IsPin}
+use Rattle.netlist.specs.Pins.{IsPin}
 use Rattle.path_laws.proofs.StepCounts.{prefix_has_few_steps}
 use Rattle.path_model.proofs.PathSteps.{no_step, connected_pins}
 use Rattle.path_model.proofs.measured.length.Goals as goal

@@ -1,5 +1,6 @@
 -- What a test shows is what the laws of the paths say of a pair that meets the conditions.
 use Rattle.std.proofs.Common.{subst, rules}
+use Rattle.pd_base.specs.Target.{target_of}
 use Rattle.netlist.specs.Conditions.{Meets}
 use Rattle.path_laws.proofs.Prefixes.{prefix_meets}
 use Rattle.path_laws.proofs.RobustPath.{robust_holds_back, robust_detects}
@@ -21,7 +22,7 @@ returns-clause-prefixes_change c is robust prefix of =
     let path = c.args.path.now in
     let pair = c.args.pair.now in
     let holds = robust_holds_back net c.sources.ensures.circuit path c.args.dir pair c.requires.prefix
-    (subst (λ kind. Meets kind net path c.args.dir pair) robust ((returns-clause-meets c).0 is)) in
+    (subst (λ kind. Meets net (target_of path c.args.dir kind) pair) robust ((returns-clause-meets c).0 is)) in
     (holds (λ pin. 0) prefix of).differs
 
 pub returns-clause-prefixes_hold_back : goal.returns-clause-prefixes_hold_back
@@ -30,7 +31,7 @@ returns-clause-prefixes_hold_back c is robust delays prefix of =
     let path = c.args.path.now in
     let pair = c.args.pair.now in
     let holds = robust_holds_back net c.sources.ensures.circuit path c.args.dir pair c.requires.prefix
-    (subst (λ kind. Meets kind net path c.args.dir pair) robust ((returns-clause-meets c).0 is)) in
+    (subst (λ kind. Meets net (target_of path c.args.dir kind) pair) robust ((returns-clause-meets c).0 is)) in
     (holds delays prefix of).unchanged
 
 pub returns-clause-late_is_wrong : goal.returns-clause-late_is_wrong
@@ -39,7 +40,7 @@ returns-clause-late_is_wrong c is robust =
     let path = c.args.path.now in
     let pair = c.args.pair.now in
     robust_detects net c.sources.ensures.circuit path c.args.dir pair c.requires.prefix
-    (subst (λ kind. Meets kind net path c.args.dir pair) robust ((returns-clause-meets c).0 is))
+    (subst (λ kind. Meets net (target_of path c.args.dir kind) pair) robust ((returns-clause-meets c).0 is))
 
 pub returns-clause-late_is_wrong_where_settled : goal.returns-clause-late_is_wrong_where_settled
 returns-clause-late_is_wrong_where_settled c is =

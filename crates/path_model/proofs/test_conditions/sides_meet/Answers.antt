@@ -1,8 +1,8 @@
 -- Each step's sides are judged by what was computed of the lines, and then the steps behind it decide.
-use Rattle.std.proofs.Common.{◌≡◌, true, drop, get_or, ◌+◌, ap₂, sym, subst, ◌∙◌, arith}
+use Rattle.std.proofs.Common.{◌≡◌, true, drop, get_or, ◌+◌, ap, ap₂, sym, subst, ◌∙◌, arith}
+use Rattle.pd_base.specs.declared.ids.LineId.{LineId}
 use Rattle.netlist.specs.Circuit.{HasLines}
 use Rattle.netlist.specs.Conditions.{side_condition}
-use Rattle.path_model.specs.Asked.{asked}
 use Rattle.path_model.proofs.PathSteps.{no_step}
 use Rattle.path_model.proofs.SidesJudged.{AreDecidedBy, are_computed, decided_more, sides_from, sides_judged}
 use Rattle.path_model.proofs.test_conditions.sides_meet.Goals as goal
@@ -17,12 +17,12 @@ returns-then-not-sides_pass c = (
       let line = c.loop-step.line.0 in
       let steps = c.steps-step-items.result.now in
       let place = c.loop-step.step-index in
-      let from = sides_from kind net pair steps place c.loop-step-test.true line
+      let from = sides_from net kind pair steps place c.loop-step-test.true line
       (c.loop-step.invariant.same.0 meet) in
       let computed = are_computed net pair c.evaluate.new.out c.steady.new.out c.second.result.now c.second.ensures.bits
       (omega arith) (omega arith) c.evaluate.ensures c.steady.ensures.exactly in
       let judged = sides_judged net pair c.evaluate.new.out c.steady.new.out computed
-      (asked c.side_condition-condition.result) (get_or steps place no_step)
+      c.side_condition-condition.result (get_or steps place no_step)
       (subst (HasLines net) c.pins.ensures.pins c.pins.ensures.in_circuit) kind line c.pins.result.now c.pins.ensures.pins
       (c.side_condition-condition.ensures ∙ ap₂ (side_condition kind) c.kind.ensures
       (computed.final line c.loop-step.invariant.within)) in
@@ -41,13 +41,13 @@ loop-step-preserved c =
     let computed = are_computed net pair c.evaluate.new.out c.steady.new.out c.second.result.now c.second.ensures.bits
     (omega arith) (omega arith) c.evaluate.ensures c.steady.ensures.exactly in
     let judged = sides_judged net pair c.evaluate.new.out c.steady.new.out computed
-    (asked c.side_condition-condition.result) (get_or steps place no_step)
+    c.side_condition-condition.result (get_or steps place no_step)
     (subst (HasLines net) c.pins.ensures.pins c.pins.ensures.in_circuit) kind line c.pins.result.now c.pins.ensures.pins
     (c.side_condition-condition.ensures ∙ ap₂ (side_condition kind) c.kind.ensures
     (computed.final line c.loop-step.invariant.within)) in
     let passed : c.sides_pass.result ≡ true = cc in
     let source = c.args.path.now.source.0 in
     let all = c.args.path.now.steps in
-    subst (λ next. AreDecidedBy kind net pair source all next (drop (place + 1) steps)) (sym c.gate_line-line.ensures)
-    (decided_more kind net pair steps place c.loop-step-test.true line source all
+    subst (λ next. AreDecidedBy net kind pair source all next (drop (place + 1) steps)) (sym (ap (λ (l : LineId). l.0) c.line_of-line.ensures.line))
+    (decided_more net kind pair steps place c.loop-step-test.true line source all
     (judged.0 (c.sides_pass.ensures.0 passed)) c.loop-step.invariant)

@@ -1,11 +1,11 @@
--- Each visit brings the walk one entry further.
+-- Each search brings the walk one entry further.
 use Rattle.std.proofs.Common.{◌≡◌, ℕ, ◌+◌, List, ◌++◌, length, take, drop, get_or, refl, sym, ap, subst, ◌∙◌, arith}
 use Rattle.std.proofs.lemmas.List.{get_or_default}
 use Rattle.std.proofs.Math.Seq.{take-append_seam}
 use Rattle.netlist.specs.Circuit.{Circuit}
 use Rattle.verdict_runs.specs.declared.findings.Outcome.{Outcome}
-use Rattle.fault_search.specs.declared.targets.Entry.{Entry}
-use Rattle.fault_search.specs.Walks.{IsWalked, KeepSettled}
+use Rattle.fault_search.specs.declared.targets.PathEntry.{PathEntry}
+use Rattle.fault_search.specs.Walks.{IsWalked, KeepKnown}
 use Rattle.prefix_sensitize.specs.Passes.{IsHalfway}
 use Rattle.prefix_sensitize.proofs.Walking.{grown_not, grown_on, halfway_more, halfway_none, passed, walked_up}
 use Rattle.prefix_sensitize.proofs.passes.pass.Goals as goal
@@ -20,11 +20,11 @@ loop-entry-init g c = record {
   counted = omega arith;
 }
 
-pub visit-requires-clause-walked : goal.visit-requires-clause-walked
-visit-requires-clause-walked g c =
-    let none : Entry = record { steps = 0; at = 0 } in
+pub search_fault-requires-clause-walked : goal.search_fault-requires-clause-walked
+search_fault-requires-clause-walked g c =
+    let none : PathEntry = record { steps = 0; at = 0 } in
     let index = c.loop-entry.entry-index in
-    let entry : Entry = get_or c.args.order.now index none in
+    let entry : PathEntry = get_or c.args.order.now index none in
     let is : entry ≡ get_or c.args.order.now index entry =
     get_or_default c.args.order.now index none entry c.loop-entry-test.true in
     let P : Circuit → Type 0 =
@@ -38,41 +38,41 @@ visit-requires-clause-walked g c =
 
 pub loop-entry-preserved : goal.loop-entry-preserved
 loop-entry-preserved g c =
-    let none : Entry = record { steps = 0; at = 0 } in
+    let none : PathEntry = record { steps = 0; at = 0 } in
     let index = c.loop-entry.entry-index in
     let order = c.args.order.now in
     let paths = c.args.paths.now in
-    let entry : Entry = get_or order index none in
+    let entry : PathEntry = get_or order index none in
     let is : entry ≡ get_or order index entry = get_or_default order index none entry c.loop-entry-test.true in
     let before = c.loop-entry.outcomes.items in
-    let after = c.visit.new.outcomes in
-    let walked = c.in_ok-visit.ensures.walked in
+    let after = c.search_fault.new.outcomes in
+    let walked = c.in_ok-search_fault.ensures.walked in
     let many = c.loop-entry.invariant.half.walked.standing.one_each in
     let still = walked.standing.one_each in
     let long : c.loop-entry.outcomes.len ≡ length after =
     omega (arith, many, still, c.as_mut_slice.ensures.len, ap length c.as_mut_slice.ensures.value) in
     let back : take c.loop-entry.outcomes.len (after ++ drop (length after) before) ≡ after =
     ap (λ n. take n (after ++ drop (length after) before)) long ∙ take-append_seam after (drop (length after) before) in
-    let P : Circuit → Type 0 = λ n. IsWalked n paths c.args.aim entry.steps after c.visit.new.refutations.items in
+    let P : Circuit → Type 0 = λ n. IsWalked n paths c.args.aim entry.steps after c.search_fault.new.refutations.items in
     let Q : List Outcome → Type 0 =
-    λ o. IsHalfway c.args.engine.now.net paths c.args.needed.now c.args.aim order (index + 1) o c.visit.new.refutations.items in
-    let R : List Outcome → Type 0 = λ o. KeepSettled o after in
+    λ o. IsHalfway c.args.engine.now.net paths c.args.needed.now c.args.aim order (index + 1) o c.search_fault.new.refutations.items in
+    let R : List Outcome → Type 0 = λ o. KeepKnown o after in
     let counted = c.loop-entry.invariant.counted in
-    let few = c.in_ok-visit.ensures.steps in
+    let few = c.in_ok-search_fault.ensures.steps in
     record {
       rest = record {
-        net = c.in_ok-visit.ensures.rest.net ∙ c.loop-entry.invariant.rest.net;
-        idle = c.in_ok-visit.ensures.rest.idle;
+        net = c.in_ok-search_fault.ensures.rest.net ∙ c.loop-entry.invariant.rest.net;
+        idle = c.in_ok-search_fault.ensures.rest.idle;
       };
       half =
           subst Q (sym back)
           (halfway_more c.args.engine.now.net paths c.args.aim c.args.needed.now order c.requires.order index entry before
           c.loop-entry.refutations.items c.loop-entry.invariant.half c.loop-entry-test.true is after
-          c.visit.new.refutations.items (subst P c.loop-entry.invariant.rest.net walked) c.in_ok-visit.ensures.settled
-          (subst R c.as_mut_slice.ensures.value c.in_ok-visit.ensures.kept));
+          c.search_fault.new.refutations.items (subst P c.loop-entry.invariant.rest.net walked) c.in_ok-search_fault.ensures.known
+          (subst R c.as_mut_slice.ensures.value c.in_ok-search_fault.ensures.kept));
       grown =
-          grown_on c.args.aim c.args.refutations.now.items c.loop-entry.refutations.items c.visit.new.refutations.items
-          c.loop-entry.invariant.grown c.in_ok-visit.ensures.grown;
+          grown_on c.args.aim c.args.refutations.now.items c.loop-entry.refutations.items c.search_fault.new.refutations.items
+          c.loop-entry.invariant.grown c.in_ok-search_fault.ensures.grown;
       counted = omega (arith, counted, few);
     }
 

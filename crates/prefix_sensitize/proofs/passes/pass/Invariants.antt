@@ -1,6 +1,6 @@
 use Rattle.std.proofs.Common.{◌+◌, ◌*◌, ◌≤◌}
-use Rattle.refutation_check.specs.Lawful.{most_steps}
-use Rattle.fault_search.specs.Entering.{IsAtRest}
+use Rattle.netlist.specs.declared.limits.TheConstants.{MOST_LEVELS}
+use Rattle.fault_search.specs.Entering.{IsIdleAgain}
 use Rattle.fault_search.specs.Walks.{IsGrown}
 use Rattle.prefix_sensitize.specs.Passes.{IsHalfway}
 use Rattle.prefix_sensitize.proofs.passes.pass.Given as goal
@@ -8,8 +8,8 @@ use Rattle.prefix_sensitize.proofs.passes.pass.Given as goal
 -- the walk has come to this entry
 abbrev pub invariant-loop-entry : goal.invariant-loop-entry
 invariant-loop-entry g l = record {
-  rest : IsAtRest l.fn.engine l.engine;
+  rest : IsIdleAgain l.fn.engine l.engine;
   half : IsHalfway l.fn.engine.net l.paths l.needed l.aim l.order l.entry-index l.outcomes.items l.refutations.items;
   grown : IsGrown l.aim l.fn.refutations.items l.refutations.items;
-  counted : l.steps ≤ l.fn.steps + l.entry-index * most_steps;
+  counted : l.steps ≤ l.fn.steps + l.entry-index * MOST_LEVELS;
 }

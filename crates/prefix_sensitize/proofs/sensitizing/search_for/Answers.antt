@@ -8,7 +8,7 @@ use Rattle.verdict_runs.specs.declared.findings.Outcomes.{Outcomes}
 use Rattle.verdict_runs.specs.Findings.{is_test}
 use Rattle.pd_base.specs.declared.fault.Kind.TheVariants.{Nonrobust}
 use Rattle.prefix_sensitize.specs.Gathering.{AreSearchedFor, IsGrownFor, both_kinds}
-use Rattle.prefix_sensitize.specs.Passes.{IsPassed}
+use Rattle.prefix_sensitize.specs.Passes.{ArePassOutcomes}
 use Rattle.prefix_sensitize.proofs.BothKinds.{grown_for, searched_for}
 use Rattle.prefix_sensitize.proofs.sensitizing.search_for.Goals as goal
 
@@ -19,7 +19,7 @@ returns-clause-searched g c =
     let robust = c.in_ok-robust.robust.items in
     let nonrobust = c.in_ok-nonrobust.nonrobust.items in
     let P : Circuit → Type 0 =
-    λ n. IsPassed n paths c.as_slice-3.result.now (record { kind = Nonrobust; dir = c.args.dir; budget = c.args.budget }) nonrobust
+    λ n. ArePassOutcomes n paths c.as_slice-3.result.now (record { kind = Nonrobust; dir = c.args.dir; budget = c.args.budget }) nonrobust
     c.pass-2.new.refutations.items in
     IfOk-weaker c.pair_kinds.result (λ (o : Vec Outcomes). o.items ≡ both_kinds robust nonrobust)
     (λ (o : Vec Outcomes). AreSearchedFor net c.args.budget paths c.args.dir o.items c.pass-2.new.refutations.items)

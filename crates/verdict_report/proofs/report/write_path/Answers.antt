@@ -3,7 +3,7 @@ use Rattle.std.proofs.Common.{◌≡◌, ◌∙◌, ap, sym, subst, arith}
 use Rattle.pd_base.specs.Route.{Route}
 use Rattle.netlist.specs.Circuit.{Circuit}
 use Rattle.netlist.specs.Names.{name_at}
-use Rattle.refutation_check.specs.Lawful.{IsNameable}
+use Rattle.runs.specs.Lawful.{IsNameable}
 use Rattle.verdict_report.specs.declared.rows.PathTexts.{PathTexts}
 use Rattle.verdict_report.specs.PlainTexts.{HasPlainNames, IsPlain}
 use Rattle.verdict_report.specs.ReportRows.{ArePlain}

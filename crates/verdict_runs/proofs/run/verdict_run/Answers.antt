@@ -19,15 +19,15 @@ list_paths-requires c = (
 
 pub returns-clause-good : goal.returns-clause-good
 returns-clause-good c =
-    listed_is_good c.args.net.now (delays_of c.args.delays.now) (searches_of c.args.findings) c.args.findings.count
+    listed_is_good c.args.net.now (delays_of c.args.net.now c.args.delays.now) (searches_of c.args.findings) c.args.findings.count
     c.in_ok-listed.listed.items c.in_ok-listed.writer.draft _ c.requires.findings.searches c.requires.findings.first
-    c.in_ok-listed.ensures.listed c.new.ensures c.into_parts-tests.ensures.tests c.into_parts-tests.ensures.proofs
+    c.in_ok-listed.ensures.listed refl c.new.ensures c.into_parts-tests.ensures.tests c.into_parts-tests.ensures.proofs
 
 pub returns-clause-lawful : goal.returns-clause-lawful
 returns-clause-lawful c =
-    listed_is_lawful c.args.net.now (delays_of c.args.delays.now) (searches_of c.args.findings) c.args.findings.count
+    listed_is_lawful c.args.net.now (delays_of c.args.net.now c.args.delays.now) (searches_of c.args.findings) c.args.findings.count
     c.in_ok-listed.listed.items c.in_ok-listed.writer.draft _ c.in_ok-listed.ensures.circuit c.requires.findings.searches
     c.in_ok-listed.ensures.listed c.new.ensures c.into_parts-tests.ensures.tests
-    (listed_is_good c.args.net.now (delays_of c.args.delays.now) (searches_of c.args.findings) c.args.findings.count
+    (listed_is_good c.args.net.now (delays_of c.args.net.now c.args.delays.now) (searches_of c.args.findings) c.args.findings.count
     c.in_ok-listed.listed.items c.in_ok-listed.writer.draft _ c.requires.findings.searches c.requires.findings.first
-    c.in_ok-listed.ensures.listed c.new.ensures c.into_parts-tests.ensures.tests c.into_parts-tests.ensures.proofs)
+    c.in_ok-listed.ensures.listed refl c.new.ensures c.into_parts-tests.ensures.tests c.into_parts-tests.ensures.proofs)

@@ -5,5 +5,5 @@ use Rattle.delay_annotation.proofs.delays.Delays.unit.Goals as goal
 
 pub returns-clause-unit : goal.returns-clause-unit
 returns-clause-unit c =
-    all_alike c.args.net.now _ UNIT_DELAY c.pin_total.result c.in_ok-places.ensures c.pin_total.ensures
-    (c.in_ok-delays.ensures.items_if_clones_equal (λ y same. same))
+    all_alike c.args.net.now _ UNIT_DELAY c.pin_total.result c.pin_total.ensures
+    (c.in_ok-by_place.ensures.items_if_clones_equal (λ y same. same))

@@ -24,7 +24,7 @@ invariant_of-self g c =
     c.as_slice.result.now c.push_reserved.new.self.items c.as_slice.ensures.value c.label_more-emptied.result c.self.inside.closings
     c.label_more-emptied.new.labels c.label_more-emptied.new.conditions (vec_capacity c.push_reserved.new.self)
     c.push_reserved.ensures.capacity c.label_more-emptied.ensures.answer c.label_more-emptied.ensures.labels
-    c.label_more-emptied.ensures.room c.label_more-emptied.ensures.steps c.args.entry
+    c.label_more-emptied.ensures.steps.room c.label_more-emptied.ensures.steps.entered c.args.entry
     (ap (λ (s : Standing). s.conflict) c.self.view_is ∙ c.requires.free) c.push_reserved.ensures.items
     (subst P (sym c.self.view_is) c.requires.fits)
 
@@ -38,6 +38,6 @@ invariant_of-self-in-Some-emptied g c =
     c.saturating_add-self-inside.result
     c.label_more-emptied.new.labels c.label_more-emptied.new.conditions (vec_capacity c.push_reserved.new.self)
     c.push_reserved.ensures.capacity c.label_more-emptied.ensures.answer c.label_more-emptied.ensures.labels
-    c.label_more-emptied.ensures.room c.label_more-emptied.ensures.steps c.args.entry
+    c.label_more-emptied.ensures.steps.room c.label_more-emptied.ensures.steps.entered c.args.entry
     (ap (λ (s : Standing). s.conflict) c.self.view_is ∙ c.requires.free) c.push_reserved.ensures.items
     (subst P (sym c.self.view_is) c.requires.fits)

@@ -20,7 +20,7 @@ invariant_of-self g c =
     c.truncate.new.self.items (ap (take c.args.length) c.as_slice.ensures.value ∙ sym {A = List Assumption} c.truncate.ensures.items)
     c.label_lines-emptied.result c.self.inside.closings c.label_lines-emptied.new.labels c.label_lines-emptied.new.conditions
     (vec_capacity c.truncate.new.self) c.truncate.ensures.capacity c.label_lines-emptied.ensures.answer
-    c.label_lines-emptied.ensures.labels c.label_lines-emptied.ensures.room c.label_lines-emptied.ensures.steps c.args.length below
+    c.label_lines-emptied.ensures.labels c.label_lines-emptied.ensures.steps.room c.label_lines-emptied.ensures.steps.entered c.args.length below
     c.truncate.ensures.items
 
 pub returns : goal.returns
@@ -35,6 +35,6 @@ returns g c =
     c.truncate.new.self.items (ap (take c.args.length) c.as_slice.ensures.value ∙ sym {A = List Assumption} c.truncate.ensures.items)
     c.label_lines-emptied.result c.self.inside.closings c.label_lines-emptied.new.labels c.label_lines-emptied.new.conditions
     (vec_capacity c.truncate.new.self) c.truncate.ensures.capacity c.label_lines-emptied.ensures.answer
-    c.label_lines-emptied.ensures.labels c.label_lines-emptied.ensures.room c.label_lines-emptied.ensures.steps c.args.length below
+    c.label_lines-emptied.ensures.labels c.label_lines-emptied.ensures.steps.room c.label_lines-emptied.ensures.steps.entered c.args.length below
     c.truncate.ensures.items)
     below

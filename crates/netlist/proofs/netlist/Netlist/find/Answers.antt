@@ -1,20 +1,30 @@
-use Rattle.std.proofs.Common.{◌<◌, subst, ◌∙◌, sym}
-use Rattle.std.specs.Str.{bytes_eq}
+-- A binary search among the lines by name ends at a line that bears the name, or where none does.
+use Rattle.std.proofs.Common.{◌<◌, get_or, length, sym, subst, ap, ◌∙◌, rules}
+use Rattle.std.proofs.lemmas.Fn.{always_returns_same}
+use Rattle.pd_base.specs.declared.ids.LineId.{LineId}
 use Rattle.netlist.specs.Circuit.{line_names}
-use Rattle.netlist.proofs.Looking.{position_in_names, found_at, not_found}
+use Rattle.netlist.specs.Names.{compared, IsByName}
+use Rattle.netlist.proofs.ByName.{compared_rise, bears, none_bears}
 use Rattle.netlist.proofs.CircuitLines.{line_names-length}
 use Rattle.netlist.proofs.StoredLists.{stored_of}
 use Rattle.netlist.proofs.netlist.Netlist.find.Goals as goal
 
-pub returns-in-Some : goal.returns-in-Some
-returns-in-Some c =
+pub returns-in-Ok : goal.returns-in-Ok
+returns-in-Ok c =
     let stored = stored_of c.self.invariant c.self.view_is in
-    let at = position_in_names stored (bytes_eq c.args.name.now) ∙ sym c.in-Some.ensures.index in
-    let found = found_at c.args.name.now (line_names c.args.self.now) c.in-Some.line at in
-    (subst (λ n. c.in-Some.line < n) (line_names-length c.args.self.now) found.0, found.1)
+    let names = line_names c.args.self.now in
+    let lines = c.as_slice-by_name.result.now in
+    let none : LineId = record { 0 = 0 } in
+    let by_name = subst (IsByName names) (sym c.as_slice-by_name.ensures.value) stored.by_name in
+    let equal = c.in-Ok.ensures.position (compared names c.args.name.now) (always_returns_same _ _ _ (λ a r g called. search rules)) in
+    let found = bears names c.args.name.now lines by_name c.in-Ok.at none c.in-Ok.ensures.bound equal in
+    (subst (λ n. (get_or lines c.in-Ok.at none).0 < n) (line_names-length c.args.self.now) found.0, found.1)
 
-pub returns-in-None : goal.returns-in-None
-returns-in-None c =
+pub returns-in-Err : goal.returns-in-Err
+returns-in-Err c =
     let stored = stored_of c.self.invariant c.self.view_is in
-    let none = position_in_names stored (bytes_eq c.args.name.now) ∙ sym c.in-None.ensures.index in
-    not_found c.args.name.now (line_names c.args.self.now) none
+    let names = line_names c.args.self.now in
+    let lines = c.as_slice-by_name.result.now in
+    let by_name = subst (IsByName names) (sym c.as_slice-by_name.ensures.value) stored.by_name in
+    let parted = c.in-Err.ensures.position (compared names c.args.name.now) (always_returns_same _ _ _ (λ a r g called. search rules)) in
+    none_bears names c.args.name.now lines by_name c.in-Err.field-0 (parted (compared_rise names c.args.name.now lines by_name))

@@ -1,13 +1,19 @@
-use Rattle.std.proofs.Common.{subst, sym, ◌∙◌}
+use Rattle.std.proofs.Common.{subst, sym, ap, get_or, [], ◌∙◌, arith}
 use Rattle.netlist.specs.Circuit.{HasLines}
-use Rattle.netlist.proofs.StoredLists.{stored_of, pins_found}
+use Rattle.netlist.proofs.StoredLists.{stored_of, pins-length, pins-at}
 use Rattle.netlist.proofs.netlist.Netlist.pins.Goals as goal
 
--- the small vector that is given has the pins of the gate
+-- there is a list for each gate
+pub list-requires : goal.list-requires
+list-requires c =
+    let stored = stored_of c.self.invariant c.self.view_is in
+    omega (arith, c.requires, pins-length c.args.self.now _ stored.pins)
+
+-- the list that is given has the pins of the gate
 pub returns-clause-pins : goal.returns-clause-pins
 returns-clause-pins c =
     let stored = stored_of c.self.invariant c.self.view_is in
-    c.as_slice.ensures ∙ pins_found c.args.self.now _ stored.pins _ c.requires _ c.index.ensures
+    c.list.ensures ∙ pins-at c.args.self.now _ stored.pins _ c.requires
 
 -- so they read lines of the circuit
 pub returns-clause-in_circuit : goal.returns-clause-in_circuit

@@ -1,5 +1,5 @@
 -- The set read from the table of the operation is within the four states, and has exactly the joins.
-use Rattle.state_sets.specs.declared.op.Op.TheVariants.{And, Or, Xor}
+use Rattle.netlist.specs.declared.op.Op.TheVariants.{And, Or, Xor}
 use Rattle.state_sets.proofs.FourSets.{read_within, read_joins}
 use Rattle.state_sets.proofs.four_states.FourStatesAlgebra.join_sets.Goals as goal
 

@@ -1,7 +1,7 @@
 -- The proof that there is no robust test is cited, and then the spent tree's is written.
 use Rattle.std.proofs.Common.{subst}
-use Rattle.refutation_check.specs.declared.run.Proof.{Proof}
-use Rattle.verdict_runs.specs.Book.{Writes}
+use Rattle.runs.specs.declared.run.Proof.{Proof}
+use Rattle.verdict_runs.specs.Book.{AddsProof}
 use Rattle.verdict_runs.proofs.Answered.{aborted_answers}
 use Rattle.verdict_runs.proofs.writer.Writer.aborted.Goals as goal
 
@@ -14,5 +14,5 @@ returns-clause-answered g c =
     aborted_answers c.args.net.now g.searches asked.are_searches c.args.number c.args.path.now asked.is_listed c.args.dir
     c.args.self.now.draft asked.is_book c.cite_for.new.draft c.write.new.self c.args.robust c.args.tree c.in_ok-robust.robust
     c.in_ok-nonrobust.nonrobust robust no_test c.in_ok-robust.ensures spent
-    (subst (λ (proof : Proof). Writes c.cite_for.new.draft c.write.new.self proof c.in_ok-nonrobust.nonrobust)
+    (subst (λ (proof : Proof). AddsProof c.cite_for.new.draft c.write.new.self proof c.in_ok-nonrobust.nonrobust)
     c.spent_proof.ensures c.in_ok-nonrobust.ensures)

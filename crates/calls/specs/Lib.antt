@@ -1,0 +1,14 @@
+pub mod Commands
+pub mod Words
+pub mod Lines
+pub mod Reports
+pub mod Calls
+pub mod Inputs
+pub mod Outputs
+pub mod Passing
+pub mod Preparing
+pub mod Refused
+pub mod Stopping
+pub mod Texts
+pub mod Work
+pub mod Writing

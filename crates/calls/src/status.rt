@@ -1,0 +1,33 @@
+// The exit status of a call.
+ghost use Rattle.std.specs.Prelude.{◌≡◌};
+ghost use Rattle.calls.specs.Lines.{number_of};
+
+/// How a call ended, as the number with which the program ends.
+#[derive(Clone, Copy, Debug, PartialEq, Eq)]
+pub enum Status {
+    /// The work was done.
+    Done = 0,
+    /// The words were refused.
+    Words = 2,
+    /// The netlist has no circuit.
+    Netlist = 3,
+    /// The delay file gives no delays.
+    Delays = 4,
+    /// A file could not be read.
+    ReadFault = 5,
+    /// A file or out could not be written.
+    WriteFault = 6,
+    /// Memory ran out.
+    NoMemory = 7,
+    /// An input has more bytes than are read of it, or the texts may be too long.
+    Size = 8,
+}
+
+impl Status {
+    /// The number with which the program ends.
+    pub fn number(self) -> u8
+        ensures { result ≡ number_of self }
+    {
+        self as u8
+    }
+}

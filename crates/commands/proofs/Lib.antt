@@ -1,0 +1,9 @@
+pub mod ToldReasons
+pub mod Accepting
+pub mod FewLines
+pub mod GenLaws
+pub mod GenStages
+pub mod GenTexts
+pub mod Headline
+pub mod Products
+pub mod WordsLaws

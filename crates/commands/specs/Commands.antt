@@ -1,0 +1,16 @@
+-- What the words ask for, as the work of a command (this project's own). A further command adds a case here.
+use Rattle.std.specs.Prelude.{ℕ, List, Result, Ok, Err}
+use Rattle.calls.specs.declared.word_refusal.WordsRefusal.{WordsRefusal}
+use Rattle.calls.specs.Words.{Call, gen, asked_call}
+use Rattle.calls.specs.Work.{Work}
+use Rattle.calls.specs.Refused.{refused_words}
+use Rattle.commands.specs.Gen.{gen_work}
+
+-- the work of a command, or of words that are refused
+abbrev pub work_of : Result Call WordsRefusal → Work
+work_of (Ok (gen call)) = gen_work call
+work_of (Err reason) = refused_words reason
+
+-- the work that these words ask for
+abbrev pub asked_work : List (List ℕ) → Work
+asked_work words = work_of (asked_call words)

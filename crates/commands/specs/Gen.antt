@@ -1,0 +1,117 @@
+-- The command `gen`: its stages, what it refuses, and what it gives. Where a call ends with status 0, its three files hold the
+-- texts of one good run: it lists the first paths by nonincreasing length, each once, with one verdict for each transition, and each
+-- test, refutation and spent budget is one; what its verdicts promise is said in Headline.antt (this project's own).
+use Rattle.std.specs.Prelude.{◌≡◌, ℕ, ◌<◌, ◌≤◌, List, [], ◌∷◌, length}
+use Rattle.pd_base.specs.declared.rules.Rules.TheVariants.{One}
+use Rattle.netlist.specs.Circuit.{Circuit}
+use Rattle.netlist.specs.Waves.{Delays}
+use Rattle.runs.specs.declared.run.Run.{Run}
+use Rattle.runs.specs.Lawful.{IsLawfulRun}
+use Rattle.good_runs.specs.GoodRun.{IsGoodRun}
+use Rattle.bench_reader.specs.Circuits.{HasCircuit}
+use Rattle.delay_annotation.specs.DelayFile.{HasDelays}
+use Rattle.pattern_writer.specs.TestsText.{tests_text}
+use Rattle.verdict_report.specs.ReportText.{report_text}
+use Rattle.verdict_report.specs.ProofsText.{proofs_text}
+use Rattle.verdict_report.specs.Summary.{summary_text}
+use Rattle.calls.specs.Words.{GenCall}
+use Rattle.calls.specs.declared.delays_refusal.DelaysRefusal.{DelaysRefusal}
+use Rattle.calls.specs.declared.role.Role.{Role}
+use Rattle.calls.specs.declared.role.Role.TheVariants as role
+use Rattle.calls.specs.declared.refusal.Refusal.{Refusal}
+use Rattle.calls.specs.declared.refusal.Refusal.TheVariants as refused
+use Rattle.calls.specs.Work.{Work, Stage, Read, Require, WithinLimit, SpellsCircuit, SpellsDelays, ShortPathText, ShortTestText, Due, Products}
+use Rattle.commands.specs.declared.judging.TheConstants.{INPUT_LIMIT}
+use Rattle.commands.specs.declared.sizes.TheConstants.{MOST_PATH_TEXT, MOST_TEST_TEXT}
+use Rattle.commands.specs.Reasons.{HasNoCircuitFor, HasNoDelaysFor}
+use Rattle.commands.specs.Headline.{AllPromise}
+use Rattle.commands.specs.Sizes.{path_text_product, test_text_product}
+
+-- NET is read, and has to have a circuit; then DELAYS is read, and has to give delays; then the texts have to be short
+abbrev pub gen_stages : GenCall → List Stage
+gen_stages call =
+    Read role.Net call.net ∷ Require (WithinLimit role.Net) ∷ Require SpellsCircuit
+    ∷ Read role.Delays call.delays ∷ Require (WithinLimit role.Delays) ∷ Require SpellsDelays
+    ∷ Require ShortPathText ∷ Require ShortTestText ∷ []
+
+-- of this input the text has more bytes than the limit
+pub record IsOverLimit (input : Role) (text : List ℕ) (of : Role) : Type 0 where
+  pub of_role : of ≡ input
+  pub over : INPUT_LIMIT < length text
+
+-- the text has a circuit, and this is not what DELAYS gives delays to, for this reason
+pub record HasNoDelays (net delays : List ℕ) (reason : DelaysRefusal) : Type 0 where
+  pub circuit : Circuit
+  pub has : HasCircuit net circuit
+  pub none : HasNoDelaysFor circuit delays reason
+
+-- the text has a circuit, whose product is this one, and over its limit
+pub record IsOverProduct (net : List ℕ) (product_of : Circuit → ℕ) (limit product : ℕ) : Type 0 where
+  pub circuit : Circuit
+  pub has : HasCircuit net circuit
+  pub is : product ≡ product_of circuit
+  pub over : limit < product
+
+-- what gen refuses once NET is read
+abbrev pub RefusesNet : List ℕ → Refusal → Type 0
+RefusesNet net (refused.TooLong of) = IsOverLimit role.Net net of
+RefusesNet net (refused.Netlist reason) = HasNoCircuitFor net reason
+RefusesNet net refusal = ⊥
+
+-- what gen refuses for so many paths once both inputs are read
+abbrev pub RefusesBoth : ℕ → List ℕ → List ℕ → Refusal → Type 0
+RefusesBoth paths net delays (refused.TooLong of) = IsOverLimit role.Delays delays of
+RefusesBoth paths net delays (refused.Delays reason) = HasNoDelays net delays reason
+RefusesBoth paths net delays (refused.PathText product) = IsOverProduct net (path_text_product paths) MOST_PATH_TEXT product
+RefusesBoth paths net delays (refused.TestText product) = IsOverProduct net (test_text_product paths) MOST_TEST_TEXT product
+RefusesBoth paths net delays refusal = ⊥
+
+-- what gen refuses for so many paths of the inputs that were read so far
+abbrev pub RefusesGen : ℕ → List (List ℕ) → Refusal → Type 0
+RefusesGen paths (net ∷ []) refusal = RefusesNet net refusal
+RefusesGen paths (net ∷ delays ∷ []) refusal = RefusesBoth paths net delays refusal
+RefusesGen paths inputs refusal = ⊥
+
+-- the files of a call, with these texts, in the order in which they are written
+abbrev pub gen_files : GenCall → List ℕ → List ℕ → List ℕ → List Due
+gen_files call tests report proofs =
+    record { role = role.Tests; name = call.tests; text = tests }
+    ∷ record { role = role.Report; name = call.report; text = report }
+    ∷ record { role = role.Proofs; name = call.proofs; text = proofs } ∷ []
+
+-- the files that are written for a circuit and a run, and the line on out
+abbrev pub gen_products : GenCall → Circuit → Run → Products
+gen_products call c run = record {
+  files = gen_files call (tests_text c run.tests) (report_text c run.paths) (proofs_text run.proofs);
+  out = summary_text run;
+}
+
+-- the products are the texts of one good run under rules One, for the paths and the budget that are asked for, which the files can
+-- spell: its tests are numbered in the order of the report, and each proof where it is first named; its verdicts keep their promises
+pub record GivesProductsOf (call : GenCall) (c : Circuit) (delays : Delays) (products : Products) : Type 0 where
+  pub run : Run
+  pub rules : run.rules ≡ One
+  pub good : IsGoodRun c delays call.paths call.budget run
+  pub lawful : IsLawfulRun c run
+  pub promises : AllPromise c call.budget run
+  pub texts : products ≡ gen_products call c run
+
+-- NET has this circuit, DELAYS gives these delays to its pins, the texts are short, and the products are those of a good run for
+-- them
+pub record GivesRun (call : GenCall) (net delay_file : List ℕ) (products : Products) : Type 0 where
+  pub circuit : Circuit
+  pub has : HasCircuit net circuit
+  pub delays : Delays
+  pub has_delays : HasDelays circuit delay_file delays
+  pub path_text : path_text_product call.paths circuit ≤ MOST_PATH_TEXT
+  pub test_text : test_text_product call.paths circuit ≤ MOST_TEST_TEXT
+  pub products_of_run : GivesProductsOf call circuit delays products
+
+-- what gen gives for its two inputs
+abbrev pub GivesGen : GenCall → List (List ℕ) → Products → Type 0
+GivesGen call (net ∷ delays ∷ []) products = GivesRun call net delays products
+GivesGen call inputs products = ⊥
+
+-- the command with its names and numbers
+abbrev pub gen_work : GenCall → Work
+gen_work call = record { stages = gen_stages call; Refuses = RefusesGen call.paths; Gives = GivesGen call }

@@ -1,0 +1,7 @@
+pub mod InputJudging
+pub mod Reasons
+pub mod Gen
+pub mod Headline
+pub mod Judging
+pub mod Sizes
+pub mod Commands

@@ -1,0 +1,61 @@
+// A whole call of the program, over any files and sinks.
+ghost use Rattle.std.specs.Prelude.{◌≡◌};
+ghost use Rattle.pd_io.specs.Seen.{outside, seen};
+ghost use Rattle.calls.specs.Commands.{bytes_of_words};
+ghost use Rattle.calls.specs.Calls.{Ends, HasAcceptedInputs, IsDone, IsDoneOrNoMemory, NoneFailed, Performs};
+ghost use Rattle.commands.specs.Commands.{asked_work};
+
+use crate::dispatch::prepare;
+use calls::{Ending, Status, tell, write_products};
+use pd_io::{Files, Sink};
+use std::alloc::Global;
+
+/// Does what the words ask for. The words are those behind the program's own name.
+///
+/// `gen NET DELAYS TESTS REPORT PROOFS` reads the first two files and writes the other three, then a summary on out. At status 0
+/// the three files hold the texts of one good run: it lists the first paths of NET's circuit by nonincreasing length, each once, with
+/// one verdict for each transition. A robust test samples a wrong value under every delay assignment that makes its path late; a
+/// nonrobust one does where its side pins have settled, too; the refutation of an untestable fault excludes every pair of vectors; an
+/// aborted fault spent its budget; and a nonrobust or aborted one tells why no robust test was found (`gen_work` in specs/Gen.antt).
+///
+/// Inputs of more than 33,554,432 bytes are refused, and so are a netlist that has no circuit, a delay file that gives its pins
+/// no delays, and a circuit whose texts might grow too long.
+///
+/// Only the files of the command are read or written. Where the status isn't 0, a line on err says why.
+pub fn run<F: Files, O: Sink, E: Sink>(
+    alloc: Global,
+    words: &[&str],
+    files: &mut F,
+    out: &mut O,
+    err: &mut E,
+) -> Status
+    // Each status: to which ending the call came, what stands in the files and on out then, and what err took.
+    ensures ends { Ends (asked_work (bytes_of_words words.now)) result
+        (outside F.Files O.Sink E.Sink files.old out.old err.old)
+        (outside F.Files O.Sink E.Sink files.new out.new err.new) }
+
+    // Status 0: files and out hold what the command gives for its inputs, and nothing failed.
+    ensures done { result ≡ Status.Done → IsDone (asked_work (bytes_of_words words.now))
+        (outside F.Files O.Sink E.Sink files.old out.old err.old)
+        (outside F.Files O.Sink E.Sink files.new out.new err.new) }
+
+    // Where no read or write fails, inputs that are accepted lead to status 0, if memory suffices.
+    ensures complete { HasAcceptedInputs (asked_work (bytes_of_words words.now)) (F.folder files.old)
+        → NoneFailed (outside F.Files O.Sink E.Sink files.old out.old err.old)
+        (outside F.Files O.Sink E.Sink files.new out.new err.new)
+        → IsDoneOrNoMemory result }
+{
+    let ending = perform(alloc, words, files, out);
+    tell(&ending, err)
+}
+
+// Does the work of the command, and tells how it ended.
+fn perform<F: Files, O: Sink>(alloc: Global, words: &[&str], files: &mut F, out: &mut O) -> Ending
+    ensures { Performs (asked_work (bytes_of_words words.now)) result
+        (seen F.Files O.Sink files.old out.old) (seen F.Files O.Sink files.new out.new) }
+{
+    match prepare(alloc, words, files) {
+        Ok(texts) => write_products(&texts, files, out),
+        Err(ending) => ending,
+    }
+}

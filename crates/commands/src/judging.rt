@@ -1,0 +1,68 @@
+// The inputs: each read up to its limit, NET's circuit, and the delays of its pins.
+ghost use Rattle.std.specs.Prelude.{◌≤◌, length, Some, IfOk, IfErr};
+ghost use Rattle.pd_io.specs.Seen.{files_seen};
+ghost use Rattle.bench_reader.specs.Circuits.{HasCircuit};
+ghost use Rattle.calls.specs.Inputs.{ReadsInput};
+ghost use Rattle.delay_annotation.specs.Annotation.{Fits, delays_of};
+ghost use Rattle.delay_annotation.specs.DelayFile.{HasDelays};
+ghost use Rattle.commands.specs.InputJudging.{FailsDelays, FailsNet, FailsWithin};
+
+use crate::reasons::{delays_reason_of, reason_of};
+use bench_reader::read_bench;
+use calls::{Ending, Refusal, Role, read_input};
+use delay_annotation::{Delays, read_delays};
+use netlist::Netlist;
+use pd_io::Files;
+use std::alloc::Global;
+
+/// How many bytes an input may have.
+pub const INPUT_LIMIT: usize = 33_554_432;
+
+/// The bytes of the input of this role. One over the limit is refused, and a failed read ends the call.
+pub fn read_within<F: Files>(
+    alloc: Global,
+    files: &mut F,
+    role: Role,
+    name: &str,
+) -> Result<Vec<u8>, Ending>
+    ensures read { IfOk result (λ read. ReadsInput INPUT_LIMIT name.now (Some read)
+        (files_seen F.Files files.old) (files_seen F.Files files.new)) }
+    ensures failed { IfErr result (λ ending. FailsWithin role name.now ending
+        (files_seen F.Files files.old) (files_seen F.Files files.new)) }
+{
+    match read_input(alloc, files, role, name, INPUT_LIMIT)? {
+        Some(bytes) => Ok(bytes),
+        None => Err(Ending::Refused(Refusal::TooLong(role))),
+    }
+}
+
+/// The netlist of the circuit that the text of NET has. A text is refused exactly where it has none.
+pub fn netlist_of(alloc: Global, net: &[u8]) -> Result<Netlist, Ending>
+    requires { length net.now ≤ INPUT_LIMIT }
+    ensures circuit { IfOk result (HasCircuit net.now) }
+    ensures fails { IfErr result (FailsNet net.now) }
+{
+    match read_bench(alloc, net) {
+        Ok(netlist) => Ok(netlist),
+        Err(fault) => match reason_of(fault) {
+            Some(reason) => Err(Ending::Refused(Refusal::Netlist(reason))),
+            None => Err(Ending::NoMemory),
+        },
+    }
+}
+
+/// The delays that the text of DELAYS gives to the pins of NET. A text is refused exactly where it gives none.
+pub fn delays_in(alloc: Global, net: &Netlist, delays: &[u8]) -> Result<Delays, Ending>
+    requires { length delays.now ≤ INPUT_LIMIT }
+    ensures fits { IfOk result (λ kept. Fits net.now kept) }
+    ensures delays { IfOk result (λ kept. HasDelays net.now delays.now (delays_of net.now kept)) }
+    ensures fails { IfErr result (FailsDelays net.now delays.now) }
+{
+    match read_delays(alloc, net, delays) {
+        Ok(kept) => Ok(kept),
+        Err(fault) => match delays_reason_of(fault) {
+            Some(reason) => Err(Ending::Refused(Refusal::Delays(reason))),
+            None => Err(Ending::NoMemory),
+        },
+    }
+}

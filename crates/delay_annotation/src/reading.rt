@@ -1,0 +1,31 @@
+// From the bytes of a delay file to the delays.
+ghost use Rattle.std.specs.Prelude.{◌≤◌, length, IfErr, IfOk};
+ghost use Rattle.delay_annotation.specs.Annotation.{delays_of, Fits};
+ghost use Rattle.delay_annotation.specs.DelayFile.{HasDelays, RefusesDelays};
+
+use crate::last::LastRows;
+use crate::rows::take_rows;
+use crate::settling::settle;
+use crate::{DelayFault, Delays};
+use netlist::Netlist;
+use std::alloc::Global;
+
+/// The most bytes of a delay file.
+pub const MOST_BYTES: usize = 268_435_456;
+
+/// Reads a delay file. The delays are those of the file exactly where it has some; else it is refused, at its first row that is,
+/// by the first reason of that row in the order of `DelayFault`. A refusal asks nothing of the rows behind that one.
+/// `NoMemory` may come in place of any answer. A file has at most 268,435,456 bytes.
+pub fn read_delays(alloc: Global, net: &Netlist, bytes: &[u8]) -> Result<Delays, DelayFault>
+    requires { length bytes.now ≤ MOST_BYTES }
+    ensures fits { IfOk result (λ delays. Fits net.now delays) }
+    ensures delays { IfOk result (λ delays. HasDelays net.now bytes.now (delays_of net.now delays)) }
+    ensures refused { IfErr result (RefusesDelays net.now bytes.now) }
+{
+    let mut kept = LastRows::new(alloc, net)?;
+    match take_rows(alloc, net, bytes, &mut kept) {
+        Ok(Ok(())) => Ok(settle(alloc, net, &kept)?),
+        Ok(Err(fault)) => Err(fault),
+        Err(_) => Err(DelayFault::NoMemory),
+    }
+}

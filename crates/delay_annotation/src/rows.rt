@@ -1,0 +1,102 @@
+// The rows of a delay file, in turn: the titles, then rows that are kept by their form.
+ghost use Rattle.std.specs.Prelude.{◌≡◌, ◌≢◌, ◌≤◌, [], ◌∷◌, length, IfErr, IfOk, MatchOption, MatchResult, OnOk};
+ghost use Rattle.csv.specs.Records.{fields_of};
+ghost use Rattle.delay_annotation.specs.Rows.{AreTitles, IsSetting, RefusesRow};
+ghost use Rattle.delay_annotation.specs.LastRows.{HasRoomForRows, KeepsLast};
+ghost use Rattle.delay_annotation.specs.Taking.{RefusesTaken, Takes, TakesRow};
+ghost use Rattle.delay_annotation.specs.declared.reading.TheConstants.{MOST_BYTES};
+
+use crate::fault::{DelayFault, at_row};
+use crate::last::LastRows;
+use crate::row::{are_titles, read_row};
+use crate::setting::{RowFault, Setting};
+use csv::{ByteRecord, Error, ReaderBuilder};
+use netlist::Netlist;
+use std::alloc::Global;
+
+// Takes all rows of a file. Each error of csv is want of memory, since bytes in memory are always read, rows may have any
+// number of fields, and fields any bytes.
+pub(crate) fn take_rows(
+    alloc: Global,
+    net: &Netlist,
+    bytes: &[u8],
+    kept: &mut LastRows,
+) -> Result<Result<(), DelayFault>, Error>
+    requires short { length bytes.now ≤ MOST_BYTES }
+    requires places { HasRoomForRows net.now kept.old }
+    requires none { KeepsLast net.now kept.old [] }
+    ensures places { HasRoomForRows net.now kept.new }
+    ensures takes { IfOk result (Takes net.now bytes.now kept.new) }
+{
+    let reader = ReaderBuilder::new()
+        .has_headers(false)
+        .flexible(true)
+        .from_reader(alloc, bytes);
+    let mut number = 0;
+    for row in reader.into_byte_records() {
+        let row = row?;
+        number += 1;
+        if let Err(fault) = take_row(net, number, &row, kept) {
+            return Ok(Err(fault));
+        }
+    }
+    if number == 0 {
+        return Ok(Err(DelayFault::Header));
+    }
+    Ok(Ok(()))
+}
+
+// Takes the row of this number, counted from 1.
+fn take_row(
+    net: &Netlist,
+    number: u32,
+    row: &ByteRecord,
+    kept: &mut LastRows,
+) -> Result<(), DelayFault>
+    requires { HasRoomForRows net.now kept.old }
+    ensures places { HasRoomForRows net.now kept.new }
+    ensures ok { OnOk result (TakesRow net.now number (fields_of row.now) kept.old kept.new) }
+    ensures err { IfErr result (RefusesTaken net.now number (fields_of row.now) kept.old) }
+{
+    if number == 1 {
+        return take_titles(row);
+    }
+    match read_fields(net, row) {
+        Ok(setting) => {
+            kept.take(net, number, setting);
+            Ok(())
+        }
+        Err(fault) => Err(at_row(fault, number)),
+    }
+}
+
+// Takes the first row.
+fn take_titles(row: &ByteRecord) -> Result<(), DelayFault>
+    ensures { MatchResult result (λ _. AreTitles (fields_of row.now)) (λ why. (why ≡ DelayFault.Header) × ¬ AreTitles (fields_of row.now)) }
+{
+    match three_fields(row) {
+        Some((gate, pin, delay)) if are_titles(gate, pin, delay) => Ok(()),
+        _ => Err(DelayFault::Header),
+    }
+}
+
+// What a later row says.
+fn read_fields(net: &Netlist, row: &ByteRecord) -> Result<Setting, RowFault>
+    ensures { MatchResult result (IsSetting net.now (fields_of row.now)) (RefusesRow net.now (fields_of row.now)) }
+{
+    let Some((gate, pin, delay)) = three_fields(row) else {
+        return Err(RowFault::Fields);
+    };
+    read_row(net, gate, pin, delay)
+}
+
+// The fields of a row that has three.
+fn three_fields(row: &ByteRecord) -> Option<(&[u8], &[u8], &[u8])>
+    ensures { MatchOption result (length (fields_of row.now) ≢ 3)
+        (λ fields. fields_of row.now ≡ fields.0.now ∷ fields.1.now ∷ fields.2.now ∷ []) }
+{
+    if row.len() != 3 {
+        return None;
+    }
+    Some((row.get(0)?, row.get(1)?, row.get(2)?))
+}

@@ -1,0 +1,47 @@
+// What a row of a delay file says, and why one is refused.
+use pd_base::{GateId, PinRef};
+
+/// The gates that a row's first field means.
+#[derive(Clone, Copy, Debug, PartialEq, Eq)]
+pub(crate) enum Gates {
+    /// All gates.
+    All,
+    /// One gate, by its name.
+    One(GateId),
+}
+
+/// The pins that a row is about.
+#[derive(Clone, Copy, Debug, PartialEq, Eq)]
+pub(crate) enum Pins {
+    /// All pins of all gates.
+    All,
+    /// All pins of one gate.
+    OfGate(GateId),
+    /// The pins of this number, at each gate that has one.
+    Numbered(u32),
+    /// One pin of one gate.
+    One(PinRef),
+}
+
+/// A row of a delay file: these pins have this delay, in delay units.
+#[derive(Clone, Copy, Debug, PartialEq, Eq)]
+pub(crate) struct Setting {
+    /// The pins.
+    pub pins: Pins,
+    /// The delay.
+    pub delay: u32,
+}
+
+/// Why a row behind the titles is refused: the first of these that is true of it.
+#[derive(Clone, Copy, Debug, PartialEq, Eq)]
+pub(crate) enum RowFault {
+    /// It has not three fields.
+    Fields,
+    /// The first field is neither `*` nor the name of a gate.
+    UnknownGate,
+    /// The second field is neither `*` nor the number of a pin, in one to four digits: below the number of pins of a gate that
+    /// is named, else below 1,024.
+    BadPin,
+    /// The third field is no number of one to seven digits, or one above 1,000,000.
+    BadNumber,
+}

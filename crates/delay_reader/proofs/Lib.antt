@@ -1,9 +1,0 @@
-pub mod DelayLaws
-pub mod Fields
-pub mod FirstRows
-pub mod Forms
-pub mod Gathering
-pub mod Keeping
-pub mod LastOf
-pub mod Settled
-pub mod Taken

@@ -1,6 +1,0 @@
--- A row that has not three fields is refused.
-use Rattle.delay_rows.specs.Rows.RefusesRow.{other_count}
-use Rattle.delay_reader.proofs.rows.read_fields.Goals as goal
-
-pub returns-in_default : goal.returns-in_default
-returns-in_default c = other_count c.in_default.ensures

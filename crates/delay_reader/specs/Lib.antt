@@ -1,4 +1,0 @@
-pub mod DelayFile
-pub mod LastRows
-pub mod Settling
-pub mod Taking

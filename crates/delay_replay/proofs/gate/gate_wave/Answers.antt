@@ -1,0 +1,135 @@
+-- The pass begins with the pins' first values, each turn of the loop passes one change, and at its end the wave is the gate's.
+use Rattle.std.proofs.Common.{◌≡◌, ℤ, List, true, length, map, ap, sym, subst, ⊎_elim, ◌∙◌, arith, heap_items, rules, SFits, to_z, of_z, w64}
+use Rattle.std.proofs.lemmas.Int.{to_z-of_z}
+use Rattle.std.proofs.lemmas.Bool.{cases_lt, false≢true}
+use Rattle.std.proofs.lemmas.Result.{err_from_is_err_and}
+use Rattle.pd_base.specs.declared.ids.LineId.{LineId}
+use Rattle.netlist.specs.Circuit.{kind_at, pins_at}
+use Rattle.netlist.specs.Waves.{delay_copy, pin_values}
+use Rattle.delay_annotation.specs.Annotation.{delays_of}
+use Rattle.delay_replay.specs.declared.gate.TheConstants.{MOST_CHANGES}
+use Rattle.delay_replay.specs.Changes.{Changes}
+use Rattle.delay_replay.specs.GateWaves.{gate_wave, line_wave}
+use Rattle.delay_replay.specs.PinChanges.{AreAmong, IsBeforeAll}
+use Rattle.delay_replay.specs.AddedChanges.{IsTurned}
+use Rattle.delay_replay.proofs.ChangeTimes.{not_over}
+use Rattle.delay_replay.proofs.GatePins.{value_told}
+use Rattle.delay_replay.proofs.Merging.{IsMerged, begun, ended, passed, turned, refused, no_later}
+use Rattle.delay_replay.proofs.NextChanges.{passed_fewer}
+use Rattle.delay_replay.proofs.gate.gate_wave.Goals as goal
+
+pub loop-soonest-init : goal.loop-soonest-init
+loop-soonest-init c =
+    let net = c.args.net.now in
+    let gate = c.args.gate.0 in
+    let waves = c.args.waves.now in
+    let copy = delay_copy (delays_of c.args.net.now c.args.delays.now) in
+    let pins = length c.pins-pins.result.now in
+    let many : pins ≡ length (pins_at net gate) = ap (λ (lines : List LineId). length lines) c.pins-pins.ensures.pins in
+    let count = c.in_ok-ones.field-0.ones in
+    let nexts = heap_items c.in_ok-ones.field-0.nexts in
+    let value = c.value_of_count.result in record {
+      order = c.in_ok-ones.ensures.order;
+      merged = subst (λ (wave : Changes). IsMerged waves (pin_values copy gate 0 (map (λ line. line_wave waves line.0) (pins_at net gate))) (kind_at net gate) pins count nexts wave)
+          (sym c.constant-wave.ensures)
+          (begun waves (pin_values copy gate 0 (map (λ line. line_wave waves line.0) (pins_at net gate))) (kind_at net gate) pins count nexts value
+          (subst (λ n. AreAmong n count nexts) (sym many) c.in_ok-ones.ensures.among)
+          c.in_ok-ones.ensures.each c.in_ok-ones.ensures.counted
+          (value_told net c.lines-lines.ensures.circuit copy gate c.requires.gate (line_wave waves) c.kind-kind.result pins count value
+          c.kind-kind.ensures many c.value_of_count.ensures));
+    }
+
+-- fewer changes are still to come, whether the gate changes or not
+pub loop-soonest-smaller : goal.loop-soonest-smaller
+loop-soonest-smaller c =
+    passed_fewer c.args.waves.now c.in-Some.soonest.now (heap_items c.loop-soonest.nexts) (heap_items c.pass.new.nexts) c.pass.ensures.passes
+
+pub loop-soonest-smaller-in-Continue-branch-2 : goal.loop-soonest-smaller-in-Continue-branch-2
+loop-soonest-smaller-in-Continue-branch-2 c =
+    passed_fewer c.args.waves.now c.in-Some.soonest.now (heap_items c.loop-soonest.nexts) (heap_items c.pass.new.nexts) c.pass.ensures.passes
+
+pub loop-soonest-preserved : goal.loop-soonest-preserved
+loop-soonest-preserved c =
+    let net = c.args.net.now in
+    let gate = c.args.gate.0 in
+    let waves = c.args.waves.now in
+    let soonest = c.in-Some.soonest.now in
+    let old = heap_items c.loop-soonest.nexts in
+    let new = heap_items c.pass.new.nexts in
+    let first = no_later soonest old (c.in-Some.ensures.greatest c.loop-soonest.invariant.order) in
+    let fits : SFits w64 soonest.time = search rules in record {
+      order = c.pass.ensures.order c.loop-soonest.invariant.order;
+      merged = passed waves (pin_values (delay_copy (delays_of c.args.net.now c.args.delays.now)) gate 0 (map (λ line. line_wave waves line.0) (pins_at net gate)))
+          (kind_at net gate) (length c.pins-pins.result.now) c.loop-soonest.ones old c.loop-soonest.wave c.loop-soonest.invariant.merged
+          soonest first new c.pass.ensures.passes c.counted-ones.result c.counted-ones.ensures
+          (λ before. false≢true (sym c.if-is_before_all.false
+          ∙ subst (λ (time : ℤ). IsBeforeAll time new → c.is_before_all.result ≡ true) (to_z-of_z w64 soonest.time fits) c.is_before_all.ensures.1 before));
+    }
+
+pub loop-soonest-preserved-in-Continue-branch-2 : goal.loop-soonest-preserved-in-Continue-branch-2
+loop-soonest-preserved-in-Continue-branch-2 c =
+    let net = c.args.net.now in
+    let gate = c.args.gate.0 in
+    let waves = c.args.waves.now in
+    let copy = delay_copy (delays_of c.args.net.now c.args.delays.now) in
+    let pins = length c.pins-pins.result.now in
+    let many : pins ≡ length (pins_at net gate) = ap (λ (lines : List LineId). length lines) c.pins-pins.ensures.pins in
+    let soonest = c.in-Some.soonest.now in
+    let old = heap_items c.loop-soonest.nexts in
+    let new = heap_items c.pass.new.nexts in
+    let first = no_later soonest old (c.in-Some.ensures.greatest c.loop-soonest.invariant.order) in
+    let value = c.value_of_count-then-is_before_all.result in
+    let fits : SFits w64 soonest.time = search rules in
+    let same : to_z w64 (of_z w64 soonest.time) ≡ soonest.time = to_z-of_z w64 soonest.time fits in record {
+      order = c.pass.ensures.order c.loop-soonest.invariant.order;
+      merged = turned waves (pin_values copy gate 0 (map (λ line. line_wave waves line.0) (pins_at net gate)))
+          (kind_at net gate) pins c.loop-soonest.ones old c.loop-soonest.wave c.loop-soonest.invariant.merged
+          soonest first new c.pass.ensures.passes c.counted-ones.result c.counted-ones.ensures
+          (subst (λ (time : ℤ). IsBeforeAll time new) same (c.is_before_all.ensures.0 c.if-is_before_all.true)) value
+          (value_told net c.lines-lines.ensures.circuit copy gate c.requires.gate (line_wave waves) c.kind-kind.result pins c.counted-ones.result value
+          c.kind-kind.ensures many c.value_of_count-then-is_before_all.ensures)
+          c.turn.new.self
+          (subst (λ (time : ℤ). IsTurned c.loop-soonest.wave c.turn.new.self time value) same c.in_ok-turn.ensures.turned);
+    }
+
+pub returns-in_err-turn-clause-refused : goal.returns-in_err-turn-clause-refused
+returns-in_err-turn-clause-refused c =
+    let net = c.args.net.now in
+    let gate = c.args.gate.0 in
+    let waves = c.args.waves.now in
+    let copy = delay_copy (delays_of c.args.net.now c.args.delays.now) in
+    let pins = length c.pins-pins.result.now in
+    let many : pins ≡ length (pins_at net gate) = ap (λ (lines : List LineId). length lines) c.pins-pins.ensures.pins in
+    let soonest = c.in-Some.soonest.now in
+    let old = heap_items c.loop-soonest.nexts in
+    let new = heap_items c.pass.new.nexts in
+    let first = no_later soonest old (c.in-Some.ensures.greatest c.loop-soonest.invariant.order) in
+    let value = c.value_of_count-then-is_before_all.result in
+    let fits : SFits w64 soonest.time = search rules in
+    let same : to_z w64 (of_z w64 soonest.time) ≡ soonest.time = to_z-of_z w64 soonest.time fits in
+    let p = err_from_is_err_and c.from_residual-in_err-turn.result c.from_residual-in_err-turn.ensures.1 in
+    rw (p.1, p.2)
+    (refused waves (pin_values copy gate 0 (map (λ line. line_wave waves line.0) (pins_at net gate)))
+    (kind_at net gate) pins c.loop-soonest.ones old c.loop-soonest.wave c.loop-soonest.invariant.merged
+    soonest first new c.pass.ensures.passes c.counted-ones.result c.counted-ones.ensures
+    (subst (λ (time : ℤ). IsBeforeAll time new) same (c.is_before_all.ensures.0 c.if-is_before_all.true)) value
+    (value_told net c.lines-lines.ensures.circuit copy gate c.requires.gate (line_wave waves) c.kind-kind.result pins c.counted-ones.result value
+    c.kind-kind.ensures many c.value_of_count-then-is_before_all.ensures)
+    c.in_err-turn.field-0.0 c.in_err-turn.ensures.refused)
+
+pub returns-clause-not_over : goal.returns-clause-not_over
+returns-clause-not_over c =
+    let net = c.args.net.now in
+    let gate = c.args.gate.0 in
+    let waves = c.args.waves.now in
+    let copy = delay_copy (delays_of c.args.net.now c.args.delays.now) in
+    let pins = length c.pins-pins.result.now in
+    let nexts = heap_items c.loop-soonest.nexts in
+    let merged = c.loop-soonest.invariant.merged in
+    let empty : length nexts ≡ 0 =
+    ⊎_elim (λ some. absurd (false≢true (c.in_default.ensures.variant.1 some))) (λ none. omega (arith, none, c.loop-soonest.nexts.data.ok.0))
+    (cases_lt 0 c.loop-soonest.nexts.data.len) in
+    not_over (gate_wave copy net gate (line_wave waves)) c.loop-soonest.wave MOST_CHANGES
+    (ended waves (pin_values copy gate 0 (map (λ line. line_wave waves line.0) (pins_at net gate))) (kind_at net gate) pins
+    c.loop-soonest.ones nexts c.loop-soonest.wave merged empty)
+    merged.few

@@ -1,0 +1,42 @@
+-- Each turn of the loop adds the next change of one pin more.
+use Rattle.std.proofs.Common.{◌≡◌, ◌<◌, ◌+◌, false, [], length, get_or, ap, sym, subst, add-zero, ◌∙◌, arith}
+use Rattle.std.proofs.lemmas.List.{get_or_default}
+use Rattle.pd_base.specs.declared.ids.LineId.{LineId}
+use Rattle.delay_annotation.specs.Annotation.{delays_of}
+use Rattle.delay_replay.specs.Changes.{Changes}
+use Rattle.delay_replay.specs.PinChanges.{one, line_changes, IsNextOrNone}
+use Rattle.delay_replay.proofs.GatePins.{added_among, added_each, added_counted, one_more}
+use Rattle.delay_replay.proofs.pin_changes.pin_waves.Goals as goal
+use Rattle.delay_replay.proofs.pin_changes.pin_waves.Goals.{then-earliest, else-earliest}
+
+pub loop-place-preserved : goal.loop-place-preserved
+loop-place-preserved c =
+    let all = c.args.waves.now in
+    let pins = c.pins-pins.result.now in
+    let pin = c.loop-place.place in
+    let none : LineId = record { 0 = 0 } in
+    let read = get_or pins pin none in
+    let wave = c.index-waves-line.result in
+    let next = c.next_change-first.result in
+    let delay = c.delay.result in
+    let inside : read.0 < length all = omega (arith, c.pins-pins.ensures.in_circuit pin none c.loop-place-test.true, c.requires.one_each) in
+    let at : line_changes all read.0 ≡ wave = get_or_default all read.0 (record { before = false; times = [] }) wave inside ∙ sym c.index-waves-line.is in
+    let counted : c.if-earliest.ones ≡ c.loop-place.ones + one wave.before =
+    elim c.if-earliest.branch [
+      | then-earliest w ↦ w.ones-is ∙ ap (λ bit. c.loop-place.ones + one bit) (sym w.if-earliest.true ∙ c.earliest.ensures.before)
+      | else-earliest w ↦ w.ones-is ∙ sym (add-zero c.loop-place.ones)
+          ∙ ap (λ bit. c.loop-place.ones + one bit) (sym w.if-earliest.false ∙ c.earliest.ensures.before)
+    ] in
+    let more : c.if-earliest.ones ≡ c.loop-place.ones + one (line_changes all read.0).before =
+    counted ∙ ap (λ (w : Changes). c.loop-place.ones + one w.before) (sym at) in
+    let is : IsNextOrNone (line_changes all read.0) read 0 delay (line_changes all read.0).before next =
+    subst (λ (w : Changes). IsNextOrNone w read 0 delay w.before next) (sym at)
+    (subst (λ value. IsNextOrNone wave read 0 delay value next) c.earliest-in-loop-place.ensures.before c.next_change-first.ensures) in
+    let added = c.in_ok-add.ensures.added in record {
+      order = c.in_ok-add.ensures.order c.loop-place.invariant.order;
+      among = added_among all read delay next is _ _ added c.loop-place.ones c.if-earliest.ones more pin c.loop-place.invariant.among;
+      each = added_each all read delay next is _ _ added inside c.loop-place.invariant.each;
+      counted = λ time. added_counted all read delay next is _ _ added c.loop-place.ones c.if-earliest.ones more _ _ time
+          (one_more all (delays_of c.args.net.now c.args.delays.now) c.args.gate.0 pins pin c.loop-place-test.true delay c.delay.ensures.delay time)
+          (c.loop-place.invariant.counted time);
+    }

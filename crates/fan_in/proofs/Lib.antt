@@ -1,2 +1,0 @@
-mod Marking
-mod Sweep

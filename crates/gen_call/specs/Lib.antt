@@ -1,4 +1,0 @@
-pub mod Gen
-pub mod Headline
-pub mod Judging
-pub mod Sizes

@@ -1,5 +1,0 @@
-pub mod Sets
-pub mod Steps
-pub mod Sweeps
-pub mod Hulls
-pub mod Restart

@@ -1,4 +1,0 @@
-pub mod Memory
-pub mod Plan
-pub mod Shelf
-pub mod Steady

@@ -1,0 +1,47 @@
+use Rattle.std.proofs.Common.{ap, refl, ◌∙◌, ◌++◌, [], ◌∷◌}
+use Rattle.netlist.specs.declared.raw_net.RawStmt.TheVariants.{Flop}
+use Rattle.netlist.specs.Statements.{numbered}
+use Rattle.net_builder.proofs.RawStatements.{names_behind, raw_grown, raw_kept, raw_pushed, raw_same}
+use Rattle.net_builder.proofs.Results.{on_err}
+use Rattle.net_builder.proofs.raw_net.RawNet.push_flop.Goals as goal
+
+-- where there is no memory for the second name, the first alone stands behind the others
+pub invariant_of-self-in_err-push-2 : goal.invariant_of-self-in_err-push-2
+invariant_of-self-in_err-push-2 c =
+    raw_kept c.self.inside c.self.invariant _ (c.args.name.now ∷ []) _
+    (c.in_err-push-2.ensures.kept ∙ c.in_ok-push.ensures.pushed) refl
+
+pub returns-in_err-push-2-clause-kept : goal.returns-in_err-push-2-clause-kept
+returns-in_err-push-2-clause-kept c =
+    on_err _
+    (raw_same c.self.inside c.self.invariant c.push-2.new.self (c.args.name.now ∷ []) c.self.inside.statements
+    (c.in_err-push-2.ensures.kept ∙ c.in_ok-push.ensures.pushed) refl
+    ∙ c.self.view_is)
+
+-- where there is none for the statement, both do
+pub invariant_of-self-in_err-push-3 : goal.invariant_of-self-in_err-push-3
+invariant_of-self-in_err-push-3 c =
+    raw_kept c.self.inside c.self.invariant _ (c.args.name.now ∷ c.args.data_line.now ∷ []) _
+    (names_behind _ _ _ _ _ c.in_ok-push.ensures.pushed c.in_ok-push-2.ensures.pushed) c.in_err-push-3.ensures.items
+
+pub returns-in_err-push-3-clause-kept : goal.returns-in_err-push-3-clause-kept
+returns-in_err-push-3-clause-kept c =
+    on_err _
+    (raw_same c.self.inside c.self.invariant c.push-2.new.self (c.args.name.now ∷ c.args.data_line.now ∷ []) c.push-3.new.self
+    (names_behind _ _ _ _ _ c.in_ok-push.ensures.pushed c.in_ok-push-2.ensures.pushed) c.in_err-push-3.ensures.items
+    ∙ c.self.view_is)
+
+-- else the statement has them
+pub invariant_of-self-2 : goal.invariant_of-self-2
+invariant_of-self-2 c =
+    raw_grown c.self.inside c.self.invariant _ (c.args.name.now ∷ c.args.data_line.now ∷ []) _
+    (names_behind _ _ _ _ _ c.in_ok-push.ensures.pushed c.in_ok-push-2.ensures.pushed) c.args.line
+    (Flop c.args.name.now c.args.data_line.now) _ c.in_ok-push-3.ensures.items c.len-first.ensures refl refl
+    _ c.self.view_is (record { own_name = c.requires.name; data_name = c.requires.data_name }) c.requires.few
+
+pub returns-clause-pushed : goal.returns-clause-pushed
+returns-clause-pushed c =
+    raw_pushed c.self.inside c.self.invariant c.push-2.new.self (c.args.name.now ∷ c.args.data_line.now ∷ []) c.push-3.new.self
+    (names_behind _ _ _ _ _ c.in_ok-push.ensures.pushed c.in_ok-push-2.ensures.pushed) c.args.line
+    (Flop c.args.name.now c.args.data_line.now) _ c.in_ok-push-3.ensures.items c.len-first.ensures refl refl
+    ∙ ap (λ statements. statements ++ numbered c.args.line (Flop c.args.name.now c.args.data_line.now) ∷ []) c.self.view_is

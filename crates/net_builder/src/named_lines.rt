@@ -1,0 +1,78 @@
+// The lines as far as names tell them: their names, one after another and in order, outputs and flip-flops.
+ghost use Rattle.std.specs.Prelude.{◌≡◌, ◌≤◌, length, All, IfOk};
+ghost use Rattle.netlist.specs.declared.limits.TheConstants.{MOST_LINES};
+ghost use Rattle.netlist.specs.Description.{AreNamed, described, names_by_line};
+ghost use Rattle.netlist.specs.Names.{IsName};
+ghost use Rattle.netlist.specs.Statements.{IsStatement};
+ghost use Rattle.net_builder.specs.Building.{AreNamedLines};
+ghost use Rattle.net_builder.specs.KeyNames.{key_names};
+
+use crate::RawNet;
+use crate::by_name::lines_by_name;
+use crate::measures::longest_of;
+use crate::once::once;
+use crate::parts::{flops_of, named_outputs};
+use indexmap::IndexSet;
+use pd_base::{FlatLists, LineId, OutOfMemory};
+use std::alloc::Global;
+
+/// What names tell of a circuit's lines.
+#[derive(Drop)]
+pub(crate) struct NamedLines {
+    /// The names of the lines, by line number.
+    pub(crate) names: FlatLists<u8>,
+    /// All lines, in the order of their names' bytes.
+    pub(crate) by_name: Vec<LineId>,
+    /// The length of the longest name.
+    pub(crate) longest_name: u32,
+    /// The output lines, each once.
+    pub(crate) outputs: Vec<LineId>,
+    /// The flip-flops, each as its own line and its data line.
+    pub(crate) flops: Vec<(LineId, LineId)>,
+}
+
+/// What the names of the lines, by line, tell of them. The set ends before lines are sorted, so that not all is kept at once.
+pub(crate) fn named_lines(
+    alloc: Global,
+    raw: &RawNet,
+    names: IndexSet<Vec<u8>>,
+) -> Result<NamedLines, OutOfMemory>
+    requires named { AreNamed raw.now }
+    requires lawful { All (λ s. IsStatement s.statement) raw.now }
+    requires names { key_names names.keys ≡ names_by_line raw.now }
+    ensures { IfOk result (AreNamedLines (described raw.now)) }
+{
+    let listed = named_outputs(alloc, raw, &names)?;
+    let outputs = once(alloc, listed.as_slice(), names.len() as u32)?;
+    let flops = flops_of(alloc, raw, &names)?;
+    let names = flat_names(alloc, names)?;
+    Ok(NamedLines {
+        by_name: lines_by_name(alloc, &names)?,
+        longest_name: longest_of(&names),
+        names,
+        outputs,
+        flops,
+    })
+}
+
+// The names of a set, one after another.
+fn flat_names(alloc: Global, names: IndexSet<Vec<u8>>) -> Result<FlatLists<u8>, OutOfMemory>
+    requires few { length names.keys ≤ MOST_LINES }
+    requires names { All IsName (key_names names.keys) }
+    ensures { IfOk result (λ flat. flat ≡ key_names names.keys) }
+{
+    let mut flat = FlatLists::with_capacity(alloc, names.len(), byte_count(&names))?;
+    for name in names.as_slice() {
+        flat.push(name.as_slice())?;
+    }
+    Ok(flat)
+}
+
+// How many bytes the names of a set have: so much room is taken for them.
+fn byte_count(names: &IndexSet<Vec<u8>>) -> usize {
+    let mut count: usize = 0;
+    for name in names.as_slice() {
+        count = count.saturating_add(name.len());
+    }
+    count
+}

@@ -1,5 +1,0 @@
-pub mod ArcPins
-pub mod WalkOrder
-pub mod FirstPaths
-pub mod ShortWalks
-pub mod WalkPaths

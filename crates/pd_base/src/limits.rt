@@ -1,0 +1,7 @@
+// The greatest numbers that a call may ask for.
+
+/// How many paths may be asked for at most, and so the greatest number of a listed path.
+pub const MOST_PATHS: u32 = 10_000;
+
+/// How many splits of cases each search may make at most.
+pub const MOST_BUDGET: u32 = 1_000_000;

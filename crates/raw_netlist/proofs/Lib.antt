@@ -1,4 +1,0 @@
-mod NameParts
-mod RawStatements
-mod Results
-pub mod ReadStatements

@@ -1,3 +1,0 @@
-pub mod NameLists
-pub mod RawStored
-pub mod Reading

@@ -1,0 +1,56 @@
+// Netlists, names of their lines, and vectors of rows.
+ghost use Rattle.std.specs.Prelude.{◌≡◌, ◌<◌, length, vec_len, IfOk};
+ghost use Rattle.netlist.specs.Circuit.{line_count, source_count};
+
+use crate::texts::spelled_out;
+use crate::trouble::Trouble;
+use bench_reader::read_bench;
+use netlist::Netlist;
+use pd_base::{LineId, Pair};
+use std::alloc::Global;
+
+// The most bytes of a text that a row may have.
+const MOST_BYTES: usize = 65_536;
+
+/// The netlist of the text that a row spells, or None where the text is refused.
+pub fn read(alloc: Global, row: &str) -> Result<Option<Netlist>, Trouble> {
+    let text = spelled_out(alloc, row)?;
+    if text.len() > MOST_BYTES {
+        return Err(Trouble::NoRow);
+    }
+    match read_bench(alloc, text.as_bytes()) {
+        Ok(net) => Ok(Some(net)),
+        Err(_) => Ok(None),
+    }
+}
+
+/// The name of a line.
+pub fn name(net: &Netlist, line: LineId) -> Result<&str, Trouble>
+    requires { line.0 < line_count net.now }
+{
+    str::from_utf8(net.name(line)).map_err(|_| Trouble::NoText)
+}
+
+/// A pair of vectors with one bit for each source.
+pub fn pair(alloc: Global, net: &Netlist, first: &str, second: &str) -> Result<Pair, Trouble>
+    ensures { IfOk result (λ pair. length pair.first ≡ source_count net.now) }
+{
+    let first = vector(alloc, net, first)?;
+    let second = vector(alloc, net, second)?;
+    Ok(Pair::new(first, second))
+}
+
+/// A vector with one bit for each source.
+pub fn vector(alloc: Global, net: &Netlist, bits: &str) -> Result<Vec<bool>, Trouble>
+    ensures { IfOk result (λ vector. vec_len vector ≡ source_count net.now) }
+{
+    let mut vector = Vec::new(alloc);
+    for byte in bits.bytes() {
+        vector.push(byte == b'1')?;
+    }
+    if vector.len() == net.sources() as usize {
+        Ok(vector)
+    } else {
+        Err(Trouble::NoRow)
+    }
+}

@@ -1,0 +1,50 @@
+// Rules, transitions and kinds of tests by their names.
+use crate::texts::parted;
+use crate::trouble::Trouble;
+use pd_base::{Direction, Kind, Rules};
+
+/// A transition and a kind of test.
+#[derive(Clone, Copy)]
+pub struct Fault {
+    /// The transition at the source.
+    pub direction: Direction,
+    /// The conditions that are asked for.
+    pub kind: Kind,
+}
+
+/// The rules that a row begins with, and what stands behind them: rules Two if it begins with this word, and else rules One.
+pub fn rules_of(row: &str) -> (Rules, &str) {
+    match row.strip_prefix("two ") {
+        Some(rest) => (Rules::Two, rest),
+        None => (Rules::One, row),
+    }
+}
+
+/// The transition and the kind that a row begins with, and what stands behind them.
+pub fn fault_of(row: &str) -> Result<(Fault, &str), Trouble> {
+    let (direction, rest) = parted(row)?;
+    let (kind, rest) = parted(rest)?;
+    let fault = Fault {
+        direction: direction_of(direction)?,
+        kind: kind_of(kind)?,
+    };
+    Ok((fault, rest))
+}
+
+// The transition of this name.
+fn direction_of(name: &str) -> Result<Direction, Trouble> {
+    match name {
+        "rise" => Ok(Direction::Rise),
+        "fall" => Ok(Direction::Fall),
+        _ => Err(Trouble::NoRow),
+    }
+}
+
+// The kind of test of this name.
+fn kind_of(name: &str) -> Result<Kind, Trouble> {
+    match name {
+        "robust" => Ok(Kind::Robust),
+        "nonrobust" => Ok(Kind::Nonrobust),
+        _ => Err(Trouble::NoRow),
+    }
+}

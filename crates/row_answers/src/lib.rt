@@ -1,0 +1,35 @@
+//! Answers to rows of tests, as texts: what a netlist and a delay file say, values, five values, paths, tests, waves, hulls, and what
+//! the judge says of trees. Stands on the readers, the models, the lister, the replay, hulls and refutation_check, and is no part of
+//! the product. The program rows prints the answers; it and search_tests read netlists and paths of their rows by it.
+#![tactic(auto)]
+
+mod circuit_facts;
+mod circuits;
+mod delay_files;
+mod faults;
+mod fives;
+mod halves;
+mod line_values;
+mod lines;
+mod listed_paths;
+mod nodes;
+mod paths;
+mod replays;
+mod single_paths;
+mod texts;
+mod trees;
+mod trouble;
+
+pub use circuit_facts::{netlist_facts, netlist_text};
+pub use circuits::{read, vector};
+pub use delay_files::delays_text;
+pub use fives::five_values;
+pub use halves::hull_at;
+pub use line_values::{steadiness, support_of, values};
+pub use listed_paths::listing;
+pub use paths::path;
+pub use replays::{samples, sides, waves};
+pub use single_paths::{comparison, path_facts, verdict};
+pub use texts::{number_of, shown, spelled_out};
+pub use trees::{deep, refutes, spent};
+pub use trouble::Trouble;

@@ -1,0 +1,79 @@
+// What lines have: their values, their steadiness, and who stands in whose fan-in. The calls of functions with long contracts
+// stand alone, in functions that promise little, so that the answers are not proved over again under these contracts.
+ghost use Rattle.std.specs.Prelude.{◌≡◌, ◌<◌, length};
+ghost use Rattle.netlist.specs.Circuit.{line_count, source_count};
+
+use crate::circuits::{pair, vector};
+use crate::lines::bits_line;
+use crate::texts::{number_of, parted};
+use crate::trouble::Trouble;
+use logic_values::{Steady, evaluate, steady, support};
+use netlist::Netlist;
+use pd_base::{LineId, Pair};
+use std::alloc::Global;
+
+/// The values of all lines under a vector, by line number.
+pub fn values(alloc: Global, net: &Netlist, bits: &str) -> Result<String, Trouble> {
+    let vector = vector(alloc, net, bits)?;
+    let values = values_under(alloc, net, vector.as_slice())?;
+    Ok(bits_line(alloc, values.as_slice())?)
+}
+
+// The values of all lines under a vector.
+fn values_under(alloc: Global, net: &Netlist, vector: &[bool]) -> Result<Vec<bool>, Trouble>
+    requires { length vector.now ≡ source_count net.now }
+{
+    let mut values = vec![in alloc; false; net.lines() as usize]?;
+    evaluate(net, vector, values.as_mut_slice());
+    Ok(values)
+}
+
+/// Which lines stand in the transitive fan-in of the line of a number, by line number.
+pub fn support_of(alloc: Global, net: &Netlist, number: &str) -> Result<String, Trouble> {
+    let line = number_of(number)?;
+    if line >= net.lines() {
+        return Err(Trouble::NoRow);
+    }
+    let cone = cone_of(alloc, net, LineId(line))?;
+    Ok(bits_line(alloc, cone.as_slice())?)
+}
+
+// For each line whether it stands in the transitive fan-in of this one.
+fn cone_of(alloc: Global, net: &Netlist, line: LineId) -> Result<Vec<bool>, Trouble>
+    requires { line.0 < line_count net.now }
+{
+    let mut cone = vec![in alloc; true; net.lines() as usize]?;
+    support(net, line, cone.as_mut_slice());
+    Ok(cone)
+}
+
+/// At which values all lines are steady under a pair of vectors, by line number; `x` where one is not.
+pub fn steadiness(alloc: Global, net: &Netlist, vectors: &str) -> Result<String, Trouble> {
+    let (first, second) = parted(vectors)?;
+    let pair = pair(alloc, net, first, second)?;
+    let steadiness = steadiness_under(alloc, net, &pair)?;
+    let mut text = String::from_str(alloc, "  ")?;
+    for found in steadiness.as_slice() {
+        text.push(sign_of(*found))?;
+    }
+    text.push('\n')?;
+    Ok(text)
+}
+
+// The steadiness of all lines under a pair.
+fn steadiness_under(alloc: Global, net: &Netlist, pair: &Pair) -> Result<Vec<Steady>, Trouble>
+    requires { length pair.now.first ≡ source_count net.now }
+{
+    let mut steadiness = vec![in alloc; Steady::Moving; net.lines() as usize]?;
+    steady(net, pair, steadiness.as_mut_slice());
+    Ok(steadiness)
+}
+
+// How the steadiness of a line is shown.
+fn sign_of(found: Steady) -> char {
+    match found {
+        Steady::Zero => '0',
+        Steady::One => '1',
+        Steady::Moving => 'x',
+    }
+}

@@ -1,0 +1,58 @@
+// Signs of a row that stand for bytes, `\n` for LF and so on; and words and numbers in a row.
+use crate::trouble::Trouble;
+use std::alloc::{AllocError, Global};
+
+/// The text that a row spells, with each sign exchanged for what it stands for.
+pub fn spelled_out(alloc: Global, row: &str) -> Result<String, AllocError> {
+    let mut text = String::new(alloc);
+    let mut in_sign = false;
+    for letter in row.chars() {
+        if in_sign {
+            text.push(meant(letter))?;
+            in_sign = false;
+        } else if letter == '\\' {
+            in_sign = true;
+        } else {
+            text.push(letter)?;
+        }
+    }
+    Ok(text)
+}
+
+// What a sign with this letter stands for.
+fn meant(letter: char) -> char {
+    match letter {
+        'n' => '\n',
+        'r' => '\r',
+        't' => '\t',
+        'f' => '\u{c}',
+        'b' => '\u{7}',
+        'v' => '\u{b}',
+        'd' => '\u{7f}',
+        '0' => '\0',
+        _ => letter,
+    }
+}
+
+/// The text as a row shows it, in one line: LF by its sign.
+pub fn shown(alloc: Global, text: &str) -> Result<String, AllocError> {
+    let mut shown = String::new(alloc);
+    for letter in text.chars() {
+        if letter == '\n' {
+            shown.push_str("\\n")?;
+        } else {
+            shown.push(letter)?;
+        }
+    }
+    Ok(shown)
+}
+
+/// The first word, and what stands behind the space after it.
+pub fn parted(row: &str) -> Result<(&str, &str), Trouble> {
+    row.split_once(' ').ok_or(Trouble::NoRow)
+}
+
+/// The number that a part of a row spells.
+pub fn number_of(text: &str) -> Result<u32, Trouble> {
+    text.parse::<u32>().map_err(|_| Trouble::NoRow)
+}

@@ -1,0 +1,47 @@
+// The rows that are questions to the last netlist.
+use crate::subject::Subject;
+use row_answers::Trouble;
+use std::alloc::Global;
+
+/// What came of a question.
+pub fn asked(alloc: Global, subject: &Subject, word: &str, row: &str) -> Result<String, Trouble> {
+    let net = subject.net.as_ref().ok_or(Trouble::NoRow)?;
+    let delays = subject.delays.as_ref().map(|text| text.as_str());
+    let prefix = subject.prefix.as_str();
+    match word {
+        // the values of all lines under a vector
+        "values" => row_answers::values(alloc, net, row),
+        // their steadiness under two vectors
+        "steady" => row_answers::steadiness(alloc, net, row),
+        // which lines stand in the transitive fan-in of the line of this number
+        "support" => row_answers::support_of(alloc, net, row),
+        // the delays of the gates' pins, or why the delay file is refused
+        "delays" => row_answers::delays_text(alloc, net, delays),
+        // the first paths, so many
+        "paths" => row_answers::listing(alloc, net, delays, row),
+        // whether this is a path, and how long it is
+        "path" => row_answers::path_facts(alloc, net, delays, row),
+        // how two paths compare, between which a slash stands
+        "compare" => row_answers::comparison(alloc, net, delays, row),
+        // whether a pair is a test: transition, kind, both vectors, and the path
+        "meets" => row_answers::verdict(alloc, net, row),
+        // the waves of all lines under two vectors
+        "waves" => row_answers::waves(alloc, net, delays, row),
+        // what the observed lines have: the time, and both vectors
+        "sample" => row_answers::samples(alloc, net, delays, row),
+        // whether the sides of a path have settled: the time, both vectors, and the path
+        "settled" => row_answers::sides(alloc, net, delays, row),
+        // the five values of all lines where the sources have these
+        "five" => row_answers::five_values(alloc, net, row),
+        // the hull below these halves: transition, kind, and for each half a split, as in a tree, and behind a dot 1 or 2; here and
+        // below the word two may stand first, for rules Two
+        "hull" => row_answers::hull_at(alloc, net, prefix, row),
+        // whether a tree refutes: transition, kind, and its nodes
+        "refutes" => row_answers::refutes(alloc, net, prefix, row),
+        // whether a tree spent a budget: the budget, transition, kind, and the nodes
+        "spent" => row_answers::spent(alloc, net, prefix, row),
+        // whether a tree of so many splits refutes, each in the first half of the one before: the number, transition, kind
+        "deep" => row_answers::deep(alloc, net, prefix, row),
+        _ => Err(Trouble::NoRow),
+    }
+}

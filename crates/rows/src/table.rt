@@ -1,0 +1,145 @@
+// What stands between two calls: the files that a call finds, and what is to fail in the next one.
+use crate::row::Object;
+use commands::run;
+use pd_io::{MemoryFiles, MemorySink};
+use row_answers::{Trouble, shown, spelled_out};
+use std::alloc::{AllocError, Global};
+use std::collections::BTreeMap;
+
+// The names of which a call may change what they hold.
+const NAMES: [&str; 6] = ["net", "delays", "tests", "report", "proofs", "other"];
+
+/// Files by name, and failures of the next call.
+#[derive(Drop)]
+pub struct Table {
+    alloc: Global,
+    held: BTreeMap<String, String>,
+    failing: Vec<(Object, u64)>,
+}
+
+impl Table {
+    /// No files, and no failures.
+    pub fn new(alloc: Global) -> Table {
+        Table {
+            alloc,
+            held: BTreeMap::new(alloc),
+            failing: Vec::new(alloc),
+        }
+    }
+
+    /// Puts a text under a name.
+    pub fn put(&mut self, name: &str, text: &str) -> Result<(), AllocError> {
+        let text = spelled_out(self.alloc, text)?;
+        self.held.insert(String::from_str(self.alloc, name)?, text)?;
+        Ok(())
+    }
+
+    /// Makes a name absent.
+    pub fn remove(&mut self, name: &str) {
+        self.held.remove(name);
+    }
+
+    /// Plans a failure of the next call.
+    pub fn fail(&mut self, object: Object, nth: u64) -> Result<(), AllocError> {
+        self.failing.push((object, nth))?;
+        Ok(())
+    }
+
+    /// A call with these words: what came of it, line by line.
+    pub fn call(&mut self, words: &[&str]) -> Result<String, Trouble> {
+        let alloc = self.alloc;
+        let mut files = self.files()?;
+        let mut out = MemorySink::new(alloc);
+        let mut err = MemorySink::new(alloc);
+        self.plan_failures(&mut files, &mut out, &mut err)?;
+        self.failing.clear();
+        let mut came = told(alloc, words, &mut files, &mut out, &mut err)?;
+        self.add_changed(&mut came, &files)?;
+        Ok(came)
+    }
+
+    // Makes the calls fail that are to fail.
+    fn plan_failures(
+        &self,
+        files: &mut MemoryFiles,
+        out: &mut MemorySink,
+        err: &mut MemorySink,
+    ) -> Result<(), Trouble> {
+        for (object, nth) in self.failing.iter() {
+            match object {
+                Object::Files(call) => files.fail(*call, *nth)?,
+                Object::Out => out.fail(*nth)?,
+                Object::Err => err.fail(*nth)?,
+            }
+        }
+        Ok(())
+    }
+
+    // Files that hold what a call finds.
+    fn files(&self) -> Result<MemoryFiles, Trouble> {
+        let mut files = MemoryFiles::new(self.alloc);
+        for (name, text) in self.held.iter() {
+            files.put(name.as_str(), text.as_bytes())?;
+        }
+        Ok(files)
+    }
+
+    // A line for each file that holds another text than before.
+    fn add_changed(&self, came: &mut String, files: &MemoryFiles) -> Result<(), Trouble> {
+        for name in NAMES {
+            let before = self.held.get(name).map(|text| text.as_bytes());
+            let after = files.get(name);
+            if after == before {
+                continue;
+            }
+            match after {
+                Some(bytes) => add(self.alloc, came, name, bytes)?,
+                None => add(self.alloc, came, name, b"absent")?,
+            }
+        }
+        Ok(())
+    }
+}
+
+/// A call over these files and streams: its status, and what err and out took.
+pub fn told(
+    alloc: Global,
+    words: &[&str],
+    files: &mut MemoryFiles,
+    out: &mut MemorySink,
+    err: &mut MemorySink,
+) -> Result<String, Trouble> {
+    let status = status_of(alloc, words, files, out, err);
+    let mut came = format!(in alloc; "  status {status}\n")?;
+    add_taken(alloc, &mut came, "err", err.bytes())?;
+    add_taken(alloc, &mut came, "out", out.bytes())?;
+    Ok(came)
+}
+
+// A line with what was taken, if it is anything.
+fn add_taken(alloc: Global, came: &mut String, name: &str, bytes: &[u8]) -> Result<(), Trouble> {
+    if bytes.is_empty() {
+        return Ok(());
+    }
+    add(alloc, came, name, bytes)
+}
+
+// A line with a name and a text.
+fn add(alloc: Global, came: &mut String, name: &str, bytes: &[u8]) -> Result<(), Trouble> {
+    let text = str::from_utf8(bytes).map_err(|_| Trouble::NoText)?;
+    let shown = shown(alloc, text)?;
+    let line = format!(in alloc; "  {name} {shown}\n")?;
+    came.push_str(line.as_str())?;
+    Ok(())
+}
+
+// The status of a call. It promises nothing, so that what is printed is not proved over again under the contract of `run`.
+fn status_of(
+    alloc: Global,
+    words: &[&str],
+    files: &mut MemoryFiles,
+    out: &mut MemorySink,
+    err: &mut MemorySink,
+) -> u8 {
+    run(alloc, words, files, out, err).number()
+}

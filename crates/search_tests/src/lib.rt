@@ -1,0 +1,29 @@
+//! Callers that the product has not, each proved from contracts alone: of `meets` and `steady`, whose contracts say in a reader's
+//! words what an answer tells of waves; of scopes, nested by recursion, left by marks in a loop, and left by `?`; and searches for
+//! tests of single paths, each with the answer that was worked out by hand. Stands on path_model, implication, justify,
+//! refutation_check and row_answers, and is no part of the product.
+#![tactic(auto)]
+
+#[cfg(test)]
+mod answers;
+mod choice;
+#[cfg(test)]
+mod entering;
+mod late_paths;
+#[cfg(test)]
+mod leaving;
+#[cfg(test)]
+mod marking;
+#[cfg(test)]
+mod nesting;
+#[cfg(test)]
+mod playing;
+#[cfg(test)]
+mod rows;
+mod steady_lines;
+#[cfg(test)]
+mod two_ways;
+
+pub use choice::Choice;
+pub use late_paths::{is_nonrobust_test, is_robust_test, is_test, shows_each_prefix};
+pub use steady_lines::{is_steady_at_one, steady_bit};

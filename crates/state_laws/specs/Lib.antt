@@ -1,0 +1,4 @@
+pub mod Nodes
+pub mod Sweeps
+pub mod Pairs
+pub mod Steadied

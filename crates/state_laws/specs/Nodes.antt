@@ -1,0 +1,37 @@
+-- What lines may be in at a node of a tree of cases: as at the start, and cut by the halves of the splits above the node (this
+-- project's own).
+use Rattle.std.specs.Prelude.{◌≡◌, ℕ, List, All}
+use Rattle.pd_base.specs.Target.{Target}
+use Rattle.pd_base.specs.declared.rules.Rules.{Rules}
+use Rattle.netlist.specs.Circuit.{Circuit}
+use Rattle.state_sets.specs.declared.state.State.{State}
+use Rattle.state_sets.specs.declared.state.StateSet.{StateSet}
+use Rattle.state_sets.specs.StateAlgebra.{StateAlgebra}
+use Rattle.state_sets.specs.FourStates.{four_states}
+use Rattle.state_sets.specs.Starts.{MayStart, IsInHalf}
+use Rattle.state_sets.specs.Hulls.{IsNarrowingOf, IsHull, IsEmptied, Closes}
+use Rattle.state_laws.specs.declared.half.Half.{Half}
+
+-- the state is in the half, if the half is one of this line
+abbrev pub IsCut : StateAlgebra → ℕ → State → Half → Type 0
+IsCut a line state half = line ≡ half.source → IsInHalf a half.steadiness half.second state
+
+-- what a line may be in at a node below these halves, where a target is looked for under these rules
+pub record MayBe (a : StateAlgebra) (c : Circuit) (rules : Rules) (target : Target) (halves : List Half) (line : ℕ) (state : State) : Type 0 where
+  pub start : MayStart a c rules target.path.source.0 target.direction line state
+  pub cut : All (IsCut a line state) halves
+
+-- the hull at a node, under the conditions of the target's kind at the gates of its path
+abbrev pub IsNodeHull : Circuit → Rules → Target → List Half → List StateSet → Type 0
+IsNodeHull c rules target halves hull =
+    IsHull four_states c (IsNarrowingOf c target.kind target.path.steps) (MayBe four_states c rules target halves) hull
+
+-- this line is emptied at the node
+abbrev pub IsEmptiedAtNode : Circuit → Rules → Target → List Half → ℕ → Type 0
+IsEmptiedAtNode c rules target halves line =
+    IsEmptied four_states c (IsNarrowingOf c target.kind target.path.steps) (MayBe four_states c rules target halves) line
+
+-- the node closes: some line is emptied there
+abbrev pub ClosesAtNode : Circuit → Rules → Target → List Half → Type 0
+ClosesAtNode c rules target halves =
+    Closes four_states c (IsNarrowingOf c target.kind target.path.steps) (MayBe four_states c rules target halves)

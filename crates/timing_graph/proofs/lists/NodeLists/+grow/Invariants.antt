@@ -1,7 +1,0 @@
-use Rattle.std.proofs.Common.{◌-◌}
-use Rattle.walk_laws.specs.Graph.{node_count}
-use Rattle.timing_graph.proofs.lists.NodeLists.+grow.Given as goal
-
--- arcs lead to greater nodes
-abbrev pub decreases-grow : goal.decreases-grow
-decreases-grow l = node_count l.graph.now - l.node

@@ -1,4 +1,0 @@
-pub mod Walks
-pub mod TrialLabels
-pub mod Judged
-pub mod Answers

@@ -1,4 +1,0 @@
-pub mod Changes
-pub mod GateWaves
-pub mod PinChanges
-pub mod Turns
