@@ -6,7 +6,7 @@ use Rattle.std.proofs.lemmas.List.{length-take}
 use Rattle.std.proofs.lemmas.List.Elements.{All-cons, All-nil}
 use Rattle.std.proofs.lemmas.Option.{slice_get-get_or}
 use Rattle.pd_base.specs.Target.{Target}
-use Rattle.pd_base.specs.declared.rules.Rules.TheVariants.{One}
+use Rattle.pd_base.specs.declared.rules.Rules.{Rules}
 use Rattle.pd_base.specs.Route.{Route}
 use Rattle.netlist.specs.Circuit.{Circuit}
 use Rattle.netlist.specs.Paths.{IsPrefixOf, prefix_of}
@@ -28,10 +28,10 @@ use Rattle.fault_search.proofs.Places.{at_last, in_first, in_push, same_item}
 use Rattle.fault_search.proofs.Begins.{fewer_steps, turned_round}
 
 -- the tree refutes a path with so many splits
-abbrev pub IsRefuted : Circuit → Target → ℕ → List Node → Type 0
-IsRefuted c target budget tree = IsRefutation c One target tree × (split_count tree ≤ budget)
+abbrev pub IsRefuted : Circuit → Rules → Target → ℕ → List Node → Type 0
+IsRefuted c rules target budget tree = IsRefutation c rules target tree × (split_count tree ≤ budget)
 
-module _ (c : Circuit) (routes : List Route) (aim : Aim) (at first : ℕ) (tree : List Node) (of : IsFirstWith routes at first)
+module _ (c : Circuit) (rules : Rules) (routes : List Route) (aim : Aim) (at first : ℕ) (tree : List Node) (of : IsFirstWith routes at first)
     (old : List Refutation) where
   -- the new refutation, and all of them; what is known before and then
   abbrev added : Refutation
@@ -41,10 +41,10 @@ module _ (c : Circuit) (routes : List Route) (aim : Aim) (at first : ℕ) (tree 
   all = old ++ added ∷ []
 
   abbrev before : Searches
-  before = searches_with aim.budget routes old
+  before = searches_with rules aim.budget routes old
 
   abbrev then : Searches
-  then = searches_with aim.budget routes all
+  then = searches_with rules aim.budget routes all
 
   -- the path that it names
   names : IsNumber routes (first + 1) of.route
@@ -73,7 +73,7 @@ module _ (c : Circuit) (routes : List Route) (aim : Aim) (at first : ℕ) (tree 
       its.is_prefix ∙ ap (prefix_of (length of.prefix.steps)) listed ∙ cut
 
   -- it is one that was found
-  is_found : IsRefuted c (target_for aim of.prefix) aim.budget tree → IsFoundRefutation c then added
+  is_found : IsRefuted c rules (target_for aim of.prefix) aim.budget tree → IsFoundRefutation c then added
   is_found refutes = record {
     listed = of.route;
     is_listed = names;
@@ -86,7 +86,7 @@ module _ (c : Circuit) (routes : List Route) (aim : Aim) (at first : ℕ) (tree 
         omega (arith, low, some));
     within_budget = refutes.1;
     refutes =
-        let P : Route → Type 0 = λ r. IsRefutation c One (target_for aim r) tree in
+        let P : Route → Type 0 = λ r. IsRefutation c rules (target_for aim r) tree in
         subst P (sym cut) refutes.0;
   }
 
@@ -217,7 +217,7 @@ module _ (c : Circuit) (routes : List Route) (aim : Aim) (at first : ℕ) (tree 
       (λ (last_j : (j ≡ length old) × (lower ≡ added)). last_i.0 ∙ sym last_j.0) (in_push old added j lower is_lower))
       (in_push old added i upper is_upper)
 
-  found_then : IsRefuted c (target_for aim of.prefix) aim.budget tree → AreRefutations c before → (index : ℕ)
+  found_then : IsRefuted c rules (target_for aim of.prefix) aim.budget tree → AreRefutations c before → (index : ℕ)
       (refutation : Refutation) → slice_get all index ≡ Some refutation → IsFoundRefutation c then refutation
   found_then refutes are index refutation here =
       ⊎_elim (λ (is : slice_get old index ≡ Some refutation). found_before refutation (are.found index refutation is))
@@ -233,9 +233,9 @@ module _ (c : Circuit) (routes : List Route) (aim : Aim) (at first : ℕ) (tree 
       omega (arith, steps))
       (in_push old added index refutation here)
 
-  walked_then : (was is : List Outcome) → IsRefuted c (target_for aim of.prefix) aim.budget tree
-      → IsWalked c routes aim (length of.prefix.steps) was old → outcome_at was at ≡ Unsearched
-      → AreRefutedUnder routes at (length old) was is → IsWalked c routes aim (length of.prefix.steps) is all
+  walked_then : (was is : List Outcome) → IsRefuted c rules (target_for aim of.prefix) aim.budget tree
+      → IsWalked c rules routes aim (length of.prefix.steps) was old → outcome_at was at ≡ Unsearched
+      → AreRefutedUnder routes at (length old) was is → IsWalked c rules routes aim (length of.prefix.steps) is all
   walked_then was is refutes walked unsearched known =
       let P : Outcome → Type 0 = λ o. Stands c before (target_for aim of.prefix) o in
       let none : NoneRefutes before (target_for aim of.prefix) =
@@ -266,17 +266,17 @@ module _ (routes : List Route) (at : ℕ) (route : Route) (here : slice_get rout
   same_path : added.is_first.prefix ≡ route
   same_path = same_item routes at added.is_first.prefix route added.is_first.is_prefix here
 
-  pub walked_on : (c : Circuit) → IsRefuted c (target_for aim route) aim.budget tree
-      → IsWalked c routes aim (length route.steps) was old → outcome_at was at ≡ Unsearched
-      → IsWalked c routes aim (length route.steps) is new
-  walked_on c refutes walked unsearched =
-      let P : Route → Type 0 = λ r. IsRefuted c (target_for aim r) aim.budget tree in
-      let Q : Route → Type 0 = λ r. IsWalked c routes aim (length r.steps) was old in
-      let R : Route → Type 0 = λ r. IsWalked c routes aim (length r.steps) is new in
-      let S : List Refutation → Type 0 = λ rs. IsWalked c routes aim (length added.is_first.prefix.steps) is rs in
+  pub walked_on : (c : Circuit) (rules : Rules) → IsRefuted c rules (target_for aim route) aim.budget tree
+      → IsWalked c rules routes aim (length route.steps) was old → outcome_at was at ≡ Unsearched
+      → IsWalked c rules routes aim (length route.steps) is new
+  walked_on c rules refutes walked unsearched =
+      let P : Route → Type 0 = λ r. IsRefuted c rules (target_for aim r) aim.budget tree in
+      let Q : Route → Type 0 = λ r. IsWalked c rules routes aim (length r.steps) was old in
+      let R : Route → Type 0 = λ r. IsWalked c rules routes aim (length r.steps) is new in
+      let S : List Refutation → Type 0 = λ rs. IsWalked c rules routes aim (length added.is_first.prefix.steps) is rs in
       subst R same_path
       (subst S (sym added.added)
-      (walked_then c routes aim at added.first tree added.is_first old was is (subst P (sym same_path) refutes)
+      (walked_then c rules routes aim at added.first tree added.is_first old was is (subst P (sym same_path) refutes)
       (subst Q (sym same_path) walked) unsearched added.shared))
 
   pub known_own : is_known (outcome_at is at) ≡ true

@@ -4,6 +4,7 @@ use Rattle.std.specs.Prelude.{slice_get}
 use Rattle.std.proofs.lemmas.Bool.{cases_eq}
 use Rattle.std.proofs.lemmas.List.{length-set}
 use Rattle.pd_base.specs.Route.{Route}
+use Rattle.pd_base.specs.declared.rules.Rules.{Rules}
 use Rattle.netlist.specs.Circuit.{Circuit}
 use Rattle.verdict_runs.specs.declared.findings.Outcome.{Outcome}
 use Rattle.verdict_runs.specs.declared.findings.Outcome.TheVariants.{Unsearched, Tested, Refuted, Spent}
@@ -19,8 +20,8 @@ unknown (Refuted index) not = absurd (true≢false not)
 unknown (Spent tree) not = absurd (true≢false not)
 
 -- one outcome is written
-module _ (c : Circuit) (routes : List Route) (aim : Aim) (longest at : ℕ) (was is : List Outcome) (refutations : List Refutation)
-    (outcome : Outcome) (walked : IsWalked c routes aim longest was refutations) (inside : at < length routes)
+module _ (c : Circuit) (rules : Rules) (routes : List Route) (aim : Aim) (longest at : ℕ) (was is : List Outcome) (refutations : List Refutation)
+    (outcome : Outcome) (walked : IsWalked c rules routes aim longest was refutations) (inside : at < length routes)
     (written : is ≡ set was at outcome) where
   its_place : at < length was
   its_place = omega (arith, inside, walked.standing.one_each)
@@ -34,8 +35,8 @@ module _ (c : Circuit) (routes : List Route) (aim : Aim) (longest at : ℕ) (was
       ap (λ (list : List Outcome). outcome_at list other) written ∙ get_or-set_other was at other outcome Unsearched apart
 
   pub walked_with : ((route : Route) → slice_get routes at ≡ Some route
-      → Stands c (searches_with aim.budget routes refutations) (target_for aim route) outcome)
-      → IsWalked c routes aim longest is refutations
+      → Stands c (searches_with rules aim.budget routes refutations) (target_for aim route) outcome)
+      → IsWalked c rules routes aim longest is refutations
   walked_with stands = record {
     are_refutations = walked.are_refutations;
     are_short = walked.are_short;
@@ -44,7 +45,7 @@ module _ (c : Circuit) (routes : List Route) (aim : Aim) (longest at : ℕ) (was
       stands =
           λ other route here.
           (let P : Outcome → Type 0 =
-          λ o. Stands c (searches_with aim.budget routes refutations) (target_for aim route) o in
+          λ o. Stands c (searches_with rules aim.budget routes refutations) (target_for aim route) o in
           ⊎_elim
           (λ (same : other ≡ at).
           let Q : ℕ → Type 0 = λ n. slice_get routes n ≡ Some route in

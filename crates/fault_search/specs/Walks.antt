@@ -4,10 +4,12 @@ use Rattle.pd_base.specs.declared.limits.TheConstants.{MOST_BUDGET, MOST_PATHS}
 use Rattle.netlist.specs.declared.limits.TheConstants.{MOST_LEVELS}
 use Rattle.pd_base.specs.Route.{Route}
 use Rattle.pd_base.specs.Target.{Target, target_of}
+use Rattle.pd_base.specs.declared.rules.Rules.{Rules}
 use Rattle.pd_base.specs.declared.fault.Direction.{Direction}
 use Rattle.pd_base.specs.declared.fault.Kind.{Kind}
 use Rattle.netlist.specs.Circuit.{Circuit}
-use Rattle.netlist.specs.Paths.{IsPath}
+use Rattle.netlist.specs.Paths.{IsPath, end_of}
+use Rattle.implication.specs.Standing.{Standing, IsTold}
 use Rattle.verdict_runs.specs.declared.findings.Outcome.{Outcome}
 use Rattle.verdict_runs.specs.declared.findings.Outcome.TheVariants.{Unsearched, Tested, Refuted, Spent}
 use Rattle.verdict_runs.specs.declared.findings.Refutation.{Refutation}
@@ -24,14 +26,23 @@ pub record AreSearchablePaths (c : Circuit) (routes : List Route) : Type 0 where
   pub few : length routes ≤ MOST_PATHS
   pub short : All (λ route. length route.steps ≤ MOST_LEVELS) routes
 
+-- the end of each path is told, as the engine stands
+abbrev pub AreToldPaths : Standing → List Route → Type 0
+AreToldPaths standing routes = All (λ route. IsTold standing (end_of standing.net route)) routes
+
 -- a budget that the program takes
 pub record IsBudget (budget : ℕ) : Type 0 where
   pub positive : 1 ≤ budget
   pub within : budget ≤ MOST_BUDGET
 
 -- what was found so far
-abbrev pub searches_with : ℕ → List Route → List Refutation → Searches
-searches_with budget routes refutations = record { budget = budget; routes = routes; refutations = refutations }
+abbrev pub searches_with : Rules → ℕ → List Route → List Refutation → Searches
+searches_with rules budget routes refutations = record {
+  rules = rules;
+  budget = budget;
+  routes = routes;
+  refutations = refutations;
+}
 
 -- the outcome for the path of this index
 abbrev pub outcome_at : List Outcome → ℕ → Outcome
@@ -74,11 +85,11 @@ AreShort aim refutations longest = (index : ℕ) (refutation : Refutation) → s
     → IsAimedAt aim refutation → refutation.steps ≤ longest
 
 -- only paths with at most so many steps were searched for this aim
-pub record IsWalked (c : Circuit) (routes : List Route) (aim : Aim) (longest : ℕ) (outcomes : List Outcome)
+pub record IsWalked (c : Circuit) (rules : Rules) (routes : List Route) (aim : Aim) (longest : ℕ) (outcomes : List Outcome)
     (refutations : List Refutation) : Type 0 where
-  pub are_refutations : AreRefutations c (searches_with aim.budget routes refutations)
+  pub are_refutations : AreRefutations c (searches_with rules aim.budget routes refutations)
   pub are_short : AreShort aim refutations longest
-  pub standing : AreStanding c (searches_with aim.budget routes refutations) aim.kind aim.dir outcomes
+  pub standing : AreStanding c (searches_with rules aim.budget routes refutations) aim.kind aim.dir outcomes
 
 -- what is known stays so
 abbrev pub KeepKnown : List Outcome → List Outcome → Type 0

@@ -1,13 +1,14 @@
 -- The labels of a start, cut to halves, have the states that lines may be in at a node.
-use Rattle.std.proofs.Common.{◌≡◌, ℕ, ◌<◌, ◌↔◌, List, subst, subst₂}
+use Rattle.std.proofs.Common.{◌≡◌, ℕ, ◌<◌, ◌↔◌, true, false, List, [], replicate, subst, subst₂}
 use Rattle.pd_base.specs.declared.ids.LineId.{LineId}
 use Rattle.pd_base.specs.declared.ids.PinRef.{PinRef}
-use Rattle.hulls.specs.Conditions.{Entered}
+use Rattle.narrowing.specs.Conditions.{Entered}
 use Rattle.std.specs.List.{All}
 use Rattle.pd_base.specs.Target.{Target}
 use Rattle.pd_base.specs.declared.rules.Rules.{Rules}
 use Rattle.pd_base.specs.declared.fault.Kind.{Kind}
-use Rattle.netlist.specs.Circuit.{Circuit, line_count}
+use Rattle.std.proofs.lemmas.List.{get_or-replicate}
+use Rattle.netlist.specs.Circuit.{Circuit, line_count, gate_count}
 use Rattle.state_sets.specs.declared.state.State.{State}
 use Rattle.state_sets.specs.declared.state.StateSet.{StateSet}
 use Rattle.state_sets.specs.FourStates.{four_states}
@@ -15,7 +16,18 @@ use Rattle.state_sets.specs.Starts.{MayStart}
 use Rattle.state_sets.specs.Hulls.{Narrowing, IsNarrowingOf, IsHull, IsEmptied, HasAt}
 use Rattle.state_laws.specs.declared.half.Half.{Half}
 use Rattle.state_laws.specs.Nodes.{MayBe, IsCut, IsNodeHull, IsEmptiedAtNode}
+use Rattle.state_laws.specs.Cones.{IsNarrowingIn}
+use Rattle.state_laws.proofs.Cones.{hull_of_all, emptied_inside}
+use Rattle.hulls.specs.Awaiting.{is_inside}
+use Rattle.hulls.specs.Boards.{OnBoard}
 use Rattle.state_laws.proofs.Hulls.{Allows, hull_of_same, emptied_if_wider, widens_by_states}
+
+-- a board with these labels and all gates inside
+abbrev pub board_of : Circuit → List StateSet → OnBoard
+board_of c labels = record { labels = labels; notes = []; waiting = []; inside = replicate (gate_count c) true }
+
+pub all_inside : (c : Circuit) (gate : ℕ) → gate < gate_count c → is_inside (replicate (gate_count c) true) gate ≡ true
+all_inside c gate within = get_or-replicate (gate_count c) gate true false within
 
 module _ (c : Circuit) (rules : Rules) (target : Target) (halves : List Half) (launched start : List StateSet)
     (launches : (line : ℕ) (state : State) → HasAt four_states.count launched line state
@@ -62,18 +74,36 @@ module _ (c : Circuit) (rules : Rules) (target : Target) (halves : List Half) (l
       is_source (launches line state)
 
   -- the same, as the code has the source, the kind and the steps
-  pub entered_hull : (hull : List StateSet)
+  of_steps : (hull : List StateSet)
       → IsHull four_states c (IsNarrowingOf c entered.kind entered.steps) (HasAt four_states.count start) hull
       → IsNodeHull c rules target halves hull
-  entered_hull hull is =
+  of_steps hull is =
       node_hull c rules target halves launched start launches_prefix cuts hull
       (subst₂ (λ (k : Kind) (steps : List PinRef). IsHull four_states c (IsNarrowingOf c k steps) (HasAt four_states.count start) hull)
       is_kind is_steps is)
 
-  pub entered_emptied : (line : ℕ)
+  emptied_of_steps : (line : ℕ)
       → IsEmptied four_states c (IsNarrowingOf c entered.kind entered.steps) (HasAt four_states.count start) line
       → IsEmptiedAtNode c rules target halves line
-  entered_emptied line emptied =
+  emptied_of_steps line emptied =
       node_emptied c rules target halves launched start launches_prefix cuts line
       (subst₂ (λ (k : Kind) (steps : List PinRef). IsEmptied four_states c (IsNarrowingOf c k steps) (HasAt four_states.count start) line)
       is_kind is_steps emptied)
+
+  -- and as a board has settled that had these labels, with all gates inside
+  module _ (board : OnBoard) (is : board ≡ board_of c start) where
+    pub entered_hull : (hull : List StateSet)
+        → IsHull four_states c (IsNarrowingIn c (is_inside board.inside) entered.kind entered.steps) (HasAt four_states.count board.labels) hull
+        → IsNodeHull c rules target halves hull
+    entered_hull hull of_board = of_steps hull
+        (hull_of_all four_states c (is_inside (replicate (gate_count c) true)) (all_inside c) entered.kind entered.steps (HasAt four_states.count start) hull
+        (subst (λ (b : OnBoard). IsHull four_states c (IsNarrowingIn c (is_inside b.inside) entered.kind entered.steps) (HasAt four_states.count b.labels) hull)
+        is of_board))
+
+    pub entered_emptied : (line : ℕ)
+        → IsEmptied four_states c (IsNarrowingIn c (is_inside board.inside) entered.kind entered.steps) (HasAt four_states.count board.labels) line
+        → IsEmptiedAtNode c rules target halves line
+    entered_emptied line of_board = emptied_of_steps line
+        (emptied_inside four_states c (is_inside (replicate (gate_count c) true)) entered.kind entered.steps (HasAt four_states.count start) line
+        (subst (λ (b : OnBoard). IsEmptied four_states c (IsNarrowingIn c (is_inside b.inside) entered.kind entered.steps) (HasAt four_states.count b.labels) line)
+        is of_board))

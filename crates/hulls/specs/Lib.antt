@@ -1,11 +1,7 @@
-pub mod Changes
-pub mod Joins
-pub mod Limits
-pub mod Passes
-pub mod Sets
 pub mod Answers
-pub mod Conditions
-pub mod Marks
-pub mod Sweeps
+pub mod Awaiting
+pub mod Boards
+pub mod Falling
 pub mod Pairs
-pub mod GateViews
+pub mod Queues
+pub mod Settling

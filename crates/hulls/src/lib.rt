@@ -1,28 +1,20 @@
-//! Hulls: labels narrowed gate by gate, until nothing changes, and the labels from which a search starts.
-//! Stands on pd_base, netlist, path_laws, state_sets and state_laws. Narrowing takes no memory.
-//! The layers above use `Conditions`, `launch`, `settle` and `hull`, and cite their contracts; `narrow` and `narrow_link` are one
-//! narrowing each.
+//! Hulls: labels narrowed gate by gate, until nothing changes. The labels stand on a board, with a trail by which changes are undone
+//! and the gates that have to be narrowed again, so that a cut costs what it changes.
+//! Stands on pd_base, netlist, path_laws, undo_trail, state_sets, state_laws and narrowing.
+//! The layers above use `Board`, `launch` and `hull`, and cite their contracts.
 #![tactic(auto)]
 
 mod answer;
-mod collecting;
-mod conditions;
-mod cutting;
-mod gate;
-mod joins;
-mod limits;
-mod link;
+mod board;
 mod node;
-mod scratch;
-mod selecting;
+mod queue;
 mod settling;
 mod starting;
+mod waiting;
+mod waking;
 
 pub use answer::Hull;
-pub use conditions::Conditions;
-pub use gate::narrow;
-pub use link::narrow_link;
-pub use node::{enter_all, hull};
-pub use scratch::NarrowScratch;
-pub use settling::settle;
-pub use starting::{cut_to_half, half_states, launch};
+pub use board::Board;
+pub use node::hull;
+pub use starting::{cut_to_half, launch, launching_states, other_states};
+pub use waiting::Waiting;

@@ -1,19 +1,18 @@
 // The hull at a node of a tree of cases: from the start, with all halves above the node cut in.
-ghost use Rattle.std.specs.Prelude.{◌≡◌, ◌<◌, ◌↔◌, ℕ, [], All, IfOk};
+ghost use Rattle.std.specs.Prelude.{◌≡◌, ◌<◌, ◌↔◌, ℕ, All, IfOk};
 ghost use Rattle.pd_base.specs.Target.{target_of};
-ghost use Rattle.netlist.specs.Circuit.{source_count, gate_count};
+ghost use Rattle.netlist.specs.Circuit.{source_count};
 ghost use Rattle.netlist.specs.Lawful.{IsCircuit};
-ghost use Rattle.netlist.specs.Levels.{greatest_level};
 ghost use Rattle.netlist.specs.Paths.{IsPrefix};
 ghost use Rattle.state_sets.specs.declared.state.State.{State};
 ghost use Rattle.state_sets.specs.Labellings.{IsLabelling};
 ghost use Rattle.state_sets.specs.Hulls.{HasAt};
 ghost use Rattle.state_laws.specs.Nodes.{IsCut};
 ghost use Rattle.hulls.specs.Answers.{IsAtNode};
-ghost use Rattle.hulls.specs.Conditions.{IsEnteredOn};
 ghost use Rattle.hulls.specs.Pairs.{LosesNoPair, DecidesSingletons};
 
-use crate::{Conditions, Hull, NarrowScratch, cut_to_half, launch, settle};
+use crate::{Board, Hull, cut_to_half, launch};
+use narrowing::{Conditions, NarrowScratch, enter_all};
 use netlist::Netlist;
 use pd_base::{Direction, Kind, LineId, OutOfMemory, Path, Rules};
 use state_laws::Half;
@@ -63,25 +62,11 @@ fn hull_at(
     let mut labels = Labels::full(alloc, net)?;
     launch(&mut labels, net, rules, prefix.source(), dir);
     cut_to_halves(&mut labels, net, halves);
+    let mut board = Board::with_labels(alloc, net, labels)?;
     let mut scratch = NarrowScratch::new(alloc, net)?;
-    match settle(net, &mut labels, &conditions, &mut scratch) {
-        None => Ok(Hull::Rest(labels)),
+    match board.settle_all(net, &conditions, &mut scratch) {
+        None => Ok(Hull::Rest(board.into_labels())),
         Some(line) => Ok(Hull::Empty(line)),
-    }
-}
-
-/// Enters all steps of a prefix, into conditions that have none yet. Takes no memory.
-pub fn enter_all(conditions: &mut Conditions, net: &Netlist, prefix: &Path)
-    requires circuit { IsCircuit net.now }
-    requires prefix { IsPrefix net.now prefix.now }
-    requires gates { conditions.old.gates ≡ gate_count net.now }
-    requires room { conditions.old.room ≡ greatest_level net.now }
-    requires none { conditions.old.steps ≡ [] }
-    ensures steps { conditions.new ≡ record conditions.old { steps = prefix.now.steps } }
-    ensures on { IsEnteredOn net.now conditions.new }
-{
-    for step in prefix.steps() {
-        conditions.enter(*step);
     }
 }
 

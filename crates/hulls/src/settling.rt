@@ -1,131 +1,190 @@
-// Labels are narrowed at all gates in rank order and back again, sweep after sweep, until a sweep changes nothing or a line has no
-// state left. What a gate's line tells of its pins goes down to the sources in one sweep back.
-ghost use Rattle.std.specs.Prelude.{◌≡◌, ◌<◌, ◌∷◌, [], length, IfSome, IfNone, MatchResult};
+// A board settles: gate by gate is narrowed, as long as one waits and each line has some state.
+ghost use Rattle.std.specs.Prelude.{◌≡◌, ◌<◌, ◌+◌, ◌↔◌, [], true, length, Contains, IfSome, IfNone, IsTrue, MatchOption};
 ghost use Rattle.netlist.specs.Circuit.{gate_count, line_count};
-ghost use Rattle.netlist.specs.Lawful.{ReadsLines};
-ghost use Rattle.state_sets.specs.States.{no_states};
-ghost use Rattle.state_sets.specs.Labellings.{label_at, IsLabelling};
-ghost use Rattle.state_sets.specs.Hulls.{IsNarrowingOf, IsHull, IsEmptied, HasAt, HasNoEmptySet};
+ghost use Rattle.netlist.specs.Lawful.{IsCircuit};
+ghost use Rattle.state_sets.specs.States.{AreWithin, no_states};
+ghost use Rattle.state_sets.specs.Labellings.{label_at};
+ghost use Rattle.state_sets.specs.Hulls.{IsHull, IsEmptied, HasAt, HasNoEmptySet};
+ghost use Rattle.state_laws.specs.Cones.{IsNarrowingIn};
 ghost use Rattle.state_laws.specs.Sweeps.{KeepsRests};
-ghost use Rattle.hulls.specs.Conditions.{IsEnteredOn};
-ghost use Rattle.hulls.specs.Sweeps.{IsSweep, IsWholeSweep, IsPartlySwept, IsEmptying};
+ghost use Rattle.narrowing.specs.Conditions.{IsEnteredOn};
+ghost use Rattle.hulls.specs.Awaiting.{is_inside};
+ghost use Rattle.hulls.specs.Boards.{IsBoardOf, Follows};
+ghost use Rattle.hulls.specs.Settling.{MaySettle, IsAwakeBut, AllDiffer, IsPassed, AreAllPinsCut, IsPinEmptied, IsTurn, IsConflict};
 
-use crate::{Conditions, NarrowScratch, narrow};
+use crate::Board;
+use narrowing::{Conditions, NarrowScratch, kept_at};
 use netlist::Netlist;
 use pd_base::{GateId, LineId};
-use state_sets::{Algebra, Labels, Narrowed, StateSet};
+use state_sets::{Algebra, StateSet};
 
-/// Narrows labels to their hull: the greatest labels in them that no narrowing changes, at any gate, under these conditions. Gives
-/// a line that has no state there, if there is one; the labels then lie somewhere between those before and the hull. Takes no memory.
-pub fn settle<A: Algebra>(
-    net: &Netlist,
-    labels: &mut Labels<A>,
-    conditions: &Conditions,
-    scratch: &mut NarrowScratch,
-) -> Option<LineId>
-    requires labelling { IsLabelling A.algebra.count net.now labels.old }
-    requires conditions { IsEnteredOn net.now conditions.now }
-    ensures keeps { KeepsRests A.algebra net.now (IsNarrowingOf net.now conditions.now.kind conditions.now.steps) labels.old labels.new }
-    ensures hull { IfNone result
-        (IsHull A.algebra net.now (IsNarrowingOf net.now conditions.now.kind conditions.now.steps) (HasAt A.algebra.count labels.old) labels.new) }
-    ensures none_empty { IfNone result (HasNoEmptySet net.now labels.new) }
-    ensures emptied { IfSome result (λ line. (line.0 < line_count net.now)
-        × IsEmptied A.algebra net.now (IsNarrowingOf net.now conditions.now.kind conditions.now.steps) (HasAt A.algebra.count labels.old) line.0) }
-{
-    if let Some(line) = empty_line(net, labels) {
-        return Some(line);
+// The most pins of a gate that are compared. A gate with more is narrowed again where its narrowing changed a line.
+const MOST_COMPARED: usize = 8;
+
+impl<A: Algebra> Board<A> {
+    /// Narrows labels to their hull: the greatest labels in them that no narrowing changes, at any gate inside, under these
+    /// conditions. Each gate inside that does not wait has to rest. Gives a line that has no state there, if there is one; the labels
+    /// then lie somewhere between those before and the hull. No gate waits afterwards. Takes no memory.
+    pub fn settle(
+        &mut self,
+        net: &Netlist,
+        conditions: &Conditions,
+        scratch: &mut NarrowScratch,
+    ) -> Option<LineId>
+        requires conditions { IsEnteredOn net.now conditions.now }
+        requires ready { MaySettle A.algebra net.now conditions.now.kind conditions.now.steps self.old }
+        ensures keeps { KeepsRests A.algebra net.now
+            (IsNarrowingIn net.now (is_inside self.old.inside) conditions.now.kind conditions.now.steps) self.old.labels self.new.labels }
+        ensures hull { IfNone result (IsHull A.algebra net.now
+            (IsNarrowingIn net.now (is_inside self.old.inside) conditions.now.kind conditions.now.steps)
+            (HasAt A.algebra.count self.old.labels) self.new.labels) }
+        ensures none_empty { IfNone result (HasNoEmptySet net.now self.new.labels) }
+        ensures emptied { IfSome result (λ line. (line.0 < line_count net.now)
+            × IsEmptied A.algebra net.now (IsNarrowingIn net.now (is_inside self.old.inside) conditions.now.kind conditions.now.steps)
+            (HasAt A.algebra.count self.old.labels) line.0) }
+        ensures inside { self.new.inside ≡ self.old.inside }
+        ensures follows { Follows self.old self.new }
+        ensures waiting { self.new.waiting ≡ [] }
+    {
+        while let Some(gate) = self.next() {
+            if let Some(line) = self.narrow_at(net, conditions, gate, scratch) {
+                self.rest();
+                return Some(line);
+            }
+        }
+        None
     }
-    'sweeps: loop {
-        match sweep(net, labels, conditions, scratch) {
-            Ok(true) => {}
-            Ok(false) => return None,
-            Err(line) => return Some(line),
+
+    /// The same for any labels, with all gates inside asked first. This goes over the netlist. Takes no memory.
+    pub fn settle_all(
+        &mut self,
+        net: &Netlist,
+        conditions: &Conditions,
+        scratch: &mut NarrowScratch,
+    ) -> Option<LineId>
+        requires of { IsBoardOf net.now self.old }
+        requires conditions { IsEnteredOn net.now conditions.now }
+        ensures keeps { KeepsRests A.algebra net.now
+            (IsNarrowingIn net.now (is_inside self.old.inside) conditions.now.kind conditions.now.steps) self.old.labels self.new.labels }
+        ensures hull { IfNone result (IsHull A.algebra net.now
+            (IsNarrowingIn net.now (is_inside self.old.inside) conditions.now.kind conditions.now.steps)
+            (HasAt A.algebra.count self.old.labels) self.new.labels) }
+        ensures none_empty { IfNone result (HasNoEmptySet net.now self.new.labels) }
+        ensures emptied { IfSome result (λ line. (line.0 < line_count net.now)
+            × IsEmptied A.algebra net.now (IsNarrowingIn net.now (is_inside self.old.inside) conditions.now.kind conditions.now.steps)
+            (HasAt A.algebra.count self.old.labels) line.0) }
+        ensures inside { self.new.inside ≡ self.old.inside }
+        ensures follows { Follows self.old self.new }
+        ensures waiting { self.new.waiting ≡ [] }
+    {
+        if let Some(line) = empty_line(net, self.labels()) {
+            self.rest();
+            return Some(line);
         }
-        match sweep_back(net, labels, conditions, scratch) {
-            Ok(()) => {}
-            Err(line) => return Some(line),
+        self.ask_all(net);
+        self.settle(net, conditions, scratch)
+    }
+
+    // Narrows at one gate.
+    fn narrow_at(
+        &mut self,
+        net: &Netlist,
+        conditions: &Conditions,
+        gate: GateId,
+        scratch: &mut NarrowScratch,
+    ) -> Option<LineId>
+        requires of { IsBoardOf net.now self.old }
+        requires within { AreWithin A.algebra.count self.old.labels }
+        requires some { HasNoEmptySet net.now self.old.labels }
+        requires conditions { IsEnteredOn net.now conditions.now }
+        requires gate { gate.0 < gate_count net.now }
+        requires inside { is_inside self.old.inside gate.0 ≡ true }
+        requires awake { IsAwakeBut A.algebra net.now conditions.now.kind conditions.now.steps gate.0 self.old }
+        ensures turn { MatchOption result (IsTurn A.algebra net.now conditions.now.kind conditions.now.steps self.old self.new)
+            (λ line. IsConflict A.algebra net.now conditions.now.kind conditions.now.steps self.old self.new line.0) }
+    {
+        let own = LineId(net.sources() + gate.0);
+        let given = kept_at::<A>(net, self.labels(), gate, conditions.at(gate), scratch);
+        let passed = passed_by(net, gate);
+        if let Some(line) = self.cut_pins(net, gate, scratch, passed) {
+            return Some(line);
         }
+        if self.cut_in(net, own, given, passed) == StateSet::EMPTY {
+            return Some(own);
+        }
+        None
+    }
+
+    // Cuts the line of each pin of a gate down to what is kept at the pin, up to a line that has no state left.
+    fn cut_pins(
+        &mut self,
+        net: &Netlist,
+        gate: GateId,
+        kept: &NarrowScratch,
+        passed: Option<GateId>,
+    ) -> Option<LineId>
+        requires of { IsBoardOf net.now self.old }
+        requires within { AreWithin A.algebra.count self.old.labels }
+        requires some { HasNoEmptySet net.now self.old.labels }
+        requires circuit { IsCircuit net.now }
+        requires gate { gate.0 < gate_count net.now }
+        ensures cut { MatchOption result (AreAllPinsCut A.algebra.count net.now passed gate.0 kept.now self.old self.new)
+            (λ line. IsPinEmptied A.algebra.count net.now passed gate.0 kept.now self.old self.new line.0) }
+    {
+        let pins = net.pins(gate);
+        for pin in 0..pins.len() {
+            if self.cut_in(net, pins[pin], kept.kept(pin), passed) == StateSet::EMPTY {
+                return Some(pins[pin]);
+            }
+        }
+        None
     }
 }
 
+// The gate, if its pins are found to read different lines: what narrowing it leaves, narrowing it again does not change.
+fn passed_by(net: &Netlist, gate: GateId) -> Option<GateId>
+    requires { gate.0 < gate_count net.now }
+    ensures { IsPassed net.now gate.0 result }
+{
+    if are_found_to_differ(net.pins(gate)) {
+        Some(gate)
+    } else {
+        None
+    }
+}
+
+// Whether no two of these lines are the same. Of more than a few lines it is not looked for, and the answer is no.
+fn are_found_to_differ(lines: &[LineId]) -> bool
+    ensures { IsTrue result → AllDiffer lines.now }
+{
+    if lines.len() > MOST_COMPARED {
+        return false;
+    }
+    for place in 0..lines.len() {
+        if stands_among(&lines[place + 1..], lines[place]) {
+            return false;
+        }
+    }
+    true
+}
+
+// Whether a line is one of these.
+fn stands_among(lines: &[LineId], line: LineId) -> bool
+    ensures { IsTrue result ↔ Contains lines.now line }
+{
+    lines.contains(&line)
+}
+
 // The first line that has no state.
-fn empty_line<A: Algebra>(net: &Netlist, labels: &Labels<A>) -> Option<LineId>
+fn empty_line(net: &Netlist, labels: &[StateSet]) -> Option<LineId>
     requires { length labels.now ≡ line_count net.now }
     ensures some { IfSome result (λ line. (line.0 < line_count net.now) × (label_at labels.now line.0 ≡ no_states)) }
     ensures none { IfNone result (HasNoEmptySet net.now labels.now) }
-    ensures circuit { ReadsLines net.now }
 {
     for line in 0..net.lines() {
-        if labels.get(LineId(line)) == StateSet::EMPTY {
+        if labels[line as usize] == StateSet::EMPTY {
             return Some(LineId(line));
         }
     }
     None
-}
-
-// Narrows at each gate once. Tells whether a set changed, or fails at a line that has no state left.
-fn sweep<A: Algebra>(
-    net: &Netlist,
-    labels: &mut Labels<A>,
-    conditions: &Conditions,
-    scratch: &mut NarrowScratch,
-) -> Result<bool, LineId>
-    requires labelling { IsLabelling A.algebra.count net.now labels.old }
-    requires none_empty { HasNoEmptySet net.now labels.old }
-    requires circuit { ReadsLines net.now }
-    requires conditions { IsEnteredOn net.now conditions.now }
-    ensures { MatchResult result
-        (λ changed. IsWholeSweep A.algebra net.now conditions.now.kind conditions.now.steps labels.old labels.new changed)
-        (λ line. IsEmptying A.algebra net.now conditions.now.kind conditions.now.steps labels.old labels.new line.0) }
-{
-    let mut changed = false;
-    for gate in net.order() {
-        changed |= narrow_at(net, labels, conditions, *gate, scratch)?;
-    }
-    Ok(changed)
-}
-
-// Narrows at each gate once, those of the highest ranks first. Fails at a line that has no state left.
-fn sweep_back<A: Algebra>(
-    net: &Netlist,
-    labels: &mut Labels<A>,
-    conditions: &Conditions,
-    scratch: &mut NarrowScratch,
-) -> Result<(), LineId>
-    requires labelling { IsLabelling A.algebra.count net.now labels.old }
-    requires none_empty { HasNoEmptySet net.now labels.old }
-    requires circuit { ReadsLines net.now }
-    requires conditions { IsEnteredOn net.now conditions.now }
-    ensures { MatchResult result
-        (λ done. IsPartlySwept A.algebra net.now conditions.now.kind conditions.now.steps labels.old labels.new)
-        (λ line. IsEmptying A.algebra net.now conditions.now.kind conditions.now.steps labels.old labels.new line.0) }
-{
-    for gate in net.order().iter().rev() {
-        narrow_at(net, labels, conditions, *gate, scratch)?;
-    }
-    Ok(())
-}
-
-// Narrows at one gate, and tells the same.
-fn narrow_at<A: Algebra>(
-    net: &Netlist,
-    labels: &mut Labels<A>,
-    conditions: &Conditions,
-    gate: GateId,
-    scratch: &mut NarrowScratch,
-) -> Result<bool, LineId>
-    requires labelling { IsLabelling A.algebra.count net.now labels.old }
-    requires none_empty { HasNoEmptySet net.now labels.old }
-    requires circuit { ReadsLines net.now }
-    requires conditions { IsEnteredOn net.now conditions.now }
-    requires gate { gate.0 < gate_count net.now }
-    ensures { MatchResult result
-        (λ changed. IsSweep A.algebra net.now conditions.now.kind conditions.now.steps (gate ∷ []) labels.old labels.new changed)
-        (λ line. IsEmptying A.algebra net.now conditions.now.kind conditions.now.steps labels.old labels.new line.0) }
-{
-    match narrow(net, labels, gate, conditions.at(gate), scratch) {
-        Narrowed::Same => Ok(false),
-        Narrowed::Shrunk => Ok(true),
-        Narrowed::Empty(line) => Err(line),
-    }
 }

@@ -1,19 +1,19 @@
-// The labels from which a search starts, and the halves into which the states of a source are split.
-ghost use Rattle.std.specs.Prelude.{◌≡◌, ◌≢◌, ◌<◌, ◌≤◌, ◌↔◌, ℕ, length, IsTrue};
+// The labels from which a search starts, and their cuts to halves of the states of a source.
+ghost use Rattle.std.specs.Prelude.{◌≡◌, ◌≢◌, ◌<◌, ◌≤◌, ◌↔◌, ℕ, length};
 ghost use Rattle.netlist.specs.Circuit.{source_count, line_count};
 ghost use Rattle.state_sets.specs.declared.state.State.{State};
-ghost use Rattle.state_sets.specs.States.{Has, IsWithin, AreWithin, no_states, all_states};
+ghost use Rattle.state_sets.specs.States.{IsWithin, AreWithin, all_states};
 ghost use Rattle.state_sets.specs.Labellings.{label_at, IsLabelling};
 ghost use Rattle.state_sets.specs.Hulls.{HasAt};
-ghost use Rattle.state_sets.specs.Starts.{MayStart, IsInHalf, IsLaunching, IsOtherStart};
+ghost use Rattle.state_sets.specs.Starts.{MayStart, IsLaunching, IsOtherStart};
 ghost use Rattle.state_laws.specs.Nodes.{IsCut};
-ghost use Rattle.hulls.specs.Sets.{Means};
+ghost use Rattle.narrowing.specs.Sets.{Means};
 
-use crate::selecting::with_if;
+use narrowing::half_states;
 use netlist::{Netlist, final_bit};
 use pd_base::{Direction, LineId, Rules};
 use state_laws::Half;
-use state_sets::{Algebra, Labels, State, StateSet, count_states, every_state};
+use state_sets::{Algebra, Labels, StateSet, every_state};
 
 /// Writes into the labels what lines may be in at the start of a search: the source launches the transition, each other source is
 /// in any state that the rules leave it, and each gate's line in any state. What stood there before does not matter. Takes no memory.
@@ -74,8 +74,8 @@ fn fill(sets: &mut [StateSet], count: usize, first: StateSet, rest: StateSet)
     }
 }
 
-// The states of a source that launches the transition.
-fn launching_states<A: Algebra>(direction: Direction) -> StateSet
+/// The states of a source that launches the transition.
+pub fn launching_states<A: Algebra>(direction: Direction) -> StateSet
     ensures within { IsWithin A.algebra.count result }
     ensures means { Means A.algebra.count result (λ s. (s.0 < A.algebra.count) × IsLaunching A.algebra direction s) }
 {
@@ -83,41 +83,14 @@ fn launching_states<A: Algebra>(direction: Direction) -> StateSet
     moving.intersect(half_states::<A>(false, final_bit(direction)))
 }
 
-// The states in which another source may start.
-fn other_states<A: Algebra>(rules: &Rules) -> StateSet
+/// The states in which another source may start.
+pub fn other_states<A: Algebra>(rules: &Rules) -> StateSet
     ensures within { IsWithin A.algebra.count result }
     ensures means { Means A.algebra.count result (λ s. (s.0 < A.algebra.count) × IsOtherStart A.algebra rules.now s) }
 {
     match rules {
         Rules::One => every_state::<A>(),
         Rules::Two => half_states::<A>(true, false),
-    }
-}
-
-/// The states in one half of a split: of a split by steadiness those that are steady, or in the second half those that are not,
-/// and otherwise those with last value 0, or in the second half 1.
-pub fn half_states<A: Algebra>(steadiness: bool, second: bool) -> StateSet
-    ensures within { IsWithin A.algebra.count result }
-    ensures means { (state : State) → Has A.algebra.count result state
-        ↔ ((state.0 < A.algebra.count) × IsInHalf A.algebra steadiness second state) }
-{
-    let mut found = StateSet::EMPTY;
-    for number in 0..count_states::<A>() {
-        let state = State(number);
-        found = with_if(found, state, is_in_half::<A>(steadiness, second, state));
-    }
-    found
-}
-
-// Whether the state is in the half.
-fn is_in_half<A: Algebra>(steadiness: bool, second: bool, state: State) -> bool
-    requires { state.0 < A.algebra.count }
-    ensures { IsTrue result ↔ IsInHalf A.algebra steadiness second state }
-{
-    if steadiness {
-        A::is_steady(state) != second
-    } else {
-        A::last(state) == second
     }
 }
 

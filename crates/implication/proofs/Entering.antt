@@ -2,7 +2,7 @@
 use Rattle.std.proofs.Common.{◌≡◌, ◌≢◌, ℕ, zero, suc, ◌+◌, ◌-◌, ◌<◌, ◌≤◌, ◌==◌, false, List, [], ◌∷◌, ◌++◌, length, take, get_or, None, All, refl, sym, ap, ◌∙◌, subst, arith}
 use Rattle.std.proofs.lemmas.Bool.{ne_eqb}
 use Rattle.std.proofs.lemmas.List.Elements.{All-nil, All-cons}
-use Rattle.std.proofs.lemmas.List.{length_push, take_more, take_all}
+use Rattle.std.proofs.lemmas.List.{length_push, take_more}
 use Rattle.std.proofs.lemmas.Option.{slice_get_within}
 use Rattle.pd_base.specs.declared.ids.PinRef.{PinRef}
 use Rattle.pd_base.specs.declared.fault.Kind.{Kind}
@@ -19,7 +19,7 @@ use Rattle.path_laws.proofs.StepCounts.{step_raises, level_and_steps, steps_with
 use Rattle.state_sets.specs.Hulls.{condition_at}
 use Rattle.implication.specs.declared.assumption.Assumption.{Assumption}
 use Rattle.implication.specs.declared.assumption.Assumption.TheVariants.{Entered, Assumed}
-use Rattle.hulls.specs.Conditions.{Entered as Steps, IsEnteredOn}
+use Rattle.narrowing.specs.Conditions.{Entered as Steps, IsEnteredOn}
 use Rattle.implication.specs.Assumptions.{entered_pins}
 use Rattle.implication.specs.Kept.{HasStepRoom, CanStep}
 
@@ -28,6 +28,16 @@ pub entered_append : (xs ys : List Assumption) → entered_pins (xs ++ ys) ≡ e
 entered_append [] ys = refl
 entered_append (Entered pin ∷ xs) ys = ap (λ rest. pin ∷ rest) (entered_append xs ys)
 entered_append (Assumed source set ∷ xs) ys = entered_append xs ys
+
+-- the pins of the first entries are the first pins
+pub entered_taken : (list : List Assumption) (mark : ℕ)
+    → (few : ℕ) × (entered_pins (take mark list) ≡ take few (entered_pins list))
+entered_taken [] zero = (0, refl)
+entered_taken [] (suc mark) = (0, refl)
+entered_taken (entry ∷ list) zero = (0, refl)
+entered_taken (Entered pin ∷ list) (suc mark) =
+    let rest = entered_taken list mark in (suc rest.0, ap (λ pins. pin ∷ pins) rest.1)
+entered_taken (Assumed source set ∷ list) (suc mark) = entered_taken list mark
 
 -- the last of a list of two or more is that of the rest
 last_behind : (step next : PinRef) (steps : List PinRef) (else_ : PinRef)
@@ -127,14 +137,6 @@ pins_up_to list place else_ inside entry is =
     sym (ap entered_pins (take_more list place else_ inside ∙ ap (λ e. take place list ++ e ∷ []) is)
     ∙ entered_append (take place list) (entry ∷ []))
 
--- the steps with those of the entry at a place are the pins up to the next place
-pub stepped : (old new : Steps) (list : List Assumption) (place : ℕ) (else_ : Assumption) → place < length list
-    → new ≡ record old { steps = old.steps ++ entered_pins (get_or list place else_ ∷ []) }
-    → old.steps ≡ entered_pins (take place list) → new.steps ≡ entered_pins (take (place + 1) list)
-stepped old new list place else_ inside is done =
-    ap (λ (s : Steps). s.steps) is ∙ ap (λ before. before ++ entered_pins (get_or list place else_ ∷ [])) done
-    ∙ pins_up_to list place else_ inside (get_or list place else_) refl
-
 module _ (c : Circuit) (circuit : IsCircuit c) (line : ℕ) (within : line < line_count c) (list : List Assumption)
     (connects : Connects c line (entered_pins list)) (place : ℕ) (else_ : Assumption) (inside : place < length list) where
   -- a pin at that place is on the line to which those before it lead
@@ -168,28 +170,3 @@ entered_on c line list connects steps room is = record {
   gates = room.gates;
   steps = let P : List PinRef → Type 0 = λ xs. All (IsPin c) xs in subst P (sym is) (pins_of c line (entered_pins list) connects);
 }
-
--- a list that is not empty is what stands before its last entry, and that
-pub whole_list : (list : List Assumption) (else_ : Assumption) → 1 ≤ length list
-    → take (length list - 1) list ++ get_or list (length list - 1) else_ ∷ [] ≡ list
-whole_list list else_ some =
-    sym (take_more list (length list - 1) else_ (omega (arith, some))) ∙ take_all (length list - 1 + 1) list (omega (arith, some))
-
--- the step of the last entry is entered behind those before it, under a kind of test
-module _ (first old new : Steps) (kind : Kind) (of_kind : old ≡ record first { kind = kind }) (list : List Assumption) (else_ : Assumption)
-    (is : new ≡ record old { steps = old.steps ++ entered_pins (get_or list (length list - 1) else_ ∷ []) }) where
-  pub last_kind : new.kind ≡ kind
-  last_kind = ap (λ (s : Steps). s.kind) is ∙ ap (λ (s : Steps). s.kind) of_kind
-
-  pub last_room : (c : Circuit) → HasStepRoom c first → HasStepRoom c new
-  last_room c room = record {
-    gates = ap (λ (s : Steps). s.gates) is ∙ ap (λ (s : Steps). s.gates) of_kind ∙ room.gates;
-    levels = ap (λ (s : Steps). s.room) is ∙ ap (λ (s : Steps). s.room) of_kind ∙ room.levels;
-  }
-
-  pub last_stepped : 1 ≤ length list → first.steps ≡ entered_pins (take (length list - 1) list) → new.steps ≡ entered_pins list
-  last_stepped some done =
-      let last = get_or list (length list - 1) else_ in
-      ap (λ (s : Steps). s.steps) is ∙ ap (λ (s : Steps). s.steps ++ entered_pins (last ∷ [])) of_kind
-      ∙ ap (λ before. before ++ entered_pins (last ∷ [])) done ∙ sym (entered_append (take (length list - 1) list) (last ∷ []))
-      ∙ ap entered_pins (whole_list list else_ some)

@@ -2,6 +2,16 @@ pub mod Entering
 pub mod Shrinking
 pub mod Lists
 pub mod Labels
+pub mod NarrowingOn
+pub mod Wholes
+pub mod History
+pub mod Inside
+pub mod Marking
+pub mod Spreading
+pub mod Idling
 pub mod Starting
+pub mod Beginnings
+pub mod GoingBack
 pub mod Keeping
+pub mod Assuming
 pub mod Restoring

@@ -14,6 +14,8 @@ use Rattle.implication.specs.Clients.{IsRestored, ExtendsStanding}
 pub extends_itself : (standing : Standing) → ExtendsStanding standing standing
 extends_itself s = record {
   net = refl;
+  rules = refl;
+  ends = refl;
   beginning = refl;
   longer = omega arith;
   front = take_all (length s.assumptions) s.assumptions (omega arith);
@@ -25,6 +27,8 @@ extends_itself s = record {
 pub extends_restored : (old new : Standing) → IsRestored old new → ExtendsStanding old new
 extends_restored old new is = record {
   net = is.net;
+  rules = is.rules;
+  ends = is.ends;
   beginning = is.beginning;
   longer = let e = ap length is.assumptions in omega arith;
   front = rw is.assumptions (take_all (length old.assumptions) old.assumptions (omega arith));
@@ -40,6 +44,8 @@ closed_restores old last new origin made extends is =
     let e : new ≡ back_at last (length old.assumptions) = is ∙ ap (λ o. left_behind o last) made in
     subst P (sym e) (record {
       net = extends.net;
+      rules = extends.rules;
+      ends = extends.ends;
       beginning = extends.beginning;
       assumptions = extends.front;
       conflict = extends.conflict;
@@ -50,6 +56,8 @@ closed_restores old last new origin made extends is =
 pub extends_trans : (first middle last : Standing) → ExtendsStanding first middle → ExtendsStanding middle last → ExtendsStanding first last
 extends_trans first middle last one two = record {
   net = two.net ∙ one.net;
+  rules = two.rules ∙ one.rules;
+  ends = two.ends ∙ one.ends;
   beginning = two.beginning ∙ one.beginning;
   longer = omega (arith, one.longer, two.longer);
   front = sym (take-take (length first.assumptions) (length middle.assumptions) last.assumptions one.longer)
@@ -70,13 +78,15 @@ extends_trans first middle last one two = record {
 
 -- one assumption more, where no conflict stood
 pub extends_by_one : (old new : Standing) (entry : Assumption) → old.conflict ≡ None → new.net ≡ old.net
-    → new.beginning ≡ old.beginning → new.assumptions ≡ old.assumptions ++ entry ∷ [] → old.closings ≤ new.closings
+    → new.rules ≡ old.rules → new.ends ≡ old.ends → new.beginning ≡ old.beginning → new.assumptions ≡ old.assumptions ++ entry ∷ [] → old.closings ≤ new.closings
     → ExtendsStanding old new
-extends_by_one old new entry free net beginning grown later =
+extends_by_one old new entry free net rules ends beginning grown later =
     let longer : length old.assumptions < length new.assumptions =
     let e = ap length grown in let f = length_push old.assumptions entry in omega arith in
     record {
       net = net;
+      rules = rules;
+      ends = ends;
       beginning = beginning;
       longer = omega (arith, longer);
       front = ap (take (length old.assumptions)) grown ∙ take-append_seam old.assumptions (entry ∷ []);

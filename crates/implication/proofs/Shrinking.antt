@@ -1,9 +1,9 @@
 -- Each set that is assumed of a source takes some state away, so there are at most as many as there are states of all sources.
-use Rattle.std.proofs.Common.{◌≡◌, ◌≢◌, ℕ, zero, suc, ◌+◌, ◌-◌, ◌*◌, ◌^◌, ◌<◌, ◌≤◌, ◌==◌, ⊎_elim, Bool, true, false, if◌then◌else◌, List, [], ◌∷◌, ◌++◌, length, take, get_or, All, bit_and, refl, sym, ap, ◌∙◌, subst, arith}
+use Rattle.std.proofs.Common.{◌≡◌, ◌≢◌, ℕ, zero, suc, ◌+◌, ◌*◌, ◌^◌, ◌<◌, ◌≤◌, ◌==◌, ⊎_elim, Bool, true, false, if◌then◌else◌, List, [], ◌∷◌, ◌++◌, length, take, All, bit_and, refl, sym, ap, ◌∙◌, subst, arith}
 use Rattle.std.specs.Int.{bit_at}
 use Rattle.std.specs.List.{fold}
 use Rattle.std.proofs.lemmas.Bool.{cases_eq, cases_lt, ne_eqb, eq-eqb}
-use Rattle.std.proofs.lemmas.List.Elements.{All-nil, All-cons, All-get_or}
+use Rattle.std.proofs.lemmas.List.Elements.{All-nil, All-cons}
 use Rattle.std.proofs.lemmas.List.Sums.{fold_push}
 use Rattle.std.proofs.lemmas.Nat.Bits.{bit_at-lt, bit_at_and, same_from_bits_below}
 use Rattle.std.proofs.lemmas.Nat.{and_le_l, pow_pos}
@@ -171,8 +171,17 @@ shrink_more count sources before (first ∷ list) entry shrink takes =
           (subst P (sym (append_assoc before (first ∷ []) list)) takes),
     )
 
+-- the last of them takes states away
+pub shrink_last : (count sources : ℕ) (before list : List Assumption) (entry : Assumption)
+    → DoShrink count sources before (list ++ entry ∷ []) → TakesFrom count sources (before ++ list) entry
+shrink_last count sources before [] entry shrink =
+    let P : List Assumption → Type 0 = λ xs. TakesFrom count sources xs entry in subst P (sym (append-nil before)) shrink.0
+shrink_last count sources before (first ∷ list) entry shrink =
+    let P : List Assumption → Type 0 = λ xs. TakesFrom count sources xs entry in
+    subst P (append_assoc before (first ∷ []) list) (shrink_last count sources (before ++ first ∷ []) list entry shrink.1)
+
 -- they are about sources of the circuit
-about_source : (count sources : ℕ) (before : List Assumption) (entry : Assumption) → TakesFrom count sources before entry
+pub about_source : (count sources : ℕ) (before : List Assumption) (entry : Assumption) → TakesFrom count sources before entry
     → IsAboutSource sources entry
 about_source count sources before (Entered pin) takes = tt
 about_source count sources before (Assumed source set) takes = takes.in_circuit
@@ -183,18 +192,6 @@ about_sources count sources before [] shrink = All-nil (IsAboutSource sources)
 about_sources count sources before (entry ∷ list) shrink =
     All-cons (IsAboutSource sources) entry list (about_source count sources before entry shrink.0)
     (about_sources count sources (before ++ entry ∷ []) list shrink.1)
-
--- an assumption about one of some sources is about one of more lines
-about_more : (sources lines : ℕ) → sources ≤ lines → (entry : Assumption) → IsAboutSource sources entry → IsAboutSource lines entry
-about_more sources lines more (Entered pin) about = tt
-about_more sources lines more (Assumed source set) about = omega (arith, more, about)
-
--- so is the last of a list of such
-pub about_last : (sources lines : ℕ) (list : List Assumption) (else_ : Assumption) → sources ≤ lines → 1 ≤ length list
-    → All (IsAboutSource sources) list → IsAboutSource lines (get_or list (length list - 1) else_)
-about_last sources lines list else_ more some all =
-    about_more sources lines more (get_or list (length list - 1) else_)
-    (All-get_or (IsAboutSource sources) list (length list - 1) else_ (omega (arith, some)) all)
 
 -- pins and sets together are the whole list
 pub entries_counted : (list : List Assumption) → length list ≡ length (entered_pins list) + set_count list

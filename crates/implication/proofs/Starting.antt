@@ -1,11 +1,12 @@
--- A start never closes for the four states: some pair of vectors launches the transition, and no pair is lost.
+-- A start never closes for the four states: some pair of vectors launches the transition and
+-- holds all other sources steady, and no pair is lost.
 use Rattle.std.proofs.Common.{◌≡◌, ◌<◌, not, List, [], replicate, Option, Some, None, refl, subst}
 use Rattle.std.proofs.lemmas.List.{get_or-replicate}
 use Rattle.std.proofs.lemmas.List.Elements.{All-nil}
 use Rattle.pd_base.specs.Pair.{Vectors}
 use Rattle.pd_base.specs.Target.{Target, target_of}
 use Rattle.pd_base.specs.declared.ids.LineId.{LineId}
-use Rattle.pd_base.specs.declared.rules.Rules.TheVariants.{One}
+use Rattle.pd_base.specs.declared.rules.Rules.{Rules}
 use Rattle.netlist.specs.Circuit.{Circuit, source_count}
 use Rattle.netlist.specs.Lawful.{IsCircuit}
 use Rattle.netlist.specs.Conditions.{Meets, final_bit}
@@ -13,14 +14,15 @@ use Rattle.netlist.specs.Paths.{IsPrefix}
 use Rattle.state_sets.specs.declared.state.StateSet.{StateSet}
 use Rattle.state_sets.specs.StateAlgebra.{StateAlgebra}
 use Rattle.state_sets.specs.FourStates.{four_states}
+use Rattle.state_laws.specs.Steadied.{steadied}
 use Rattle.state_laws.proofs.Pairs.{never_closes, pair_may_start}
+use Rattle.state_laws.proofs.Steadied.{steadied_keeps, steadied_meets}
 use Rattle.implication.specs.declared.assumption.Beginning.{Beginning}
-use Rattle.implication.specs.declared.assumption.Assumption.{Assumption}
 use Rattle.implication.specs.Assumptions.{MayUnder, IsLetBy, ClosesUnder}
-use Rattle.implication.specs.Kept.{AreLabelsUnder}
-use Rattle.implication.proofs.Labels.{closes_if_emptied}
+use Rattle.implication.specs.Kept.{Outset, AreLabelsUnder}
+use Rattle.implication.proofs.Wholes.{emptied_under}
 
-module _ (c : Circuit) (circuit : IsCircuit c) (begun : Beginning) (within : begun.source.0 < source_count c) where
+module _ (c : Circuit) (circuit : IsCircuit c) (rules : Rules) (begun : Beginning) (within : begun.source.0 < source_count c) where
   -- all sources change as the transition has it
   abbrev launching : Vectors
   launching = record {
@@ -44,20 +46,31 @@ module _ (c : Circuit) (circuit : IsCircuit c) (begun : Beginning) (within : beg
     sides = tt;
   }
 
+  -- the other sources are held steady
+  abbrev held : Vectors
+  held = steadied c begun.source.0 launching
+
+  held_meets : Meets c start held
+  held_meets = steadied_meets c circuit start starts launching meets
+
   -- so no line is emptied at the start
-  pub start_never_closes : ClosesUnder four_states c begun [] → ⊥
+  pub start_never_closes : ClosesUnder four_states c rules begun [] → ⊥
   start_never_closes =
-      never_closes c circuit launching start.kind start.path starts meets.sides (MayUnder four_states c begun [])
+      never_closes c circuit held start.kind start.path starts held_meets.sides (MayUnder four_states c rules begun [])
       (λ line in_circuit. record {
-        start = pair_may_start c circuit One start starts launching meets (λ other source apart. tt) line;
+        start = pair_may_start c circuit rules start starts held held_meets (steadied_keeps c begun.source.0 launching rules) line;
         assumed = All-nil (IsLetBy four_states.count line _);
       })
 
-  -- and no conflict stands there
-  pub free_at_start : (a : StateAlgebra) (list : List Assumption) (labels : List StateSet) (answer : Option LineId)
-      → list ≡ [] → AreLabelsUnder a c begun list labels answer → a ≡ four_states → answer ≡ None
-  free_at_start a list labels None nothing under four = refl
-  free_at_start a list labels (Some line) nothing under four =
-      let P : StateAlgebra → Type 0 = λ x. ClosesUnder x c begun [] in
-      let Q : List Assumption → Type 0 = λ xs. ClosesUnder a c begun xs in
-      absurd (start_never_closes (subst P four (subst Q nothing (closes_if_emptied a c begun list line.0 under.0 under.1))))
+-- and no conflict stands there
+pub free_at_start : (a : StateAlgebra) (from : Outset) (labels : List StateSet) (answer : Option LineId) → IsCircuit from.net
+    → from.begun.source.0 < source_count from.net → AreLabelsUnder a from [] labels answer → a ≡ four_states → answer ≡ None
+free_at_start a from labels None circuit within under four = refl
+free_at_start a from labels (Some line) circuit within under four =
+    let emptied = emptied_under a from [] line.0 under in
+    let P : StateAlgebra → Type 0 = λ x. ClosesUnder x from.net from.rules from.begun [] in
+    absurd (start_never_closes from.net circuit from.rules from.begun within (subst P four (record {
+      line = line.0;
+      in_circuit = emptied.0;
+      emptied = emptied.1;
+    })))

@@ -4,7 +4,7 @@ use Rattle.std.specs.Prelude.{◌≡◌, ⊤, ℕ, ◌==◌, List, [], ◌∷◌
 use Rattle.std.specs.List.{fold}
 use Rattle.pd_base.specs.declared.ids.LineId.{LineId}
 use Rattle.pd_base.specs.declared.ids.PinRef.{PinRef}
-use Rattle.pd_base.specs.declared.rules.Rules.TheVariants.{One}
+use Rattle.pd_base.specs.declared.rules.Rules.{Rules}
 use Rattle.netlist.specs.Circuit.{Circuit}
 use Rattle.netlist.specs.Paths.{line_after}
 use Rattle.state_sets.specs.declared.state.State.{State}
@@ -41,22 +41,22 @@ abbrev pub IsLetBy : ℕ → ℕ → State → Assumption → Type 0
 IsLetBy count line state (Entered pin) = ⊤
 IsLetBy count line state (Assumed source set) = line ≡ source.0 → Has count set state
 
--- what a line may be in under assumptions: what it may be in at the start under rules One, and what each of them lets it be in
-pub record MayUnder (a : StateAlgebra) (c : Circuit) (begun : Beginning) (assumptions : List Assumption) (line : ℕ) (state : State) : Type 0 where
-  pub start : MayStart a c One begun.source.0 begun.direction line state
+-- what a line may be in under assumptions: what it may be in at the start under the rules, and what each of them lets it be in
+pub record MayUnder (a : StateAlgebra) (c : Circuit) (rules : Rules) (begun : Beginning) (assumptions : List Assumption) (line : ℕ) (state : State) : Type 0 where
+  pub start : MayStart a c rules begun.source.0 begun.direction line state
   pub assumed : All (IsLetBy a.count line state) assumptions
 
 -- the hull under assumptions: with the conditions of the kind of test at the gates of the pins entered
-abbrev pub IsHullUnder : StateAlgebra → Circuit → Beginning → List Assumption → List StateSet → Type 0
-IsHullUnder a c begun assumptions hull =
-    IsHull a c (IsNarrowingOf c begun.kind (entered_pins assumptions)) (MayUnder a c begun assumptions) hull
+abbrev pub IsHullUnder : StateAlgebra → Circuit → Rules → Beginning → List Assumption → List StateSet → Type 0
+IsHullUnder a c rules begun assumptions hull =
+    IsHull a c (IsNarrowingOf c begun.kind (entered_pins assumptions)) (MayUnder a c rules begun assumptions) hull
 
 -- no state is left at this line
-abbrev pub IsEmptiedUnder : StateAlgebra → Circuit → Beginning → List Assumption → ℕ → Type 0
-IsEmptiedUnder a c begun assumptions line =
-    IsEmptied a c (IsNarrowingOf c begun.kind (entered_pins assumptions)) (MayUnder a c begun assumptions) line
+abbrev pub IsEmptiedUnder : StateAlgebra → Circuit → Rules → Beginning → List Assumption → ℕ → Type 0
+IsEmptiedUnder a c rules begun assumptions line =
+    IsEmptied a c (IsNarrowingOf c begun.kind (entered_pins assumptions)) (MayUnder a c rules begun assumptions) line
 
 -- no state is left at some line
-abbrev pub ClosesUnder : StateAlgebra → Circuit → Beginning → List Assumption → Type 0
-ClosesUnder a c begun assumptions =
-    Closes a c (IsNarrowingOf c begun.kind (entered_pins assumptions)) (MayUnder a c begun assumptions)
+abbrev pub ClosesUnder : StateAlgebra → Circuit → Rules → Beginning → List Assumption → Type 0
+ClosesUnder a c rules begun assumptions =
+    Closes a c (IsNarrowingOf c begun.kind (entered_pins assumptions)) (MayUnder a c rules begun assumptions)

@@ -1,23 +1,33 @@
--- What an engine in plain form keeps: labels that are computed anew at each change (this project's own).
-use Rattle.std.specs.Prelude.{◌≡◌, ◌≢◌, ⊤, ℕ, ◌+◌, ◌*◌, ◌<◌, ◌≤◌, List, length, take, ◌↔◌, [], ◌∷◌, ◌++◌, All, Option, Some, None}
+-- What an engine keeps: the board, whose trail leads back to the labels before each assumption, and what was left of each source (this
+-- project's own).
+use Rattle.std.specs.Prelude.{◌≡◌, ◌≢◌, ⊤, ℕ, ◌+◌, ◌-◌, ◌*◌, ◌<◌, ◌≤◌, List, length, take, drop, slice_index_or, slice_set, ◌↔◌, [], ◌∷◌, ◌++◌, All, Bool, true, Option, Some, None, IfSome, IfNone}
 use Rattle.pd_base.specs.declared.ids.LineId.{LineId}
 use Rattle.pd_base.specs.declared.ids.PinRef.{PinRef}
-use Rattle.netlist.specs.Circuit.{Circuit, source_count, gate_count, line_count}
+use Rattle.pd_base.specs.declared.rules.Rules.{Rules}
+use Rattle.pd_base.specs.declared.fault.Kind.{Kind}
+use Rattle.netlist.specs.Circuit.{Circuit, source_count, gate_count, line_count, gate_line}
 use Rattle.netlist.specs.declared.limits.TheConstants.{MOST_FAN_IN}
 use Rattle.netlist.specs.Lawful.{IsCircuit}
 use Rattle.netlist.specs.Levels.{greatest_level}
 use Rattle.netlist.specs.Paths.{Connects}
 use Rattle.state_sets.specs.declared.state.State.{State}
 use Rattle.state_sets.specs.declared.state.StateSet.{StateSet}
-use Rattle.state_sets.specs.States.{both_sets}
+use Rattle.state_sets.specs.States.{both_sets, no_states}
 use Rattle.state_sets.specs.StateAlgebra.{StateAlgebra}
-use Rattle.state_sets.specs.Hulls.{HasAt, HasNoEmptySet, condition_at}
-use Rattle.hulls.specs.Conditions.{Entered as EnteredSteps}
+use Rattle.state_sets.specs.Labellings.{label_at}
+use Rattle.state_sets.specs.Hulls.{HasAt, HasNoEmptySet, IsHull, IsEmptied, condition_at}
+use Rattle.state_laws.specs.Cones.{IsClosedBack, IsNarrowingIn}
+use Rattle.narrowing.specs.Conditions.{Entered as EnteredSteps}
+use Rattle.undo_trail.specs.Undoing.{undone}
+use Rattle.hulls.specs.Awaiting.{is_inside}
+use Rattle.hulls.specs.Boards.{OnBoard, IsBoardOf}
 use Rattle.implication.specs.declared.assumption.Beginning.{Beginning}
 use Rattle.implication.specs.declared.assumption.Assumption.{Assumption}
 use Rattle.implication.specs.declared.assumption.Assumption.TheVariants.{Entered, Assumed}
-use Rattle.implication.specs.Assumptions.{entered_pins, left_of, IsLetBy, IsHullUnder, IsEmptiedUnder, ClosesUnder}
-use Rattle.implication.specs.Standing.{Standing}
+use Rattle.implication.specs.declared.before.Before.{Before}
+use Rattle.implication.specs.Assumptions.{entered_pins, left_of, IsLetBy, MayUnder}
+use Rattle.implication.specs.Standing.{Standing, IsToldBy}
+use Rattle.implication.specs.Idling.{Idling, StandsBy, IsIdleBoard}
 
 -- a set assumed of a source of the circuit, which takes some state away from what was left of the source
 pub record TakesSome (sources : ℕ) (source : LineId) (left set : StateSet) : Type 0 where
@@ -47,54 +57,23 @@ pub record AreAssumptions (count : ℕ) (c : Circuit) (begun : Beginning) (assum
   pub connects : Connects c begun.source.0 (entered_pins assumptions)
   pub shrink : DoShrink count (source_count c) [] assumptions
 
+-- the gate of each pin that was entered has a line that is told
+abbrev pub AreToldPins : Circuit → Option (List LineId) → List Assumption → Type 0
+AreToldPins c ends assumptions = All (λ pin. IsToldBy c ends (gate_line c pin.gate.0)) (entered_pins assumptions)
+
 -- the list is one as scopes make it, where a scope is open
-abbrev pub IsListFrom : ℕ → Circuit → Option Beginning → List Assumption → Type 0
-IsListFrom count c None assumptions = ⊤
-IsListFrom count c (Some begun) assumptions = AreAssumptions count c begun assumptions
+abbrev pub IsListFrom : ℕ → Circuit → Option (List LineId) → Option Beginning → List Assumption → Type 0
+IsListFrom count c ends None assumptions = ⊤
+IsListFrom count c ends (Some begun) assumptions = AreAssumptions count c begun assumptions × AreToldPins c ends assumptions
 
 -- so many assumptions can stand at most: of each source as many as there are states, and as many pins as there are levels
 abbrev pub most_assumptions : ℕ → Circuit → ℕ
 most_assumptions count c = count * source_count c + greatest_level c
 
--- the labels are the hull, and each line has some state
-pub record IsOpenHull (a : StateAlgebra) (c : Circuit) (begun : Beginning) (assumptions : List Assumption) (labels : List StateSet) : Type 0 where
-  pub hull : IsHullUnder a c begun assumptions labels
-  pub none_empty : HasNoEmptySet c labels
-
--- what labels and an answer tell: the labels are the hull and each line has some state; or no state is left at this line
-abbrev pub AreLabelsUnder : StateAlgebra → Circuit → Beginning → List Assumption → List StateSet → Option LineId → Type 0
-AreLabelsUnder a c begun assumptions labels None = IsOpenHull a c begun assumptions labels
-AreLabelsUnder a c begun assumptions labels (Some line) =
-    (line.0 < line_count c) × IsEmptiedUnder a c begun assumptions line.0
-
--- what stands while a scope is open; no shorter list closed
-pub record StandsOpen (a : StateAlgebra) (c : Circuit) (begun : Beginning) (assumptions : List Assumption) (conflict : Option LineId)
-    (labels : List StateSet) (steps : List PinRef) : Type 0 where
-  pub list : AreAssumptions a.count c begun assumptions
-  pub entered : steps ≡ entered_pins assumptions
-  pub earlier : (mark : ℕ) → mark < length assumptions → ¬ ClosesUnder a c begun (take mark assumptions)
-  pub answer : AreLabelsUnder a c begun assumptions labels conflict
-
--- what stands while no scope is open
-pub record StandsIdle (assumptions : List Assumption) (conflict : Option LineId) : Type 0 where
-  pub nothing : assumptions ≡ []
-  pub free : conflict ≡ None
-
--- what stands, by whether a scope has begun
-abbrev pub StandsFrom : StateAlgebra → Circuit → Option Beginning → List Assumption → Option LineId → List StateSet → List PinRef
-    → Type 0
-StandsFrom a c None assumptions conflict labels steps = StandsIdle assumptions conflict
-StandsFrom a c (Some begun) assumptions conflict labels steps = StandsOpen a c begun assumptions conflict labels steps
-
 -- there is room for the conditions of every prefix
 pub record HasStepRoom (c : Circuit) (steps : EnteredSteps) : Type 0 where
   pub gates : steps.gates ≡ gate_count c
   pub levels : steps.room ≡ greatest_level c
-
--- the conditions are those at the pins entered, with room for those of every prefix
-pub record AreStepsOf (c : Circuit) (assumptions : List Assumption) (steps : EnteredSteps) : Type 0 where
-  pub room : HasStepRoom c steps
-  pub entered : steps.steps ≡ entered_pins assumptions
 
 -- there is room for the step, and no step before goes through its gate
 pub record CanEnter (steps : EnteredSteps) (step : PinRef) : Type 0 where
@@ -108,15 +87,154 @@ abbrev pub CanStep : EnteredSteps → Assumption → Type 0
 CanStep steps (Entered pin) = CanEnter steps pin
 CanStep steps (Assumed source set) = ⊤
 
--- the labels are those of the standing, and there is room for every list
-pub record KeepsStanding (a : StateAlgebra) (standing : Standing) (labels : List StateSet) (steps : EnteredSteps) (capacity : ℕ) : Type 0 where
-  pub circuit : IsCircuit standing.net
-  pub one_each : length labels ≡ line_count standing.net
-  pub stands : StandsFrom a standing.net standing.beginning standing.assumptions standing.conflict labels steps.steps
-  pub step_room : HasStepRoom standing.net steps
-  pub room : most_assumptions a.count standing.net ≤ capacity
-
 -- the new labels are the old ones, cut by these assumptions about sources
 abbrev pub AreCutBy : ℕ → List Assumption → List StateSet → List StateSet → Type 0
 AreCutBy count assumptions old new = (line : ℕ) (state : State)
     → HasAt count new line state ↔ (HasAt count old line state × All (IsLetBy count line state) assumptions)
+
+-- What settling tells: the labels are the hull of others, by the narrowings inside, and each line has some state; or no state is left
+-- at this line.
+pub record IsSettledFrom (a : StateAlgebra) (c : Circuit) (inside : List Bool) (kind : Kind) (steps : List PinRef)
+    (first labels : List StateSet) (answer : Option LineId) : Type 0 where
+  pub hull : IfNone answer (IsHull a c (IsNarrowingIn c (is_inside inside) kind steps) (HasAt a.count first) labels)
+  pub none_empty : IfNone answer (HasNoEmptySet c labels)
+  pub emptied : IfSome answer (λ line. (line.0 < line_count c)
+      × IsEmptied a c (IsNarrowingIn c (is_inside inside) kind steps) (HasAt a.count first) line.0)
+
+-- the board was narrowed on under one entry more
+pub record IsNarrowedMore (a : StateAlgebra) (c : Circuit) (entry : Assumption) (kind : Kind) (steps : List PinRef) (old new : OnBoard)
+    (answer : Option LineId) : Type 0 where
+  pub first : List StateSet
+  pub cut : AreCutBy a.count (entry ∷ []) old.labels first
+  pub settled : IsSettledFrom a c old.inside kind steps first new.labels answer
+
+-- what is left of the sources under an entry more
+abbrev pub left_with : Assumption → List StateSet → List StateSet
+left_with (Entered pin) left = left
+left_with (Assumed source set) left = slice_set left source.0 set
+
+-- and without it again, where so much was left before of the source that it is about
+abbrev pub left_without : Assumption → StateSet → List StateSet → List StateSet
+left_without (Entered pin) before left = left
+left_without (Assumed source set) before left = slice_set left source.0 before
+
+-- the conditions without the step of the last entry, if it is that of a pin
+abbrev pub steps_without : Assumption → EnteredSteps → EnteredSteps
+steps_without (Entered pin) steps = record steps { steps = take (length steps.steps - 1) steps.steps }
+steps_without (Assumed source set) steps = steps
+
+-- from what the labels of a scope are: the circuit, the gates inside, the rules, and with what the scope began
+pub record Outset : Type 0 where
+  pub net : Circuit
+  pub inside : List Bool
+  pub rules : Rules
+  pub begun : Beginning
+
+-- the labels are the hull by the narrowings inside, and each line has some state
+pub record IsOpenHull (a : StateAlgebra) (from : Outset) (assumptions : List Assumption) (labels : List StateSet) : Type 0 where
+  pub hull : IsHull a from.net (IsNarrowingIn from.net (is_inside from.inside) from.begun.kind (entered_pins assumptions))
+      (MayUnder a from.net from.rules from.begun assumptions) labels
+  pub none_empty : HasNoEmptySet from.net labels
+
+-- the narrowings inside leave no state at this line
+pub record IsEmptiedInside (a : StateAlgebra) (from : Outset) (assumptions : List Assumption) (line : ℕ) : Type 0 where
+  pub in_circuit : line < line_count from.net
+  pub emptied : IsEmptied a from.net (IsNarrowingIn from.net (is_inside from.inside) from.begun.kind (entered_pins assumptions))
+      (MayUnder a from.net from.rules from.begun assumptions) line
+
+-- what labels and an answer tell: the labels are the hull and each line has some state; or no state is left at this line
+abbrev pub AreLabelsUnder : StateAlgebra → Outset → List Assumption → List StateSet → Option LineId → Type 0
+AreLabelsUnder a from assumptions labels None = IsOpenHull a from assumptions labels
+AreLabelsUnder a from assumptions labels (Some line) = IsEmptiedInside a from assumptions line.0
+
+-- what was left before an entry: where it is one about a source, the states that were left of the source
+abbrev pub IsLeftBefore : ℕ → List Assumption → Assumption → StateSet → Type 0
+IsLeftBefore count before (Entered pin) left = ⊤
+IsLeftBefore count before (Assumed source set) left = left ≡ left_of count source before
+
+-- what is left of each source
+pub record AreLeft (count : ℕ) (sources : ℕ) (assumptions : List Assumption) (left : List StateSet) : Type 0 where
+  pub one_each : length left ≡ sources
+  pub each : (source : ℕ) → source < sources → label_at left source ≡ left_of count (record { 0 = source }) assumptions
+
+-- what an engine has beside its standing: the board, the idle labels, what stood before each entry, what is left of each source, and
+-- the conditions
+pub record Kept : Type 0 where
+  pub board : OnBoard
+  pub idle : Idling
+  pub befores : List Before
+  pub left : List StateSet
+  pub steps : EnteredSteps
+
+-- nothing stood before
+abbrev pub nothing_before : Before
+nothing_before = record { changes = 0; left = no_states }
+
+-- what stood before the entry at a place
+abbrev pub before_at : List Before → ℕ → Before
+before_at befores place = slice_index_or befores place nothing_before
+
+-- the labels when so many changes were noted
+abbrev pub labels_after : OnBoard → ℕ → List StateSet
+labels_after board changes = undone (drop changes board.notes) board.labels
+
+-- an entry with what stood before it: going back to so many changes gives the labels under the entries before it
+pub record StoodAt (a : StateAlgebra) (from : Outset) (board : OnBoard) (before : List Assumption) (entry : Assumption) (was : Before)
+    : Type 0 where
+  pub few : was.changes ≤ length board.notes
+  pub labels : IsOpenHull a from before (labels_after board was.changes)
+  pub left : IsLeftBefore a.count before entry was.left
+
+-- so it was at each entry of the list, and the changes grew from entry to entry
+pub record Stood (a : StateAlgebra) (from : Outset) (board : OnBoard) (list : List Assumption) (befores : List Before) : Type 0 where
+  pub one_each : length befores ≡ length list
+  pub each : (place : ℕ) (else_ : Assumption) → place < length list
+      → StoodAt a from board (take place list) (slice_index_or list place else_) (before_at befores place)
+  pub rising : (earlier later : ℕ) → earlier ≤ later → later < length list
+      → (before_at befores earlier).changes ≤ (before_at befores later).changes
+
+-- what stands while a scope is open
+pub record StandsOpen (a : StateAlgebra) (from : Outset) (ends : Option (List LineId)) (assumptions : List Assumption)
+    (conflict : Option LineId) (kept : Kept) : Type 0 where
+  pub list : AreAssumptions a.count from.net from.begun assumptions
+  pub told : AreToldPins from.net ends assumptions
+  pub kind : kept.steps.kind ≡ from.begun.kind
+  pub entered : kept.steps.steps ≡ entered_pins assumptions
+  pub stood : Stood a from kept.board assumptions kept.befores
+  pub left : AreLeft a.count (source_count from.net) assumptions kept.left
+  pub answer : AreLabelsUnder a from assumptions kept.board.labels conflict
+  pub idling : StandsBy a from.net from.rules kept.idle kept.board
+
+-- what stands while no scope is open
+pub record StandsIdle (a : StateAlgebra) (c : Circuit) (rules : Rules) (list : List Assumption) (conflict : Option LineId) (kept : Kept)
+    : Type 0 where
+  pub nothing : list ≡ []
+  pub free : conflict ≡ None
+  pub none_before : kept.befores ≡ []
+  pub no_step : kept.steps.steps ≡ []
+  pub left : AreLeft a.count (source_count c) [] kept.left
+  pub idling : IsIdleBoard a c rules kept.idle kept.board
+
+-- what stands, by whether a scope has begun
+abbrev pub StandsFrom : StateAlgebra → Circuit → Rules → Option (List LineId) → Option Beginning → List Assumption → Option LineId → Kept
+    → Type 0
+StandsFrom a c rules ends None list conflict kept = StandsIdle a c rules list conflict kept
+StandsFrom a c rules ends (Some begun) list conflict kept =
+    StandsOpen a (record { net = c; inside = kept.board.inside; rules = rules; begun = begun }) ends list conflict kept
+
+-- the gates inside are those whose lines are told
+pub record AreToldGates (c : Circuit) (ends : Option (List LineId)) (inside : List Bool) : Type 0 where
+  pub one_each : length inside ≡ gate_count c
+  pub closed : IsClosedBack c (is_inside inside)
+  pub told : (gate : ℕ) → gate < gate_count c → (is_inside inside gate ≡ true) ↔ IsToldBy c ends (gate_line c gate)
+
+-- what an engine keeps stands, and there is room for every list
+pub record KeepsStanding (a : StateAlgebra) (standing : Standing) (kept : Kept) (capacity befores_capacity : ℕ) : Type 0 where
+  pub circuit : IsCircuit standing.net
+  pub board : IsBoardOf standing.net kept.board
+  pub cone : AreToldGates standing.net standing.ends kept.board.inside
+  pub at_rest : kept.board.waiting ≡ []
+  pub stands : StandsFrom a standing.net standing.rules standing.ends standing.beginning standing.assumptions standing.conflict kept
+  pub step_room : HasStepRoom standing.net kept.steps
+  pub room : most_assumptions a.count standing.net ≤ capacity
+  pub befores_room : most_assumptions a.count standing.net ≤ befores_capacity

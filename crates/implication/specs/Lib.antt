@@ -2,5 +2,8 @@ pub mod Assumptions
 pub mod Standing
 pub mod Moves
 pub mod Clients
+pub mod Inside
+pub mod Reached
+pub mod Idling
 pub mod Kept
 pub mod Scopes

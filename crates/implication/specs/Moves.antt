@@ -65,6 +65,8 @@ start_at (Within length) = length
 -- a scope has begun here, and nothing is assumed or entered yet; a conflict may stand from here on
 pub record HasBegun (begun : Beginning) (old new : Standing) : Type 0 where
   pub net : new.net ≡ old.net
+  pub rules : new.rules ≡ old.rules
+  pub ends : new.ends ≡ old.ends
   pub beginning : new.beginning ≡ Some begun
   pub nothing : new.assumptions ≡ []
   pub closings : new.closings ≡ old.closings

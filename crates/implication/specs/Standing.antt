@@ -1,22 +1,48 @@
 -- What contracts see of an engine and of the scopes on it (this project's own).
-use Rattle.std.specs.Prelude.{◌≡◌, ⊤, ℕ, ◌<◌, List, [], Option, Some, None, IsSome}
+use Rattle.std.specs.Prelude.{◌≡◌, ⊤, ℕ, ◌<◌, ◌⊎◌, List, [], Option, Some, None, IsSome, Contains}
 use Rattle.pd_base.specs.declared.ids.LineId.{LineId}
-use Rattle.netlist.specs.Circuit.{Circuit, line_count}
+use Rattle.pd_base.specs.declared.rules.Rules.{Rules}
+use Rattle.netlist.specs.Circuit.{Circuit, source_count, line_count}
+use Rattle.netlist.specs.Pins.{IsInFanIn}
+use Rattle.state_sets.specs.declared.state.State.{State}
 use Rattle.state_sets.specs.declared.state.StateSet.{StateSet}
+use Rattle.state_sets.specs.States.{Has}
 use Rattle.state_sets.specs.StateAlgebra.{StateAlgebra}
+use Rattle.state_sets.specs.Labellings.{label_at}
 use Rattle.implication.specs.declared.assumption.Beginning.{Beginning}
 use Rattle.implication.specs.declared.assumption.Assumption.{Assumption}
 use Rattle.implication.specs.Assumptions.{end_under, IsHullUnder, IsEmptiedUnder, ClosesUnder}
 
--- How an engine and the innermost scope on it stand: the circuit; with what the outermost scope began, and None where no scope is
--- open; what was assumed and entered since, in order; the line of the conflict that stands, if there is one; and how many times an
--- assume or enter has come upon a conflict.
+-- How an engine and the innermost scope on it stand: the circuit; the rules of the start; the lines whose fan-in is told, or None
+-- where all lines are; with what the outermost scope began, and None where no scope is open; what was assumed and entered since, in
+-- order; the line of the conflict that stands, if there is one; and how many times an assume or enter has come upon a conflict.
 pub record Standing : Type 0 where
   pub net : Circuit
+  pub rules : Rules
+  pub ends : Option (List LineId)
   pub beginning : Option Beginning
   pub assumptions : List Assumption
   pub conflict : Option LineId
   pub closings : ℕ
+
+-- a line is told where all are, and otherwise where it is a source or in the transitive fan-in of one of the ends
+abbrev pub IsToldBy : Circuit → Option (List LineId) → ℕ → Type 0
+IsToldBy c None line = ⊤
+IsToldBy c (Some ends) line = (line < source_count c) ⊎ ((end : LineId) × Contains ends end × IsInFanIn c end.0 line)
+
+-- the same as an engine stands
+abbrev pub IsTold : Standing → ℕ → Type 0
+IsTold standing line = IsToldBy standing.net standing.ends line
+
+-- the answer for a line: each state that the line has by these labels, and where the line is told no other one
+pub record TellsLabel (count : ℕ) (standing : Standing) (labels : List StateSet) (line : ℕ) (answer : StateSet) : Type 0 where
+  pub contains : (state : State) → Has count (label_at labels line) state → Has count answer state
+  pub told : IsTold standing line → answer ≡ label_at labels line
+
+-- the same for each line
+abbrev pub TellsLabels : ℕ → Standing → List StateSet → List StateSet → Type 0
+TellsLabels count standing labels answers =
+    (line : ℕ) → line < line_count standing.net → TellsLabel count standing labels line (label_at answers line)
 
 -- no scope is open, and nothing is assumed
 pub record IsIdle (standing : Standing) : Type 0 where
@@ -39,28 +65,28 @@ abbrev pub end_of_scope : Standing → ℕ
 end_of_scope standing = end_from standing.net standing.beginning standing.assumptions
 
 -- these are the labels of the scope: the hull under its assumptions. Nothing is said where no scope is open.
-abbrev pub IsHullFrom : StateAlgebra → Circuit → Option Beginning → List Assumption → List StateSet → Type 0
-IsHullFrom a c None assumptions hull = ⊤
-IsHullFrom a c (Some begun) assumptions hull = IsHullUnder a c begun assumptions hull
+abbrev pub IsHullFrom : StateAlgebra → Circuit → Rules → Option Beginning → List Assumption → List StateSet → Type 0
+IsHullFrom a c rules None assumptions hull = ⊤
+IsHullFrom a c rules (Some begun) assumptions hull = IsHullUnder a c rules begun assumptions hull
 
 -- these are the labels as a scope stands
 abbrev pub IsLabels : StateAlgebra → Standing → List StateSet → Type 0
-IsLabels a standing labels = IsHullFrom a standing.net standing.beginning standing.assumptions labels
+IsLabels a standing labels = IsHullFrom a standing.net standing.rules standing.beginning standing.assumptions labels
 
 -- the assumptions of the scope leave no state at this line
-abbrev pub IsEmptiedFrom : StateAlgebra → Circuit → Option Beginning → List Assumption → ℕ → Type 0
-IsEmptiedFrom a c None assumptions line = ⊤
-IsEmptiedFrom a c (Some begun) assumptions line = (line < line_count c) × IsEmptiedUnder a c begun assumptions line
+abbrev pub IsEmptiedFrom : StateAlgebra → Circuit → Rules → Option Beginning → List Assumption → ℕ → Type 0
+IsEmptiedFrom a c rules None assumptions line = ⊤
+IsEmptiedFrom a c rules (Some begun) assumptions line = (line < line_count c) × IsEmptiedUnder a c rules begun assumptions line
 
 -- no state is left at this line as a scope stands; nothing is said where none is open
 abbrev pub IsEmptiedIn : StateAlgebra → Standing → ℕ → Type 0
-IsEmptiedIn a standing line = IsEmptiedFrom a standing.net standing.beginning standing.assumptions line
+IsEmptiedIn a standing line = IsEmptiedFrom a standing.net standing.rules standing.beginning standing.assumptions line
 
 -- the assumptions of the scope leave each line some state
-abbrev pub IsOpenFrom : StateAlgebra → Circuit → Option Beginning → List Assumption → Type 0
-IsOpenFrom a c None assumptions = ⊤
-IsOpenFrom a c (Some begun) assumptions = ¬ ClosesUnder a c begun assumptions
+abbrev pub IsOpenFrom : StateAlgebra → Circuit → Rules → Option Beginning → List Assumption → Type 0
+IsOpenFrom a c rules None assumptions = ⊤
+IsOpenFrom a c rules (Some begun) assumptions = ¬ ClosesUnder a c rules begun assumptions
 
 -- each line has some state as a scope stands; nothing is said where none is open
 abbrev pub IsOpenIn : StateAlgebra → Standing → Type 0
-IsOpenIn a standing = IsOpenFrom a standing.net standing.beginning standing.assumptions
+IsOpenIn a standing = IsOpenFrom a standing.net standing.rules standing.beginning standing.assumptions

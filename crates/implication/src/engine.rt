@@ -1,54 +1,69 @@
-// The engine: a netlist, what is assumed of it, and the labels that follow. It keeps the list of assumptions and one buffer of labels,
-// which are narrowed on at each assumption, and computed from the start where some are taken back.
-ghost use Rattle.std.specs.Prelude.{◌≡◌, ◌≢◌, ◌<◌, ◌≤◌, ◌∷◌, ◌++◌, [], List, length, Some, None, Ok, Err, IfOk, IfErr, OnOk, OnErr, IfSome, IfNone, IsSome};
-ghost use Rattle.netlist.specs.Circuit.{source_count, line_count};
+// The engine: a netlist with the rules, what is assumed of it, and the labels that follow. Its board narrows on from each assumption
+// at the gates that have to be narrowed again, and the trail of the board leads back to what stood before. After an engine is made,
+// nothing costs the circuit: a call costs what changes.
+ghost use Rattle.std.specs.Prelude.{◌≡◌, ◌≢◌, ◌<◌, ◌≤◌, ◌-◌, ◌∷◌, ◌++◌, [], ℕ, List, length, All, Some, None, Ok, Err, IfOk, IfErr, OnOk, OnErr, IfSome, IfNone, IsSome};
+ghost use Rattle.std.specs.Option.{option_map};
+ghost use Rattle.netlist.specs.Circuit.{source_count, line_count, gate_count, gate_line};
 ghost use Rattle.netlist.specs.Lawful.{IsCircuit};
 ghost use Rattle.netlist.specs.Paths.{Connects, line_after};
 ghost use Rattle.netlist.specs.Pins.{IsPinOn};
-ghost use Rattle.state_sets.specs.States.{IsWithin};
+ghost use Rattle.state_sets.specs.States.{AreWithin};
 ghost use Rattle.state_sets.specs.FourStates.{four_states};
-ghost use Rattle.state_sets.specs.Labellings.{label_at};
-ghost use Rattle.implication.specs.Standing.{IsIdle, IsFree, IsLabels, IsEmptiedIn, IsOpenIn, end_of_scope};
+ghost use Rattle.implication.specs.Standing.{IsIdle, IsFree, IsLabels, IsTold, TellsLabels, IsEmptiedIn, IsOpenIn, end_of_scope};
 ghost use Rattle.implication.specs.Moves.{with_entered, with_assumed, grown, closed_at, back_at, left_behind, idle_again, HasBegun};
 ghost use Rattle.implication.specs.Clients.{ExtendsStanding};
-ghost use Rattle.implication.specs.Kept.{IsListFrom, most_assumptions};
+ghost use Rattle.implication.specs.Kept.{IsListFrom, IsLeftBefore, AreToldGates, most_assumptions};
 
-use crate::labelling::{label_lines, label_more};
-use crate::left::left_of;
-use crate::{Assumption, Beginning, Conflict, HasNetlist, Origin};
-use hulls::{Conditions, NarrowScratch};
+use crate::before::Before;
+use crate::cones::inside_of;
+use crate::idle::IdleLabels;
+use crate::narrowing_on::{leave_step, narrow_on, put_back, take_from};
+use crate::{Assumption, Beginning, Conflict, Origin, Setting};
+use hulls::Board;
+use narrowing::{Conditions, NarrowScratch};
 use netlist::Netlist;
-use pd_base::{Kind, LineId, OutOfMemory, PinRef};
-use state_sets::{Algebra, Labels, StateSet, count_states};
+use pd_base::{Kind, LineId, OutOfMemory, PinRef, Rules};
+use state_sets::{Algebra, StateSet, count_states, every_state};
 use std::alloc::Global;
 use std::marker::Model;
+use undo_trail::Note;
 
 /// A netlist with the assumptions that the scopes on it have made, and the labels under them. All room is there from the start.
 ///
-/// Contracts see how it stands: the circuit, with what the outermost scope began, the list of assumptions, the conflict that stands,
-/// and the count of conflicts.
-#[derive(Debug, Drop)]
-pub struct Engine<A: Algebra, N: HasNetlist> {
-    net: N,
+/// Contracts see how it stands: the circuit, the rules, the lines whose fan-in is told, with what the outermost scope began, the list
+/// of assumptions, the conflict that stands, and the count of conflicts.
+#[derive(Drop)]
+pub struct Engine<A: Algebra, S: Setting> {
+    setting: S,
+    // None: all lines are told.
+    ends: Option<Vec<LineId>>,
     beginning: Option<Beginning>,
     assumptions: Vec<Assumption>,
+    // What stood before each assumption.
+    befores: Vec<Before>,
     conflict: Option<LineId>,
     closings: u64,
-    labels: Labels<A>,
+    board: Board<A>,
+    idle: IdleLabels,
+    // What is left of each source.
+    left: Vec<StateSet>,
     conditions: Conditions,
     scratch: NarrowScratch,
 }
 
-impl<A: Algebra, N: HasNetlist> Model for Engine<A, N> {
+impl<A: Algebra, S: Setting> Model for Engine<A, S> {
     ghost use Rattle.implication.specs.Standing.{Standing};
 
     ghost Value = { Standing };
 
     ghost use Rattle.std.specs.Prelude.{length, vec_capacity};
+    ghost use Rattle.std.specs.Option.{option_map};
     ghost use Rattle.implication.specs.Kept.{KeepsStanding};
 
     ghost view = { λ e. record {
-      net = N.circuit e.net;
+      net = S.circuit e.setting;
+      rules = S.rules e.setting;
+      ends = option_map (λ v. v.items) e.ends;
       beginning = e.beginning;
       assumptions = e.assumptions.items;
       conflict = e.conflict;
@@ -56,37 +71,100 @@ impl<A: Algebra, N: HasNetlist> Model for Engine<A, N> {
     } };
 
     ghost invariant = { λ e. KeepsStanding A.algebra (record {
-      net = N.circuit e.net;
+      net = S.circuit e.setting;
+      rules = S.rules e.setting;
+      ends = option_map (λ v. v.items) e.ends;
       beginning = e.beginning;
       assumptions = e.assumptions.items;
       conflict = e.conflict;
       closings = e.closings;
-    }) e.labels e.conditions (vec_capacity e.assumptions) };
+    }) (record { board = e.board; idle = e.idle; befores = e.befores.items; left = e.left.items; steps = e.conditions })
+        (vec_capacity e.assumptions) (vec_capacity e.befores) };
 }
 
-impl<A: Algebra, N: HasNetlist> Engine<A, N> {
-    /// An engine over a netlist, on which no scope is open, with room for every list of assumptions. It fails only where memory runs
-    /// out.
-    pub fn new(alloc: Global, net: N) -> Result<Engine<A, N>, OutOfMemory>
+impl<A: Algebra, S: Setting> Engine<A, S> {
+    /// An engine over a netlist, on which no scope is open, with room for every list of assumptions. It tells of all lines. It fails
+    /// only where memory runs out.
+    pub fn new(alloc: Global, setting: S) -> Result<Engine<A, S>, OutOfMemory>
         ensures { IfOk result (λ engine. engine ≡ record {
-          net = N.circuit net;
+          net = S.circuit setting;
+          rules = S.rules setting;
+          ends = None;
           beginning = None;
           assumptions = [];
           conflict = None;
           closings = 0;
         }) }
     {
-        let labels = Labels::full(alloc, net.netlist())?;
-        let conditions = Conditions::new(alloc, net.netlist(), Kind::Robust)?;
-        let scratch = NarrowScratch::new(alloc, net.netlist())?;
-        let assumptions = Vec::with_capacity(alloc, most_assumptions::<A>(net.netlist()))?;
-        Ok(Engine {
+        let inside = all_gates(alloc, setting.netlist())?;
+        Engine::with_inside(alloc, setting, None, inside)
+    }
+
+    /// The same, but it tells of the sources and of the lines in the fan-in of these ends alone, and only gates whose lines are told
+    /// can be entered.
+    pub fn within(alloc: Global, setting: S, ends: &[LineId]) -> Result<Engine<A, S>, OutOfMemory>
+        requires { All (λ end. end.0 < line_count (S.circuit setting)) ends.now }
+        ensures { IfOk result (λ engine. engine ≡ record {
+          net = S.circuit setting;
+          rules = S.rules setting;
+          ends = Some ends.now;
+          beginning = None;
+          assumptions = [];
+          conflict = None;
+          closings = 0;
+        }) }
+    {
+        // narrowing at these gates alone is enough for the lines that are told
+        let inside = inside_of(alloc, setting.netlist(), ends)?;
+        let ends = Vec::from_slice(alloc, ends)?;
+        Engine::with_inside(alloc, setting, Some(ends), inside)
+    }
+
+    // The same, with these ends and the gates inside.
+    fn with_inside(
+        alloc: Global,
+        setting: S,
+        ends: Option<Vec<LineId>>,
+        inside: Vec<bool>,
+    ) -> Result<Engine<A, S>, OutOfMemory>
+        requires { AreToldGates (S.circuit setting) (option_map (λ list. list.items) ends) inside.items }
+        ensures { IfOk result (λ engine. engine ≡ record {
+          net = S.circuit setting;
+          rules = S.rules setting;
+          ends = option_map (λ list. list.items) ends;
+          beginning = None;
+          assumptions = [];
+          conflict = None;
+          closings = 0;
+        }) }
+    {
+        let net = setting.netlist();
+        let most = most_assumptions::<A>(net);
+        let assumptions = Vec::with_capacity(alloc, most)?;
+        let befores = Vec::with_capacity(alloc, most)?;
+        let left = vec![in alloc; every_state::<A>(); net.sources() as usize]?;
+        let conditions = Conditions::new(alloc, net, Kind::Robust)?;
+        let mut scratch = NarrowScratch::new(alloc, net)?;
+        let mut board = Board::within(alloc, net, inside)?;
+        let idle = IdleLabels::new(
+            alloc,
             net,
+            setting.rules(),
+            &mut board,
+            &conditions,
+            &mut scratch,
+        )?;
+        Ok(Engine {
+            setting,
+            ends,
             beginning: None,
             assumptions,
+            befores,
             conflict: None,
             closings: 0,
-            labels,
+            board,
+            idle,
+            left,
             conditions,
             scratch,
         })
@@ -96,7 +174,14 @@ impl<A: Algebra, N: HasNetlist> Engine<A, N> {
     pub fn net(&self) -> &Netlist
         ensures { result.now ≡ self.now.net }
     {
-        self.net.netlist()
+        self.setting.netlist()
+    }
+
+    /// The rules.
+    pub fn rules(&self) -> &Rules
+        ensures { result.now ≡ self.now.rules }
+    {
+        self.setting.rules()
     }
 
     // Opens the outermost scope.
@@ -109,24 +194,34 @@ impl<A: Algebra, N: HasNetlist> Engine<A, N> {
         ensures emptied { IfSome self.new.conflict (λ line. IsEmptiedIn A.algebra self.new line.0) }
         ensures four_states { A.algebra ≡ four_states → self.new.conflict ≡ None }
     {
+        self.conditions.set_kind(begun.kind);
         self.beginning = Some(begun);
-        self.conflict = label_lines(
-            self.net.netlist(),
+        self.conflict = self.idle.begin(
+            self.setting.netlist(),
+            self.setting.rules(),
             begun,
-            self.assumptions.as_slice(),
-            &mut self.labels,
-            &mut self.conditions,
+            &mut self.board,
+            &self.conditions,
             &mut self.scratch,
         );
     }
 
-    // The set of a line.
-    pub(crate) fn label(&self, line: LineId) -> StateSet
-        requires { line.0 < line_count self.now.net }
-        ensures { self.now.conflict ≡ None
-            → (labels : List StateSet) × IsLabels A.algebra self.now labels × (result ≡ label_at labels line.0) }
+    // For each line a set that has its states.
+    pub(crate) fn labels(&self) -> &[StateSet]
+        ensures one_each { length result.now ≡ line_count self.now.net }
+        ensures within { AreWithin A.algebra.count result.now }
+        ensures told { self.now.conflict ≡ None
+            → (labels : List StateSet) × IsLabels A.algebra self.now labels
+            × TellsLabels A.algebra.count self.now labels result.now }
     {
-        self.labels.get(line)
+        self.board.labels()
+    }
+
+    // The changes of labels since the outermost scope began.
+    pub(crate) fn changes(&self) -> &[Note<StateSet>]
+        ensures { All (λ note. note.index < line_count self.now.net) result.now }
+    {
+        self.board.changes()
     }
 
     // The line of the conflict that stands, if there is one.
@@ -142,10 +237,15 @@ impl<A: Algebra, N: HasNetlist> Engine<A, N> {
     pub(crate) fn last_line(&self) -> LineId
         ensures end { result.0 ≡ end_of_scope self.now }
         ensures in_circuit { IsSome self.now.beginning → result.0 < line_count self.now.net }
+        ensures told { IsSome self.now.beginning → IsTold self.now result.0 }
     {
         match self.beginning {
             None => LineId(0),
-            Some(begun) => line_behind(self.net.netlist(), begun.source, self.conditions.steps()),
+            Some(begun) => line_behind(
+                self.setting.netlist(),
+                begun.source,
+                self.conditions.steps(),
+            ),
         }
     }
 
@@ -181,17 +281,18 @@ impl<A: Algebra, N: HasNetlist> Engine<A, N> {
         if self.beginning.is_none() {
             return Err(Conflict(source));
         }
-        let left = left_of::<A>(source, self.assumptions.as_slice());
+        let left = self.left[source.0 as usize];
         let cut = left.intersect(to);
         if cut == left {
             return Ok(());
         }
-        self.add(Assumption::Assumed(source, cut))
+        self.add(Assumption::Assumed(source, cut), left)
     }
 
     // Enters a pin, unless a conflict stands or no scope is open.
     pub(crate) fn enter(&mut self, pin: PinRef) -> Result<(), Conflict>
-        requires { IsPinOn self.old.net pin (end_of_scope self.old) }
+        requires pin { IsPinOn self.old.net pin (end_of_scope self.old) }
+        requires told { IsTold self.old (gate_line self.old.net pin.gate.0) }
         ensures idle { self.old.beginning ≡ None → self.new ≡ self.old }
         ensures held { IfSome self.old.conflict (λ line. (result ≡ Err (record { 0 = line })) × (self.new ≡ self.old)) }
         ensures ok { OnOk result (self.new ≡ grown self.old (with_entered self.old.assumptions pin)) }
@@ -207,29 +308,29 @@ impl<A: Algebra, N: HasNetlist> Engine<A, N> {
         if self.beginning.is_none() {
             return Err(Conflict(LineId(0)));
         }
-        self.add(Assumption::Entered(pin))
+        self.add(Assumption::Entered(pin), StateSet::EMPTY)
     }
 
-    // Adds an entry, and narrows the labels on.
-    fn add(&mut self, entry: Assumption) -> Result<(), Conflict>
+    // Adds an entry, with what was left of its source, and narrows the labels on.
+    fn add(&mut self, entry: Assumption, left: StateSet) -> Result<(), Conflict>
         requires begun { IsSome self.old.beginning }
         requires free { self.old.conflict ≡ None }
-        requires fits { IsListFrom A.algebra.count self.old.net self.old.beginning (self.old.assumptions ++ entry ∷ []) }
+        requires fits { IsListFrom A.algebra.count self.old.net self.old.ends self.old.beginning (self.old.assumptions ++ entry ∷ []) }
+        requires left { IsLeftBefore A.algebra.count self.old.assumptions entry left }
         ensures ok { OnOk result (self.new ≡ grown self.old (self.old.assumptions ++ entry ∷ [])) }
         ensures err { IfErr result (λ conflict. self.new ≡ closed_at self.old (self.old.assumptions ++ entry ∷ []) conflict.0) }
         ensures open { OnOk result (IsOpenIn A.algebra self.new) }
         ensures emptied { IfErr result (λ conflict. IsEmptiedIn A.algebra self.new conflict.0.0) }
         ensures later { self.old.closings ≤ self.new.closings }
     {
-        let Some(begun) = self.beginning else {
-            return Ok(());
-        };
+        let changes = self.board.mark();
+        self.befores.push_reserved(Before { changes, left });
         self.assumptions.push_reserved(entry);
-        let emptied = label_more(
-            self.net.netlist(),
-            begun,
-            self.assumptions.as_slice(),
-            &mut self.labels,
+        take_from(&mut self.left, entry);
+        let emptied = narrow_on(
+            self.setting.netlist(),
+            entry,
+            &mut self.board,
             &mut self.conditions,
             &mut self.scratch,
         );
@@ -244,25 +345,28 @@ impl<A: Algebra, N: HasNetlist> Engine<A, N> {
     }
 
     // Takes back all that came since the list of assumptions had this length. A length past the end changes nothing.
-    pub(crate) fn back_to(&mut self, length: usize)
-        ensures { self.new ≡ back_at self.old length }
+    pub(crate) fn back_to(&mut self, mark: usize)
+        ensures { self.new ≡ back_at self.old mark }
     {
-        if self.assumptions.len() <= length {
-            return;
+        while self.mark() > mark {
+            self.take_back();
         }
-        let Some(begun) = self.beginning else {
+    }
+
+    // Takes back the last assumption, if there is one.
+    fn take_back(&mut self)
+        ensures { self.new ≡ back_at self.old (length self.old.assumptions - 1) }
+    {
+        let Some(before) = self.befores.pop() else {
             return;
         };
-        let emptied = label_lines(
-            self.net.netlist(),
-            begun,
-            &self.assumptions.as_slice()[..length],
-            &mut self.labels,
-            &mut self.conditions,
-            &mut self.scratch,
-        );
-        self.assumptions.truncate(length);
-        self.conflict = emptied;
+        let Some(entry) = self.assumptions.pop() else {
+            return;
+        };
+        self.board.undo_to(before.changes);
+        put_back(&mut self.left, entry, before.left);
+        leave_step(&mut self.conditions, entry);
+        self.conflict = None;
     }
 
     // Takes back all that came since a scope of this origin was made.
@@ -279,10 +383,20 @@ impl<A: Algebra, N: HasNetlist> Engine<A, N> {
     fn end(&mut self)
         ensures { self.new ≡ idle_again self.old }
     {
+        self.back_to(0);
+        self.idle.end(&mut self.board);
         self.beginning = None;
-        self.assumptions.clear();
         self.conflict = None;
     }
+}
+
+// A flag for each gate, all of them true.
+fn all_gates(alloc: Global, net: &Netlist) -> Result<Vec<bool>, OutOfMemory>
+    ensures { IfOk result (λ inside. AreToldGates net.now None inside.items) }
+{
+    let gates = net.lines() - net.sources();
+    let inside = vec![in alloc; true; gates as usize]?;
+    Ok(inside)
 }
 
 // The most assumptions that can stand at once: of each source as many sets as there are states, since each takes some state away,

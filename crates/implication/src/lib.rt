@@ -1,16 +1,20 @@
 //! Scopes: assumptions about a pair of vectors, made one after another and taken back exactly, and what lines may still be in.
-//! Stands on pd_base, netlist, path_laws, state_sets, state_laws and hulls.
+//! Stands on pd_base, netlist, path_laws, undo_trail, state_sets, state_laws, narrowing and hulls.
 //! The layers above use the contracts of `Engine` and `Scope`; specs/Clients.antt and proofs/Restoring.antt are made for them.
 #![tactic(auto)]
 
 mod assumption;
+mod before;
+mod cones;
 mod engine;
-mod labelling;
-mod left;
-mod net;
+mod idle;
+mod narrowing_on;
+mod reached;
+mod reaching;
 mod scope;
+mod setting;
 
 pub use assumption::{Assumption, Beginning, Conflict, Origin};
 pub use engine::Engine;
-pub use net::HasNetlist;
 pub use scope::{Scope, ScopeMark};
+pub use setting::{RuledNetlist, Setting};

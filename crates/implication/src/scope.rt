@@ -1,18 +1,19 @@
 // Scopes: what is assumed in one is taken back when it is closed or dropped. A scope borrows its engine, and a scope within it borrows
 // the engine in turn, by `scope.engine.scope()` at the caller. All calls take no memory.
-ghost use Rattle.std.specs.Prelude.{◌≡◌, ◌<◌, ◌≤◌, ◌+◌, List, Some, None, Ok, Err, IfSome, IfNone, IfErr, OnOk, IsSome, length};
-ghost use Rattle.netlist.specs.Circuit.{source_count, line_count};
+ghost use Rattle.std.specs.Prelude.{All, ◌≡◌, ◌<◌, ◌≤◌, ◌+◌, List, Some, None, Ok, Err, IfSome, IfNone, IfErr, OnOk, IsSome, length};
+ghost use Rattle.netlist.specs.Circuit.{source_count, line_count, gate_line};
 ghost use Rattle.netlist.specs.Pins.{IsPinOn};
+ghost use Rattle.state_sets.specs.States.{AreWithin};
 ghost use Rattle.state_sets.specs.FourStates.{four_states};
-ghost use Rattle.state_sets.specs.Labellings.{label_at};
-ghost use Rattle.implication.specs.Standing.{Standing, IsIdle, IsFree, IsLabels, IsEmptiedIn, IsOpenIn, end_of_scope};
+ghost use Rattle.implication.specs.Standing.{Standing, IsIdle, IsFree, IsLabels, IsTold, TellsLabel, TellsLabels, IsEmptiedIn, IsOpenIn, end_of_scope};
 ghost use Rattle.implication.specs.Moves.{with_entered, with_assumed, grown, closed_at, back_at, left_behind, HasBegun, start_at};
 ghost use Rattle.implication.specs.Clients.{ExtendsStanding, IsRestored};
 
-use crate::{Beginning, Conflict, Engine, HasNetlist, Origin};
+use crate::{Beginning, Conflict, Engine, Origin, Setting};
 use netlist::Netlist;
-use pd_base::{Direction, Kind, LineId, PinRef, Steps};
+use pd_base::{Direction, Kind, LineId, PinRef, Rules, Steps};
 use state_sets::{Algebra, StateSet};
+use undo_trail::Note;
 
 /// A length of the list of assumptions, to which a scope can go back.
 #[derive(Clone, Copy, Debug, PartialEq, Eq)]
@@ -21,16 +22,16 @@ pub struct ScopeMark {
 }
 
 /// Assumptions about one search: those that stood when the scope was made, and those that are made in it.
-pub struct Scope<'e, A: Algebra, N: HasNetlist> {
+pub struct Scope<'e, A: Algebra, S: Setting> {
     /// The engine. A scope within this one is made by `scope.engine.scope()`.
-    pub engine: &'e mut Engine<A, N>,
+    pub engine: &'e mut Engine<A, S>,
     origin: Origin,
     ghost within: { start_at origin ≤ length engine.now.assumptions },
 }
 
-impl<A: Algebra, N: HasNetlist> Engine<A, N> {
+impl<A: Algebra, S: Setting> Engine<A, S> {
     /// A scope within the innermost open one, with its assumptions.
-    pub fn scope(&mut self) -> Scope<'_, A, N>
+    pub fn scope(&mut self) -> Scope<'_, A, S>
         ensures same_engine { result.engine.ghost_name ≡ self.entry.ghost_name }
         ensures standing { result.engine.now ≡ self.old }
         ensures origin { result.origin ≡ Origin.Within (length self.old.assumptions) }
@@ -43,17 +44,18 @@ impl<A: Algebra, N: HasNetlist> Engine<A, N> {
     }
 }
 
-impl<'e, A: Algebra, N: HasNetlist> Scope<'e, A, N> {
+impl<'e, A: Algebra, S: Setting> Scope<'e, A, S> {
     ghost use Rattle.implication.specs.Scopes.{IsSameScope, standing};
 
-    /// Opens the outermost scope of an engine on which none is open: a transition is launched at a source, and conditions of a kind
-    /// of tests will stand at the pins entered. A conflict stands from here on if that alone leaves some line no state.
+    /// Opens the outermost scope of an engine on which none is open: a transition is launched at a source, the other sources start as
+    /// the rules leave them, and conditions of a kind of tests will stand at the pins entered. A conflict stands from here on if that
+    /// alone leaves some line no state.
     pub fn begin(
-        engine: &'e mut Engine<A, N>,
+        engine: &'e mut Engine<A, S>,
         source: LineId,
         direction: Direction,
         kind: Kind,
-    ) -> Scope<'e, A, N>
+    ) -> Scope<'e, A, S>
         requires idle { engine.old.beginning ≡ None }
         requires source { source.0 < source_count engine.old.net }
         ensures same_engine { result.engine.ghost_name ≡ engine.entry.ghost_name }
@@ -105,9 +107,11 @@ impl<'e, A: Algebra, N: HasNetlist> Scope<'e, A, N> {
         self.engine.assume(source, to)
     }
 
-    /// Goes on through a pin on the last line of the prefix. Counts one step, whatever it answers. The answers are as for `assume`.
+    /// Goes on through a pin on the last line of the prefix, whose gate's line is told. Counts one step, whatever it answers. The
+    /// answers are as for `assume`.
     pub fn enter<L>(&mut self, pin: PinRef, steps: &mut Steps<L>) -> Result<(), Conflict>
         requires pin { IsPinOn (standing self.old).net pin (end_of_scope (standing self.old)) }
+        requires told { IsTold (standing self.old) (gate_line (standing self.old).net pin.gate.0) }
         requires room { steps.old < u64.MAX }
         ensures scope { IsSameScope self.old self.new }
         ensures counted { steps.new ≡ steps.old + 1 }
@@ -125,13 +129,34 @@ impl<'e, A: Algebra, N: HasNetlist> Scope<'e, A, N> {
         self.engine.enter(pin)
     }
 
-    /// The set of a line in the hull under the assumptions. While a conflict stands nothing is said of it.
+    /// The set of a line in the hull under the assumptions; where the line is not told, a set that contains it. While a conflict
+    /// stands nothing is said of it.
     pub fn label(&self, line: LineId) -> StateSet
         requires { line.0 < line_count (standing self.now).net }
         ensures { (standing self.now).conflict ≡ None
-            → (labels : List StateSet) × IsLabels A.algebra (standing self.now) labels × (result ≡ label_at labels line.0) }
+            → (labels : List StateSet) × IsLabels A.algebra (standing self.now) labels
+            × TellsLabel A.algebra.count (standing self.now) labels line.0 result }
     {
-        self.engine.label(line)
+        self.labels()[line.0 as usize]
+    }
+
+    /// The sets of all lines, by line number: of each what `label` tells.
+    pub fn labels(&self) -> &[StateSet]
+        ensures one_each { length result.now ≡ line_count (standing self.now).net }
+        ensures within { AreWithin A.algebra.count result.now }
+        ensures told { (standing self.now).conflict ≡ None
+            → (labels : List StateSet) × IsLabels A.algebra (standing self.now) labels
+            × TellsLabels A.algebra.count (standing self.now) labels result.now }
+    {
+        self.engine.labels()
+    }
+
+    /// A hint for where to look: lines whose labels changed since the outermost scope began. Promised is only that each note is of a
+    /// line of the netlist.
+    pub fn changes(&self) -> &[Note<StateSet>]
+        ensures { All (λ note. note.index < line_count (standing self.now).net) result.now }
+    {
+        self.engine.changes()
     }
 
     /// The conflict that stands, if there is one: no state is left at its line. It may stand since the beginning.
@@ -147,10 +172,11 @@ impl<'e, A: Algebra, N: HasNetlist> Scope<'e, A, N> {
         }
     }
 
-    /// The last line of the prefix: the source, or the line of the gate of the pin entered last.
+    /// The last line of the prefix: the source, or the line of the gate of the pin entered last. It is told.
     pub fn last_line(&self) -> LineId
         ensures end { result.0 ≡ end_of_scope (standing self.now) }
         ensures in_circuit { IsSome (standing self.now).beginning → result.0 < line_count (standing self.now).net }
+        ensures told { IsSome (standing self.now).beginning → IsTold (standing self.now) result.0 }
     {
         self.engine.last_line()
     }
@@ -160,6 +186,13 @@ impl<'e, A: Algebra, N: HasNetlist> Scope<'e, A, N> {
         ensures { result.now ≡ (standing self.now).net }
     {
         self.engine.net()
+    }
+
+    /// The rules of the engine.
+    pub fn rules(&self) -> &Rules
+        ensures { result.now ≡ (standing self.now).rules }
+    {
+        self.engine.rules()
     }
 
     /// The present length of the list of assumptions.
@@ -201,7 +234,7 @@ impl<'e, A: Algebra, N: HasNetlist> Scope<'e, A, N> {
     }
 }
 
-impl<'e, A: Algebra, N: HasNetlist> Drop for Scope<'e, A, N> {
+impl<'e, A: Algebra, S: Setting> Drop for Scope<'e, A, S> {
     ghost use Rattle.implication.specs.Scopes.{standing};
 
     fn drop(self)

@@ -4,8 +4,8 @@ use Rattle.std.specs.Prelude.{IfOk, IfNone, count_by}
 use Rattle.std.proofs.lemmas.Bool.{cases_lt}
 use Rattle.std.proofs.lemmas.List.Sums.{count_by-le-length}
 use Rattle.pd_base.specs.Target.{Target}
-use Rattle.pd_base.specs.declared.rules.Rules.TheVariants.{One}
 use Rattle.pd_base.specs.declared.limits.TheConstants.{MOST_BUDGET}
+use Rattle.pd_base.specs.declared.rules.Rules.{Rules}
 use Rattle.netlist.specs.Circuit.{Circuit}
 use Rattle.state_laws.specs.declared.half.Half.{Half}
 use Rattle.runs.specs.declared.tree.Node.{Node}
@@ -21,7 +21,7 @@ use Rattle.justify.specs.declared.answer.Found.{Found}
 use Rattle.justify.specs.declared.answer.Found.TheVariants.{Test, Refuted, Spent}
 use Rattle.justify.specs.Answers.{IsFound, HasCounted, CountsConflicts, is_closed}
 use Rattle.justify.specs.Ends.{IsEnd}
-use Rattle.tree_growth.specs.Growths.{AreStacked, IsGrowing}
+use Rattle.justify.specs.Growths.{AreStacked, IsGrowing}
 
 -- what holds of no value
 pub at_none : {T : Type 0} {X : Type 0} (value : Option T) → value ≡ None → IfNone value X → X
@@ -37,34 +37,34 @@ counted_more n first middle last counted later = ⊎_elim
     (λ (more : 2 ^ 64 - 1 ≤ middle.closings + 1). inr (omega arith))
     (cases_lt (middle.closings + 1) (2 ^ 64 - 1))
 
-module _ (c : Circuit) (target : Target) (budget : ℕ) (list : List Assumption) (nodes : List Node) (n : ℕ)
-    (growing : IsGrowing c target budget list [] nodes n) where
-  no_place : Grows c One target nodes []
+module _ (c : Circuit) (rules : Rules) (target : Target) (budget : ℕ) (list : List Assumption) (nodes : List Node) (n : ℕ)
+    (growing : IsGrowing c rules target budget list [] nodes n) where
+  no_place : Grows c rules target nodes []
   no_place = by growing.above growing.stacked growing.grows
     where
-      by : (above : List (List Half)) → AreStacked c target list [] above → Grows c One target nodes above
-          → Grows c One target nodes []
+      by : (above : List (List Half)) → AreStacked c rules target list [] above → Grows c rules target nodes above
+          → Grows c rules target nodes []
       by [] stacked grows = grows
       by (halves ∷ above) stacked grows = absurd stacked
 
   pub end_is_tree : IsTree nodes
-  end_is_tree = grown_is_tree c One target nodes no_place
+  end_is_tree = grown_is_tree c rules target nodes no_place
 
   end_length : length nodes ≡ 2 * n + 1
-  end_length = let e = growing.counted in let f = grown_length c One target nodes no_place in omega (arith, e, f)
+  end_length = let e = growing.counted in let f = grown_length c rules target nodes no_place in omega (arith, e, f)
 
   pub end_few : budget ≤ MOST_BUDGET → length nodes < 2 ^ 31
   end_few most = let e = end_length in let f = growing.within in omega (arith, e, f, most)
 
-  pub end_found : (found : Found) → IsEnd nodes found → IsFound c target budget found
+  pub end_found : (found : Found) → IsEnd nodes found → IsFound c rules target budget found
   end_found (Test pair) is = absurd is
   end_found (Refuted tree) is =
-      let P : List Node → Type 0 = λ ns. IsRefutation c One target ns × (split_count ns ≤ budget) in
+      let P : List Node → Type 0 = λ ns. IsRefutation c rules target ns × (split_count ns ≤ budget) in
       let few : split_count nodes ≤ budget = let e = growing.counted in let f = growing.within in omega (arith, e, f) in
-      subst P (sym is.0) (grown_refutes c One target nodes no_place is.1, few)
+      subst P (sym is.0) (grown_refutes c rules target nodes no_place is.1, few)
   end_found (Spent tree) is =
-      let P : List Node → Type 0 = λ ns. IsSpent c One target budget ns in
-      subst P (sym is.0) (grown_spent c One target nodes no_place budget (growing.counted ∙ growing.waits is.1) is.1)
+      let P : List Node → Type 0 = λ ns. IsSpent c rules target budget ns in
+      subst P (sym is.0) (grown_spent c rules target nodes no_place budget (growing.counted ∙ growing.waits is.1) is.1)
 
   pub end_counts : (found : Found) → IsEnd nodes found → (old new : Standing) → HasCounted (length nodes) old new
       → CountsConflicts budget found old new

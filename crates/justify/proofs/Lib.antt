@@ -1,2 +1,25 @@
+mod Finding
+mod Spreading
+mod Numbers
+mod ConeLists
+mod Joining
+mod ConePass
+mod StepStates
+mod Judged
+mod Taking
+mod Behind
+pub mod Cones
+mod LeastState
+mod Assuming
+mod Resting
+mod Nodes
+mod SameNodes
+mod Trials
+mod TriedSources
+mod SplitChoices
+mod HalfStates
+mod Placing
+mod Visits
+mod GoingOn
 mod Starting
 mod Ended

@@ -12,7 +12,7 @@ use Rattle.state_sets.specs.declared.state.State.{State}
 use Rattle.state_sets.specs.States.{all_states}
 use Rattle.state_sets.specs.FourStates.{four_states}
 use Rattle.state_laws.specs.Nodes.{IsCut}
-use Rattle.hulls.proofs.Sets.{all_have}
+use Rattle.narrowing.proofs.Sets.{all_have}
 use Rattle.tree_laws.proofs.Growing.{grows_from_root}
 use Rattle.implication.specs.declared.assumption.Beginning.{Beginning}
 use Rattle.implication.specs.declared.assumption.Assumption.{Assumption}
@@ -22,16 +22,17 @@ use Rattle.implication.specs.Assumptions.{entered_pins, IsLetBy}
 use Rattle.implication.specs.Clients.{IsRestored}
 use Rattle.implication.specs.Moves.{back_at}
 use Rattle.implication.specs.Standing.{Standing, IsOpenIn, end_of_scope, end_from}
-use Rattle.pair_trial.specs.declared.desk.Desk.{Desk}
-use Rattle.pair_trial.specs.Desks.{IsDesk, IsDeskFor}
-use Rattle.pair_trial.specs.Nodes.{beginning_of}
-use Rattle.pair_trial.proofs.Resting.{open_under}
-use Rattle.tree_growth.specs.declared.growing.Growth.{Growth}
-use Rattle.tree_growth.specs.declared.growing.Place.{Place}
-use Rattle.tree_growth.specs.Growths.{AllowAsNodeWith, IsPlace, IsGrowing}
-use Rattle.tree_growth.specs.UnderWay.{IsUnderWay}
+use Rattle.justify.specs.Nodes.{beginning_of}
+use Rattle.justify.proofs.Resting.{open_under}
+use Rattle.justify.specs.declared.desk.Desk.{Desk}
+use Rattle.justify.specs.declared.growing.Growth.{Growth}
+use Rattle.justify.specs.declared.growing.Place.{Place}
+use Rattle.justify.specs.Growths.{AllowAsNodeWith, IsPlace, IsGrowing, root_place}
+use Rattle.justify.specs.UnderWay.{IsUnderWay, IsSameSetting}
+use Rattle.justify.specs.Desks.{IsDeskFor, IsDesk}
+use Rattle.justify.specs.KeptCones.{KeptCone, IsConeFor, IsConeAt}
 use Rattle.justify.specs.Scoping.{IsStart}
-use Rattle.tree_growth.proofs.Visits.{free_at, growing_same}
+use Rattle.justify.proofs.Visits.{free_at, growing_same}
 
 -- the pins of steps that were entered are the steps
 entered_all : (steps : List PinRef) → entered_pins (map (λ step. Entered step) steps) ≡ steps
@@ -80,21 +81,34 @@ module _ (target : Target) (standing : Standing) (start : IsStart target standin
         let within = is.source in
         subst P (sym start_end) (ends_within standing.net target.path.source.0 target.path.steps (omega (arith, within)) is.connects)
 
-    pub start_desk : (desk : Desk) → IsDeskFor standing.net (end_of_scope standing) desk → IsDesk standing.net target.path desk
-    start_desk desk made =
-        let P : ℕ → Type 0 = λ line. IsDeskFor standing.net line desk in
-        let there = subst P start_end made in
-        record { cone = record { one_each = there.one_each; exactly = there.exactly }; places = there.places; lines = there.lines }
+    -- a desk whose cone was set to the scope's last line is one for the path
+    pub start_desk : (desk : Desk) (cone : KeptCone) (n : Circuit) (line : ℕ) → n ≡ standing.net → line ≡ end_of_scope standing
+        → IsDeskFor standing.net desk → IsConeFor n cone → IsConeAt n line cone → IsDesk standing.net target.path (record desk { cone = cone })
+    start_desk desk cone n line same_net same_line made cone_made at =
+        let P : Circuit → Type 0 = λ c. IsConeFor c cone in
+        let Q : Circuit → Type 0 = λ c. IsConeAt c line cone in
+        let R : ℕ → Type 0 = λ l. IsConeAt standing.net l cone in
+        record {
+          made = record {
+            cone = subst P same_net cone_made;
+            states = made.states;
+            four = made.four;
+            blame = made.blame;
+            wanted = made.wanted;
+            justifier = made.justifier;
+          };
+          cone = subst R (same_line ∙ start_end) (subst Q same_net at);
+        }
 
     -- the tree grows from its root
     module _ (left_open : IsOpenIn four_states standing) (budget : ℕ) (mark : ScopeMark) (at : mark.at ≡ length standing.assumptions) where
       abbrev root : Place
-      root = record { mark = mark; source = target.path.source; set = all_states 4 }
+      root = root_place mark target.path.source
 
       abbrev begun : Beginning
       begun = beginning_of target
 
-      root_node : AllowAsNodeWith standing.net target standing.assumptions target.path.source (all_states 4) []
+      root_node : AllowAsNodeWith standing.net standing.rules target standing.assumptions target.path.source (all_states 4) []
       root_node line state in_circuit in_range = (
         λ both. record { start = both.0.start; cut = All-nil (IsCut four_states line state) },
         λ be. (
@@ -107,8 +121,8 @@ module _ (target : Target) (standing : Standing) (start : IsStart target standin
         ),
       )
 
-      root_place : IsPlace standing.net target standing.assumptions root []
-      root_place = record {
+      is_root : IsPlace standing.net standing.rules target standing.assumptions root []
+      is_root = record {
         longer = omega (arith, start_long);
         entered = start_entered;
         left_open = open_under four_states standing begun start.beginning left_open;
@@ -117,35 +131,37 @@ module _ (target : Target) (standing : Standing) (start : IsStart target standin
         node = root_node;
       }
 
-      root_growing : IsGrowing standing.net target budget standing.assumptions (root ∷ []) [] 0
+      root_growing : IsGrowing standing.net standing.rules target budget standing.assumptions (root ∷ []) [] 0
       root_growing = record {
         above = [] ∷ [];
         stacked = (
           omega (arith, at),
-          (let P : List Assumption → Type 0 = λ list. IsPlace standing.net target list root [] in
-              subst P (sym (take_all mark.at standing.assumptions (omega (arith, at)))) root_place),
+          (let P : List Assumption → Type 0 = λ list. IsPlace standing.net standing.rules target list root [] in
+              subst P (sym (take_all mark.at standing.assumptions (omega (arith, at)))) is_root),
           tt,
         );
-        grows = grows_from_root standing.net One target;
+        grows = grows_from_root standing.net standing.rules target;
         counted = refl;
         within = omega arith;
         waits = λ has. let none = has.1 in absurd (omega (arith, none));
       }
 
       pub start_growing : (growth : Growth) → growth.nodes.items ≡ [] → growth.places.items ≡ root ∷ [] → growth.splits ≡ 0
-          → IsGrowing standing.net target budget standing.assumptions (reverse growth.places.items) growth.nodes.items growth.splits
+          → IsGrowing standing.net standing.rules target budget standing.assumptions (reverse growth.places.items) growth.nodes.items growth.splits
       start_growing growth nodes places splits =
-          growing_same standing.net standing.net target budget standing.assumptions standing.assumptions (root ∷ [])
-          (reverse growth.places.items) [] growth.nodes.items 0 growth.splits refl refl (sym (ap reverse places)) (sym nodes) (sym splits) root_growing
+          growing_same standing.net standing.net standing.rules standing.rules target budget standing.assumptions standing.assumptions (root ∷ [])
+          (reverse growth.places.items) [] growth.nodes.items 0 growth.splits refl refl refl (sym (ap reverse places)) (sym nodes) (sym splits) root_growing
 
 -- where the search ends, going back restores what stood
 pub ended_restored : (target : Target) (first middle last : Standing) → IsStart target first
-    → IsUnderWay target middle → middle.net ≡ first.net → first.closings ≤ middle.closings
+    → IsUnderWay target middle → IsSameSetting first middle → first.closings ≤ middle.closings
     → (mark : ℕ) → mark ≡ length first.assumptions → last ≡ back_at middle mark → IsRestored first last
-ended_restored target first middle last start way net later mark at back =
+ended_restored target first middle last start way setting later mark at back =
     let P : Standing → Type 0 = λ s. IsRestored first s in
     subst P (sym back) (record {
-      net = net;
+      net = setting.net;
+      rules = setting.rules;
+      ends = setting.ends;
       beginning = way.beginning ∙ sym start.beginning;
       assumptions = ap (λ n. take n middle.assumptions) (at ∙ start_length target first start) ∙ way.front ∙ sym start.entered;
       conflict = free_at middle mark way.free ∙ sym start.free;

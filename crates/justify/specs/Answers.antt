@@ -1,7 +1,7 @@
 -- What a search may answer (this project's own).
 use Rattle.std.specs.Prelude.{⊤, ℕ, ◌+◌, ◌*◌, ◌-◌, ◌^◌, ◌≤◌, ◌⊎◌, Bool, true, false, count_by}
 use Rattle.pd_base.specs.Target.{Target}
-use Rattle.pd_base.specs.declared.rules.Rules.TheVariants.{One}
+use Rattle.pd_base.specs.declared.rules.Rules.{Rules}
 use Rattle.netlist.specs.Circuit.{Circuit}
 use Rattle.runs.specs.declared.tree.Node.{Node}
 use Rattle.runs.specs.declared.tree.Node.TheVariants.{Closed, Waiting, Value, Steadiness}
@@ -9,15 +9,15 @@ use Rattle.runs.specs.Trees.{split_count}
 use Rattle.tree_laws.specs.Refutations.{IsRefutation}
 use Rattle.tree_laws.specs.Spent.{IsSpent}
 use Rattle.implication.specs.Standing.{Standing}
-use Rattle.pair_trial.specs.Tests.{IsFitTest}
+use Rattle.justify.specs.Tests.{IsFitTest}
 use Rattle.justify.specs.declared.answer.Found.{Found}
 use Rattle.justify.specs.declared.answer.Found.TheVariants.{Test, Refuted, Spent}
 
 -- a test; a refutation of the conditions for the whole path, with at most so many splits; or a tree that spent exactly this budget
-abbrev pub IsFound : Circuit → Target → ℕ → Found → Type 0
-IsFound c target budget (Test pair) = IsFitTest c target pair
-IsFound c target budget (Refuted tree) = IsRefutation c One target tree × (split_count tree ≤ budget)
-IsFound c target budget (Spent tree) = IsSpent c One target budget tree
+abbrev pub IsFound : Circuit → Rules → Target → ℕ → Found → Type 0
+IsFound c rules target budget (Test pair) = IsFitTest c target pair
+IsFound c rules target budget (Refuted tree) = IsRefutation c rules target tree × (split_count tree ≤ budget)
+IsFound c rules target budget (Spent tree) = IsSpent c rules target budget tree
 
 -- so many conflicts more were counted, or the count is at its end, which it does not pass
 abbrev pub HasCounted : ℕ → Standing → Standing → Type 0

@@ -2,8 +2,8 @@
 use Rattle.std.specs.Prelude.{◌≡◌, Some, None}
 use Rattle.pd_base.specs.Target.{Target}
 use Rattle.implication.specs.Standing.{Standing}
-use Rattle.pair_trial.specs.Nodes.{beginning_of}
-use Rattle.tree_growth.specs.UnderWay.{entered_steps}
+use Rattle.justify.specs.Nodes.{beginning_of}
+use Rattle.justify.specs.UnderWay.{entered_steps}
 
 -- the path's pins are entered, nothing else is assumed, and no conflict stands
 pub record IsStart (target : Target) (standing : Standing) : Type 0 where

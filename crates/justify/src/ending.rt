@@ -7,8 +7,8 @@ ghost use Rattle.runs.specs.Trees.{IsTree};
 ghost use Rattle.justify.specs.Ends.{IsEnd};
 
 use crate::Found;
+use crate::growing::Growth;
 use runs::{Node, Tree};
-use tree_growth::Growth;
 
 // The answer of a search whose tree is whole.
 pub(crate) fn end(growth: Growth) -> Found

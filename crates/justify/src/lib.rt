@@ -1,12 +1,41 @@
-//! A search for a test of one path: it tries pairs of vectors, splits the cases where they fail, and ends with a test, with a tree that
-//! refutes, or with its budget spent. Stands on implication, pair_trial, which tries the pairs, tree_growth, which splits the cases,
-//! and tree_laws.
-//! The layer above uses `search` and `Found`, and cites their contract.
+//! A search for a test of one path: at each node of a tree of cases a pair of vectors is read off the labels of a scope and tried; where
+//! it is no test, the cases are split. The search ends with a test, with a tree that refutes, or with its budget spent. Stands on
+//! implication, and on tree_laws.
+//! The layer above uses `search`, `search_at`, `Desk` and `Found`, and cites their contracts.
 #![tactic(auto)]
 
 mod answer;
+mod back_search;
+mod blaming;
+mod changes;
+mod choosing;
+mod cone;
+mod culprits;
+mod decisions;
+mod desk;
+mod draft;
 mod ending;
+mod entering;
+mod found_lines;
+mod frontier;
+mod gate_states;
+mod growing;
+mod halves;
+mod judging;
+mod justifier;
+mod least_states;
+mod open_lines;
+mod path_states;
+mod picking;
+mod read_states;
+mod region;
 mod searching;
+mod task;
+mod trial;
+mod trying;
+mod visiting;
+mod wishes;
 
 pub use answer::Found;
-pub use searching::search;
+pub use desk::Desk;
+pub use searching::{search, search_at};

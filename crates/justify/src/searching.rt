@@ -1,5 +1,5 @@
 // The search itself: depth first, one node after another in preorder, each with its assumptions on the scope.
-ghost use Rattle.std.specs.Prelude.{◌≡◌, ◌≤◌, [], IfOk, IfSome, IfNone, length, reverse};
+ghost use Rattle.std.specs.Prelude.{◌≡◌, ◌≤◌, [], IfOk, IfSome, length, reverse};
 ghost use Rattle.pd_base.specs.Target.{target_of};
 ghost use Rattle.pd_base.specs.declared.limits.TheConstants.{MOST_BUDGET};
 ghost use Rattle.netlist.specs.Paths.{IsPrefix};
@@ -8,21 +8,26 @@ ghost use Rattle.implication.specs.Standing.{IsOpenIn};
 ghost use Rattle.implication.specs.Moves.{start_at};
 ghost use Rattle.implication.specs.Scopes.{IsSameScope, standing};
 ghost use Rattle.implication.specs.Clients.{IsRestored};
-ghost use Rattle.pair_trial.specs.Desks.{IsDesk};
-ghost use Rattle.pair_trial.specs.Tests.{IsFitTest};
-ghost use Rattle.tree_growth.specs.UnderWay.{IsUnderWay};
-ghost use Rattle.tree_growth.specs.Growths.{IsGrowing};
-ghost use Rattle.justify.specs.Answers.{IsFound, CountsConflicts, HasCounted};
+ghost use Rattle.justify.specs.Answers.{IsFound, CountsConflicts};
+ghost use Rattle.justify.specs.Desks.{IsDeskFor, IsDesk};
 ghost use Rattle.justify.specs.Scoping.{IsStart};
+ghost use Rattle.justify.specs.Searches.{IsSearching, SearchGoesOn, IsGrowthOf};
+ghost use Rattle.justify.specs.Tasks.{task_target};
+ghost use Rattle.justify.specs.Tests.{IsFitTest};
 
 use crate::Found;
+use crate::desk::Desk;
 use crate::ending::end;
-use implication::{HasNetlist, Scope};
-use pair_trial::{Desk, make_desk};
+use crate::growing::Growth;
+use crate::justifier::Effort;
+use crate::read_states::{take_least, take_preferred};
+use crate::task::Task;
+use crate::trying::judge_states;
+use crate::visiting::visit;
+use implication::{Scope, Setting};
 use pd_base::{Direction, Kind, OutOfMemory, Pair, Path};
 use state_sets::FourStates;
 use std::alloc::Global;
-use tree_growth::{Growth, visit};
 
 /// Searches for a test of a kind for a path and a transition, on a scope that has begun with these and has entered the path's pins.
 /// The answer is a test, a tree of cases that refutes the conditions with at most so many splits as the budget, or a tree that spent
@@ -30,9 +35,11 @@ use tree_growth::{Growth, visit};
 ///
 /// The scope is afterwards as before, also where memory runs out, which is the one error; but conflicts are counted, as long as the
 /// count is not at its end: at least one for each closed leaf of a refutation, and one for each node of a spent tree.
-pub fn search<N: HasNetlist>(
+///
+/// Many searches on one netlist share a desk: `search_at`.
+pub fn search<S: Setting>(
     alloc: Global,
-    scope: &mut Scope<FourStates, N>,
+    scope: &mut Scope<FourStates, S>,
     path: &Path,
     dir: Direction,
     kind: Kind,
@@ -42,7 +49,33 @@ pub fn search<N: HasNetlist>(
     requires start { IsStart (target_of path.now dir kind) (standing scope.old) }
     requires some_budget { 1 ≤ budget }
     requires budget { budget ≤ MOST_BUDGET }
-    ensures found { IfOk result (IsFound (standing scope.old).net (target_of path.now dir kind) budget) }
+    ensures found { IfOk result (IsFound (standing scope.old).net (standing scope.old).rules (target_of path.now dir kind) budget) }
+    ensures counted { IfOk result (λ found. CountsConflicts budget found (standing scope.old) (standing scope.new)) }
+    ensures scope { IsSameScope scope.old scope.new }
+    ensures restored { IsRestored (standing scope.old) (standing scope.new) }
+{
+    let mut desk = Desk::new(alloc, scope.net())?;
+    search_at(alloc, scope, &mut desk, path, dir, kind, budget)
+}
+
+/// The same at a desk that was made for the scope's netlist: but for the vectors of a test it costs nothing that is as great as the
+/// circuit. The desk serves afterwards as before, whatever the answer.
+pub fn search_at<S: Setting>(
+    alloc: Global,
+    scope: &mut Scope<FourStates, S>,
+    desk: &mut Desk,
+    path: &Path,
+    dir: Direction,
+    kind: Kind,
+    budget: u32,
+) -> Result<Found, OutOfMemory>
+    requires prefix { IsPrefix (standing scope.old).net path.now }
+    requires start { IsStart (target_of path.now dir kind) (standing scope.old) }
+    requires some_budget { 1 ≤ budget }
+    requires budget { budget ≤ MOST_BUDGET }
+    requires desk { IsDeskFor (standing scope.old).net desk.old }
+    ensures desk { IsDeskFor (standing scope.old).net desk.new }
+    ensures found { IfOk result (IsFound (standing scope.old).net (standing scope.old).rules (target_of path.now dir kind) budget) }
     ensures counted { IfOk result (λ found. CountsConflicts budget found (standing scope.old) (standing scope.new)) }
     ensures scope { IsSameScope scope.old scope.new }
     ensures restored { IsRestored (standing scope.old) (standing scope.new) }
@@ -51,80 +84,126 @@ pub fn search<N: HasNetlist>(
     if scope.conflict().is_some() {
         unreachable!()
     }
+    let task = Task {
+        path,
+        dir,
+        kind,
+        budget,
+    };
     let mark = scope.mark();
-    let found = find(alloc, scope, path, dir, kind, budget);
+    let found = find(alloc, scope, &task, desk);
     scope.back_to(mark);
     found
 }
 
 // The same, and leaves what was assumed.
-fn find<N: HasNetlist>(
+fn find<S: Setting>(
     alloc: Global,
-    scope: &mut Scope<FourStates, N>,
-    path: &Path,
-    dir: Direction,
-    kind: Kind,
-    budget: u32,
+    scope: &mut Scope<FourStates, S>,
+    task: &Task,
+    desk: &mut Desk,
 ) -> Result<Found, OutOfMemory>
-    requires prefix { IsPrefix (standing scope.old).net path.now }
-    requires start { IsStart (target_of path.now dir kind) (standing scope.old) }
+    requires prefix { IsPrefix (standing scope.old).net task.now.path.now }
+    requires start { IsStart (task_target task.now) (standing scope.old) }
     requires left_open { IsOpenIn four_states (standing scope.old) }
-    requires budget { budget ≤ MOST_BUDGET }
-    ensures found { IfOk result (IsFound (standing scope.old).net (target_of path.now dir kind) budget) }
-    ensures counted { IfOk result (λ found. CountsConflicts budget found (standing scope.old) (standing scope.new)) }
+    requires budget { task.now.budget ≤ MOST_BUDGET }
+    requires desk { IsDeskFor (standing scope.old).net desk.old }
     ensures scope { IsSameScope scope.old scope.new }
-    ensures under_way { IsUnderWay (target_of path.now dir kind) (standing scope.new) }
-    ensures net { (standing scope.new).net ≡ (standing scope.old).net }
-    ensures later { (standing scope.old).closings ≤ (standing scope.new).closings }
+    ensures goes_on { SearchGoesOn task.now (standing scope.old) (standing scope.new) desk.new }
+    ensures found { IfOk result (IsFound (standing scope.old).net (standing scope.old).rules (task_target task.now) task.now.budget) }
+    ensures counted { IfOk result (λ found. CountsConflicts task.now.budget found (standing scope.old) (standing scope.new)) }
 {
-    let mut desk = make_desk(alloc, scope)?;
-    let mut growth = Growth::new(alloc, scope.mark(), path.source())?;
-    let test = grow(
-        alloc,
-        scope,
-        path,
-        dir,
-        kind,
-        budget,
-        &mut desk,
-        &mut growth,
-    )?;
+    desk.cone.set_end(scope.net(), scope.last_line());
+    let proposed = propose(alloc, scope, task, desk)?;
+    if let Some(pair) = proposed {
+        desk.keep();
+        return Ok(Found::Test(pair));
+    }
+    let mut growth = Growth::new(alloc, scope.mark(), task.path.source())?;
+    let test = grow(alloc, scope, task, desk, &mut growth)?;
     match test {
-        Some(pair) => Ok(Found::Test(pair)),
+        Some(pair) => {
+            desk.keep();
+            Ok(Found::Test(pair))
+        }
         None => Ok(end(growth)),
     }
 }
 
-// Visits place after place until a test is found, or no place is left.
-fn grow<N: HasNetlist>(
+// A test that is found without a split: from the last test's states, as far as the labels let them, or by decisions on any lines.
+fn propose<S: Setting>(
     alloc: Global,
-    scope: &mut Scope<FourStates, N>,
-    path: &Path,
-    dir: Direction,
-    kind: Kind,
-    budget: u32,
+    scope: &Scope<FourStates, S>,
+    task: &Task,
+    desk: &mut Desk,
+) -> Result<Option<Pair>, OutOfMemory>
+    requires prefix { IsPrefix (standing scope.now).net task.now.path.now }
+    requires desk { IsDesk (standing scope.now).net task.now.path.now desk.old }
+    ensures desk { IsDesk (standing scope.now).net task.now.path.now desk.new }
+    ensures test { IfOk result (λ found. IfSome found (IsFitTest (standing scope.now).net (task_target task.now))) }
+{
+    take_preferred(
+        desk.cone.sources(),
+        scope.labels(),
+        desk.wanted.as_slice(),
+        desk.states.as_mut_slice(),
+    );
+    let test = judge_states(alloc, scope, task, desk)?;
+    if test.is_some() {
+        return Ok(test);
+    }
+    justify_lines(alloc, scope, task, desk, Effort::Little)
+}
+
+// A test with what decisions on lines of the cone come to, if they justify all of its lines.
+fn justify_lines<S: Setting>(
+    alloc: Global,
+    scope: &Scope<FourStates, S>,
+    task: &Task,
+    desk: &mut Desk,
+    effort: Effort,
+) -> Result<Option<Pair>, OutOfMemory>
+    requires prefix { IsPrefix (standing scope.now).net task.now.path.now }
+    requires desk { IsDesk (standing scope.now).net task.now.path.now desk.old }
+    ensures desk { IsDesk (standing scope.now).net task.now.path.now desk.new }
+    ensures test { IfOk result (λ found. IfSome found (IsFitTest (standing scope.now).net (task_target task.now))) }
+{
+    let is_justified = desk.justifier.propose(
+        scope.net(),
+        &desk.cone,
+        scope.labels(),
+        task.path,
+        task.kind,
+        effort,
+    )?;
+    if !is_justified {
+        return Ok(None);
+    }
+    take_least(
+        desk.cone.sources(),
+        desk.justifier.labels(),
+        desk.states.as_mut_slice(),
+    );
+    judge_states(alloc, scope, task, desk)
+}
+
+// Visits place after place until a test is found, or no place is left.
+fn grow<S: Setting>(
+    alloc: Global,
+    scope: &mut Scope<FourStates, S>,
+    task: &Task,
     desk: &mut Desk,
     growth: &mut Growth,
 ) -> Result<Option<Pair>, OutOfMemory>
-    requires prefix { IsPrefix (standing scope.old).net path.now }
-    requires under_way { IsUnderWay (target_of path.now dir kind) (standing scope.old) }
-    requires origin { start_at scope.old.origin ≤ length path.now.steps }
-    requires desk { IsDesk (standing scope.old).net path.now desk.old }
-    requires growing { IsGrowing (standing scope.old).net (target_of path.now dir kind) budget (standing scope.old).assumptions
-        (reverse growth.old.places.items) growth.old.nodes.items growth.old.splits }
+    requires searching { IsSearching task.now (standing scope.old) desk.old (reverse growth.old.places.items) growth.old }
+    requires origin { start_at scope.old.origin ≤ length task.now.path.now.steps }
     requires nodes { growth.old.nodes.items ≡ [] }
     ensures scope { IsSameScope scope.old scope.new }
-    ensures under_way { IsUnderWay (target_of path.now dir kind) (standing scope.new) }
-    ensures net { (standing scope.new).net ≡ (standing scope.old).net }
-    ensures later { (standing scope.old).closings ≤ (standing scope.new).closings }
-    ensures test { IfOk result (λ test. IfSome test (IsFitTest (standing scope.old).net (target_of path.now dir kind))) }
-    ensures counted { IfOk result (λ test. IfNone test
-        (HasCounted (length growth.new.nodes.items) (standing scope.old) (standing scope.new))) }
-    ensures grown { IfOk result (λ test. IfNone test (IsGrowing (standing scope.new).net (target_of path.now dir kind) budget
-        (standing scope.new).assumptions [] growth.new.nodes.items growth.new.splits)) }
+    ensures goes_on { SearchGoesOn task.now (standing scope.old) (standing scope.new) desk.new }
+    ensures answer { IfOk result (IsGrowthOf task.now (standing scope.old) (standing scope.new) growth.new) }
 {
     while let Some(place) = growth.places.pop() {
-        let test = visit(alloc, scope, path, dir, kind, budget, desk, growth, place)?;
+        let test = visit(alloc, scope, task, desk, growth, place)?;
         if test.is_some() {
             return Ok(test);
         }

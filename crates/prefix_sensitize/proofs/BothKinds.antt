@@ -13,6 +13,7 @@ use Rattle.pd_base.specs.declared.fault.Kind.{Kind}
 use Rattle.pd_base.specs.declared.fault.Kind.TheVariants.{Robust, Nonrobust}
 use Rattle.pd_base.specs.Route.{Route}
 use Rattle.pd_base.specs.Target.{target_of}
+use Rattle.pd_base.specs.declared.rules.Rules.{Rules}
 use Rattle.netlist.specs.Circuit.{Circuit}
 use Rattle.verdict_runs.specs.declared.findings.Outcome.{Outcome}
 use Rattle.verdict_runs.specs.declared.findings.Outcome.TheVariants.{Unsearched, Tested, Refuted, Spent}
@@ -30,10 +31,10 @@ use Rattle.prefix_sensitize.proofs.Walking.{known_outcome}
 abbrev IsFor : Kind → Direction → Refutation → Type 0
 IsFor kind direction refutation = (refutation.kind ≡ kind) × (refutation.dir ≡ direction)
 
-module _ (c : Circuit) (budget : ℕ) (routes : List Route) (kind : Kind) (direction : Direction) (old more new : List Refutation)
+module _ (c : Circuit) (rules : Rules) (budget : ℕ) (routes : List Route) (kind : Kind) (direction : Direction) (old more new : List Refutation)
     (grown : new ≡ old ++ more) (others : All (λ refutation. ¬ IsFor kind direction refutation) more) where
-  none_grown : (route : Route) → NoneRefutes (searches_with budget routes old) (target_of route direction kind)
-      → NoneRefutes (searches_with budget routes new) (target_of route direction kind)
+  none_grown : (route : Route) → NoneRefutes (searches_with rules budget routes old) (target_of route direction kind)
+      → NoneRefutes (searches_with rules budget routes new) (target_of route direction kind)
   none_grown route none index refutation here refutes =
       let P : List Refutation → Type 0 = λ list. slice_get list index ≡ Some refutation in
       ⊎_elim (λ (before : slice_get old index ≡ Some refutation). none index refutation before refutes)
@@ -41,8 +42,8 @@ module _ (c : Circuit) (budget : ℕ) (routes : List Route) (kind : Kind) (direc
       (in_either (λ (r : Refutation). ¬ IsFor kind direction r) old more index refutation others (subst P grown here))
 
   -- an outcome stays as it is promised while refutations for others are added
-  pub outcome_grown : (route : Route) (outcome : Outcome) → IsOutcome c (searches_with budget routes old) (target_of route direction kind) outcome
-      → IsOutcome c (searches_with budget routes new) (target_of route direction kind) outcome
+  pub outcome_grown : (route : Route) (outcome : Outcome) → IsOutcome c (searches_with rules budget routes old) (target_of route direction kind) outcome
+      → IsOutcome c (searches_with rules budget routes new) (target_of route direction kind) outcome
   outcome_grown route Unsearched is = is
   outcome_grown route (Tested pair) is = is
   outcome_grown route (Refuted index) is = record {
@@ -70,22 +71,22 @@ untested_at : (outcomes : List Outcome) (at : ℕ) → at < length outcomes → 
 untested_at outcomes at within not_test =
     get_or-map (λ (outcome : Outcome). not (is_test outcome)) outcomes at Unsearched false within ∙ ap not not_test
 
-module _ (c : Circuit) (budget : ℕ) (routes : List Route) (direction : Direction) where
+module _ (c : Circuit) (rules : Rules) (budget : ℕ) (routes : List Route) (direction : Direction) where
   abbrev aim_at : Kind → Aim
   aim_at kind = record { kind = kind; dir = direction; budget = budget }
 
   -- nothing was searched for the robust tests
-  pub robust_new : (refutations : List Refutation) → AreNewFor c budget routes direction refutations
-      → AreNew c routes (aim_at Robust) refutations
+  pub robust_new : (refutations : List Refutation) → AreNewFor c rules budget routes direction refutations
+      → AreNew c rules routes (aim_at Robust) refutations
   robust_new refutations new = record {
     are_refutations = new.are_refutations;
     none = λ place d within aimed. new.none place d within aimed.of_direction;
   }
 
   -- nor, after that, for the nonrobust ones
-  pub nonrobust_new : (old new : List Refutation) → AreNewFor c budget routes direction old
-      → AreRefutations c (searches_with budget routes new) → IsGrown (aim_at Robust) old new
-      → AreNew c routes (aim_at Nonrobust) new
+  pub nonrobust_new : (old new : List Refutation) → AreNewFor c rules budget routes direction old
+      → AreRefutations c (searches_with rules budget routes new) → IsGrown (aim_at Robust) old new
+      → AreNew c rules routes (aim_at Nonrobust) new
   nonrobust_new old new before are grown =
       let Other : Refutation → Type 0 = λ r. ¬ IsAimedAt (aim_at Nonrobust) r in
       record {
@@ -113,9 +114,9 @@ module _ (c : Circuit) (budget : ℕ) (routes : List Route) (direction : Directi
   -- the two walks give the outcomes for the transition
   pub searched_for : (all needed : List Bool) (robust nonrobust : List Outcome) (outcomes : List Outcomes) (second third : List Refutation)
       → all ≡ replicate (length routes) true → needed ≡ map (λ outcome. not (is_test outcome)) robust
-      → ArePassOutcomes c routes all (aim_at Robust) robust second → ArePassOutcomes c routes needed (aim_at Nonrobust) nonrobust third
+      → ArePassOutcomes c rules routes all (aim_at Robust) robust second → ArePassOutcomes c rules routes needed (aim_at Nonrobust) nonrobust third
       → IsGrown (aim_at Nonrobust) second third → outcomes ≡ both_kinds robust nonrobust
-      → AreSearchedFor c budget routes direction outcomes third
+      → AreSearchedFor c rules budget routes direction outcomes third
   searched_for all needed robust nonrobust outcomes second third alls needs one two grown is = record {
     one_each =
         let zipped = length-zip robust nonrobust in
@@ -137,15 +138,15 @@ module _ (c : Circuit) (budget : ℕ) (routes : List Route) (direction : Directi
     where
       robust_at : (at : ℕ) (route : Route) (of_route : Outcomes) → slice_get routes at ≡ Some route → at < length routes
           → of_route.robust ≡ outcome_at robust at
-          → IsOutcome c (searches_with budget routes third) (target_of route direction Robust) of_route.robust
+          → IsOutcome c (searches_with rules budget routes third) (target_of route direction Robust) of_route.robust
       robust_at at route of_route here inside its =
-          let P : Outcome → Type 0 = λ o. IsOutcome c (searches_with budget routes third) (target_of route direction Robust) o in
+          let P : Outcome → Type 0 = λ o. IsOutcome c (searches_with rules budget routes third) (target_of route direction Robust) o in
           let need : slice_index_or all at false ≡ true =
           ap (λ (list : List Bool). slice_index_or list at false) alls ∙ get_or-replicate (length routes) at true false inside in
           subst P (sym its)
-          (outcome_grown c budget routes Robust direction second grown.more third grown.grown
+          (outcome_grown c rules budget routes Robust direction second grown.more third grown.grown
           (λ place d within aimed. differ (sym aimed.0 ∙ (grown.aimed place d within).of_kind)) route (outcome_at robust at)
-          (known_outcome c (searches_with budget routes second) (target_of route direction Robust) (outcome_at robust at)
+          (known_outcome c (searches_with rules budget routes second) (target_of route direction Robust) (outcome_at robust at)
           (one.standing.stands at route here) (one.known at inside need)))
         where
           differ : Robust ≡ Nonrobust → ⊥
@@ -154,20 +155,20 @@ module _ (c : Circuit) (budget : ℕ) (routes : List Route) (direction : Directi
       nonrobust_at : (at : ℕ) (route : Route) (of_route : Outcomes) → slice_get routes at ≡ Some route → at < length routes
           → of_route.robust ≡ outcome_at robust at → of_route.nonrobust ≡ outcome_at nonrobust at
           → is_test of_route.robust ≡ false
-          → IsOutcome c (searches_with budget routes third) (target_of route direction Nonrobust) of_route.nonrobust
+          → IsOutcome c (searches_with rules budget routes third) (target_of route direction Nonrobust) of_route.nonrobust
       nonrobust_at at route of_route here inside its other not_test =
-          let P : Outcome → Type 0 = λ o. IsOutcome c (searches_with budget routes third) (target_of route direction Nonrobust) o in
+          let P : Outcome → Type 0 = λ o. IsOutcome c (searches_with rules budget routes third) (target_of route direction Nonrobust) o in
           let one_each = one.standing.one_each in
           let need : slice_index_or needed at false ≡ true =
           ap (λ (list : List Bool). slice_index_or list at false) needs
           ∙ untested_at robust at (omega (arith, inside, one_each)) (sym (ap is_test its) ∙ not_test) in
           subst P (sym other)
-          (known_outcome c (searches_with budget routes third) (target_of route direction Nonrobust) (outcome_at nonrobust at)
+          (known_outcome c (searches_with rules budget routes third) (target_of route direction Nonrobust) (outcome_at nonrobust at)
           (two.standing.stands at route here) (two.known at inside need))
 
 -- before all searches there is nothing
-pub none_new : (c : Circuit) (budget : ℕ) (routes : List Route) → AreNewFor c budget routes Rise []
-none_new c budget routes = record {
+pub none_new : (c : Circuit) (rules : Rules) (budget : ℕ) (routes : List Route) → AreNewFor c rules budget routes Rise []
+none_new c rules budget routes = record {
   are_refutations = record {
     found = λ index refutation here. absurd (none-some refutation here);
     apart =
@@ -177,10 +178,10 @@ none_new c budget routes = record {
   none = All-nil (λ (refutation : Refutation). ¬ (refutation.dir ≡ Rise));
 }
 
-module _ (c : Circuit) (budget : ℕ) (routes : List Route) where
+module _ (c : Circuit) (rules : Rules) (budget : ℕ) (routes : List Route) where
   -- after the searches for the rising transition there is nothing for the falling one
-  pub fall_new : (old new : List Refutation) → old ≡ [] → AreRefutations c (searches_with budget routes new)
-      → IsGrownFor Rise old new → AreNewFor c budget routes Fall new
+  pub fall_new : (old new : List Refutation) → old ≡ [] → AreRefutations c (searches_with rules budget routes new)
+      → IsGrownFor Rise old new → AreNewFor c rules budget routes Fall new
   fall_new old new none are grown = record {
     are_refutations = are;
     none =
@@ -194,7 +195,7 @@ module _ (c : Circuit) (budget : ℕ) (routes : List Route) where
 
   -- and what they found stays
   pub rises_stay : (outcomes : List Outcomes) (second third : List Refutation) → IsGrownFor Fall second third
-      → AreSearchedFor c budget routes Rise outcomes second → AreSearchedFor c budget routes Rise outcomes third
+      → AreSearchedFor c rules budget routes Rise outcomes second → AreSearchedFor c rules budget routes Rise outcomes third
   rises_stay outcomes second third grown searched = record {
     one_each = searched.one_each;
     each =
@@ -202,11 +203,11 @@ module _ (c : Circuit) (budget : ℕ) (routes : List Route) where
         (let are = searched.each at route of_route here there in
         record {
           robust =
-              outcome_grown c budget routes Robust Rise second grown.more third grown.grown (not_rise Robust) route of_route.robust
+              outcome_grown c rules budget routes Robust Rise second grown.more third grown.grown (not_rise Robust) route of_route.robust
               are.robust;
           nonrobust =
               λ not_test.
-              outcome_grown c budget routes Nonrobust Rise second grown.more third grown.grown (not_rise Nonrobust) route
+              outcome_grown c rules budget routes Nonrobust Rise second grown.more third grown.grown (not_rise Nonrobust) route
               of_route.nonrobust (are.nonrobust not_test);
         });
   }

@@ -5,6 +5,7 @@ use Rattle.std.proofs.lemmas.Option.{none-some, same_Some}
 use Rattle.pd_base.specs.declared.limits.TheConstants.{MOST_PATHS}
 use Rattle.pd_base.specs.declared.fault.Direction.TheVariants.{Rise, Fall}
 use Rattle.pd_base.specs.Route.{Route}
+use Rattle.pd_base.specs.declared.rules.Rules.TheVariants.{One}
 use Rattle.netlist.specs.Circuit.{Circuit}
 use Rattle.netlist.specs.Lawful.{IsCircuit}
 use Rattle.netlist.specs.Order.{AreFirst, IsFull}
@@ -60,15 +61,15 @@ ways_at (route ∷ routes) (rise ∷ rises) (fall ∷ falls) (suc at) searched h
 
 pub are_findings : (c : Circuit) (delays : Delays) (findings : Findings) (routes : List Route) (rises falls : List Outcomes)
     → AreFirst c delays findings.count routes → AreSearchablePaths c routes → findings.paths.items ≡ both_ways routes rises falls
-    → AreSearchedFor c findings.budget routes Rise rises findings.refutations.items
-    → AreSearchedFor c findings.budget routes Fall falls findings.refutations.items
-    → AreRefutations c (searches_with findings.budget routes findings.refutations.items) → AreFindings c delays findings
+    → AreSearchedFor c One findings.budget routes Rise rises findings.refutations.items
+    → AreSearchedFor c One findings.budget routes Fall falls findings.refutations.items
+    → AreRefutations c (searches_with One findings.budget routes findings.refutations.items) → AreFindings c delays findings
 are_findings c delays findings routes rises falls first listed is rise fall are =
     let same : map (λ (searched : SearchedPath). searched.path) findings.paths.items ≡ routes =
     ap (map (λ (searched : SearchedPath). searched.path)) is ∙ paths_of routes rises falls rise.one_each fall.one_each in
-    let P : List Route → Type 0 = λ list. AreSearches c (searches_with findings.budget list findings.refutations.items) in
+    let P : List Route → Type 0 = λ list. AreSearches c (searches_with One findings.budget list findings.refutations.items) in
     let Q : List Route → Type 0 =
-    λ list. All (IsSearched c (searches_with findings.budget list findings.refutations.items)) findings.paths.items in
+    λ list. All (IsSearched c (searches_with One findings.budget list findings.refutations.items)) findings.paths.items in
     record {
       first = subst (AreFirst c delays findings.count) (sym same) first;
       searches =
@@ -76,7 +77,7 @@ are_findings c delays findings routes rises falls first listed is rise fall are 
           (record { are_paths = listed.are_paths; few = listed.few; found = are.found; apart = are.apart });
       searched =
           subst Q (sym same)
-          (all_from (IsSearched c (searches_with findings.budget routes findings.refutations.items)) findings.paths.items
+          (all_from (IsSearched c (searches_with One findings.budget routes findings.refutations.items)) findings.paths.items
           (λ at searched here.
           let R : List SearchedPath → Type 0 = λ list. slice_get list at ≡ Some searched in
           let its = ways_at routes rises falls at searched (subst R is here) in

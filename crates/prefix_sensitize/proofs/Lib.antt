@@ -2,3 +2,4 @@ pub mod Ordering
 pub mod Walking
 pub mod BothKinds
 pub mod Findings
+mod EndLines

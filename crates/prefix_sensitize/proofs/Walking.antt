@@ -8,6 +8,7 @@ use Rattle.std.proofs.lemmas.Option.{slice_get-get_or, slice_get_within}
 use Rattle.std.proofs.Math.Seq.{drop-cons}
 use Rattle.pd_base.specs.Target.{Target}
 use Rattle.pd_base.specs.Route.{Route}
+use Rattle.pd_base.specs.declared.rules.Rules.{Rules}
 use Rattle.netlist.specs.Circuit.{Circuit}
 use Rattle.verdict_runs.specs.declared.findings.Outcome.{Outcome}
 use Rattle.verdict_runs.specs.declared.findings.Outcome.TheVariants.{Unsearched, Tested, Refuted, Spent}
@@ -47,10 +48,10 @@ known_outcome c searches target (Tested pair) stands known = stands
 known_outcome c searches target (Refuted index) stands known = stands
 known_outcome c searches target (Spent tree) stands known = stands
 
-module _ (c : Circuit) (routes : List Route) (aim : Aim) where
+module _ (c : Circuit) (rules : Rules) (routes : List Route) (aim : Aim) where
   -- paths with more steps may come
   walked_longer : (longest longer : ℕ) (outcomes : List Outcome) (refutations : List Refutation) → longest ≤ longer
-      → IsWalked c routes aim longest outcomes refutations → IsWalked c routes aim longer outcomes refutations
+      → IsWalked c rules routes aim longest outcomes refutations → IsWalked c rules routes aim longer outcomes refutations
   walked_longer longest longer outcomes refutations more walked = record {
     are_refutations = walked.are_refutations;
     are_short =
@@ -65,14 +66,14 @@ module _ (c : Circuit) (routes : List Route) (aim : Aim) where
   unsearched_at (suc count) zero = refl
   unsearched_at (suc count) (suc at) = unsearched_at count at
 
-  none_yet : (refutations : List Refutation) → AreNew c routes aim refutations → (route : Route)
-      → NoneRefutes (searches_with aim.budget routes refutations) (target_for aim route)
+  none_yet : (refutations : List Refutation) → AreNew c rules routes aim refutations → (route : Route)
+      → NoneRefutes (searches_with rules aim.budget routes refutations) (target_for aim route)
   none_yet refutations new route index refutation here refutes =
       all_at (λ (r : Refutation). ¬ IsAimedAt aim r) refutations index refutation new.none here
       (record { of_kind = refutes.of_kind; of_direction = refutes.of_direction })
 
-  walked_not : (refutations : List Refutation) → AreNew c routes aim refutations
-      → IsWalked c routes aim 0 (replicate (length routes) Unsearched) refutations
+  walked_not : (refutations : List Refutation) → AreNew c rules routes aim refutations
+      → IsWalked c rules routes aim 0 (replicate (length routes) Unsearched) refutations
   walked_not refutations new = record {
     are_refutations = new.are_refutations;
     are_short =
@@ -83,25 +84,25 @@ module _ (c : Circuit) (routes : List Route) (aim : Aim) where
       stands =
           λ at route here.
           (let P : Outcome → Type 0 =
-          λ o. Stands c (searches_with aim.budget routes refutations) (target_for aim route) o in
+          λ o. Stands c (searches_with rules aim.budget routes refutations) (target_for aim route) o in
           subst P (sym (unsearched_at (length routes) at)) (none_yet refutations new route));
     };
   }
 
   module _ (needed : List Bool) (order : List PathEntry) (is_order : IsOrder routes order) where
-    pub halfway_none : (outcomes : List Outcome) (refutations : List Refutation) → AreNew c routes aim refutations
-        → outcomes ≡ replicate (length routes) Unsearched → IsHalfway c routes needed aim order 0 outcomes refutations
+    pub halfway_none : (outcomes : List Outcome) (refutations : List Refutation) → AreNew c rules routes aim refutations
+        → outcomes ≡ replicate (length routes) Unsearched → IsHalfway c rules routes needed aim order 0 outcomes refutations
     halfway_none outcomes refutations new none = record {
       longest = 0;
       walked =
-          let P : List Outcome → Type 0 = λ o. IsWalked c routes aim 0 o refutations in
+          let P : List Outcome → Type 0 = λ o. IsWalked c rules routes aim 0 o refutations in
           subst P (sym none) (walked_not refutations new);
       rising = is_order.rising;
       known = λ place entry before here need. absurd (omega arith);
     }
 
     module _ (index : ℕ) (entry : PathEntry) (outcomes : List Outcome) (refutations : List Refutation)
-        (half : IsHalfway c routes needed aim order index outcomes refutations) (within : index < length order)
+        (half : IsHalfway c rules routes needed aim order index outcomes refutations) (within : index < length order)
         (is : entry ≡ get_or order index entry) where
       -- the entry at this index, and those behind it
       rest : drop index order ≡ entry ∷ drop (index + 1) order
@@ -116,13 +117,13 @@ module _ (c : Circuit) (routes : List Route) (aim : Aim) where
       pub entry_of : IsPathEntry routes entry
       entry_of = all_at (IsPathEntry routes) order index entry is_order.of_paths here
 
-      pub walked_up : IsWalked c routes aim entry.steps outcomes refutations
+      pub walked_up : IsWalked c rules routes aim entry.steps outcomes refutations
       walked_up = walked_longer half.longest entry.steps outcomes refutations its_rising.0 half.walked
 
       pub halfway_more : (outcomes' : List Outcome) (refutations' : List Refutation)
-          → IsWalked c routes aim entry.steps outcomes' refutations'
+          → IsWalked c rules routes aim entry.steps outcomes' refutations'
           → (slice_index_or needed entry.at false ≡ true → is_known (outcome_at outcomes' entry.at) ≡ true)
-          → KeepKnown outcomes outcomes' → IsHalfway c routes needed aim order (index + 1) outcomes' refutations'
+          → KeepKnown outcomes outcomes' → IsHalfway c rules routes needed aim order (index + 1) outcomes' refutations'
       halfway_more outcomes' refutations' walked own kept = record {
         longest = entry.steps;
         walked = walked;
@@ -147,8 +148,8 @@ module _ (c : Circuit) (routes : List Route) (aim : Aim) where
 
     -- where all entries are done, all paths are
     pub passed : (outcomes : List Outcome) (refutations : List Refutation)
-        → IsHalfway c routes needed aim order (length order) outcomes refutations
-        → ArePassOutcomes c routes needed aim outcomes refutations
+        → IsHalfway c rules routes needed aim order (length order) outcomes refutations
+        → ArePassOutcomes c rules routes needed aim outcomes refutations
     passed outcomes refutations half = record {
       are_refutations = half.walked.are_refutations;
       standing = half.walked.standing;

@@ -3,6 +3,7 @@ use Rattle.std.specs.Prelude.{◌≡◌, ℕ, List, ◌++◌, length, map, slice
 use Rattle.std.specs.List.{zip}
 use Rattle.pd_base.specs.Route.{Route}
 use Rattle.pd_base.specs.declared.fault.Direction.{Direction}
+use Rattle.pd_base.specs.declared.rules.Rules.{Rules}
 use Rattle.netlist.specs.Circuit.{Circuit}
 use Rattle.verdict_runs.specs.declared.findings.Outcome.{Outcome}
 use Rattle.verdict_runs.specs.declared.findings.Outcomes.{Outcomes}
@@ -23,11 +24,11 @@ both_ways routes rises falls =
     (zip routes (zip rises falls))
 
 -- the outcomes are those of the paths for this transition
-pub record AreSearchedFor (c : Circuit) (budget : ℕ) (routes : List Route) (direction : Direction) (outcomes : List Outcomes)
+pub record AreSearchedFor (c : Circuit) (rules : Rules) (budget : ℕ) (routes : List Route) (direction : Direction) (outcomes : List Outcomes)
     (refutations : List Refutation) : Type 0 where
   pub one_each : length outcomes ≡ length routes
   pub each : (at : ℕ) (route : Route) (of_route : Outcomes) → slice_get routes at ≡ Some route
-      → slice_get outcomes at ≡ Some of_route → AreOutcomes c (searches_with budget routes refutations) direction route of_route
+      → slice_get outcomes at ≡ Some of_route → AreOutcomes c (searches_with rules budget routes refutations) direction route of_route
 
 -- there may be more refutations, all for this transition
 pub record IsGrownFor (direction : Direction) (old new : List Refutation) : Type 0 where
@@ -36,6 +37,6 @@ pub record IsGrownFor (direction : Direction) (old new : List Refutation) : Type
   pub aimed : All (λ refutation. refutation.dir ≡ direction) more
 
 -- no search was run for this transition
-pub record AreNewFor (c : Circuit) (budget : ℕ) (routes : List Route) (direction : Direction) (refutations : List Refutation) : Type 0 where
-  pub are_refutations : AreRefutations c (searches_with budget routes refutations)
+pub record AreNewFor (c : Circuit) (rules : Rules) (budget : ℕ) (routes : List Route) (direction : Direction) (refutations : List Refutation) : Type 0 where
+  pub are_refutations : AreRefutations c (searches_with rules budget routes refutations)
   pub none : All (λ refutation. ¬ (refutation.dir ≡ direction)) refutations

@@ -1,3 +1,4 @@
 pub mod Order
 pub mod Passes
+pub mod Ends
 pub mod Gathering

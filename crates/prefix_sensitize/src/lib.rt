@@ -4,6 +4,7 @@
 //! The layer above uses `sensitize_all` and cites its contract.
 #![tactic(auto)]
 
+mod ends;
 mod gathering;
 mod order;
 mod passes;

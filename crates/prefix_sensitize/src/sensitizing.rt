@@ -7,19 +7,22 @@ ghost use Rattle.delay_annotation.specs.Annotation.{delays_of, Fits};
 ghost use Rattle.netlist.specs.Order.{AreFirst};
 ghost use Rattle.good_runs.specs.GoodRun.{IsGoodRun};
 ghost use Rattle.runs.specs.Lawful.{IsLawfulRun};
+ghost use Rattle.justify.specs.Desks.{IsDeskFor};
 ghost use Rattle.fault_search.specs.Entering.{IsIdleAgain};
 ghost use Rattle.prefix_sensitize.specs.Order.{IsOrder};
-ghost use Rattle.fault_search.specs.Walks.{AreSearchablePaths, IsBudget, AreRefutations, searches_with};
+ghost use Rattle.fault_search.specs.Walks.{AreSearchablePaths, AreToldPaths, IsBudget, AreRefutations, searches_with};
 ghost use Rattle.prefix_sensitize.specs.Gathering.{AreSearchedFor, AreNewFor, IsGrownFor};
 
+use crate::ends::ends_of;
 use crate::gathering::{pair_kinds, pair_ways, untested};
 use crate::order::order_of;
 use crate::passes::pass;
 use delay_annotation::Delays;
 use fault_search::{Aim, PathEntry};
-use implication::{Engine, HasNetlist};
+use implication::{Engine, RuledNetlist, Setting};
+use justify::Desk;
 use netlist::Netlist;
-use pd_base::{Direction, Kind, OutOfMemory, Path, Steps};
+use pd_base::{Direction, Kind, OutOfMemory, Path, Rules, Steps};
 use runs::Run;
 use state_sets::FourStates;
 use std::alloc::Global;
@@ -48,8 +51,19 @@ pub fn sensitize_all<L>(
 {
     // a netlist has few levels, and so its paths have few steps
     let _ = net.sources();
-    let mut engine = Engine::new(alloc, net)?;
-    let searched = search_all(alloc, &mut engine, paths.as_slice(), budget, steps)?;
+    let ends = ends_of(alloc, net, paths.as_slice())?;
+    let rules = Rules::One;
+    let setting = RuledNetlist { net, rules: &rules };
+    let mut engine = Engine::within(alloc, setting, ends.as_slice())?;
+    let mut desk = Desk::new(alloc, net)?;
+    let searched = search_all(
+        alloc,
+        &mut engine,
+        &mut desk,
+        paths.as_slice(),
+        budget,
+        steps,
+    )?;
     let paths = pair_ways(alloc, paths, searched.rises, searched.falls)?;
     let findings = Findings {
         count,
@@ -69,20 +83,23 @@ struct Searched {
 }
 
 // Searches for all tests of these paths.
-fn search_all<N: HasNetlist, L>(
+fn search_all<S: Setting, L>(
     alloc: Global,
-    engine: &mut Engine<FourStates, N>,
+    engine: &mut Engine<FourStates, S>,
+    desk: &mut Desk,
     paths: &[Path],
     budget: u32,
     steps: &mut Steps<L>,
 ) -> Result<Searched, OutOfMemory>
     requires idle { engine.old.beginning ≡ None }
     requires listed { AreSearchablePaths engine.old.net paths.now }
+    requires told { AreToldPaths engine.old paths.now }
+    requires desk { IsDeskFor engine.old.net desk.old }
     requires budget { IsBudget budget }
     requires steps { steps.old ≤ 2 ^ 63 }
-    ensures rises { IfOk result (λ s. AreSearchedFor engine.old.net budget paths.now Direction.Rise s.rises.items s.refutations.items) }
-    ensures falls { IfOk result (λ s. AreSearchedFor engine.old.net budget paths.now Direction.Fall s.falls.items s.refutations.items) }
-    ensures refutations { IfOk result (λ s. AreRefutations engine.old.net (searches_with budget paths.now s.refutations.items)) }
+    ensures rises { IfOk result (λ s. AreSearchedFor engine.old.net engine.old.rules budget paths.now Direction.Rise s.rises.items s.refutations.items) }
+    ensures falls { IfOk result (λ s. AreSearchedFor engine.old.net engine.old.rules budget paths.now Direction.Fall s.falls.items s.refutations.items) }
+    ensures refutations { IfOk result (λ s. AreRefutations engine.old.net (searches_with engine.old.rules budget paths.now s.refutations.items)) }
 {
     let order = order_of(alloc, paths)?;
     let order = order.as_slice();
@@ -90,6 +107,7 @@ fn search_all<N: HasNetlist, L>(
     let rises = search_for(
         alloc,
         engine,
+        desk,
         paths,
         order,
         Direction::Rise,
@@ -100,6 +118,7 @@ fn search_all<N: HasNetlist, L>(
     let falls = search_for(
         alloc,
         engine,
+        desk,
         paths,
         order,
         Direction::Fall,
@@ -115,9 +134,10 @@ fn search_all<N: HasNetlist, L>(
 }
 
 // Searches for the robust tests of a transition, and then for nonrobust ones where there is none.
-fn search_for<N: HasNetlist, L>(
+fn search_for<S: Setting, L>(
     alloc: Global,
-    engine: &mut Engine<FourStates, N>,
+    engine: &mut Engine<FourStates, S>,
+    desk: &mut Desk,
     paths: &[Path],
     order: &[PathEntry],
     dir: Direction,
@@ -127,13 +147,16 @@ fn search_for<N: HasNetlist, L>(
 ) -> Result<Vec<Outcomes>, OutOfMemory>
     requires idle { engine.old.beginning ≡ None }
     requires listed { AreSearchablePaths engine.old.net paths.now }
+    requires told { AreToldPaths engine.old paths.now }
+    requires desk { IsDeskFor engine.old.net desk.old }
     requires order { IsOrder paths.now order.now }
     requires budget { IsBudget budget }
-    requires fresh { AreNewFor engine.old.net budget paths.now dir refutations.old.items }
+    requires fresh { AreNewFor engine.old.net engine.old.rules budget paths.now dir refutations.old.items }
     requires room { steps.old + 2 * (length order.now * MOST_LEVELS) < 2 ^ 64 }
+    ensures desk { OnOk result (IsDeskFor engine.old.net desk.new) }
     ensures rest { OnOk result (IsIdleAgain engine.old engine.new) }
-    ensures searched { IfOk result (λ outcomes. AreSearchedFor engine.old.net budget paths.now dir outcomes.items refutations.new.items) }
-    ensures refutations { OnOk result (AreRefutations engine.old.net (searches_with budget paths.now refutations.new.items)) }
+    ensures searched { IfOk result (λ outcomes. AreSearchedFor engine.old.net engine.old.rules budget paths.now dir outcomes.items refutations.new.items) }
+    ensures refutations { OnOk result (AreRefutations engine.old.net (searches_with engine.old.rules budget paths.now refutations.new.items)) }
     ensures grown { OnOk result (IsGrownFor dir refutations.old.items refutations.new.items) }
     ensures steps { OnOk result (steps.new ≤ steps.old + 2 * (length order.now * MOST_LEVELS)) }
 {
@@ -146,6 +169,7 @@ fn search_for<N: HasNetlist, L>(
     let robust = pass(
         alloc,
         engine,
+        desk,
         paths,
         order,
         all.as_slice(),
@@ -162,6 +186,7 @@ fn search_for<N: HasNetlist, L>(
     let nonrobust = pass(
         alloc,
         engine,
+        desk,
         paths,
         order,
         some.as_slice(),

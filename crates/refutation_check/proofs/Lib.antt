@@ -4,3 +4,4 @@ pub mod Walking
 pub mod Told
 pub mod Checking
 pub mod Ends
+pub mod Trying

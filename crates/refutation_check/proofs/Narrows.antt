@@ -1,5 +1,5 @@
 -- Labels that narrow to the hull at a node: at the root, below a half more, nearer to the hull, and what is told of their hull.
-use Rattle.std.proofs.Common.{◌≡◌, ◌≢◌, ℕ, ◌<◌, ◌^◌, ◌↔◌, ◌++◌, ⊎_elim, List, [], ◌∷◌, length, set, Option, Some, None, refl, sym, ◌∙◌, subst, subst₂, arith}
+use Rattle.std.proofs.Common.{◌≡◌, ◌≢◌, ℕ, ◌<◌, ◌^◌, ◌↔◌, ◌++◌, ⊎_elim, Bool, true, List, [], ◌∷◌, length, set, Option, Some, None, refl, sym, ◌∙◌, subst, subst₂, arith}
 use Rattle.std.specs.Prelude.{bit_and, IfSome, IfNone, is_some}
 use Rattle.std.proofs.lemmas.List.{length-set, get_or-set_same, get_or-set_other}
 use Rattle.std.proofs.lemmas.List.Elements.{All-set, All-nil}
@@ -10,7 +10,7 @@ use Rattle.pd_base.specs.declared.rules.Rules.{Rules}
 use Rattle.pd_base.specs.declared.ids.LineId.{LineId}
 use Rattle.pd_base.specs.declared.ids.PinRef.{PinRef}
 use Rattle.pd_base.specs.declared.fault.Kind.{Kind}
-use Rattle.netlist.specs.Circuit.{Circuit, line_count}
+use Rattle.netlist.specs.Circuit.{Circuit, gate_count, line_count}
 use Rattle.state_sets.specs.declared.state.State.{State}
 use Rattle.state_sets.specs.declared.state.StateSet.{StateSet}
 use Rattle.state_sets.specs.States.{Has, no_states}
@@ -19,13 +19,16 @@ use Rattle.state_sets.specs.FourStates.{four_states}
 use Rattle.state_sets.specs.Starts.{MayStart, IsInHalf}
 use Rattle.state_sets.specs.Hulls.{IsNarrowingOf, IsHull, IsEmptied, IsRestAmong, HasAt, HasNoEmptySet}
 use Rattle.state_laws.specs.declared.half.Half.{Half}
-use Rattle.state_laws.specs.Nodes.{MayBe, IsCut}
+use Rattle.state_laws.specs.Cones.{IsNarrowingIn}
+use Rattle.state_laws.specs.Nodes.{MayBe, IsCut, ClosesAtNode}
 use Rattle.state_laws.specs.Sweeps.{KeepsRests}
-use Rattle.state_laws.proofs.Sets.{has_in_circuit}
+use Rattle.state_laws.proofs.Sets.{has_in_circuit, no_state_at, none_has}
+use Rattle.state_laws.proofs.Cones.{hull_of_all, emptied_inside}
+use Rattle.state_laws.proofs.Hulls.{Widens, closes_if_wider}
 use Rattle.state_laws.proofs.Restart.{may_be_below, may_be_above}
-use Rattle.hulls.proofs.Sets.{has_both, both_have}
+use Rattle.narrowing.proofs.Sets.{has_both, both_have}
 use Rattle.refutation_check.specs.Walks.{NarrowsToHull}
-use Rattle.refutation_check.specs.Judged.{IsNode, IsJudged}
+use Rattle.refutation_check.specs.Judged.{IsJudged}
 
 -- these are the states of a half
 abbrev pub IsStatesOf : Half → StateSet → Type 0
@@ -128,13 +131,53 @@ module _ (c : Circuit) (rules : Rules) (target : Target) where
           among = λ line state has. (parts other among line state has).0;
         }
 
+  -- where labels that narrow to the hull of a node have no state at a line, the node closes
+  pub emptied_closes : (halves : List Half) (labels : List StateSet) → NarrowsToHull c rules target halves labels → (line : ℕ)
+      → line < line_count c → label_at labels line ≡ no_states → ClosesAtNode c rules target halves
+  emptied_closes halves labels narrows line within none = record {
+    line = line;
+    in_circuit = within;
+    emptied = λ other among. no_state_at 4 c other among.labelling line
+        (λ state has. none_has 4 state (subst (λ s. Has 4 s state) none (narrows.keeps other among line state has)));
+  }
+
+  -- and where a node closes, so do those below its halves
+  pub closes_below : (halves : List Half) (half : Half) → ClosesAtNode c rules target halves → ClosesAtNode c rules target (halves ++ half ∷ [])
+  closes_below halves half =
+      closes_if_wider four_states c (IsNarrowingOf c target.kind target.path.steps) (IsNarrowingOf c target.kind target.path.steps)
+      (At (halves ++ half ∷ [])) (At halves) widens
+    where
+      widens : Widens four_states c (IsNarrowingOf c target.kind target.path.steps) (At (halves ++ half ∷ []))
+          (IsNarrowingOf c target.kind target.path.steps) (At halves)
+      widens other among = record {
+        labelling = among.labelling;
+        rest = among.rest;
+        among = λ line state has. (may_be_above four_states c rules target halves half line state
+            (has_in_circuit 4 c other among.labelling line state has) has.in_range (among.among line state has)).0;
+      }
+
+-- what settling with all gates inside tells, told of all narrowings
+module _ (c : Circuit) (inside : ℕ → Bool) (all : (gate : ℕ) → gate < gate_count c → inside gate ≡ true) (kind : Kind) (steps : List PinRef)
+    (labels new : List StateSet) where
+  pub hull_of_inside : (answer : Option LineId) → IfNone answer (IsHull four_states c (IsNarrowingIn c inside kind steps) (HasAt 4 labels) new)
+      → IfNone answer (IsHull four_states c (IsNarrowingOf c kind steps) (HasAt 4 labels) new)
+  hull_of_inside None is = hull_of_all four_states c inside all kind steps (HasAt 4 labels) new is
+  hull_of_inside (Some line) is = tt
+
+  pub emptied_of_inside : (answer : Option LineId)
+      → IfSome answer (λ line. (line.0 < line_count c) × IsEmptied four_states c (IsNarrowingIn c inside kind steps) (HasAt 4 labels) line.0)
+      → IfSome answer (λ line. (line.0 < line_count c) × IsEmptied four_states c (IsNarrowingOf c kind steps) (HasAt 4 labels) line.0)
+  emptied_of_inside None is = tt
+  emptied_of_inside (Some line) is = (is.0, emptied_inside four_states c inside kind steps (HasAt 4 labels) line.0 is.1)
+
 -- labels that narrow to the hull of a node, narrowed to their hull, tell of the node
 module _ (c : Circuit) (kind : Kind) (steps : List PinRef) (labels new : List StateSet) (answer : Option LineId)
     (hull : IfNone answer (IsHull four_states c (IsNarrowingOf c kind steps) (HasAt 4 labels) new))
     (some : IfNone answer (HasNoEmptySet c new))
     (emptied : IfSome answer (λ line. (line.0 < line_count c)
     × IsEmptied four_states c (IsNarrowingOf c kind steps) (HasAt 4 labels) line.0))
-    (rules : Rules) (target : Target) (halves : List Half) (node : IsNode c rules target kind steps halves labels) where
+    (rules : Rules) (target : Target) (halves : List Half) (kind_is : target.kind ≡ kind) (steps_are : target.path.steps ≡ steps)
+    (narrows : NarrowsToHull c rules target halves labels) where
   pub node_tells : IsJudged c rules target halves new (is_some answer)
   node_tells = by answer hull some emptied
     where
@@ -144,7 +187,7 @@ module _ (c : Circuit) (kind : Kind) (steps : List PinRef) (labels new : List St
       here other among = record {
         labelling = among.labelling;
         rest = among.rest;
-        among = node.narrows.keeps other among;
+        among = narrows.keeps other among;
       }
 
       by : (o : Option LineId) → IfNone o (IsHull four_states c (IsNarrowingOf c kind steps) (HasAt 4 labels) new)
@@ -154,12 +197,12 @@ module _ (c : Circuit) (kind : Kind) (steps : List PinRef) (labels new : List St
       by None is none_empty never =
           let is_hull : IsHull four_states c (IsNarrowingOf c target.kind target.path.steps) (HasAt 4 labels) new =
           subst₂ (λ (k : Kind) (s : List PinRef). IsHull four_states c (IsNarrowingOf c k s) (HasAt 4 labels) new)
-          (sym node.kind_is) (sym node.steps_are) is in (
+          (sym kind_is) (sym steps_are) is in (
             record {
               rest = record {
                 labelling = is_hull.rest.labelling;
                 rest = is_hull.rest.rest;
-                among = λ line state has. node.narrows.among line state (is_hull.rest.among line state has);
+                among = λ line state has. narrows.among line state (is_hull.rest.among line state has);
               };
               greatest = λ other among. is_hull.greatest other (here other among);
             },
@@ -168,5 +211,5 @@ module _ (c : Circuit) (kind : Kind) (steps : List PinRef) (labels new : List St
       by (Some line) never never_empty is =
           let empty : IsEmptied four_states c (IsNarrowingOf c target.kind target.path.steps) (HasAt 4 labels) line.0 =
           subst₂ (λ (k : Kind) (s : List PinRef). IsEmptied four_states c (IsNarrowingOf c k s) (HasAt 4 labels) line.0)
-          (sym node.kind_is) (sym node.steps_are) is.1 in
+          (sym kind_is) (sym steps_are) is.1 in
           record { line = line.0; in_circuit = is.0; emptied = λ other among. empty other (here other among) }

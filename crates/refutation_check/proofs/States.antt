@@ -10,7 +10,7 @@ use Rattle.state_sets.specs.States.{Has, no_states}
 use Rattle.state_sets.specs.FourStates.{four_states}
 use Rattle.state_sets.specs.Starts.{IsInHalf, IsLeast}
 use Rattle.state_sets.specs.FourLaws.{state_of}
-use Rattle.hulls.proofs.Sets.{has_both, both_have, has_some, some_not_none, cut_within, only_has, only_this, only_within, ne_tells, ne_told}
+use Rattle.narrowing.proofs.Sets.{has_both, both_have, has_some, some_not_none, cut_within, only_has, only_this, only_within, ne_tells, ne_told}
 use Rattle.tree_laws.specs.Spent.{HasInHalf}
 
 -- a number that is tested not to be 0 is greater
@@ -60,6 +60,9 @@ module _ (set : StateSet) (small : set.0 < 2 ^ 4) (some : 0 < set.0) where
 
   pub least_within : (only : StateSet) → only.0 ≡ 2 ^ trailing_zeros w8 set.0 → only.0 < 2 ^ 4
   least_within only is = only_within 4 only (state_of (trailing_zeros w8 set.0)) is lowest_few
+
+  pub least_some : (only : StateSet) → only.0 ≡ 2 ^ trailing_zeros w8 set.0 → only ≢ no_states
+  least_some only is = some_not_none 4 only (state_of (trailing_zeros w8 set.0)) (only_has 4 only (state_of (trailing_zeros w8 set.0)) is lowest_few)
 
 -- a set has some state of a half if what it shares with the half is not empty
 pub shares_half : (set states cut : StateSet) (steadiness second : Bool) (r : Bool)

@@ -19,15 +19,16 @@ use Rattle.state_laws.specs.Nodes.{MayBe, IsNodeHull, ClosesAtNode}
 use Rattle.state_laws.proofs.Sets.{has_in_circuit}
 use Rattle.state_laws.proofs.Hulls.{Widens, hull_once, closes_if_wider, not_closing}
 use Rattle.tree_laws.specs.Spent.{MayTry, IsOpen, IsDue, HasInHalf}
-use Rattle.refutation_check.specs.TrialLabels.{IsTried, IsTriedSource}
+use Rattle.refutation_check.specs.Trials.{IsTried, IsTriedSource}
+use Rattle.refutation_check.specs.Walks.{OnWalk}
 use Rattle.tree_laws.specs.Faults.{IsRightInSpent}
 use Rattle.runs.specs.declared.tree.Node.{Node}
-use Rattle.refutation_check.specs.Judged.{IsNode, IsJudged, IsConeOf, ClosesAtTrial}
+use Rattle.refutation_check.specs.Judged.{IsNode, IsJudged, MarksSupport, ClosesAtTrial}
 
 module _ (c : Circuit) (rules : Rules) (target : Target) (halves : List Half) where
   -- the labels of the trial of a node with this hull
   module _ (hull : List StateSet) (is_hull : IsNodeHull c rules target halves hull) (cone : List Bool)
-      (is_cone : IsConeOf c target.path cone) (sources : ℕ) (sources_are : sources ≡ source_count c)
+      (is_cone : MarksSupport c target.path cone) (sources : ℕ) (sources_are : sources ≡ source_count c)
       (labels : List StateSet) (is : IsLabelling 4 c labels)
       (are : (line : ℕ) → line < length labels → IsTried sources cone line (label_at hull line) (label_at labels line)) where
     -- a line is that of a source in the cone, or not
@@ -174,7 +175,7 @@ module _ (c : Circuit) (rules : Rules) (target : Target) (halves : List Half) wh
   closing_not_due steadiness source false labels is_true closes = absurd (false≢true is_true)
 
   -- a split that is not on a source of the cone is not due
-  pub outside_not_due : (steadiness : Bool) (source : ℕ) (cone : List Bool) → IsConeOf c target.path cone
+  pub outside_not_due : (steadiness : Bool) (source : ℕ) (cone : List Bool) → MarksSupport c target.path cone
       → (source < source_count c → IsTrue (slice_index_or cone source false) → ⊥)
       → IsTrue false ↔ IsDue c rules target halves steadiness source
   outside_not_due steadiness source cone is_cone outside = (
@@ -200,7 +201,7 @@ module _ (c : Circuit) (rules : Rules) (target : Target) (halves : List Half) wh
   )
 
   -- with both it is due, on a source of the cone and at a node that does not close, just where the trial closes
-  pub tried_due : (steadiness : Bool) (source : ℕ) (cone : List Bool) → IsConeOf c target.path cone → source < source_count c
+  pub tried_due : (steadiness : Bool) (source : ℕ) (cone : List Bool) → MarksSupport c target.path cone → source < source_count c
       → IsTrue (slice_index_or cone source false) → (set : StateSet) (closes both tried : Bool) (hull : List StateSet)
       → closes ≡ false → IsJudged c rules target halves hull closes → set ≡ label_at hull source
       → IsTrue both ↔ (HasInHalf set steadiness false × HasInHalf set steadiness true) → both ≡ true
@@ -234,13 +235,13 @@ module _ (c : Circuit) (rules : Rules) (target : Target) (halves : List Half) wh
   )
 
 -- what is told of each node with these labels: whether it closes, and whether it is as a spent tree asks
-module _ (c : Circuit) (kind : Kind) (steps : List PinRef) (labels : List StateSet) where
+module _ (c : Circuit) (kind : Kind) (steps : List PinRef) (walk : OnWalk) where
   abbrev pub JudgesNode : List StateSet → Bool → Type 0
   JudgesNode new closes =
-      (rules : Rules) (target : Target) (halves : List Half) → IsNode c rules target kind steps halves labels
+      (rules : Rules) (target : Target) (halves : List Half) → IsNode c rules target kind steps halves walk
       → IsJudged c rules target halves new closes
 
   abbrev pub TellsOfNode : List Bool → Node → Bool → Type 0
   TellsOfNode cone node is =
-      (rules : Rules) (target : Target) (halves : List Half) → IsNode c rules target kind steps halves labels → IsConeOf c target.path cone
+      (rules : Rules) (target : Target) (halves : List Half) → IsNode c rules target kind steps halves walk → MarksSupport c target.path cone
       → IsTrue is ↔ IsRightInSpent c rules target halves node

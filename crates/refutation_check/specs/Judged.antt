@@ -12,14 +12,14 @@ use Rattle.state_sets.specs.Hulls.{IsNarrowingOf, HasNoEmptySet, Closes}
 use Rattle.state_laws.specs.declared.half.Half.{Half}
 use Rattle.state_laws.specs.Nodes.{IsNodeHull, ClosesAtNode}
 use Rattle.tree_laws.specs.Spent.{IsInSupport, MayTry}
-use Rattle.refutation_check.specs.Walks.{NarrowsToHull}
+use Rattle.refutation_check.specs.Walks.{OnWalk, StandsAt}
 
--- a node below these halves, of a tree for a target of this kind whose path has these steps, to whose hull these labels narrow
+-- a node below these halves, of a tree for a target of this kind whose path has these steps, at which the board of a walk stands
 pub record IsNode (c : Circuit) (rules : Rules) (target : Target) (kind : Kind) (steps : List PinRef) (halves : List Half)
-    (labels : List StateSet) : Type 0 where
+    (walk : OnWalk) : Type 0 where
   pub kind_is : target.kind ≡ kind
   pub steps_are : target.path.steps ≡ steps
-  pub narrows : NarrowsToHull c rules target halves labels
+  pub stands : StandsAt c rules target halves walk.board walk.closed
 
 -- the node closes, or it does not and these are its hull
 abbrev pub IsJudged : Circuit → Rules → Target → List Half → List StateSet → Bool → Type 0
@@ -28,8 +28,8 @@ IsJudged c rules target halves labels false =
     IsNodeHull c rules target halves labels × HasNoEmptySet c labels
 
 -- the cone is true at exactly the sources of the support
-abbrev pub IsConeOf : Circuit → Route → List Bool → Type 0
-IsConeOf c path cone = (source : ℕ) → source < source_count c → IsTrue (slice_index_or cone source false) ↔ IsInSupport c path source
+abbrev pub MarksSupport : Circuit → Route → List Bool → Type 0
+MarksSupport c path cone = (source : ℕ) → source < source_count c → IsTrue (slice_index_or cone source false) ↔ IsInSupport c path source
 
 -- the trial of the node with this hull closes
 abbrev pub ClosesAtTrial : Circuit → Rules → Target → List Half → List StateSet → Type 0

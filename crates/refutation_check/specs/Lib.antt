@@ -1,4 +1,4 @@
 pub mod Walks
-pub mod TrialLabels
+pub mod Trials
 pub mod Judged
 pub mod Answers

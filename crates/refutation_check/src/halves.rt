@@ -1,11 +1,11 @@
 // Whether a set has some state of a half of a split, and its least state.
-ghost use Rattle.std.specs.Prelude.{◌↔◌, IsTrue};
-ghost use Rattle.state_sets.specs.States.{Has, IsWithin};
+ghost use Rattle.std.specs.Prelude.{◌↔◌, ◌≢◌, IsTrue};
+ghost use Rattle.state_sets.specs.States.{Has, IsWithin, no_states};
 ghost use Rattle.state_sets.specs.Starts.{IsLeast};
 ghost use Rattle.state_sets.specs.declared.state.State.{State};
 ghost use Rattle.tree_laws.specs.Spent.{HasInHalf};
 
-use hulls::half_states;
+use narrowing::half_states;
 use state_laws::Half;
 use state_sets::{FourStates, State, StateSet};
 
@@ -22,6 +22,7 @@ pub(crate) fn least_only(set: StateSet) -> StateSet
     requires { IsWithin 4 set }
     ensures within { IsWithin 4 result }
     ensures exactly { (state : State) → Has 4 result state ↔ IsLeast 4 set state }
+    ensures some { set ≢ no_states → result ≢ no_states }
 {
     if set == StateSet::EMPTY {
         return set;

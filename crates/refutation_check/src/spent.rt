@@ -1,29 +1,29 @@
 // Whether a tree shows that a budget was spent.
-ghost use Rattle.std.specs.Prelude.{◌≡◌, ◌<◌, ◌↔◌, List, length, Contains, IfOk, IsTrue};
+ghost use Rattle.std.specs.Prelude.{◌≡◌, ◌<◌, ◌↔◌, [], List, length, Contains, IfOk, IsTrue};
 ghost use Rattle.pd_base.specs.Target.{Target, target_of};
 ghost use Rattle.pd_base.specs.declared.rules.Rules.{Rules};
 ghost use Rattle.pd_base.specs.declared.fault.Direction.{Direction};
 ghost use Rattle.netlist.specs.Circuit.{line_count};
 ghost use Rattle.netlist.specs.Paths.{IsPrefix, end_of};
-ghost use Rattle.state_sets.specs.Labellings.{IsLabelling};
 ghost use Rattle.state_laws.specs.declared.half.Half.{Half};
-ghost use Rattle.hulls.specs.Conditions.{IsEnteredOn};
+ghost use Rattle.narrowing.specs.Conditions.{IsEnteredOn};
 ghost use Rattle.tree_laws.specs.Spent.{IsSpent};
 ghost use Rattle.tree_laws.specs.Bounds.{IsBelowBound};
 ghost use Rattle.tree_laws.specs.Faults.{IsRightInSpent};
-ghost use Rattle.refutation_check.specs.Walks.{IsNearer};
-ghost use Rattle.refutation_check.specs.Judged.{IsNode, IsConeOf};
+ghost use Rattle.refutation_check.specs.Walks.{IsWalkUnder, IsNearer};
+ghost use Rattle.refutation_check.specs.Judged.{IsNode, MarksSupport};
 ghost use Rattle.refutation_check.specs.Answers.{TellsOfSpent};
 
 use crate::TreeCheck;
-use crate::judging::{Split, is_due, is_open, node_closes};
+use crate::judging::{Split, is_due, is_open};
 use crate::walk::Walk;
-use hulls::{Conditions, NarrowScratch, enter_all, launch};
+use hulls::launch;
 use logic_values::support;
+use narrowing::{Conditions, NarrowScratch, enter_all};
 use netlist::Netlist;
 use pd_base::{Direction, Kind, LineId, OutOfMemory, Path, Rules};
 use runs::{Node, Tree};
-use state_sets::{FourStates, Labels};
+use state_sets::Labels;
 use std::alloc::Global;
 
 /// Whether a tree shows that a budget was spent on a path and a transition under the conditions of a kind of test, under these rules.
@@ -31,7 +31,7 @@ use std::alloc::Global;
 /// fault: a closed leaf whose node does not close; an open leaf or a split whose node closes, or whose trial does not; a split on a
 /// source outside the support, or on one that has no state of some half in the hull. After Yes the budget is below four to the power
 /// of one less than the number of sources in the support, or below two to that power where the other sources are held steady. It fails only
-/// where memory runs out, of which it takes some bytes for each line and for each half above a node.
+/// where memory runs out, of which it takes some bytes for each line and each gate, and for each half above a node.
 pub fn check_spent(
     alloc: Global,
     net: &Netlist,
@@ -56,8 +56,8 @@ pub fn check_spent(
     let cone = cone_of(alloc, net, path)?;
     let mut labels = Labels::full(alloc, net)?;
     launch(&mut labels, net, rules, path.source(), dir);
-    let mut walk = Walk::new(alloc, labels.as_slice())?;
     let mut scratch = NarrowScratch::new(alloc, net)?;
+    let mut walk = Walk::new(alloc, net, labels, &conditions, &mut scratch)?;
     for (place, node) in tree.nodes().iter().enumerate() {
         if !is_right_at(
             net,
@@ -65,53 +65,49 @@ pub fn check_spent(
             cone.as_slice(),
             *node,
             &mut walk,
-            &mut labels,
             &mut scratch,
-        )? {
+        ) {
             return Ok(TreeCheck::No(place as u32));
         }
-        walk.pass(*node)?;
+        walk.pass(net, *node)?;
     }
     Ok(TreeCheck::Yes)
 }
 
-// Whether a node is as a spent tree asks. Where it is, the walk then has its hull, or labels from which nothing is left.
+// Whether a node is as a spent tree asks. Where it is, the board of the walk then has its hull, or labels of which nothing is left.
 fn is_right_at(
     net: &Netlist,
     conditions: &Conditions,
     cone: &[bool],
     node: Node,
     walk: &mut Walk,
-    labels: &mut Labels<FourStates>,
     scratch: &mut NarrowScratch,
-) -> Result<bool, OutOfMemory>
+) -> bool
     requires conditions { IsEnteredOn net.now conditions.now }
     requires cone { length cone.now ≡ line_count net.now }
-    requires walk { IsLabelling 4 net.now walk.old.labels.items }
-    requires lines { length labels.old ≡ line_count net.now }
-    ensures labels { IfOk result (λ is. length labels.new ≡ line_count net.now) }
-    ensures nearer { IfOk result (λ is. IsNearer net.now conditions.now.kind conditions.now.steps
-        walk.old.labels.items walk.old.trail.items walk.new.labels.items walk.new.trail.items) }
-    ensures right { IfOk result (λ is. (rules : Rules) (target : Target) (halves : List Half)
-        → IsNode net.now rules target conditions.now.kind conditions.now.steps halves walk.old.labels.items
-        → IsConeOf net.now target.path cone.now → IsTrue is ↔ IsRightInSpent net.now rules target halves node) }
+    requires walk { IsWalkUnder net.now conditions.now.kind conditions.now.steps walk.old }
+    ensures nearer { IsNearer net.now conditions.now.kind conditions.now.steps walk.old walk.new }
+    ensures rests { IsTrue result → walk.new.board.waiting ≡ [] }
+    ensures right { (rules : Rules) (target : Target) (halves : List Half)
+        → IsNode net.now rules target conditions.now.kind conditions.now.steps halves walk.old
+        → MarksSupport net.now target.path cone.now → IsTrue result ↔ IsRightInSpent net.now rules target halves node }
 {
     match node {
-        Node::Closed => node_closes(net, conditions, walk, labels, scratch),
-        Node::Waiting => is_open(net, conditions, cone, walk, labels, scratch),
+        Node::Closed => walk.closes(net, conditions, scratch),
+        Node::Waiting => is_open(net, conditions, cone, walk, scratch),
         Node::Value(source) => {
             let split = Split {
                 source,
                 steadiness: false,
             };
-            is_due(net, conditions, cone, walk, labels, scratch, split)
+            is_due(net, conditions, cone, walk, scratch, split)
         }
         Node::Steadiness(source) => {
             let split = Split {
                 source,
                 steadiness: true,
             };
-            is_due(net, conditions, cone, walk, labels, scratch, split)
+            is_due(net, conditions, cone, walk, scratch, split)
         }
     }
 }
@@ -127,7 +123,7 @@ fn has_open(nodes: &[Node]) -> bool
 fn cone_of(alloc: Global, net: &Netlist, path: &Path) -> Result<Vec<bool>, OutOfMemory>
     requires { IsPrefix net.now path.now }
     ensures lines { IfOk result (λ cone. length cone.items ≡ line_count net.now) }
-    ensures exactly { IfOk result (λ cone. IsConeOf net.now path.now cone.items) }
+    ensures exactly { IfOk result (λ cone. MarksSupport net.now path.now cone.items) }
 {
     let mut cone = vec![in alloc; false; net.lines() as usize]?;
     support(net, end_of(net, path), cone.as_mut_slice());

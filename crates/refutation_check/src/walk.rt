@@ -1,124 +1,183 @@
-// Where a walk over a tree in preorder stands: the labels at the node, and a trail of the halves that lead down to it and of what
-// lines lost on the way. When the walk leaves a half, it gives back what was lost below, so each child starts from its parent's
-// labels. A line has few states to lose, so on one way down a trail notes only a few losses of each line, however deep the tree is.
-ghost use Rattle.std.specs.Prelude.{◌≡◌, ◌<◌, [], false, length, reverse, slice_set, OnOk, IfOk};
+// Where a walk over a tree in preorder stands: a board at its node, and the halves that lead down to it, each with how many changes
+// were noted above it. When the walk leaves a half, it undoes what was changed below, so each child starts from its parent's labels,
+// and a node costs what it changes.
+ghost use Rattle.std.specs.Prelude.{◌≡◌, ◌<◌, ◌↔◌, [], false, List, length, IsTrue, OnOk, IfOk};
+ghost use Rattle.pd_base.specs.Target.{Target};
+ghost use Rattle.pd_base.specs.declared.rules.Rules.{Rules};
 ghost use Rattle.netlist.specs.Circuit.{line_count};
-ghost use Rattle.refutation_check.specs.Walks.{AreOn, IsNoted, IsBelow, GoesOnFrom, IsOn, WalksOn};
+ghost use Rattle.state_sets.specs.Labellings.{IsLabelling, label_at};
+ghost use Rattle.state_laws.specs.declared.half.Half.{Half};
+ghost use Rattle.state_laws.specs.Nodes.{IsNodeHull};
+ghost use Rattle.narrowing.specs.Conditions.{IsEnteredOn};
+ghost use Rattle.tree_laws.specs.Halves.{turned};
+ghost use Rattle.refutation_check.specs.Walks.{NarrowsToHull, IsAt, IsWalk, IsWalkUnder, IsNearer, IsBelow, GoesOnFrom, IsOn, WalksOn};
+ghost use Rattle.refutation_check.specs.Judged.{IsNode, IsJudged, MarksSupport, ClosesAtTrial};
+ghost use Rattle.refutation_check.specs.Trials.{IsQuiet};
 
-use hulls::half_states;
+use crate::trial::cut_to_least;
+use hulls::Board;
+use narrowing::{Conditions, NarrowScratch, half_states};
 use netlist::Netlist;
 use pd_base::{LineId, OutOfMemory};
 use runs::Node;
 use state_laws::Half;
 use state_sets::{FourStates, Labels, StateSet};
 use std::alloc::Global;
+use std::marker::Model;
 
-// One entry of a trail.
+// A half that the walk went into, and what stood at the node above it.
 #[derive(Clone, Copy, Debug)]
-pub(crate) enum TrailEntry {
-    // The walk went down into a half.
-    Into(Half),
-    // A line lost states. This is its number, and the set that it had.
-    Narrowed(u32, StateSet),
+pub(crate) struct Level {
+    pub(crate) half: Half,
+    // How many changes were noted there.
+    pub(crate) mark: usize,
+    // Whether it closes.
+    pub(crate) closed: bool,
 }
 
-// The labels at the node, and the trail from the root down.
-#[derive(Debug, Drop)]
+// The board at the node, the halves above it from the root down, and whether the node is known to close.
+//
+// Contracts see these three.
+#[derive(Drop)]
 pub(crate) struct Walk {
-    pub(crate) labels: Vec<StateSet>,
-    pub(crate) trail: Vec<TrailEntry>,
+    board: Board<FourStates>,
+    levels: Vec<Level>,
+    closed: bool,
+}
+
+impl Model for Walk {
+    ghost use Rattle.refutation_check.specs.Walks.{OnWalk};
+
+    ghost Value = { OnWalk };
+
+    ghost view = { λ w. record { board = w.board; levels = w.levels.items; closed = w.closed } };
 }
 
 impl Walk {
-    // At the root of a tree, with these labels.
-    pub(crate) fn new(alloc: Global, labels: &[StateSet]) -> Result<Walk, OutOfMemory>
-        ensures labels { IfOk result (λ walk. walk.labels.items ≡ labels.now) }
-        ensures root { IfOk result (λ walk. walk.trail.items ≡ []) }
+    // At the root of a tree, with these labels, narrowed to their hull.
+    pub(crate) fn new(
+        alloc: Global,
+        net: &Netlist,
+        labels: Labels<FourStates>,
+        conditions: &Conditions,
+        scratch: &mut NarrowScratch,
+    ) -> Result<Walk, OutOfMemory>
+        requires labelling { IsLabelling 4 net.now labels }
+        requires conditions { IsEnteredOn net.now conditions.now }
+        ensures root { IfOk result (λ walk. walk.levels ≡ []) }
+        ensures at { IfOk result (λ walk. (rules : Rules) (target : Target) → target.kind ≡ conditions.now.kind
+            → target.path.steps ≡ conditions.now.steps → NarrowsToHull net.now rules target [] labels → IsAt net.now rules target walk) }
     {
-        let mut copied = Vec::new(alloc);
-        copied.extend_from_slice(labels)?;
+        let mut board = Board::with_labels(alloc, net, labels)?;
+        let closed = board.settle_all(net, conditions, scratch).is_some();
         Ok(Walk {
-            labels: copied,
-            trail: Vec::new(alloc),
+            board,
+            levels: Vec::new(alloc),
+            closed,
         })
     }
 
-    // Gives a line another set, and notes the one that it had.
-    fn narrow_line(&mut self, line: u32, set: StateSet) -> Result<(), OutOfMemory>
-        requires { line < length self.old.labels.items }
-        ensures set { OnOk result (self.new.labels.items ≡ slice_set self.old.labels.items line set) }
-        ensures noted { OnOk result (IsNoted self.old.labels.items self.old.trail.items self.new.labels.items self.new.trail.items) }
+    // The set of a line at the node.
+    pub(crate) fn get(&self, line: LineId) -> StateSet
+        requires { line.0 < length self.now.board.labels }
+        ensures { result ≡ label_at self.now.board.labels line.0 }
     {
-        let before = self.labels[line as usize];
-        if before != set {
-            self.trail.push(TrailEntry::Narrowed(line, before))?;
-            self.labels[line as usize] = set;
-        }
-        Ok(())
+        self.board.get(line)
     }
 
-    // Gives each line the set that it has in these labels.
-    pub(crate) fn keep(
+    // Whether the node closes at which the walk stands. If not, the board then has its hull.
+    pub(crate) fn closes(
         &mut self,
         net: &Netlist,
-        labels: &Labels<FourStates>,
-    ) -> Result<(), OutOfMemory>
-        requires lines { length self.old.labels.items ≡ line_count net.now }
-        requires labels { length labels.now ≡ line_count net.now }
-        ensures kept { OnOk result (self.new.labels.items ≡ labels.now) }
-        ensures noted { OnOk result (IsNoted self.old.labels.items self.old.trail.items self.new.labels.items self.new.trail.items) }
+        conditions: &Conditions,
+        scratch: &mut NarrowScratch,
+    ) -> bool
+        requires conditions { IsEnteredOn net.now conditions.now }
+        requires walk { IsWalkUnder net.now conditions.now.kind conditions.now.steps self.old }
+        ensures nearer { IsNearer net.now conditions.now.kind conditions.now.steps self.old self.new }
+        ensures rests { self.new.board.waiting ≡ [] }
+        ensures quiet { result ≡ false → IsQuiet net.now conditions.now.kind conditions.now.steps self.new.board }
+        ensures judged { (rules : Rules) (target : Target) (halves : List Half)
+            → IsNode net.now rules target conditions.now.kind conditions.now.steps halves self.old
+            → IsJudged net.now rules target halves self.new.board.labels result }
     {
-        for line in 0..net.lines() {
-            self.narrow_line(line, labels.get(LineId(line)))?;
+        if self.closed {
+            self.board.rest();
+            return true;
         }
-        Ok(())
+        self.closed = self.board.settle(net, conditions, scratch).is_some();
+        self.closed
+    }
+
+    // Whether the trial closes of the node whose hull the board has. The walk is as it was.
+    pub(crate) fn trial_closes(
+        &mut self,
+        net: &Netlist,
+        conditions: &Conditions,
+        cone: &[bool],
+        scratch: &mut NarrowScratch,
+    ) -> bool
+        requires conditions { IsEnteredOn net.now conditions.now }
+        requires cone { length cone.now ≡ line_count net.now }
+        requires quiet { IsQuiet net.now conditions.now.kind conditions.now.steps self.old.board }
+        ensures same { self.new ≡ self.old }
+        ensures tried { (rules : Rules) (target : Target) (halves : List Half)
+            → target.kind ≡ conditions.now.kind → target.path.steps ≡ conditions.now.steps
+            → IsNodeHull net.now rules target halves self.old.board.labels → MarksSupport net.now target.path cone.now
+            → IsTrue result ↔ ClosesAtTrial net.now rules target halves self.old.board.labels }
+    {
+        let mark = self.board.mark();
+        cut_to_least(&mut self.board, net, cone);
+        let closes = self.board.settle(net, conditions, scratch).is_some();
+        self.board.undo_to(mark);
+        closes
     }
 
     // Goes down into a half of a split.
-    pub(crate) fn enter(&mut self, half: Half) -> Result<(), OutOfMemory>
-        requires { half.source < length self.old.labels.items }
-        ensures { OnOk result (IsBelow half self.old.labels.items self.old.trail.items self.new.labels.items self.new.trail.items) }
+    pub(crate) fn enter(&mut self, net: &Netlist, half: Half) -> Result<(), OutOfMemory>
+        requires walk { IsWalk net.now self.old }
+        requires rests { self.old.board.waiting ≡ [] }
+        requires source { half.source < line_count net.now }
+        ensures { OnOk result (IsBelow net.now half self.old self.new) }
     {
-        self.trail.push(TrailEntry::Into(half))?;
+        self.levels.push(Level {
+            half,
+            mark: self.board.mark(),
+            closed: self.closed,
+        })?;
         let states = half_states::<FourStates>(half.steadiness, half.second);
-        let cut = self.labels[half.source as usize].intersect(states);
-        self.narrow_line(half.source, cut)?;
+        let left = self.board.cut(net, LineId(half.source), states);
+        self.closed |= left == StateSet::EMPTY;
         Ok(())
     }
 
     // Goes on behind a leaf: up to the deepest split whose first half the walk is in, and down into its second half. Where there is
     // none, the tree is at its end.
-    pub(crate) fn turn(&mut self) -> Result<(), OutOfMemory>
-        requires { AreOn (length self.old.labels.items) (reverse self.old.trail.items) }
-        ensures { OnOk result (GoesOnFrom self.old.labels.items self.old.trail.items self.new.labels.items self.new.trail.items) }
+    pub(crate) fn turn(&mut self, net: &Netlist) -> Result<(), OutOfMemory>
+        requires { IsWalk net.now self.old }
+        ensures { OnOk result (GoesOnFrom net.now self.old self.new) }
     {
-        'up: while let Some(last) = self.trail.pop() {
-            match last {
-                TrailEntry::Narrowed(line, before) => self.labels[line as usize] = before,
-                TrailEntry::Into(half) => {
-                    if !half.second {
-                        return self.enter(Half {
-                            source: half.source,
-                            steadiness: half.steadiness,
-                            second: true,
-                        });
-                    }
-                }
+        while let Some(level) = self.levels.pop() {
+            self.board.undo_to(level.mark);
+            self.closed = level.closed;
+            if !level.half.second {
+                return self.enter(net, turned(level.half));
             }
         }
         Ok(())
     }
 
     // Goes on behind a node: down into the first half of a split, or round behind a leaf.
-    pub(crate) fn pass(&mut self, node: Node) -> Result<(), OutOfMemory>
-        requires on { AreOn (length self.old.labels.items) (reverse self.old.trail.items) }
-        requires split { IsOn (length self.old.labels.items) node }
-        ensures { OnOk result (WalksOn node self.old.labels.items self.old.trail.items self.new.labels.items self.new.trail.items) }
+    pub(crate) fn pass(&mut self, net: &Netlist, node: Node) -> Result<(), OutOfMemory>
+        requires walk { IsWalk net.now self.old }
+        requires rests { self.old.board.waiting ≡ [] }
+        requires split { IsOn (line_count net.now) node }
+        ensures { OnOk result (WalksOn net.now node self.old self.new) }
     {
         match node {
-            Node::Closed | Node::Waiting => self.turn(),
-            Node::Value(source) => self.enter(first_half(source, false)),
-            Node::Steadiness(source) => self.enter(first_half(source, true)),
+            Node::Closed | Node::Waiting => self.turn(net),
+            Node::Value(source) => self.enter(net, first_half(source, false)),
+            Node::Steadiness(source) => self.enter(net, first_half(source, true)),
         }
     }
 }
@@ -131,5 +190,16 @@ fn first_half(source: u32, steadiness: bool) -> Half
         source,
         steadiness,
         second: false,
+    }
+}
+
+// The second half of the split of a first half.
+fn turned(half: Half) -> Half
+    ensures { result ≡ turned half }
+{
+    Half {
+        source: half.source,
+        steadiness: half.steadiness,
+        second: true,
     }
 }

@@ -5,13 +5,13 @@ ghost use Rattle.implication.specs.Scopes.{IsSameScope, standing};
 ghost use Rattle.implication.specs.Clients.{IsRestored};
 
 use crate::choice::Choice;
-use implication::{Conflict, HasNetlist, Scope};
+use implication::{Conflict, Scope, Setting};
 use state_sets::{Algebra, StateSet};
 
 /// What is left of a source under two assumptions about it, each in a scope of its own, or the conflict that they come upon. The
 /// scope is as it was, whichever way it ends.
-pub fn assume_both<A: Algebra, N: HasNetlist>(
-    scope: &mut Scope<A, N>,
+pub fn assume_both<A: Algebra, S: Setting>(
+    scope: &mut Scope<A, S>,
     choice: Choice,
 ) -> Result<StateSet, Conflict>
     requires { choice.source.0 < source_count (standing scope.old).net }

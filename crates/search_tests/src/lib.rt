@@ -1,7 +1,8 @@
 //! Callers that the product has not, each proved from contracts alone: of `meets` and `steady`, whose contracts say in a reader's
-//! words what an answer tells of waves; of scopes, nested by recursion, left by marks in a loop, and left by `?`; and searches for
-//! tests of single paths, each with the answer that was worked out by hand. Stands on path_model, implication, justify,
-//! refutation_check and row_answers, and is no part of the product.
+//! words what an answer tells of waves; of scopes, nested by recursion, left by marks in a loop, and left by `?`; labels by sweeps over
+//! all gates, beside those that the worklist ends with; and searches for tests of single paths, each with the answer that was worked
+//! out by hand. Stands on path_model, undo_trail, narrowing, hulls, implication, justify, refutation_check and row_answers, and is no
+//! part of the product.
 #![tactic(auto)]
 
 #[cfg(test)]
@@ -20,7 +21,13 @@ mod nesting;
 mod playing;
 #[cfg(test)]
 mod rows;
+#[cfg(test)]
+mod same_labels;
 mod steady_lines;
+#[cfg(test)]
+mod sweeping;
+#[cfg(test)]
+mod trails;
 #[cfg(test)]
 mod two_ways;
 

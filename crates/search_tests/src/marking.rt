@@ -6,15 +6,12 @@ ghost use Rattle.implication.specs.Clients.{IsRestored, ExtendsStanding};
 ghost use Rattle.search_tests.specs.Choices.{AreAtSources};
 
 use crate::choice::Choice;
-use implication::{HasNetlist, Scope};
+use implication::{Scope, Setting};
 use state_sets::Algebra;
 
 /// Assumes each first set that agrees with what was assumed before it, and the second set where the first does not. Tells how many
 /// choices had a set that agreed. Leaves the scope as it was.
-pub fn keep_agreeing<A: Algebra, N: HasNetlist>(
-    scope: &mut Scope<A, N>,
-    choices: &[Choice],
-) -> usize
+pub fn keep_agreeing<A: Algebra, S: Setting>(scope: &mut Scope<A, S>, choices: &[Choice]) -> usize
     requires { AreAtSources (source_count (standing scope.old).net) choices.now }
     ensures scope { IsSameScope scope.old scope.new }
     ensures restored { IsRestored (standing scope.old) (standing scope.new) }
@@ -31,7 +28,7 @@ pub fn keep_agreeing<A: Algebra, N: HasNetlist>(
 }
 
 // Assumes one of the two sets, the first if it agrees. Where neither does, the scope is as it was.
-fn assume_agreeing<A: Algebra, N: HasNetlist>(scope: &mut Scope<A, N>, choice: Choice) -> bool
+fn assume_agreeing<A: Algebra, S: Setting>(scope: &mut Scope<A, S>, choice: Choice) -> bool
     requires { choice.source.0 < source_count (standing scope.old).net }
     ensures scope { IsSameScope scope.old scope.new }
     ensures extends { ExtendsStanding (standing scope.old) (standing scope.new) }

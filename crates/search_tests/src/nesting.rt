@@ -5,11 +5,11 @@ ghost use Rattle.implication.specs.Clients.{IsRestored};
 ghost use Rattle.search_tests.specs.Choices.{AreAtSources};
 
 use crate::choice::Choice;
-use implication::{HasNetlist, Scope};
+use implication::{Scope, Setting};
 use state_sets::Algebra;
 
 /// Goes through all ways to choose, one scope for each choice, and below a conflict no further. Leaves the scope as it was.
-pub fn walk<A: Algebra, N: HasNetlist>(scope: &mut Scope<A, N>, choices: &[Choice])
+pub fn walk<A: Algebra, S: Setting>(scope: &mut Scope<A, S>, choices: &[Choice])
     requires { AreAtSources (source_count (standing scope.old).net) choices.now }
     ensures scope { IsSameScope scope.old scope.new }
     ensures restored { IsRestored (standing scope.old) (standing scope.new) }

@@ -4,13 +4,13 @@ ghost use Rattle.pd_base.specs.Target.{target_of};
 ghost use Rattle.netlist.specs.Paths.{IsPath, IsPrefix};
 ghost use Rattle.implication.specs.Scopes.{standing};
 ghost use Rattle.justify.specs.Scoping.{IsStart};
+ghost use Rattle.search_tests.specs.Told.{AreMarkedTold};
 
 use crate::answers::{Row, is_accepted, is_found};
 use crate::entering::enter_all;
-use implication::{Engine, HasNetlist, Scope};
+use implication::{Engine, RuledNetlist, Scope, Setting};
 use justify::search;
-use netlist::Netlist;
-use pd_base::{LineId, MOST_BUDGET, Path};
+use pd_base::{LineId, MOST_BUDGET, Path, Rules};
 use row_answers::{Trouble, path, read};
 use state_sets::{FourStates, StateSet};
 use std::alloc::Global;
@@ -29,35 +29,44 @@ pub(crate) struct Came {
 }
 
 /// Plays a row.
+#[tactic(auto, using(crate::proofs::Told::all_told))]
 pub(crate) fn play(alloc: Global, row: Row) -> Result<Came, Trouble> {
     let net = read(alloc, row.net)?.ok_or(Trouble::NoRow)?;
     let path = path(alloc, &net, row.path)?;
-    let mut engine = Engine::<FourStates, Netlist>::new(alloc, net)?;
-    play_on(alloc, &mut engine, &path, row)
+    let marks = vec![in alloc; true; net.lines() as usize]?;
+    let rules = Rules::One;
+    let setting = RuledNetlist {
+        net: &net,
+        rules: &rules,
+    };
+    let mut engine = Engine::<FourStates, RuledNetlist>::new(alloc, setting)?;
+    play_on(alloc, &mut engine, &path, row, marks.as_slice())
 }
 
 // Plays a row on an engine on which no scope is open.
-#[tactic(auto, using(crate::proofs::Starts::at_start, crate::proofs::Starts::at_path))]
-fn play_on<N: HasNetlist>(
+#[tactic(auto, using(crate::proofs::Starts::at_start, crate::proofs::Starts::at_path, crate::proofs::Told::still_told))]
+fn play_on<S: Setting>(
     alloc: Global,
-    engine: &mut Engine<FourStates, N>,
+    engine: &mut Engine<FourStates, S>,
     path: &Path,
     row: Row,
+    marks: &[bool],
 ) -> Result<Came, Trouble>
     requires idle { engine.old.beginning ≡ None }
     requires path { IsPath engine.old.net path.now }
+    requires told { AreMarkedTold engine.old marks.now }
 {
     let mut scope = Scope::begin(engine, path.source(), row.direction, row.kind);
-    if !enter_all(&mut scope, path.steps()) {
+    if !enter_all(&mut scope, path.steps(), marks) {
         return Err(Trouble::NoRow);
     }
     play_in(alloc, &mut scope, path, row)
 }
 
 // Plays a row in a scope that has entered the path.
-fn play_in<N: HasNetlist>(
+fn play_in<S: Setting>(
     alloc: Global,
-    scope: &mut Scope<FourStates, N>,
+    scope: &mut Scope<FourStates, S>,
     path: &Path,
     row: Row,
 ) -> Result<Came, Trouble>
@@ -83,9 +92,9 @@ fn play_in<N: HasNetlist>(
 }
 
 // The labels of all lines.
-fn labels_of<N: HasNetlist>(
+fn labels_of<S: Setting>(
     alloc: Global,
-    scope: &Scope<FourStates, N>,
+    scope: &Scope<FourStates, S>,
 ) -> Result<Vec<StateSet>, Trouble> {
     let mut labels = Vec::new(alloc);
     for line in 0..scope.net().lines() {

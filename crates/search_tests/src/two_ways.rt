@@ -1,15 +1,15 @@
 // A source that reaches a gate in two ways, as a test: y = AND(a, n) with n = BUFF(a). With a falling, n falls too, so no side pin of y
-// ends at 1.
-ghost use Rattle.std.specs.Prelude.{◌≡◌, ◌<◌, IfSome};
+// ends at 1. There is no other source, so the rules make no difference.
+ghost use Rattle.std.specs.Prelude.{◌≡◌, ◌<◌, IfSome, None};
 ghost use Rattle.netlist.specs.Circuit.{gate_count, source_count};
 ghost use Rattle.netlist.specs.Pins.{IsPinOn};
 ghost use Rattle.implication.specs.Scopes.{IsSameScope, standing};
 ghost use Rattle.implication.specs.Clients.{ExtendsStanding};
 
 use bench_reader::read_bench;
-use implication::{Engine, HasNetlist, Scope};
+use implication::{Engine, RuledNetlist, Scope, Setting};
 use netlist::Netlist;
-use pd_base::{Direction, GateId, Kind, LineId, PinRef, Steps};
+use pd_base::{Direction, GateId, Kind, LineId, PinRef, Rules, Steps};
 use state_sets::{FourStates, StateSet};
 
 // A set of one state: not steady and 0 at last.
@@ -19,7 +19,7 @@ const FALLS: StateSet = StateSet(4);
 const RISES: StateSet = StateSet(8);
 
 // Whether each line has this set.
-fn all_have<N: HasNetlist>(scope: &Scope<FourStates, N>, set: StateSet) -> bool
+fn all_have<S: Setting>(scope: &Scope<FourStates, S>, set: StateSet) -> bool
     requires { (standing scope.now).conflict ≡ None }
 {
     for line in 0..scope.net().lines() {
@@ -43,8 +43,9 @@ fn first_pin(net: &Netlist, line: LineId, gate: GateId) -> Option<PinRef>
 
 // Whether a falls without a conflict, and with it all lines, until y is entered: then a conflict stands, which an assumption does not
 // change, and there was no other.
-fn falls_into_a_conflict(engine: &mut Engine<FourStates, Netlist>) -> bool
+fn falls_into_a_conflict<S: Setting>(engine: &mut Engine<FourStates, S>) -> bool
     requires idle { engine.old.beginning ≡ None }
+    requires all { engine.old.ends ≡ None }
     requires source { 0 < source_count engine.old.net }
     requires gates { 1 < gate_count engine.old.net }
     ensures idle { engine.new.beginning ≡ None }
@@ -60,7 +61,8 @@ fn falls_into_a_conflict(engine: &mut Engine<FourStates, Netlist>) -> bool
 }
 
 // Whether the pin of y on a leads to the first conflict, which stays.
-fn meets_its_conflict(scope: &mut Scope<FourStates, Netlist>) -> bool
+fn meets_its_conflict<S: Setting>(scope: &mut Scope<FourStates, S>) -> bool
+    requires all { (standing scope.old).ends ≡ None }
     requires source { 0 < source_count (standing scope.old).net }
     requires gates { 1 < gate_count (standing scope.old).net }
     ensures scope { IsSameScope scope.old scope.new }
@@ -77,7 +79,7 @@ fn meets_its_conflict(scope: &mut Scope<FourStates, Netlist>) -> bool
 }
 
 // Whether a rises without a conflict, and with it all lines.
-fn rises_freely(engine: &mut Engine<FourStates, Netlist>) -> bool
+fn rises_freely<S: Setting>(engine: &mut Engine<FourStates, S>) -> bool
     requires idle { engine.old.beginning ≡ None }
     requires source { 0 < source_count engine.old.net }
 {
@@ -94,9 +96,15 @@ fn a_signal_that_falls_by_two_ways_closes_its_path(rt: HostRuntime) {
     assert_eq!(rt; net.sources(), 1);
     assert_eq!(rt; net.gates(), 2);
     assert_eq!(rt; net.lines(), 3);
-    let Ok(mut engine) = Engine::<FourStates, Netlist>::new(rt.alloc(), net) else {
-        panic!(rt; "room for an engine");
-    };
-    assert!(rt; falls_into_a_conflict(&mut engine));
-    assert!(rt; rises_freely(&mut engine));
+    for rules in [Rules::One, Rules::Two] {
+        let setting = RuledNetlist {
+            net: &net,
+            rules: &rules,
+        };
+        let Ok(mut engine) = Engine::<FourStates, RuledNetlist>::new(rt.alloc(), setting) else {
+            panic!(rt; "room for an engine");
+        };
+        assert!(rt; falls_into_a_conflict(&mut engine), "{rules:?}");
+        assert!(rt; rises_freely(&mut engine), "{rules:?}");
+    }
 }

@@ -119,7 +119,7 @@ one_step_more : (kind : Kind) (step : PinRef) (here : Bool) (few many : Option C
 one_step_more kind step true few many either = inl refl
 one_step_more kind step false few many either = either
 
-condition_of_more : (kind : Kind) (steps more : List PinRef) (gate : ℕ)
+pub condition_of_more : (kind : Kind) (steps more : List PinRef) (gate : ℕ)
     → (condition_at kind steps gate ≡ condition_at kind (steps ++ more) gate) ⊎ (condition_at kind steps gate ≡ None)
 condition_of_more kind [] more gate = inr refl
 condition_of_more kind (step ∷ steps) more gate =

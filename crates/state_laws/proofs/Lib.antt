@@ -15,3 +15,7 @@ pub mod SourceStates
 pub mod StepConditions
 pub mod Knowing
 pub mod Steadied
+pub mod Images
+pub mod Cones
+pub mod Idempotent
+pub mod Forward

@@ -2,3 +2,5 @@ pub mod Nodes
 pub mod Sweeps
 pub mod Pairs
 pub mod Steadied
+pub mod Cones
+pub mod Forward

@@ -1,1 +1,3 @@
+pub mod FourInversions
 pub mod FourSets
+pub mod FourTables

@@ -2,10 +2,10 @@
 ghost use Rattle.std.specs.Prelude.{◌≡◌, ◌<◌, ◌≤◌, ℕ};
 ghost use Rattle.state_sets.specs.States.{IsWithin, all_states};
 ghost use Rattle.state_sets.specs.StateAlgebra.{StateAlgebra, HasLaws};
-ghost use Rattle.state_sets.specs.StateSets.{AreJoins};
+ghost use Rattle.state_sets.specs.StateSets.{AreJoins, AreSupporting, AreInversions, AreEndingAt, AreAllowedBy};
 
 use crate::{State, StateSet};
-use netlist::Op;
+use netlist::{Op, SideCondition};
 
 /// A kind of states that a line may be in under a pair of vectors, with what gates make of them.
 pub trait Algebra {
@@ -58,6 +58,29 @@ pub trait Algebra {
         requires second { IsWithin algebra.count b }
         ensures within { IsWithin algebra.count result }
         ensures joins { AreJoins algebra op a b result };
+
+    /// The states that an operation joins with some state of the rest into the target.
+    fn supporting(op: Op, rest: StateSet, target: StateSet) -> StateSet
+        requires rest { IsWithin algebra.count rest }
+        requires target { IsWithin algebra.count target }
+        ensures within { IsWithin algebra.count result }
+        ensures supports { AreSupporting algebra op rest target result };
+
+    /// The states whose inversion is in a set.
+    fn invert_set(set: StateSet) -> StateSet
+        requires { IsWithin algebra.count set }
+        ensures within { IsWithin algebra.count result }
+        ensures inverts { AreInversions algebra set result };
+
+    /// The states with this last value.
+    fn ending_at(bit: bool) -> StateSet
+        ensures within { IsWithin algebra.count result }
+        ensures ends { AreEndingAt algebra bit result };
+
+    /// The states that a condition allows a side pin.
+    fn allowed_by(condition: SideCondition) -> StateSet
+        ensures within { IsWithin algebra.count result }
+        ensures allows { AreAllowedBy algebra condition result };
 
     ghost counts: { COUNT ≡ algebra.count };
 

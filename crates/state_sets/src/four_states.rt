@@ -4,9 +4,11 @@ ghost use Rattle.state_sets.specs.FourStates.{four_states, four_state, four_stay
 ghost use Rattle.state_sets.specs.StateAlgebra.{joined_bit, unit_bit};
 ghost use Rattle.state_sets.specs.FourLaws.{four_laws};
 
-use crate::four_tables::{AND_SETS, OR_SETS, XOR_SETS};
+use crate::four_tables::{
+    AND_SETS, AND_SUPPORTS, INVERTED_SETS, OR_SETS, OR_SUPPORTS, XOR_SETS, XOR_SUPPORTS,
+};
 use crate::{Algebra, State, StateSet};
-use netlist::Op;
+use netlist::{Op, SideCondition};
 
 /// S0, S1, N0, N1 as states 0 to 3: S where the line is steady, N where not, and the digit is the value under the second vector.
 #[derive(Clone, Copy, Debug, PartialEq, Eq)]
@@ -55,6 +57,33 @@ impl Algebra for FourStates {
             Op::And => set_in(&AND_SETS, a, b),
             Op::Or => set_in(&OR_SETS, a, b),
             Op::Xor => set_in(&XOR_SETS, a, b),
+        }
+    }
+
+    fn supporting(op: Op, rest: StateSet, target: StateSet) -> StateSet {
+        match op {
+            Op::And => set_in(&AND_SUPPORTS, rest, target),
+            Op::Or => set_in(&OR_SUPPORTS, rest, target),
+            Op::Xor => set_in(&XOR_SUPPORTS, rest, target),
+        }
+    }
+
+    fn invert_set(set: StateSet) -> StateSet {
+        StateSet(INVERTED_SETS[set.0 as usize])
+    }
+
+    fn ending_at(bit: bool) -> StateSet {
+        if bit { StateSet(10) } else { StateSet(5) }
+    }
+
+    fn allowed_by(condition: SideCondition) -> StateSet {
+        match condition {
+            SideCondition::Free => StateSet(15),
+            SideCondition::EndsAt(false) => StateSet(5),
+            SideCondition::EndsAt(true) => StateSet(10),
+            SideCondition::SteadyAt(false) => StateSet(1),
+            SideCondition::SteadyAt(true) => StateSet(2),
+            SideCondition::AnySteady => StateSet(3),
         }
     }
 

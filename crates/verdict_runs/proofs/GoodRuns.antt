@@ -9,7 +9,6 @@ use Rattle.pd_base.specs.declared.test.Test.{Test}
 use Rattle.pd_base.specs.declared.fault.Direction.{Direction}
 use Rattle.pd_base.specs.declared.fault.Kind.TheVariants as kinds
 use Rattle.pd_base.specs.declared.rules.Rules.{Rules}
-use Rattle.pd_base.specs.declared.rules.Rules.TheVariants.{One}
 use Rattle.netlist.specs.Circuit.{Circuit}
 use Rattle.netlist.specs.Greatest.{greatest}
 use Rattle.netlist.specs.Order.{AreFirst}
@@ -48,7 +47,7 @@ number_of_place items place d within = record {
 }
 
 module _ (c : Circuit) (searches : Searches) (are : AreSearches c searches) (book : Book) (is : IsBook c searches book) (run : Run)
-    (rules_are : run.rules ≡ One) (tests_are : run.tests ≡ book.tests) (proofs_are : run.proofs ≡ book.proofs)
+    (rules_are : run.rules ≡ searches.rules) (tests_are : run.tests ≡ book.tests) (proofs_are : run.proofs ≡ book.proofs)
     (paths_are : map (λ (listed : ListedPath). listed.path) run.paths ≡ searches.routes) where
   -- the number of a proof of the run is its number in the book
   in_book : (number : ℕ) (proof : Proof) → IsNumber run.proofs number proof → IsNumber book.proofs number proof
@@ -66,7 +65,7 @@ module _ (c : Circuit) (searches : Searches) (are : AreSearches c searches) (boo
       let Q : Route → Type 0 = λ route. (other : ℕ) (own : Route) → IsNumber searches.routes other own
       → IsPrefixOf (prefix_of refutation.steps route) own → refutation.path ≤ other in
       let R : Route → Type 0 = λ route.
-      IsRefutation c One (target_of (prefix_of refutation.steps route) refutation.dir refutation.kind) refutation.tree in
+      IsRefutation c searches.rules (target_of (prefix_of refutation.steps route) refutation.dir refutation.kind) refutation.tree in
       let T : Rules → Type 0 = λ rules.
       IsRefutation c rules (target_of (prefix_of refutation.steps at.0.path) refutation.dir refutation.kind) refutation.tree in
       let S : List Route → ℕ → Route → Type 0 = λ routes other own. IsNumber routes other own in
@@ -96,7 +95,7 @@ module _ (c : Circuit) (searches : Searches) (are : AreSearches c searches) (boo
       let spends = is.spent number proof (in_book number proof numbered) is_spent in
       let at = listed_at c searches are book is run proofs_are paths_are proof.path spends.listed spends.is_listed in
       let P : Route → Type 0 = λ route. proof.steps ≡ length route.steps in
-      let Q : Route → Type 0 = λ route. IsSpent c One (target_of route proof.dir proof.kind) searches.budget proof.tree in
+      let Q : Route → Type 0 = λ route. IsSpent c searches.rules (target_of route proof.dir proof.kind) searches.budget proof.tree in
       let R : Rules → Type 0 = λ rules. IsSpent c rules (target_of at.0.path proof.dir proof.kind) searches.budget proof.tree in
       record {
         listed = at.0;
@@ -157,7 +156,7 @@ module _ (c : Circuit) (searches : Searches) (are : AreSearches c searches) (boo
 -- the listed paths and what is written make a good run
 pub listed_is_good : (c : Circuit) (delays : Delays) (searches : Searches) (count : ℕ) (listed : List ListedPath) (book : Book)
     (run : Run) → AreSearches c searches → AreFirst c delays count searches.routes
-    → ArePathsAnswered c delays searches searches.routes listed book → run.rules ≡ One → run.paths ≡ listed → run.tests ≡ book.tests
+    → ArePathsAnswered c delays searches searches.routes listed book → run.rules ≡ searches.rules → run.paths ≡ listed → run.tests ≡ book.tests
     → run.proofs ≡ book.proofs → IsGoodRun c delays count searches.budget run
 listed_is_good c delays searches count listed book run are first all rules_are paths_are tests_are proofs_are =
     let routes_are : map (λ (l : ListedPath). l.path) run.paths ≡ searches.routes =

@@ -8,3 +8,4 @@ mod ListedPaths
 mod Naming
 mod ObservedBits
 mod Turns
+mod Excluding

@@ -5,7 +5,6 @@ use Rattle.pd_base.specs.Target.{Target, target_of}
 use Rattle.pd_base.specs.declared.test.Test.{Test}
 use Rattle.pd_base.specs.declared.fault.Direction.{Direction}
 use Rattle.pd_base.specs.declared.fault.Kind.TheVariants as kinds
-use Rattle.pd_base.specs.declared.rules.Rules.TheVariants.{One}
 use Rattle.netlist.specs.Circuit.{Circuit}
 use Rattle.netlist.specs.Conditions.{Meets}
 use Rattle.netlist.specs.Values.{observed_values}
@@ -33,7 +32,7 @@ pub record IsSpentProof (c : Circuit) (searches : Searches) (proof : Proof) : Ty
   pub listed : Route
   pub is_listed : IsNumber searches.routes proof.path listed
   pub whole : proof.steps ≡ length listed.steps
-  pub is_spent : IsSpent c One (target_of listed proof.dir proof.kind) searches.budget proof.tree
+  pub is_spent : IsSpent c searches.rules (target_of listed proof.dir proof.kind) searches.budget proof.tree
 
 -- What is written is of these searches: a slot is still a refutation of its place, or has the number of that refutation's proof;
 -- each refuting proof is that of a slot; each spent proof is one, and each test is right.

@@ -7,6 +7,7 @@ use Rattle.pd_base.specs.Target.{Target, target_of}
 use Rattle.pd_base.specs.declared.fault.Direction.{Direction}
 use Rattle.pd_base.specs.declared.fault.Direction.TheVariants.{Rise, Fall}
 use Rattle.pd_base.specs.declared.fault.Kind.TheVariants as kinds
+use Rattle.pd_base.specs.declared.rules.Rules.{Rules}
 use Rattle.pd_base.specs.declared.rules.Rules.TheVariants.{One}
 use Rattle.netlist.specs.Circuit.{Circuit, source_count}
 use Rattle.netlist.specs.Conditions.{Meets}
@@ -25,15 +26,17 @@ use Rattle.verdict_runs.specs.declared.findings.Outcomes.{Outcomes}
 use Rattle.verdict_runs.specs.declared.findings.Refutation.{Refutation}
 use Rattle.verdict_runs.specs.declared.findings.SearchedPath.{SearchedPath}
 
--- what outcomes speak of: the budget of each search, the listed paths, and the refutations that were found
+-- what outcomes speak of: the rules for pairs, the budget of each search, the listed paths, and the refutations that were found
 pub record Searches : Type 0 where
+  pub rules : Rules
   pub budget : ℕ
   pub routes : List Route
   pub refutations : List Refutation
 
--- those of these findings
+-- those of these findings, which are under rules One
 abbrev pub searches_of : Findings → Searches
 searches_of findings = record {
+  rules = One;
   budget = findings.budget;
   routes = map (λ searched. searched.path) findings.paths.items;
   refutations = findings.refutations.items;
@@ -62,7 +65,7 @@ pub record IsFoundRefutation (c : Circuit) (searches : Searches) (refutation : R
   pub is_first : (other : ℕ) (route : Route) → IsNumber searches.routes other route
       → IsPrefixOf (prefix_of refutation.steps listed) route → refutation.path ≤ other
   pub within_budget : split_count refutation.tree ≤ searches.budget
-  pub refutes : IsRefutation c One (target_of (prefix_of refutation.steps listed) refutation.dir refutation.kind) refutation.tree
+  pub refutes : IsRefutation c searches.rules (target_of (prefix_of refutation.steps listed) refutation.dir refutation.kind) refutation.tree
 
 -- of one kind and direction no refutation's prefix is one of another's: nothing below a refuted prefix is searched
 abbrev pub AreApart : Searches → Type 0
@@ -92,7 +95,7 @@ pub record IsRefutedBy (searches : Searches) (target : Target) (index : ℕ) : T
 
 -- the tree shows that the budget was spent on the path, to which no refutation applies
 pub record HasSpent (c : Circuit) (searches : Searches) (target : Target) (tree : List Node) : Type 0 where
-  pub is_spent : IsSpent c One target searches.budget tree
+  pub is_spent : IsSpent c searches.rules target searches.budget tree
   pub none_refutes : NoneRefutes searches target
 
 -- what an outcome of a search for a test of this kind, direction and path promises

@@ -1,12 +1,13 @@
 // Gives the verdicts: each fault's test is made, and each proof that it needs is cited, fault by fault in the order of the report.
-ghost use Rattle.std.specs.Prelude.{◌≡◌, ◌+◌, ◌<◌, ◌^◌, length, IfOk, false};
+ghost use Rattle.std.specs.Prelude.{◌≡◌, ◌+◌, ◌<◌, ◌^◌, ◌↔◌, length, IfOk, IsTrue, false};
 ghost use Rattle.pd_base.specs.Target.{target_of};
-ghost use Rattle.netlist.specs.Circuit.{line_count};
+ghost use Rattle.netlist.specs.Circuit.{line_count, source_count};
 ghost use Rattle.netlist.specs.Conditions.{Meets};
 ghost use Rattle.netlist.specs.Lawful.{IsCircuit};
+ghost use Rattle.netlist.specs.Paths.{IsPrefix};
 ghost use Rattle.verdict_runs.specs.Answers.{CitesFor, IsAnswered, IsAsked, IsCitable};
 ghost use Rattle.verdict_runs.specs.Book.{spent_proof, unwritten};
-ghost use Rattle.verdict_runs.specs.Findings.{AreOutcomes, HasSpent, IsOutcome, IsRefutedBy, IsTestPair, Searches, is_test};
+ghost use Rattle.verdict_runs.specs.Findings.{AreOutcomes, AreSearches, HasSpent, IsOutcome, IsRefutedBy, IsTestPair, Searches, is_test};
 
 use crate::draft::Draft;
 use crate::room::Room;
@@ -85,7 +86,7 @@ impl Writer {
         match nonrobust {
             Outcome::Unsearched => unreachable!(),
             Outcome::Tested(pair) => {
-                if self.room.is_robust(net, path, dir, &pair) {
+                if is_robust(&mut self.room, net, path, dir, &robust, &pair) {
                     self.robust(net, number, path, dir, pair)
                 } else {
                     self.nonrobust(net, number, path, dir, robust, pair)
@@ -185,6 +186,33 @@ impl Writer {
             .draft
             .write(spent_proof(number, path, dir, Kind::Nonrobust, tree))?;
         Ok(Verdict::Aborted { robust, nonrobust })
+    }
+}
+
+// Whether the pair that a nonrobust search gave is a robust test. Where the robust conditions are refuted none is, and the pair need
+// not be judged.
+fn is_robust(
+    room: &mut Room,
+    net: &Netlist,
+    path: &Path,
+    dir: Direction,
+    robust: &Outcome,
+    pair: &Pair,
+) -> bool
+    ghost searches: { Searches }
+    requires searches { AreSearches net.now searches }
+    requires prefix { IsPrefix net.now path.now }
+    requires robust { IsOutcome net.now searches (target_of path.now dir Kind.Robust) robust.now }
+    requires bits { length pair.now.first ≡ source_count net.now }
+    requires room { room.old ≡ line_count net.now }
+    ensures robust { IsTrue result ↔ Meets net.now (target_of path.now dir Kind.Robust) pair.now }
+    ensures room { room.new ≡ room.old }
+{
+    // a netlist is a circuit
+    let _ = net.sources();
+    match robust {
+        Outcome::Refuted(_) => false,
+        _ => room.is_robust(net, path, dir, pair),
     }
 }
 

@@ -22,7 +22,7 @@ returns-in-Spent-clause-walked g c =
     let unsearched : outcome_at c.args.outcomes.now at ≡ Unsearched =
     read_unknown c.args.outcomes.now at c.index-outcomes-entry.result c.is_known.result place
     c.is_known.ensures c.if-is_known.false in
-    spent_on c.args.engine.now.net paths c.args.aim c.args.entry.steps at path c.args.outcomes.now _
+    spent_on c.args.engine.now.net c.args.engine.now.rules paths c.args.aim c.args.entry.steps at path c.args.outcomes.now _
     c.args.refutations.now.items here inside c.requires.walked c.in_ok-pair.field-0 c.in_ok-pair.ensures.found c.in-Spent.tree
     c.in-Spent.is unsearched refl
 
@@ -41,7 +41,7 @@ returns-in_ok-refute-in-Refuted-clause-walked g c =
     let counts : c.args.entry.steps ≡ length path.steps =
     c.requires.entry.counts
     ∙ ap (λ (r : Route). length r.steps) (same_item paths at c.requires.entry.route path c.requires.entry.is_listed here) in
-    refuted_on c.args.engine.now.net paths c.args.aim c.args.entry.steps at path c.args.outcomes.now c.refute.new.outcomes
+    refuted_on c.args.engine.now.net c.args.engine.now.rules paths c.args.aim c.args.entry.steps at path c.args.outcomes.now c.refute.new.outcomes
     c.args.refutations.now.items here inside c.requires.walked c.in_ok-pair.field-0 c.in_ok-pair.ensures.found c.in-Refuted.tree
     c.refute.new.refutations.items c.in-Refuted.is counts unsearched c.in_ok-refute-in-Refuted.ensures
 
@@ -65,7 +65,7 @@ returns-in-Test-clause-walked g c =
     let path = c.index-paths-entry.result in
     let inside : at < length paths = slice_get_within paths at c.requires.entry.route c.requires.entry.is_listed in
     let here : slice_get paths at ≡ Some path = at_index paths at path inside c.index-paths-entry.is in
-    tested_on c.args.engine.now.net paths c.args.aim c.args.entry.steps at path c.args.outcomes.now _
+    tested_on c.args.engine.now.net c.args.engine.now.rules paths c.args.aim c.args.entry.steps at path c.args.outcomes.now _
     c.args.refutations.now.items here inside c.requires.walked c.in_ok-pair.field-0 c.in_ok-pair.ensures.found c.in-Test.pair
     c.in-Test.is refl
 

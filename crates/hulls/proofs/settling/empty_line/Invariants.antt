@@ -4,4 +4,4 @@ use Rattle.state_sets.specs.Labellings.{label_at}
 use Rattle.hulls.proofs.settling.empty_line.Given as goal
 
 abbrev pub invariant-loop-line : goal.invariant-loop-line
-invariant-loop-line g l = (line : ℕ) → line < l.line → label_at l.labels line ≢ no_states
+invariant-loop-line l = (line : ℕ) → line < l.line → label_at l.labels line ≢ no_states

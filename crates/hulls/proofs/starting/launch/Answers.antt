@@ -4,7 +4,7 @@ use Rattle.netlist.specs.Circuit.{line_count}
 use Rattle.state_sets.specs.declared.state.StateSet.{StateSet}
 use Rattle.state_sets.specs.Hulls.{HasAt}
 use Rattle.state_sets.specs.Starts.{MayStart}
-use Rattle.hulls.proofs.Whole.{lent_back}
+use Rattle.narrowing.proofs.Whole.{lent_back}
 use Rattle.hulls.proofs.Starts.{is_start}
 use Rattle.hulls.proofs.starting.launch.Goals as goal
 

@@ -1,60 +1,72 @@
-use Rattle.std.proofs.Common.{◌∷◌, [], List, length, ap, ◌∙◌, subst}
-use Rattle.pd_base.specs.Target.{target_of}
+use Rattle.std.proofs.Common.{◌∷◌, [], List, Option, refl, ap, ◌∙◌, subst, reverse, arith}
+use Rattle.pd_base.specs.Pair.{Vectors}
 use Rattle.pd_base.specs.declared.ids.LineId.{LineId}
+use Rattle.pd_base.specs.declared.rules.Rules.{Rules}
 use Rattle.netlist.specs.Circuit.{Circuit}
-use Rattle.state_sets.specs.States.{all_states}
 use Rattle.implication.specs.Scopes.{standing}
-use Rattle.tree_growth.specs.declared.growing.Place.{Place}
-use Rattle.tree_growth.specs.Growths.{IsGrowing}
-use Rattle.justify.specs.Answers.{IsFound, HasCounted}
-use Rattle.justify.proofs.Starting.{start_end_within, start_desk, start_growing}
-use Rattle.justify.proofs.Ended.{at_none, end_is_tree, end_few, end_found, end_counts}
+use Rattle.justify.specs.declared.growing.Place.{Place}
+use Rattle.justify.specs.Answers.{IsFound}
+use Rattle.justify.specs.Growths.{root_place}
+use Rattle.justify.specs.Searches.{IsGrowthOf}
+use Rattle.justify.specs.Tasks.{task_target}
+use Rattle.justify.proofs.Resting.{there_too}
+use Rattle.justify.proofs.Starting.{start_under_way, start_desk, start_growing}
+use Rattle.justify.proofs.TriedSources.{kept_desk}
+use Rattle.justify.proofs.Ended.{end_is_tree, end_few, end_found, end_counts}
 use Rattle.justify.proofs.searching.find.Goals as goal
 
-pub make_desk-requires : goal.make_desk-requires
-make_desk-requires g c =
-    start_end_within (target_of c.args.path.now c.args.dir c.args.kind) (standing c.args.scope.now) c.requires.start c.requires.prefix
+pub propose-requires-clause-desk : goal.propose-requires-clause-desk
+propose-requires-clause-desk g c =
+    start_desk (task_target c.args.task.now) (standing c.args.scope.now) c.requires.start c.requires.prefix c.args.desk.now c.set_end.new.self
+    c.net.result.now c.last_line.result.0 c.net.ensures c.last_line.ensures.end c.requires.desk c.set_end.ensures.made c.set_end.ensures.cone
 
-pub grow-requires-clause-desk : goal.grow-requires-clause-desk
-grow-requires-clause-desk g c =
-    start_desk (target_of c.args.path.now c.args.dir c.args.kind) (standing c.args.scope.now) c.requires.start c.requires.prefix c.in_ok-desk.desk
-    c.in_ok-desk.ensures
+pub returns-in-Some-clause-goes_on : goal.returns-in-Some-clause-goes_on
+returns-in-Some-clause-goes_on g c = record {
+  setting = record { net = refl; rules = refl; ends = refl };
+  under_way = start_under_way (task_target c.args.task.now) (standing c.args.scope.now) c.requires.start;
+  serves = kept_desk (standing c.args.scope.now).net c.args.task.now.path.now c.propose.new.desk c.keep.new.self c.keep.ensures c.propose.ensures.desk;
+  later = omega arith;
+}
 
-pub grow-requires-clause-growing : goal.grow-requires-clause-growing
-grow-requires-clause-growing g c =
-    let P : LineId → List Place = λ source. record { mark = c.mark.result; source = source; set = all_states 4 } ∷ [] in
-    start_growing (target_of c.args.path.now c.args.dir c.args.kind) (standing c.args.scope.now) c.requires.start c.requires.prefix c.requires.left_open
-    c.args.budget c.mark.result c.mark.ensures c.in_ok-growth.growth c.in_ok-growth.ensures.nodes
-    (c.in_ok-growth.ensures.places ∙ ap P c.source.ensures) c.in_ok-growth.ensures.splits
+pub grow-requires-clause-searching : goal.grow-requires-clause-searching
+grow-requires-clause-searching g c =
+    let P : LineId → List Place = λ source. root_place c.mark.result source ∷ [] in
+    record {
+      prefix = c.requires.prefix;
+      under_way = start_under_way (task_target c.args.task.now) (standing c.args.scope.now) c.requires.start;
+      serves = c.propose.ensures.desk;
+      growing = start_growing (task_target c.args.task.now) (standing c.args.scope.now) c.requires.start c.requires.prefix c.requires.left_open
+          c.args.task.now.budget c.mark.result c.mark.ensures c.in_ok-growth.growth c.in_ok-growth.ensures.nodes
+          (c.in_ok-growth.ensures.places ∙ ap P c.source.ensures) c.in_ok-growth.ensures.splits;
+    }
 
 pub end-requires-clause-whole : goal.end-requires-clause-whole
 end-requires-clause-whole g c =
     let now = standing c.grow.new.scope in
-    end_is_tree now.net (target_of c.args.path.now c.args.dir c.args.kind) c.args.budget now.assumptions c.grow.new.growth.nodes.items c.grow.new.growth.splits
-    (at_none {X = IsGrowing now.net (target_of c.args.path.now c.args.dir c.args.kind) c.args.budget now.assumptions [] c.grow.new.growth.nodes.items
-    c.grow.new.growth.splits} c.in_ok-test.test c.in-None.is c.in_ok-test.ensures.grown)
+    let P : Option Vectors → Type 0 = λ t. IsGrowthOf c.args.task.now (standing c.args.scope.now) now c.grow.new.growth t in
+    end_is_tree now.net now.rules (task_target c.args.task.now) c.args.task.now.budget now.assumptions c.grow.new.growth.nodes.items
+    c.grow.new.growth.splits (subst P c.in-None.is c.in_ok-test.ensures.answer).1
 
 pub end-requires-clause-few : goal.end-requires-clause-few
 end-requires-clause-few g c =
     let now = standing c.grow.new.scope in
-    end_few now.net (target_of c.args.path.now c.args.dir c.args.kind) c.args.budget now.assumptions c.grow.new.growth.nodes.items c.grow.new.growth.splits
-    (at_none {X = IsGrowing now.net (target_of c.args.path.now c.args.dir c.args.kind) c.args.budget now.assumptions [] c.grow.new.growth.nodes.items
-    c.grow.new.growth.splits} c.in_ok-test.test c.in-None.is c.in_ok-test.ensures.grown) c.requires.budget
+    let P : Option Vectors → Type 0 = λ t. IsGrowthOf c.args.task.now (standing c.args.scope.now) now c.grow.new.growth t in
+    end_few now.net now.rules (task_target c.args.task.now) c.args.task.now.budget now.assumptions c.grow.new.growth.nodes.items
+    c.grow.new.growth.splits (subst P c.in-None.is c.in_ok-test.ensures.answer).1 c.requires.budget
 
-pub returns-clause-found : goal.returns-clause-found
-returns-clause-found g c =
-    let now = standing c.grow.new.scope in
-    let P : Circuit → Type 0 = λ n. IsFound n (target_of c.args.path.now c.args.dir c.args.kind) c.args.budget c.end.result in
-    subst P c.grow.ensures.net
-    (end_found now.net (target_of c.args.path.now c.args.dir c.args.kind) c.args.budget now.assumptions c.grow.new.growth.nodes.items c.grow.new.growth.splits
-    (at_none {X = IsGrowing now.net (target_of c.args.path.now c.args.dir c.args.kind) c.args.budget now.assumptions [] c.grow.new.growth.nodes.items
-    c.grow.new.growth.splits} c.in_ok-test.test c.in-None.is c.in_ok-test.ensures.grown) c.end.result c.end.ensures)
+pub returns-in-None-clause-found : goal.returns-in-None-clause-found
+returns-in-None-clause-found g c =
+    let old = standing c.args.scope.now in let now = standing c.grow.new.scope in
+    let P : Option Vectors → Type 0 = λ t. IsGrowthOf c.args.task.now old now c.grow.new.growth t in
+    let Q : Circuit → Rules → Type 0 = λ n rules. IsFound n rules (task_target c.args.task.now) c.args.task.now.budget c.end.result in
+    there_too Q now.net old.net now.rules old.rules c.grow.ensures.goes_on.setting.net c.grow.ensures.goes_on.setting.rules
+    (end_found now.net now.rules (task_target c.args.task.now) c.args.task.now.budget now.assumptions c.grow.new.growth.nodes.items
+    c.grow.new.growth.splits (subst P c.in-None.is c.in_ok-test.ensures.answer).1 c.end.result c.end.ensures)
 
-pub returns-clause-counted : goal.returns-clause-counted
-returns-clause-counted g c =
-    let now = standing c.grow.new.scope in
-    end_counts now.net (target_of c.args.path.now c.args.dir c.args.kind) c.args.budget now.assumptions c.grow.new.growth.nodes.items c.grow.new.growth.splits
-    (at_none {X = IsGrowing now.net (target_of c.args.path.now c.args.dir c.args.kind) c.args.budget now.assumptions [] c.grow.new.growth.nodes.items
-    c.grow.new.growth.splits} c.in_ok-test.test c.in-None.is c.in_ok-test.ensures.grown) c.end.result c.end.ensures (standing c.args.scope.now) now
-    (at_none {X = HasCounted (length c.grow.new.growth.nodes.items) (standing c.args.scope.now) now} c.in_ok-test.test c.in-None.is
-    c.in_ok-test.ensures.counted)
+pub returns-in-None-clause-counted : goal.returns-in-None-clause-counted
+returns-in-None-clause-counted g c =
+    let old = standing c.args.scope.now in let now = standing c.grow.new.scope in
+    let P : Option Vectors → Type 0 = λ t. IsGrowthOf c.args.task.now old now c.grow.new.growth t in
+    let grown = subst P c.in-None.is c.in_ok-test.ensures.answer in
+    end_counts now.net now.rules (task_target c.args.task.now) c.args.task.now.budget now.assumptions c.grow.new.growth.nodes.items
+    c.grow.new.growth.splits grown.1 c.end.result c.end.ensures old now grown.0

@@ -1,43 +1,76 @@
 -- An assumption more: there is room for it, and what stood stands with it.
-use Rattle.std.proofs.Common.{rules, ◌<◌, length, ◌∷◌, ◌++◌, [], IsSome, vec_capacity, ap, ◌∙◌, sym, subst}
-use Rattle.implication.specs.Standing.{Standing}
-use Rattle.implication.specs.Kept.{IsListFrom}
-use Rattle.implication.proofs.Keeping.{room_for_one, kept_added}
+use Rattle.std.proofs.Common.{rules, ◌<◌, Some, None, length, vec_capacity, refl}
+use Rattle.implication.proofs.Keeping.{add_room, add_befores_room, add_left, add_step, add_ready, add_entered, add_pins, add_source, added}
+use Rattle.implication.proofs.Wholes.{open_of, emptied_of}
 use Rattle.implication.proofs.engine.Engine.add.Goals as goal
 
 pub push_reserved-requires : goal.push_reserved-requires
 push_reserved-requires g c =
-    let P : Standing → Type 0 = λ s. IsListFrom g.A.Algebra.algebra.count s.net s.beginning (s.assumptions ++ c.args.entry ∷ []) in
-    let Q : Standing → Type 0 = λ s. IsSome s.beginning in
-    let room : length c.self.inside.assumptions.items < vec_capacity c.self.inside.assumptions =
-    room_for_one g.A.Algebra.algebra (g.N.HasNetlist.circuit c.self.inside.net) c.self.inside.beginning
-    c.self.inside.assumptions.items c.args.entry (vec_capacity c.self.inside.assumptions) c.self.invariant.circuit
-    (subst Q (sym c.self.view_is) c.requires.begun) (subst P (sym c.self.view_is) c.requires.fits) c.self.invariant.room in
+    let room : length c.self.inside.befores.items < vec_capacity c.self.inside.befores =
+    add_befores_room g.A.Algebra.algebra c.self.invariant c.args.self.now c.self.view_is c.requires.begun c.requires.free c.args.entry
+    c.requires.fits in
     search rules
+
+pub push_reserved-requires-2 : goal.push_reserved-requires-2
+push_reserved-requires-2 g c =
+    let room : length c.self.inside.assumptions.items < vec_capacity c.self.inside.assumptions =
+    add_room g.A.Algebra.algebra c.self.invariant c.args.self.now c.self.view_is c.requires.begun c.requires.free c.args.entry
+    c.requires.fits in
+    search rules
+
+pub take_from-requires : goal.take_from-requires
+take_from-requires g c =
+    add_left g.A.Algebra.algebra c.self.invariant c.args.self.now c.self.view_is c.requires.begun c.requires.free c.args.entry c.requires.fits
+
+pub narrow_on-emptied-requires-clause-ready : goal.narrow_on-emptied-requires-clause-ready
+narrow_on-emptied-requires-clause-ready g c =
+    add_ready g.A.Algebra.algebra c.self.invariant c.args.self.now c.self.view_is c.requires.begun c.requires.free c.args.entry c.requires.fits
+    c.netlist.result.now c.netlist.ensures
+
+pub narrow_on-emptied-requires-clause-entered : goal.narrow_on-emptied-requires-clause-entered
+narrow_on-emptied-requires-clause-entered g c =
+    add_entered g.A.Algebra.algebra c.self.invariant c.args.self.now c.self.view_is c.requires.begun c.requires.free c.args.entry
+    c.requires.fits c.netlist.result.now c.netlist.ensures
+
+pub narrow_on-emptied-requires-clause-step : goal.narrow_on-emptied-requires-clause-step
+narrow_on-emptied-requires-clause-step g c =
+    add_step g.A.Algebra.algebra c.self.invariant c.args.self.now c.self.view_is c.requires.begun c.requires.free c.args.entry c.requires.fits
+
+pub narrow_on-emptied-requires-clause-pins : goal.narrow_on-emptied-requires-clause-pins
+narrow_on-emptied-requires-clause-pins g c =
+    add_pins g.A.Algebra.algebra c.self.invariant c.args.self.now c.self.view_is c.requires.begun c.requires.free c.args.entry c.requires.fits
+    c.netlist.result.now c.netlist.ensures
+
+pub narrow_on-emptied-requires-clause-source : goal.narrow_on-emptied-requires-clause-source
+narrow_on-emptied-requires-clause-source g c =
+    add_source g.A.Algebra.algebra c.self.invariant c.args.self.now c.self.view_is c.requires.begun c.requires.free c.args.entry c.requires.fits
+    c.netlist.result.now c.netlist.ensures
 
 pub invariant_of-self : goal.invariant_of-self
 invariant_of-self g c =
-    let P : Standing → Type 0 = λ s. IsListFrom g.A.Algebra.algebra.count s.net s.beginning (s.assumptions ++ c.args.entry ∷ []) in
-    kept_added g.A.Algebra.algebra (g.N.HasNetlist.circuit c.self.inside.net) c.self.inside.beginning c.self.inside.assumptions.items
-    c.self.inside.conflict c.self.inside.closings c.self.inside.labels c.self.inside.conditions (vec_capacity c.self.inside.assumptions)
-    c.self.invariant c.in-Some.begun c.in-Some.is c.netlist.result.now c.netlist.ensures
-    c.as_slice.result.now c.push_reserved.new.self.items c.as_slice.ensures.value c.label_more-emptied.result c.self.inside.closings
-    c.label_more-emptied.new.labels c.label_more-emptied.new.conditions (vec_capacity c.push_reserved.new.self)
-    c.push_reserved.ensures.capacity c.label_more-emptied.ensures.answer c.label_more-emptied.ensures.labels
-    c.label_more-emptied.ensures.steps.room c.label_more-emptied.ensures.steps.entered c.args.entry
-    (ap (λ (s : Standing). s.conflict) c.self.view_is ∙ c.requires.free) c.push_reserved.ensures.items
-    (subst P (sym c.self.view_is) c.requires.fits)
+    added g.A.Algebra.algebra c.self.invariant c.args.self.now c.self.view_is c.requires.begun c.requires.free c.args.entry c.requires.fits
+    c.netlist.result.now c.netlist.ensures (record { changes = c.mark-changes.result; left = c.args.left }) c.mark-changes.ensures
+    c.requires.left c.narrow_on-emptied.new.board c.narrow_on-emptied.ensures.inside c.narrow_on-emptied.ensures.follows
+    c.narrow_on-emptied.ensures.at_rest c.narrow_on-emptied.new.conditions c.narrow_on-emptied.ensures.steps c.narrow_on-emptied.result
+    c.narrow_on-emptied.ensures.narrowed c.push_reserved-2.new.self.items c.push_reserved-2.ensures.items c.push_reserved.new.self.items
+    c.push_reserved.ensures.items c.take_from.new.left.items c.take_from.ensures (vec_capacity c.push_reserved-2.new.self)
+    (vec_capacity c.push_reserved.new.self) c.push_reserved-2.ensures.capacity c.push_reserved.ensures.capacity c.self.inside.closings
 
-pub invariant_of-self-in-Some-emptied : goal.invariant_of-self-in-Some-emptied
-invariant_of-self-in-Some-emptied g c =
-    let P : Standing → Type 0 = λ s. IsListFrom g.A.Algebra.algebra.count s.net s.beginning (s.assumptions ++ c.args.entry ∷ []) in
-    kept_added g.A.Algebra.algebra (g.N.HasNetlist.circuit c.self.inside.net) c.self.inside.beginning c.self.inside.assumptions.items
-    c.self.inside.conflict c.self.inside.closings c.self.inside.labels c.self.inside.conditions (vec_capacity c.self.inside.assumptions)
-    c.self.invariant c.in-Some.begun c.in-Some.is c.netlist.result.now c.netlist.ensures
-    c.as_slice.result.now c.push_reserved.new.self.items c.as_slice.ensures.value c.label_more-emptied.result
+pub invariant_of-self-in-Some : goal.invariant_of-self-in-Some
+invariant_of-self-in-Some g c =
+    added g.A.Algebra.algebra c.self.invariant c.args.self.now c.self.view_is c.requires.begun c.requires.free c.args.entry c.requires.fits
+    c.netlist.result.now c.netlist.ensures (record { changes = c.mark-changes.result; left = c.args.left }) c.mark-changes.ensures
+    c.requires.left c.narrow_on-emptied.new.board c.narrow_on-emptied.ensures.inside c.narrow_on-emptied.ensures.follows
+    c.narrow_on-emptied.ensures.at_rest c.narrow_on-emptied.new.conditions c.narrow_on-emptied.ensures.steps c.narrow_on-emptied.result
+    c.narrow_on-emptied.ensures.narrowed c.push_reserved-2.new.self.items c.push_reserved-2.ensures.items c.push_reserved.new.self.items
+    c.push_reserved.ensures.items c.take_from.new.left.items c.take_from.ensures (vec_capacity c.push_reserved-2.new.self)
+    (vec_capacity c.push_reserved.new.self) c.push_reserved-2.ensures.capacity c.push_reserved.ensures.capacity
     c.saturating_add-self-inside.result
-    c.label_more-emptied.new.labels c.label_more-emptied.new.conditions (vec_capacity c.push_reserved.new.self)
-    c.push_reserved.ensures.capacity c.label_more-emptied.ensures.answer c.label_more-emptied.ensures.labels
-    c.label_more-emptied.ensures.steps.room c.label_more-emptied.ensures.steps.entered c.args.entry
-    (ap (λ (s : Standing). s.conflict) c.self.view_is ∙ c.requires.free) c.push_reserved.ensures.items
-    (subst P (sym c.self.view_is) c.requires.fits)
+
+pub returns-in-None-clause-open : goal.returns-in-None-clause-open
+returns-in-None-clause-open g c =
+    open_of g.A.Algebra.algebra g.met.A.Algebra.laws (invariant_of-self g c) _ refl None c.in-None.is
+
+pub returns-in-Some-clause-emptied : goal.returns-in-Some-clause-emptied
+returns-in-Some-clause-emptied g c =
+    emptied_of g.A.Algebra.algebra g.met.A.Algebra.laws (invariant_of-self-in-Some g c) _ refl (Some c.in-Some.line) c.in-Some.is

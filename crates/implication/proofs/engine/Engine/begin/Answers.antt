@@ -1,20 +1,23 @@
--- Where nothing is assumed yet, the four states leave each line some state.
-use Rattle.std.proofs.Common.{◌<◌, Option, ap, ◌∙◌, sym, subst}
-use Rattle.netlist.specs.Circuit.{Circuit, source_count}
-use Rattle.implication.specs.declared.assumption.Beginning.{Beginning}
-use Rattle.implication.specs.Standing.{Standing}
-use Rattle.implication.specs.Kept.{AreLabelsUnder, StandsFrom}
-use Rattle.implication.proofs.Starting.{free_at_start}
+-- The outermost scope begins: the labels are the hull of the start.
+use Rattle.std.proofs.Common.{refl}
+use Rattle.implication.proofs.Wholes.{open_of}
+use Rattle.implication.proofs.Beginnings.{kept_begun, free_begun}
 use Rattle.implication.proofs.engine.Engine.begin.Goals as goal
 
+pub returns-clause-open : goal.returns-clause-open
+returns-clause-open g c =
+    let call = c.begin-self-inside in
+    open_of g.A.Algebra.algebra g.met.A.Algebra.laws
+    (kept_begun g.A.Algebra.algebra c.self.invariant c.args.self.now c.self.view_is c.requires.idle c.args.begun c.requires.source
+    call.new.board call.new.self call.ensures.board.inside call.ensures.board.lines call.ensures.board.at_rest c.set_kind.new.self c.set_kind.ensures
+    c.netlist.result.now c.netlist.ensures c.rules.result.now c.rules.ensures call.result call.ensures.hull call.ensures.none_empty
+    call.ensures.emptied call.ensures.stands c.self.inside.closings)
+    _ refl call.result refl
+
 pub returns-clause-four_states : goal.returns-clause-four_states
-returns-clause-four_states g c = λ four.
-    let a = g.A.Algebra.algebra in let net = g.N.HasNetlist.circuit c.self.inside.net in
-    let labels = c.label_lines-self-inside.new.labels in let answer = c.label_lines-self-inside.result in
-    let P : Circuit → Type 0 = λ x. AreLabelsUnder a x c.args.begun c.as_slice.result.now labels answer in
-    let Q : Standing → Type 0 = λ s. c.args.begun.source.0 < source_count s.net in
-    let R : Option Beginning → Type 0 = λ b. StandsFrom a net b c.self.inside.assumptions.items c.self.inside.conflict c.self.inside.labels
-    c.self.inside.conditions.steps in
-    let idle = subst R (ap (λ (s : Standing). s.beginning) c.self.view_is ∙ c.requires.idle) c.self.invariant.stands in
-    free_at_start net c.self.invariant.circuit c.args.begun (subst Q (sym c.self.view_is) c.requires.source) a c.as_slice.result.now labels
-    answer (c.as_slice.ensures.value ∙ idle.nothing) (subst P c.netlist.ensures c.label_lines-self-inside.ensures.answer) four
+returns-clause-four_states g c =
+    let call = c.begin-self-inside in
+    free_begun g.A.Algebra.algebra c.self.invariant c.args.self.now c.self.view_is c.requires.idle c.args.begun c.requires.source
+    call.new.board call.new.self call.ensures.board.inside call.ensures.board.lines call.ensures.board.at_rest c.set_kind.new.self c.set_kind.ensures
+    c.netlist.result.now c.netlist.ensures c.rules.result.now c.rules.ensures call.result call.ensures.hull call.ensures.none_empty
+    call.ensures.emptied call.ensures.stands

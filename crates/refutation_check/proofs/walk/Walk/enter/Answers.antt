@@ -1,19 +1,21 @@
-use Rattle.std.proofs.Common.{List, ap, ◌∙◌, subst}
-use Rattle.std.specs.Prelude.{bit_and}
-use Rattle.std.proofs.lemmas.List.{get_or_default}
-use Rattle.state_sets.specs.declared.state.StateSet.{StateSet}
-use Rattle.state_sets.specs.States.{no_states}
-use Rattle.refutation_check.specs.declared.walk.TrailEntry.{TrailEntry}
-use Rattle.refutation_check.specs.Walks.{IsNoted}
+-- The set of the half's source is cut, and the node above is noted.
+use Rattle.std.proofs.Common.{◌||◌, refl, ap, ◌∙◌, subst}
+use Rattle.state_sets.specs.Labellings.{label_at}
+use Rattle.hulls.proofs.Narrowed.{is_none, is_some}
+use Rattle.refutation_check.specs.Walks.{OnWalk, IsBelow}
+use Rattle.refutation_check.specs.declared.walk.Level.{Level}
 use Rattle.refutation_check.proofs.Walking.{enters}
 use Rattle.refutation_check.proofs.walk.Walk.enter.Goals as goal
 
 pub returns : goal.returns
 returns c =
-    enters c.args.half c.args.self.now.labels.items c.args.self.now.trail.items c.half_states-states.result c.intersect-cut.result
-    c.narrow_line.new.self.labels.items c.narrow_line.new.self.trail.items c.requires c.half_states-states.ensures.means
-    (c.intersect-cut.ensures ∙ ap (λ (s : StateSet). bit_and s.0 c.half_states-states.result.0)
-    (c.index.ensures ∙ get_or_default c.args.self.now.labels.items c.args.half.source c.index.result.now no_states c.requires))
-    c.in_ok-narrow_line.ensures.set
-    (subst (λ (trail : List TrailEntry). IsNoted c.args.self.now.labels.items trail c.narrow_line.new.self.labels.items
-    c.narrow_line.new.self.trail.items) c.in_ok-push.ensures.items c.in_ok-narrow_line.ensures.noted)
+    let i = c.self.inside in let source = c.args.half.source in
+    let old : OnWalk = record { board = i.board; levels = i.levels.items; closed = i.closed } in
+    let new : OnWalk = record { board = c.cut-left.new.self; levels = c.push.new.self.items; closed = i.closed || c.eq.result } in
+    let level : Level = record { half = c.args.half; mark = c.mark.result; closed = i.closed } in
+    subst (λ (w : OnWalk). IsBelow c.args.net.now c.args.half w new) c.self.view_is
+    (enters c.args.net.now c.args.half old new c.half_states-states.result c.eq.result level
+    (ap (λ (w : OnWalk). w.board.waiting) c.self.view_is ∙ c.requires.rests) c.requires.source c.half_states-states.ensures.means
+    c.cut-left.ensures.cut c.in_ok-push.ensures.items refl c.mark.ensures refl refl
+    (λ empty. is_none c.eq.result c.cut-left.result (label_at c.cut-left.new.self.labels source) c.eq.ensures empty c.cut-left.ensures.left)
+    (λ left. is_some c.eq.result c.cut-left.result (label_at c.cut-left.new.self.labels source) c.eq.ensures left c.cut-left.ensures.left))

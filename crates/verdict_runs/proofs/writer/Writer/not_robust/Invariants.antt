@@ -12,3 +12,6 @@ ghost-untestable g a = g.searches
 
 abbrev pub ghost-aborted : goal.ghost-aborted
 ghost-aborted g a = g.searches
+
+abbrev pub ghost-is_robust : goal.ghost-is_robust
+ghost-is_robust g a = g.searches

@@ -1,0 +1,13 @@
+use Rattle.state_sets.specs.Hulls.{HasNoEmptySet}
+use Rattle.hulls.specs.Settling.{IsNarrowed, IsAwake, work_left}
+use Rattle.hulls.proofs.board.Board.settle.Given as goal
+
+abbrev pub invariant-loop-gate : goal.invariant-loop-gate
+invariant-loop-gate g l = record {
+  narrowed : IsNarrowed g.A.Algebra.algebra l.net l.conditions.kind l.conditions.steps l.initial.self l.self;
+  awake : IsAwake g.A.Algebra.algebra l.net l.conditions.kind l.conditions.steps l.self;
+  some : HasNoEmptySet l.net l.self.labels;
+}
+
+abbrev pub decreases-loop-gate : goal.decreases-loop-gate
+decreases-loop-gate g l = work_left g.A.Algebra.algebra.count l.self

@@ -1,0 +1,36 @@
+-- What a board is: labels, the notes of their changes, and the gates that wait (this project's own).
+use Rattle.std.specs.Prelude.{◌≡◌, ℕ, ◌≤◌, ◌<◌, ◌*◌, ◌^◌, ◌++◌, Bool, List, length, All}
+use Rattle.pd_base.specs.declared.ids.GateId.{GateId}
+use Rattle.netlist.specs.Circuit.{Circuit, line_count, gate_count}
+use Rattle.state_sets.specs.declared.state.StateSet.{StateSet}
+use Rattle.state_sets.specs.States.{AreWithin}
+use Rattle.undo_trail.specs.declared.trail.Note.{Note}
+use Rattle.undo_trail.specs.Undoing.{undone}
+use Rattle.hulls.specs.Falling.{Falls}
+
+-- the sets of all lines, the notes of their changes, the gates that wait in their order, and for each gate whether it is inside
+pub record OnBoard : Type 0 where
+  pub labels : List StateSet
+  pub notes : List (Note StateSet)
+  pub waiting : List GateId
+  pub inside : List Bool
+
+-- what is true of every board
+pub record IsBoard (count : ℕ) (board : OnBoard) (room : ℕ) : Type 0 where
+  pub within : AreWithin count board.labels
+  pub olds : All (λ note. note.old.0 < 2 ^ count) board.notes
+  pub on_lines : All (λ note. note.index < length board.labels) board.notes
+  pub falls : Falls count board.notes board.labels
+  pub enough : length board.labels * count ≤ room
+  pub few : length board.waiting ≤ length board.inside
+
+-- the board is one of this circuit
+pub record IsBoardOf (c : Circuit) (board : OnBoard) : Type 0 where
+  pub lines : length board.labels ≡ line_count c
+  pub gates : length board.inside ≡ gate_count c
+
+-- the new board has more notes, and undoing these leads its labels back to the old ones
+pub record Follows (old new : OnBoard) : Type 0 where
+  pub more : List (Note StateSet)
+  pub notes : new.notes ≡ old.notes ++ more
+  pub back : undone more new.labels ≡ old.labels

@@ -1,0 +1,139 @@
+-- What cuts and narrowings do to a board (this project's own).
+use Rattle.std.specs.Prelude.{◌≡◌, ◌≢◌, ℕ, ◌+◌, ◌*◌, ◌<◌, ◌≤◌, ◌⊎◌, Bool, true, List, length, slice_set, slice_get, Option, Some, IfSome, All, Contains}
+use Rattle.pd_base.specs.declared.ids.GateId.{GateId}
+use Rattle.pd_base.specs.declared.ids.LineId.{LineId}
+use Rattle.pd_base.specs.declared.ids.PinRef.{PinRef}
+use Rattle.pd_base.specs.declared.fault.Kind.{Kind}
+use Rattle.netlist.specs.Circuit.{Circuit, gate_count, line_count, pins_at}
+use Rattle.state_sets.specs.declared.state.StateSet.{StateSet}
+use Rattle.state_sets.specs.States.{AreWithin, both_sets, no_states}
+use Rattle.state_sets.specs.StateAlgebra.{StateAlgebra}
+use Rattle.state_sets.specs.Labellings.{label_at, IsLabelling}
+use Rattle.state_sets.specs.Narrowing.{IsNarrowing, gate_lines}
+use Rattle.state_sets.specs.Hulls.{condition_at, HasNoEmptySet}
+use Rattle.state_laws.specs.Cones.{IsNarrowingIn}
+use Rattle.state_laws.specs.Sweeps.{KeepsRests}
+use Rattle.narrowing.specs.Changes.{HasPinsKept}
+use Rattle.hulls.specs.Awaiting.{is_inside}
+use Rattle.hulls.specs.Boards.{OnBoard, IsBoardOf, Follows}
+use Rattle.hulls.specs.Falling.{states_left}
+
+-- each gate inside that has the line among its lines waits, but the one that is passed by
+abbrev pub AreWaiting : Circuit → List Bool → Option GateId → ℕ → List GateId → Type 0
+AreWaiting c inside passed line waiting =
+    (gate : ℕ) → gate < gate_count c → is_inside inside gate ≡ true → passed ≢ Some (record { 0 = gate })
+    → Contains (gate_lines c gate) (record { 0 = line }) → Contains waiting (record { 0 = gate })
+
+-- a line lost states, and the gates inside that have it among their lines wait, but the one that is passed by
+pub record IsMoved (count : ℕ) (c : Circuit) (passed : Option GateId) (line : ℕ) (old new : OnBoard) : Type 0 where
+  pub fewer : states_left count new.labels < states_left count old.labels
+  pub waits : AreWaiting c old.inside passed line new.waiting
+  pub few : length new.waiting ≤ length new.inside
+
+-- the set of a line was cut down to another one, which changed the board or did not
+pub record IsCutTo (count : ℕ) (c : Circuit) (passed : Option GateId) (line : ℕ) (to : StateSet) (old new : OnBoard) : Type 0 where
+  pub labels : new.labels ≡ slice_set old.labels line (both_sets (label_at old.labels line) to)
+  pub within : AreWithin count new.labels
+  pub inside : new.inside ≡ old.inside
+  pub follows : Follows old new
+  pub stays : (gate : GateId) → Contains old.waiting gate → Contains new.waiting gate
+  pub moves : (new ≡ old) ⊎ IsMoved count c passed line old new
+
+-- the narrowing at a gate does not change the labels
+abbrev pub RestsAt : StateAlgebra → Circuit → Kind → List PinRef → List StateSet → ℕ → Type 0
+RestsAt a c kind steps labels gate = IsNarrowing a c gate (condition_at kind steps gate) labels labels
+
+-- each gate inside waits, or rests
+abbrev pub IsAwake : StateAlgebra → Circuit → Kind → List PinRef → OnBoard → Type 0
+IsAwake a c kind steps board =
+    (gate : ℕ) → gate < gate_count c → is_inside board.inside gate ≡ true
+    → Contains board.waiting (record { 0 = gate }) ⊎ RestsAt a c kind steps board.labels gate
+
+-- each gate inside but this one waits, or rests
+abbrev pub IsAwakeBut : StateAlgebra → Circuit → Kind → List PinRef → ℕ → OnBoard → Type 0
+IsAwakeBut a c kind steps but board =
+    (gate : ℕ) → gate < gate_count c → is_inside board.inside gate ≡ true → gate ≢ but
+    → Contains board.waiting (record { 0 = gate }) ⊎ RestsAt a c kind steps board.labels gate
+
+-- what a board is settled from: a labelling in which each line has some state, and each gate inside waits, or rests
+pub record MaySettle (a : StateAlgebra) (c : Circuit) (kind : Kind) (steps : List PinRef) (board : OnBoard) : Type 0 where
+  pub of : IsBoardOf c board
+  pub labelling : IsLabelling a.count c board.labels
+  pub some : HasNoEmptySet c board.labels
+  pub awake : IsAwake a c kind steps board
+
+-- no two of these lines are the same
+abbrev pub AllDiffer : List LineId → Type 0
+AllDiffer lines = (place other : ℕ) (line : LineId) → slice_get lines place ≡ Some line → slice_get lines other ≡ Some line → place ≡ other
+
+-- a gate that is passed by is this one, and its pins read different lines
+abbrev pub IsPassed : Circuit → ℕ → Option GateId → Type 0
+IsPassed c gate passed = IfSome passed (λ other. (other.0 ≡ gate) × AllDiffer (pins_at c gate))
+
+-- a line has the same set in both
+abbrev pub IsSameAt : List StateSet → List StateSet → LineId → Type 0
+IsSameAt old new line = label_at new line.0 ≡ label_at old line.0
+
+-- Gates that waited wait, and so does each gate inside one of whose lines has changed, but the one that is passed by.
+pub record Wakes (c : Circuit) (passed : Option GateId) (old new : OnBoard) : Type 0 where
+  pub stays : (gate : GateId) → Contains old.waiting gate → Contains new.waiting gate
+  pub woken : (gate : ℕ) → gate < gate_count c → is_inside old.inside gate ≡ true → passed ≢ Some (record { 0 = gate })
+      → Contains new.waiting (record { 0 = gate }) ⊎ All (IsSameAt old.labels new.labels) (gate_lines c gate)
+
+-- states were lost, and no more gates wait than there are
+pub record HasLess (count : ℕ) (old new : OnBoard) : Type 0 where
+  pub fewer : states_left count new.labels < states_left count old.labels
+  pub few : length new.waiting ≤ length new.inside
+
+-- some lines were cut
+pub record IsShrunk (count : ℕ) (c : Circuit) (passed : Option GateId) (old new : OnBoard) : Type 0 where
+  pub lines : length new.labels ≡ length old.labels
+  pub within : AreWithin count new.labels
+  pub inside : new.inside ≡ old.inside
+  pub follows : Follows old new
+  pub wakes : Wakes c passed old new
+  pub falls : (new ≡ old) ⊎ HasLess count old new
+
+-- the lines of the first pins of a gate were cut down to what is kept at the pins
+pub record ArePinsCut (count : ℕ) (c : Circuit) (passed : Option GateId) (gate : ℕ) (kept : List StateSet) (pins : ℕ)
+    (old new : OnBoard) : Type 0 where
+  pub labels : HasPinsKept count (pins_at c gate) kept pins old.labels new.labels
+  pub shrunk : IsShrunk count c passed old new
+
+-- those of all pins were, and each line has some state left
+pub record AreAllPinsCut (count : ℕ) (c : Circuit) (passed : Option GateId) (gate : ℕ) (kept : List StateSet)
+    (old new : OnBoard) : Type 0 where
+  pub cut : ArePinsCut count c passed gate kept (length (pins_at c gate)) old new
+  pub some : HasNoEmptySet c new.labels
+
+-- those of some pins were, and this line has no state left
+pub record IsPinEmptied (count : ℕ) (c : Circuit) (passed : Option GateId) (gate : ℕ) (kept : List StateSet) (old new : OnBoard)
+    (line : ℕ) : Type 0 where
+  pub pins : ℕ
+  pub few : pins ≤ length (pins_at c gate)
+  pub cut : ArePinsCut count c passed gate kept pins old new
+  pub in_circuit : line < line_count c
+  pub none : label_at new.labels line ≡ no_states
+
+-- labels were narrowed at gates inside, and each labelling at rest there that lies in the old ones lies in the new
+pub record IsNarrowed (a : StateAlgebra) (c : Circuit) (kind : Kind) (steps : List PinRef) (old new : OnBoard) : Type 0 where
+  pub keeps : KeepsRests a c (IsNarrowingIn c (is_inside old.inside) kind steps) old.labels new.labels
+  pub inside : new.inside ≡ old.inside
+  pub follows : Follows old new
+
+-- a narrowing at a gate left each line some state
+pub record IsTurn (a : StateAlgebra) (c : Circuit) (kind : Kind) (steps : List PinRef) (old new : OnBoard) : Type 0 where
+  pub narrowed : IsNarrowed a c kind steps old new
+  pub awake : IsAwake a c kind steps new
+  pub some : HasNoEmptySet c new.labels
+  pub falls : (new ≡ old) ⊎ HasLess a.count old new
+
+-- it left no state at this line
+pub record IsConflict (a : StateAlgebra) (c : Circuit) (kind : Kind) (steps : List PinRef) (old new : OnBoard) (line : ℕ) : Type 0 where
+  pub narrowed : IsNarrowed a c kind steps old new
+  pub in_circuit : line < line_count c
+  pub none : label_at new.labels line ≡ no_states
+
+-- what falls while a board settles: the states of all lines, and then the gates that wait
+abbrev pub work_left : ℕ → OnBoard → ℕ
+work_left count board = states_left count board.labels * (length board.inside + 1) + length board.waiting

@@ -1,0 +1,73 @@
+// Gates in a queue, first in, first out, as two lists: one is read from a place on, the other is written; where the first is done,
+// they are exchanged.
+ghost use Rattle.std.specs.Prelude.{◌≡◌, ◌<◌, List, [], ◌∷◌, ◌++◌, length, IfOk, MatchOption};
+
+use pd_base::{GateId, OutOfMemory};
+use std::alloc::Global;
+use std::marker::Model;
+use std::mem;
+
+// Gates in a queue, with room for so many. Contracts see the gates in their order, and the room.
+#[derive(Drop)]
+pub(crate) struct Queue {
+    front: Vec<GateId>,
+    at: usize,
+    back: Vec<GateId>,
+    room: usize,
+}
+
+impl Model for Queue {
+    ghost use Rattle.std.specs.Prelude.{◌++◌, drop, vec_capacity};
+    ghost use Rattle.hulls.specs.Queues.{Queued, IsQueue};
+
+    ghost Value = { Queued };
+
+    ghost view = { λ q. record { gates = drop q.at q.front.items ++ q.back.items; room = q.room } };
+
+    ghost invariant = { λ q. IsQueue q.front.items q.at (vec_capacity q.front) (vec_capacity q.back) q.room };
+}
+
+impl Queue {
+    // No gates yet, and room for so many.
+    pub(crate) fn new(alloc: Global, room: usize) -> Result<Queue, OutOfMemory>
+        ensures { IfOk result (λ q. q ≡ record { gates = []; room = room }) }
+    {
+        let front = Vec::with_capacity(alloc, room)?;
+        let back = Vec::with_capacity(alloc, room)?;
+        Ok(Queue {
+            front,
+            at: 0,
+            back,
+            room,
+        })
+    }
+
+    // One gate more, behind the others. Takes no memory.
+    pub(crate) fn push(&mut self, gate: GateId)
+        requires { length self.old.gates < self.old.room }
+        ensures { self.new ≡ record self.old { gates = self.old.gates ++ gate ∷ [] } }
+    {
+        self.back.push_reserved(gate);
+    }
+
+    // Takes the first gate, if there is one.
+    pub(crate) fn pop(&mut self) -> Option<GateId>
+        ensures cases { MatchOption result ((self.old.gates ≡ []) × (self.new.gates ≡ []))
+            (λ gate. self.old.gates ≡ gate ∷ self.new.gates) }
+        ensures room { self.new.room ≡ self.old.room }
+    {
+        if self.at < self.front.len() {
+            let gate = self.front[self.at];
+            self.at += 1;
+            return Some(gate);
+        }
+        self.front.clear();
+        mem::swap(&mut self.front, &mut self.back);
+        if self.front.is_empty() {
+            self.at = 0;
+            return None;
+        }
+        self.at = 1;
+        Some(self.front[0])
+    }
+}

@@ -1,0 +1,88 @@
+// The gates that wait to be narrowed, first in, first out, with a flag by gate, so that none is added that waits already. Only gates
+// inside wait, of which there is a flag by gate too.
+ghost use Rattle.std.specs.Prelude.{◌≡◌, ◌<◌, ◌∷◌, true, [], length, IfOk, IfSome, MatchOption};
+ghost use Rattle.hulls.specs.Awaiting.{is_inside, IsWoken};
+
+use crate::queue::Queue;
+use pd_base::{GateId, OutOfMemory};
+use std::alloc::Global;
+use std::marker::Model;
+
+/// The gates that wait, of those inside. Contracts see for each gate whether it is inside, and the gates that wait in their order.
+#[derive(Drop)]
+pub struct Waiting {
+    inside: Vec<bool>,
+    flags: Vec<bool>,
+    queue: Queue,
+}
+
+impl Model for Waiting {
+    ghost use Rattle.hulls.specs.Awaiting.{Awaited, IsFlagged};
+
+    ghost Value = { Awaited };
+
+    ghost view = { λ w. record { inside = w.inside.items; waiting = w.queue.gates } };
+
+    ghost invariant = { λ w. IsFlagged w.inside.items w.flags.items w.queue.gates w.queue.room };
+}
+
+impl Waiting {
+    /// No gate waits yet; those gates are inside whose flag is true. It fails only where memory runs out.
+    pub fn new(alloc: Global, inside: Vec<bool>) -> Result<Waiting, OutOfMemory>
+        ensures { IfOk result (λ w. w ≡ record { inside = inside.items; waiting = [] }) }
+    {
+        let flags = vec![in alloc; false; inside.len()]?;
+        let queue = Queue::new(alloc, inside.len())?;
+        Ok(Waiting {
+            inside,
+            flags,
+            queue,
+        })
+    }
+
+    /// Whether a gate is inside.
+    pub fn is_inside(&self, gate: GateId) -> bool
+        requires { gate.0 < length self.now.inside }
+        ensures { result ≡ is_inside self.now.inside gate.0 }
+    {
+        self.inside[gate.0 as usize]
+    }
+
+    /// Lets a gate wait, if it is inside and does not wait yet. Takes no memory.
+    pub fn add(&mut self, gate: GateId)
+        requires { gate.0 < length self.old.inside }
+        ensures { IsWoken gate self.old self.new }
+    {
+        let at = gate.0 as usize;
+        if self.flags[at] {
+            return;
+        }
+        if !self.inside[at] {
+            return;
+        }
+        self.flags[at] = true;
+        self.queue.push(gate);
+    }
+
+    /// Takes the first gate, if one waits.
+    pub fn pop(&mut self) -> Option<GateId>
+        ensures cases { MatchOption result ((self.old.waiting ≡ []) × (self.new.waiting ≡ []))
+            (λ gate. self.old.waiting ≡ gate ∷ self.new.waiting) }
+        ensures inside { self.new.inside ≡ self.old.inside }
+        ensures all_inside { IfSome result (λ gate. is_inside self.old.inside gate.0 ≡ true) }
+    {
+        let Some(gate) = self.queue.pop() else {
+            return None;
+        };
+        self.flags[gate.0 as usize] = false;
+        Some(gate)
+    }
+
+    /// No gate waits any more.
+    pub fn clear(&mut self)
+        ensures waiting { self.new.waiting ≡ [] }
+        ensures inside { self.new.inside ≡ self.old.inside }
+    {
+        while self.pop().is_some() {}
+    }
+}

@@ -1,0 +1,54 @@
+// Where a line lost states, the gates that have it among their lines are to be narrowed: those that read it, and the one that
+// drives it. The gate whose narrowing cut the line is passed by where narrowing it again would change nothing.
+ghost use Rattle.std.specs.Prelude.{◌≡◌, ◌≢◌, ◌<◌, ◌↔◌, true, length, Some, All, Contains, IsTrue};
+ghost use Rattle.netlist.specs.Circuit.{gate_count, line_count};
+ghost use Rattle.hulls.specs.Awaiting.{is_inside, IsMore};
+ghost use Rattle.hulls.specs.Settling.{AreWaiting};
+
+use crate::waiting::Waiting;
+use netlist::Netlist;
+use pd_base::{GateId, LineId, PinRef};
+
+// Lets all gates inside wait that have this line among theirs, but the one that is passed by. Takes no memory.
+pub(crate) fn wake(waiting: &mut Waiting, net: &Netlist, line: LineId, passed: Option<GateId>)
+    requires gates { length waiting.old.inside ≡ gate_count net.now }
+    requires line { line.0 < line_count net.now }
+    ensures more { IsMore waiting.old waiting.new }
+    ensures waits { AreWaiting net.now waiting.old.inside passed line.0 waiting.new.waiting }
+{
+    wake_readers(waiting, net.fanout(line), passed);
+    if let Some(driver) = net.gate_of(line) {
+        wake_gate(waiting, driver, passed);
+    }
+}
+
+// Lets the gates of these pins wait.
+fn wake_readers(waiting: &mut Waiting, pins: &[PinRef], passed: Option<GateId>)
+    requires { All (λ pin. pin.gate.0 < length waiting.old.inside) pins.now }
+    ensures more { IsMore waiting.old waiting.new }
+    ensures waits { All (λ pin. is_inside waiting.old.inside pin.gate.0 ≡ true → passed ≢ Some pin.gate
+        → Contains waiting.new.waiting pin.gate) pins.now }
+{
+    for pin in pins {
+        wake_gate(waiting, pin.gate, passed);
+    }
+}
+
+// Lets a gate wait.
+fn wake_gate(waiting: &mut Waiting, gate: GateId, passed: Option<GateId>)
+    requires { gate.0 < length waiting.old.inside }
+    ensures more { IsMore waiting.old waiting.new }
+    ensures waits { is_inside waiting.old.inside gate.0 ≡ true → passed ≢ Some gate → Contains waiting.new.waiting gate }
+{
+    if is_passed(passed, gate) {
+        return;
+    }
+    waiting.add(gate);
+}
+
+// Whether the gate is the one that is passed by.
+fn is_passed(passed: Option<GateId>, gate: GateId) -> bool
+    ensures { IsTrue result ↔ (passed ≡ Some gate) }
+{
+    passed == Some(gate)
+}

@@ -1,0 +1,193 @@
+-- What an engine keeps as the outermost scope begins and as it ends.
+use Rattle.std.proofs.Common.{◌≡◌, ℕ, ◌<◌, Bool, List, [], ◌∷◌, length, replicate, Option, Some, None, IfSome, IfNone, refl, sym, ap, ◌∙◌, subst, arith}
+use Rattle.std.proofs.lemmas.List.Elements.{All-nil}
+use Rattle.pd_base.specs.declared.ids.LineId.{LineId}
+use Rattle.pd_base.specs.declared.ids.PinRef.{PinRef}
+use Rattle.pd_base.specs.declared.rules.Rules.{Rules}
+use Rattle.netlist.specs.Circuit.{Circuit, source_count, line_count, gate_count, gate_line}
+use Rattle.state_sets.specs.States.{all_states}
+use Rattle.state_sets.specs.StateAlgebra.{StateAlgebra}
+use Rattle.state_sets.specs.FourStates.{four_states}
+use Rattle.state_sets.specs.Starts.{MayStart}
+use Rattle.state_sets.specs.Hulls.{IsHull, IsEmptied, HasNoEmptySet}
+use Rattle.state_laws.specs.Cones.{IsClosedBack, IsNarrowingIn}
+use Rattle.narrowing.specs.Conditions.{Entered as Steps}
+use Rattle.hulls.specs.Awaiting.{is_inside}
+use Rattle.hulls.specs.Boards.{OnBoard}
+use Rattle.implication.specs.declared.assumption.Beginning.{Beginning}
+use Rattle.implication.specs.declared.assumption.Assumption.{Assumption}
+use Rattle.implication.specs.declared.before.Before.{Before}
+use Rattle.implication.specs.Assumptions.{entered_pins}
+use Rattle.implication.specs.Standing.{Standing, IsToldBy}
+use Rattle.implication.specs.Idling.{Idling, StandsBy, IsIdleBoard, IsNewBoard}
+use Rattle.implication.specs.Kept.{Outset, Kept, AreLabelsUnder, AreLeft, StandsOpen, StandsIdle, StandsFrom, AreToldGates, KeepsStanding}
+use Rattle.implication.proofs.Lists.{list_empty}
+use Rattle.implication.proofs.Labels.{labels_at_start}
+use Rattle.implication.proofs.Starting.{free_at_start}
+
+module _ (a : StateAlgebra) {standing : Standing} {kept : Kept} {room befores_room : ℕ}
+    (keeps : KeepsStanding a standing kept room befores_room) (now : Standing) (is_now : standing ≡ now) (idle : now.beginning ≡ None)
+    (begun : Beginning) (within : begun.source.0 < source_count now.net) where
+  stands : StandsIdle a standing.net standing.rules standing.assumptions standing.conflict kept
+  stands =
+      let P : Option Beginning → Type 0 =
+      λ b. StandsFrom a standing.net standing.rules standing.ends b standing.assumptions standing.conflict kept in
+      subst P (ap (λ (s : Standing). s.beginning) is_now ∙ idle) keeps.stands
+
+  source : begun.source.0 < source_count standing.net
+  source = let P : Standing → Type 0 = λ s. begun.source.0 < source_count s.net in subst P (sym is_now) within
+
+  module _ (board : OnBoard) (idling : Idling) (inside : board.inside ≡ kept.board.inside)
+      (lines : length board.labels ≡ length kept.board.labels) (at_rest : board.waiting ≡ []) (steps : Steps)
+      (stepped : steps ≡ record kept.steps { kind = begun.kind }) (seen : Circuit) (circuits : seen ≡ standing.net) (seen_rules : Rules)
+      (rules_are : seen_rules ≡ standing.rules) (answer : Option LineId)
+      (hull : IfNone answer (IsHull a seen (IsNarrowingIn seen (is_inside kept.board.inside) steps.kind [])
+      (MayStart a seen seen_rules begun.source.0 begun.direction) board.labels))
+      (none_empty : IfNone answer (HasNoEmptySet seen board.labels))
+      (emptied : IfSome answer (λ line. (line.0 < line_count seen)
+      × IsEmptied a seen (IsNarrowingIn seen (is_inside kept.board.inside) steps.kind [])
+      (MayStart a seen seen_rules begun.source.0 begun.direction) line.0))
+      (stands_by : StandsBy a seen seen_rules idling board) where
+    abbrev from : Circuit → List Bool → Rules → Outset
+    from c flags rules = record { net = c; inside = flags; rules = rules; begun = begun }
+
+    under : AreLabelsUnder a (from standing.net kept.board.inside standing.rules) [] board.labels answer
+    under =
+        let P : Circuit → Type 0 = λ x. AreLabelsUnder a (from x kept.board.inside seen_rules) [] board.labels answer in
+        let Q : Rules → Type 0 = λ r. AreLabelsUnder a (from standing.net kept.board.inside r) [] board.labels answer in
+        subst Q rules_are
+        (subst P circuits
+        (labels_at_start a (from seen kept.board.inside seen_rules) steps.kind (ap (λ (s : Steps). s.kind) stepped) board.labels answer hull
+        none_empty emptied))
+
+    -- with the four states no conflict stands then
+    pub free_begun : a ≡ four_states → answer ≡ None
+    free_begun four =
+        free_at_start a (from standing.net kept.board.inside standing.rules) board.labels answer keeps.circuit source under four
+
+    abbrev new : Kept
+    new = record { board = board; idle = idling; befores = kept.befores; left = kept.left; steps = steps }
+
+    idling_here : StandsBy a standing.net standing.rules idling board
+    idling_here =
+        let P : Circuit → Type 0 = λ x. StandsBy a x seen_rules idling board in
+        let Q : Rules → Type 0 = λ r. StandsBy a standing.net r idling board in subst Q rules_are (subst P circuits stands_by)
+
+    opens : StandsOpen a (from standing.net kept.board.inside standing.rules) standing.ends [] answer new
+    opens = record {
+      list = list_empty a.count standing.net begun source;
+      told = All-nil (λ (pin : PinRef). IsToldBy standing.net standing.ends (gate_line standing.net pin.gate.0));
+      kind = ap (λ (s : Steps). s.kind) stepped;
+      entered = ap (λ (s : Steps). s.steps) stepped ∙ stands.no_step;
+      stood = record {
+        one_each = ap length stands.none_before;
+        each = λ place else_ below. absurd (let b = below in omega arith);
+        rising = λ earlier later order below. absurd (let b = below in omega arith);
+      };
+      left = stands.left;
+      answer = under;
+      idling = idling_here;
+    }
+
+    -- what an engine keeps as the outermost scope begins
+    pub kept_begun : (closings : ℕ) → KeepsStanding a (record {
+      net = standing.net;
+      rules = standing.rules;
+      ends = standing.ends;
+      beginning = Some begun;
+      assumptions = standing.assumptions;
+      conflict = answer;
+      closings = closings;
+    }) new room befores_room
+    kept_begun closings =
+        let P : List Bool → Type 0 = λ flags. AreToldGates standing.net standing.ends flags in
+        let Q : List Bool → Type 0 = λ flags. StandsOpen a (from standing.net flags standing.rules) standing.ends [] answer new in
+        let R : List Assumption → Type 0 =
+        λ list. StandsOpen a (from standing.net board.inside standing.rules) standing.ends list answer new in
+        record {
+          circuit = keeps.circuit;
+          board = record { lines = lines ∙ keeps.board.lines; gates = ap length inside ∙ keeps.board.gates };
+          cone = subst P (sym inside) keeps.cone;
+          at_rest = at_rest;
+          stands = subst R (sym stands.nothing) (subst Q (sym inside) opens);
+          step_room = record {
+            gates = ap (λ (s : Steps). s.gates) stepped ∙ keeps.step_room.gates;
+            levels = ap (λ (s : Steps). s.room) stepped ∙ keeps.step_room.levels;
+          };
+          room = keeps.room;
+          befores_room = keeps.befores_room;
+        }
+
+-- without an entry nothing stands beside the labels
+module _ (a : StateAlgebra) (c : Circuit) (rules : Rules) (ends : Option (List LineId)) (list : List Assumption) (nothing : list ≡ [])
+    (conflict : Option LineId) (kept : Kept) where
+  idle_parts : (beginning : Option Beginning) → StandsFrom a c rules ends beginning list conflict kept
+      → (kept.befores ≡ []) × (kept.steps.steps ≡ []) × AreLeft a.count (source_count c) [] kept.left × StandsBy a c rules kept.idle kept.board
+  idle_parts None stands = (stands.none_before, stands.no_step, stands.left, stands.idling.stands)
+  idle_parts (Some begun) stands =
+      let P : List Assumption → Type 0 = λ xs. AreLeft a.count (source_count c) xs kept.left in (
+        no_more kept.befores (stands.stood.one_each ∙ ap length nothing),
+        stands.entered ∙ ap entered_pins nothing,
+        subst P nothing stands.left,
+        stands.idling,
+      )
+    where
+      no_more : (xs : List Before) → length xs ≡ 0 → xs ≡ []
+      no_more [] e = refl
+      no_more (x ∷ xs) e = absurd (omega (arith, e))
+
+pub stands_here : (a : StateAlgebra) {standing : Standing} {kept : Kept} {room befores_room : ℕ}
+    (keeps : KeepsStanding a standing kept room befores_room) (nothing : standing.assumptions ≡ [])
+    → (c : Circuit) × (rules : Rules) × StandsBy a c rules kept.idle kept.board
+stands_here a {standing} {kept} {room} {befores_room} keeps nothing = (
+  standing.net,
+  standing.rules,
+  (idle_parts a standing.net standing.rules standing.ends standing.assumptions nothing standing.conflict kept standing.beginning keeps.stands).3,
+)
+
+-- a board as it is made
+pub new_board : (count : ℕ) (c seen : Circuit) → seen ≡ c → (ends : Option (List LineId)) (inside : List Bool) → AreToldGates c ends inside
+    → IsNewBoard count seen (record { labels = replicate (line_count seen) (all_states count); notes = []; waiting = []; inside = inside })
+new_board count c seen same ends inside cone = record {
+  labels = refl;
+  unnoted = refl;
+  gates = cone.one_each ∙ ap gate_count (sym same);
+  closed = let P : Circuit → Type 0 = λ x. IsClosedBack x (is_inside inside) in subst P (sym same) cone.closed;
+}
+
+-- what an engine keeps as the outermost scope ends
+pub kept_ended : (a : StateAlgebra) {standing : Standing} {kept : Kept} {room befores_room : ℕ}
+    (keeps : KeepsStanding a standing kept room befores_room) (nothing : standing.assumptions ≡ []) (board : OnBoard) (idling : Idling)
+    (ended : (c : Circuit) (rules : Rules) → StandsBy a c rules kept.idle kept.board → IsIdleBoard a c rules idling board)
+    (inside : board.inside ≡ kept.board.inside) (lines : length board.labels ≡ length kept.board.labels) (at_rest : board.waiting ≡ [])
+    (closings : ℕ) → KeepsStanding a (record {
+      net = standing.net;
+      rules = standing.rules;
+      ends = standing.ends;
+      beginning = None;
+      assumptions = standing.assumptions;
+      conflict = None;
+      closings = closings;
+    })
+    (record { board = board; idle = idling; befores = kept.befores; left = kept.left; steps = kept.steps }) room befores_room
+kept_ended a {standing} {kept} {room} {befores_room} keeps nothing board idling ended inside lines at_rest closings =
+    let P : List Bool → Type 0 = λ flags. AreToldGates standing.net standing.ends flags in
+    let parts = idle_parts a standing.net standing.rules standing.ends standing.assumptions nothing standing.conflict kept standing.beginning
+    keeps.stands in
+    record {
+      circuit = keeps.circuit;
+      board = record { lines = lines ∙ keeps.board.lines; gates = ap length inside ∙ keeps.board.gates };
+      cone = subst P (sym inside) keeps.cone;
+      at_rest = at_rest;
+      stands = record {
+        nothing = nothing;
+        free = refl;
+        none_before = parts.0;
+        no_step = parts.1;
+        left = parts.2;
+        idling = ended standing.net standing.rules parts.3;
+      };
+      step_room = keeps.step_room;
+      room = keeps.room;
+      befores_room = keeps.befores_room;
+    }

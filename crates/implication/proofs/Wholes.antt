@@ -1,0 +1,202 @@
+-- What labels at the gates inside tell of the whole circuit: they are those of its hull where lines are told, and close where it closes.
+use Rattle.std.proofs.Common.{◌≡◌, ℕ, ◌-◌, ◌<◌, ◌≤◌, ⊎_elim, inl, inr, Bool, true, false, List, length, replicate, [], get_or, All, Option, Some, None, IfSome, IfNone, refl, sym, ap, ◌∙◌, subst, arith}
+use Rattle.std.proofs.lemmas.Bool.{cases_lt}
+use Rattle.std.proofs.lemmas.List.{get_or-replicate, length-replicate}
+use Rattle.pd_base.specs.declared.ids.LineId.{LineId}
+use Rattle.pd_base.specs.declared.ids.PinRef.{PinRef}
+use Rattle.pd_base.specs.declared.rules.Rules.{Rules}
+use Rattle.netlist.specs.Circuit.{Circuit, source_count, gate_count, line_count, gate_line, pins_at}
+use Rattle.netlist.specs.Lawful.{IsCircuit}
+use Rattle.netlist.specs.Pins.{IsPin}
+use Rattle.netlist.proofs.Evaluation.{gate_line_of, all_at_place}
+use Rattle.state_sets.specs.declared.state.State.{State}
+use Rattle.state_sets.specs.declared.state.StateSet.{StateSet}
+use Rattle.state_sets.specs.States.{Has}
+use Rattle.state_sets.specs.StateAlgebra.{StateAlgebra, HasLaws}
+use Rattle.state_sets.specs.Labellings.{label_at}
+use Rattle.state_sets.specs.Hulls.{IsNarrowingOf}
+use Rattle.state_laws.specs.Cones.{IsLineIn, IsPartOfHull}
+use Rattle.state_laws.proofs.Cones.{part_of_hull, emptied_inside}
+use Rattle.state_laws.proofs.Hulls.{not_closing}
+use Rattle.hulls.specs.Awaiting.{is_inside}
+use Rattle.implication.specs.declared.assumption.Beginning.{Beginning}
+use Rattle.implication.specs.declared.assumption.Assumption.{Assumption}
+use Rattle.implication.specs.declared.assumption.Assumption.TheVariants.{Entered, Assumed}
+use Rattle.implication.specs.Assumptions.{entered_pins, MayUnder, IsLetBy, IsEmptiedUnder, ClosesUnder}
+use Rattle.implication.specs.Standing.{Standing, IsToldBy, TellsLabels, IsLabels, IsHullFrom, IsOpenFrom, IsOpenIn, IsEmptiedFrom, IsEmptiedIn}
+use Rattle.implication.specs.Kept.{Outset, Kept, AreAssumptions, AreToldPins, IsAboutSource, AreToldGates, IsOpenHull, IsEmptiedInside, StandsFrom, KeepsStanding}
+use Rattle.implication.proofs.Entering.{pins_of}
+use Rattle.implication.proofs.Shrinking.{about_sources}
+
+-- an assumption about a source says nothing of the line of a gate
+lets_others : (count sources line : ℕ) (state : State) → sources ≤ line → (entry : Assumption) → IsAboutSource sources entry
+    → IsLetBy count line state entry
+lets_others count sources line state past (Entered pin) about = tt
+lets_others count sources line state past (Assumed source set) about = λ here. absurd (omega (arith, here, about, past))
+
+-- where all gates are inside, all lines are told
+pub cone_of_all : (c : Circuit) → IsCircuit c → (inside : List Bool) → inside ≡ replicate (gate_count c) true → AreToldGates c None inside
+cone_of_all c circuit inside is =
+    let whole : (gate : ℕ) → gate < gate_count c → is_inside inside gate ≡ true =
+    λ gate within. ap (λ (flags : List Bool). is_inside flags gate) is ∙ get_or-replicate (gate_count c) gate true false within in
+    record {
+      one_each = ap length is ∙ length-replicate (gate_count c) true;
+      closed = λ gate other within here reads.
+          whole other
+          (let line : gate_line c other < line_count c =
+          all_at_place (λ (l : LineId). l.0 < line_count c) (pins_at c gate) reads.0 (record { 0 = gate_line c other })
+          (circuit.reads_lines gate within) reads.1 in omega (arith, line));
+      told = λ gate within. ((λ _. tt), (λ _. whole gate within));
+    }
+
+-- a line that is told is one inside
+told_inside : (c : Circuit) (ends : Option (List LineId)) (inside : _) → AreToldGates c ends inside → (line : ℕ) → line < line_count c
+    → IsToldBy c ends line → IsLineIn c (is_inside inside) line
+told_inside c ends inside cone line within told = ⊎_elim
+    (λ (source : line < source_count c). inl source)
+    (λ (above : source_count c ≤ line).
+    let gate = line - source_count c in
+    let is : gate_line c gate ≡ line = gate_line_of c line above in
+    let below : gate < gate_count c = omega (arith, within, above) in
+    let P : ℕ → Type 0 = λ l. IsToldBy c ends l in
+    inr (gate, below, (cone.told gate below).1 (subst P (sym is) told), sym is))
+    (cases_lt line (source_count c))
+
+module _ (a : StateAlgebra) (laws : HasLaws a) (from : Outset) (circuit : IsCircuit from.net) (ends : Option (List LineId))
+    (cone : AreToldGates from.net ends from.inside) (list : List Assumption) (are : AreAssumptions a.count from.net from.begun list)
+    (told : AreToldPins from.net ends list) where
+  abbrev May : ℕ → State → Type 0
+  May = MayUnder a from.net from.rules from.begun list
+
+  abbrev steps : List PinRef
+  steps = entered_pins list
+
+  -- each pin was entered at a gate inside
+  through : All (λ step. is_inside from.inside step.gate.0 ≡ true) steps
+  through k d within =
+      let step = get_or steps k d in
+      let pins : All (IsPin from.net) steps = pins_of from.net from.begun.source.0 steps are.connects in
+      (cone.told step.gate.0 (pins k d within).in_circuit).1 (told k d within)
+
+  -- the line of a gate may be in every state
+  free : (gate : ℕ) → gate < gate_count from.net → (state : State) → state.0 < a.count → May (gate_line from.net gate) state
+  free gate within state below =
+      let source = are.source in record {
+        start = record {
+          own = λ here. absurd (omega (arith, here, source));
+          other = λ less apart. absurd (omega (arith, less));
+        };
+        assumed = λ k d inside.
+            lets_others a.count (source_count from.net) (gate_line from.net gate) state (omega arith) (get_or list k d)
+            (about_sources a.count (source_count from.net) [] list are.shrink k d inside);
+      }
+
+  -- so the labels are part of the hull of the whole circuit
+  pub part : (labels : List StateSet) → IsOpenHull a from list labels
+      → IsPartOfHull a from.net (is_inside from.inside) from.begun.kind steps May labels
+  part labels is =
+      part_of_hull a from.net laws circuit.reads_lines circuit.loop_free (is_inside from.inside) cone.closed from.begun.kind steps through
+      May free labels is.hull is.none_empty
+
+  -- each line has some state, then, and the assumptions do not close
+  pub open_if_settled : (labels : List StateSet) → IsOpenHull a from list labels → ¬ ClosesUnder a from.net from.rules from.begun list
+  open_if_settled labels is =
+      let whole = part labels is in
+      not_closing a from.net (IsNarrowingOf from.net from.begun.kind steps) May whole.whole whole.hull whole.none_empty
+
+  -- what the labels tell of a line
+  pub told_by : (labels : List StateSet) (is : IsOpenHull a from list labels) (line : ℕ) → line < line_count from.net
+      → ((state : State) → Has a.count (label_at (part labels is).whole line) state → Has a.count (label_at labels line) state)
+      × (IsToldBy from.net ends line → label_at labels line ≡ label_at (part labels is).whole line)
+  told_by labels is line within =
+      let whole = part labels is in (
+        (λ state has. whole.lies line state has),
+        (λ told_line. sym (whole.same line (told_inside from.net ends from.inside cone line within told_line))),
+      )
+
+-- what is emptied by the gates inside is emptied in the whole circuit
+pub emptied_under : (a : StateAlgebra) (from : Outset) (list : List Assumption) (line : ℕ) → IsEmptiedInside a from list line
+    → (line < line_count from.net) × IsEmptiedUnder a from.net from.rules from.begun list line
+emptied_under a from list line is = (
+  is.in_circuit,
+  emptied_inside a from.net (is_inside from.inside) from.begun.kind (entered_pins list)
+      (MayUnder a from.net from.rules from.begun list) line is.emptied,
+)
+
+-- so it is as an engine stands
+module _ (a : StateAlgebra) (laws : HasLaws a) (c : Circuit) (circuit : IsCircuit c) (rules : Rules) (ends : Option (List LineId))
+    (list : List Assumption) (kept : Kept) (cone : AreToldGates c ends kept.board.inside) where
+  open_from : (beginning : Option Beginning) → StandsFrom a c rules ends beginning list None kept → IsOpenFrom a c rules beginning list
+  open_from None stands = tt
+  open_from (Some begun) stands =
+      open_if_settled a laws (record { net = c; inside = kept.board.inside; rules = rules; begun = begun }) circuit ends cone list
+      stands.list stands.told kept.board.labels stands.answer
+
+  emptied_from : (beginning : Option Beginning) (line : LineId) → StandsFrom a c rules ends beginning list (Some line) kept
+      → IsEmptiedFrom a c rules beginning list line.0
+  emptied_from None line stands = tt
+  emptied_from (Some begun) line stands =
+      emptied_under a (record { net = c; inside = kept.board.inside; rules = rules; begun = begun }) list line.0 stands.answer
+
+  tells_from : (beginning : Option Beginning) → StandsFrom a c rules ends beginning list None kept
+      → (labels : List StateSet) × IsHullFrom a c rules beginning list labels
+      × ((line : ℕ) → line < line_count c
+      → ((state : State) → Has a.count (label_at labels line) state → Has a.count (label_at kept.board.labels line) state)
+      × (IsToldBy c ends line → label_at kept.board.labels line ≡ label_at labels line))
+  tells_from None stands = (kept.board.labels, tt, (λ line within. ((λ state has. has), (λ told. refl))))
+  tells_from (Some begun) stands =
+      let from : Outset = record { net = c; inside = kept.board.inside; rules = rules; begun = begun } in
+      let is : IsOpenHull a from list kept.board.labels = stands.answer in (
+        (part a laws from circuit ends cone list stands.list stands.told kept.board.labels is).whole,
+        (part a laws from circuit ends cone list stands.list stands.told kept.board.labels is).hull,
+        told_by a laws from circuit ends cone list stands.list stands.told kept.board.labels is,
+      )
+
+module _ (a : StateAlgebra) (laws : HasLaws a) {standing : Standing} {kept : Kept} {room befores_room : ℕ}
+    (keeps : KeepsStanding a standing kept room befores_room) (now : Standing) (is_now : standing ≡ now) where
+  stands_with : (conflict : Option LineId) → standing.conflict ≡ conflict
+      → StandsFrom a standing.net standing.rules standing.ends standing.beginning standing.assumptions conflict kept
+  stands_with conflict is =
+      let P : Option LineId → Type 0 =
+      λ x. StandsFrom a standing.net standing.rules standing.ends standing.beginning standing.assumptions x kept in
+      subst P is keeps.stands
+
+  -- where no conflict stands, each line has some state
+  open_in : standing.conflict ≡ None → IsOpenIn a standing
+  open_in free =
+      open_from a laws standing.net keeps.circuit standing.rules standing.ends standing.assumptions kept keeps.cone standing.beginning
+      (stands_with None free)
+
+  -- and where one stands, its line has none
+  emptied_in : (line : LineId) → standing.conflict ≡ Some line → IsEmptiedIn a standing line.0
+  emptied_in line is =
+      emptied_from a laws standing.net keeps.circuit standing.rules standing.ends standing.assumptions kept keeps.cone standing.beginning line
+      (stands_with (Some line) is)
+
+  -- what the labels on the board tell
+  tells_in : standing.conflict ≡ None
+      → (labels : List StateSet) × IsLabels a standing labels
+      × TellsLabels a.count standing labels kept.board.labels
+  tells_in free =
+      let tells = tells_from a laws standing.net keeps.circuit standing.rules standing.ends standing.assumptions kept keeps.cone
+      standing.beginning (stands_with None free) in (
+        tells.0,
+        tells.1,
+        (λ line within. record { contains = (tells.2 line within).0; told = (tells.2 line within).1 }),
+      )
+
+  pub open_of : (conflict : Option LineId) → standing.conflict ≡ conflict → IfNone conflict (IsOpenIn a now)
+  open_of None is = subst (IsOpenIn a) is_now (open_in is)
+  open_of (Some line) is = tt
+
+  pub emptied_of : (conflict : Option LineId) → standing.conflict ≡ conflict → IfSome conflict (λ line. IsEmptiedIn a now line.0)
+  emptied_of None is = tt
+  emptied_of (Some line) is = let P : Standing → Type 0 = λ s. IsEmptiedIn a s line.0 in subst P is_now (emptied_in line is)
+
+  pub tells_of : (answers : List StateSet) → answers ≡ kept.board.labels → now.conflict ≡ None
+      → (labels : List StateSet) × IsLabels a now labels × TellsLabels a.count now labels answers
+  tells_of answers is free =
+      let P : Standing → Type 0 =
+      λ s. (labels : List StateSet) × IsLabels a s labels × TellsLabels a.count s labels kept.board.labels in
+      let Q : List StateSet → Type 0 = λ x. (labels : List StateSet) × IsLabels a now labels × TellsLabels a.count now labels x in
+      subst Q (sym is) (subst P is_now (tells_in (ap (λ (s : Standing). s.conflict) is_now ∙ free)))

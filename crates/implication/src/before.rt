@@ -1,0 +1,11 @@
+// What stood before an entry of the list of assumptions.
+use state_sets::StateSet;
+
+/// What an engine goes back to when it takes back an entry.
+#[derive(Clone, Copy, Debug)]
+pub(crate) struct Before {
+    /// How many changes of labels were noted.
+    pub(crate) changes: usize,
+    /// Where the entry is about a source, what was left of the source.
+    pub(crate) left: StateSet,
+}

@@ -1,0 +1,250 @@
+// The labels of a board while no scope is open, and how a scope begins at the cost of the lines that its source reaches. The idle labels
+// are computed once, forward from sources that start as the rules leave them. A beginning writes the states that launch the transition
+// at its source, and all states at the lines behind it, and narrows there alone: no other line can have less than its idle label.
+ghost use Rattle.std.specs.Prelude.{◌≡◌, ◌≢◌, ◌<◌, ◌≤◌, ◌∷◌, [], ℕ, length, replicate, All, Contains, IfOk, IfSome, IfNone};
+ghost use Rattle.pd_base.specs.declared.ids.LineId.{LineId};
+ghost use Rattle.pd_base.specs.declared.rules.Rules.{Rules};
+ghost use Rattle.netlist.specs.Circuit.{Circuit, source_count, gate_count, line_count};
+ghost use Rattle.netlist.specs.Lawful.{IsCircuit};
+ghost use Rattle.state_sets.specs.States.{IsWithin, AreWithin, no_states, all_states};
+ghost use Rattle.state_sets.specs.Labellings.{label_at};
+ghost use Rattle.state_sets.specs.Starts.{MayStart};
+ghost use Rattle.state_sets.specs.Hulls.{IsHull, IsEmptied, HasNoEmptySet};
+ghost use Rattle.state_laws.specs.Cones.{IsClosedBack, IsNarrowingIn};
+ghost use Rattle.state_laws.specs.Forward.{IsForward, AreReached};
+ghost use Rattle.narrowing.specs.Conditions.{IsEnteredOn};
+ghost use Rattle.hulls.specs.Awaiting.{is_inside};
+ghost use Rattle.hulls.specs.Boards.{IsBoardOf};
+ghost use Rattle.implication.specs.Idling.{IsIdleSet, StartsNowhere, StandsBy, IsIdleBoard, IsNewBoard, IsLeftAtRest, IsStartWritten};
+
+use crate::Beginning;
+use crate::reached::ReachedLines;
+use crate::reaching::reach;
+use hulls::{Board, launching_states, other_states};
+use narrowing::{Conditions, NarrowScratch};
+use netlist::Netlist;
+use pd_base::{LineId, OutOfMemory, Rules};
+use state_sets::{Algebra, StateSet, every_state};
+use std::alloc::Global;
+use std::marker::Model;
+
+// The idle labels of a board, and the lines reached from the source of the scope that is open.
+#[derive(Drop)]
+pub(crate) struct IdleLabels {
+    labels: Vec<StateSet>,
+    reached: ReachedLines,
+}
+
+impl Model for IdleLabels {
+    ghost use Rattle.std.specs.Prelude.{◌≡◌, length};
+    ghost use Rattle.implication.specs.Idling.{Idling};
+
+    ghost Value = { Idling };
+
+    ghost view = { λ i. record { labels = i.labels.items; reached = i.reached.lines } };
+
+    ghost invariant = { λ i. i.reached.count ≡ length i.labels.items };
+}
+
+impl IdleLabels {
+    // The idle labels of a new board, which has them then. It fails only where memory runs out.
+    pub(crate) fn new<A: Algebra>(
+        alloc: Global,
+        net: &Netlist,
+        rules: &Rules,
+        board: &mut Board<A>,
+        conditions: &Conditions,
+        scratch: &mut NarrowScratch,
+    ) -> Result<IdleLabels, OutOfMemory>
+        requires board { IsNewBoard A.algebra.count net.now board.old }
+        requires conditions { IsEnteredOn net.now conditions.now }
+        requires no_steps { conditions.now.steps ≡ [] }
+        ensures idle { IfOk result (λ idle. IsIdleBoard A.algebra net.now rules.now idle board.new) }
+        ensures board { IsLeftAtRest board.old board.new }
+    {
+        let set = idle_set::<A>(rules);
+        settle_idle(net, set, board, conditions, scratch);
+        let labels = Vec::from_slice(alloc, board.labels())?;
+        let reached = ReachedLines::new(alloc, labels.len())?;
+        board.undo_to(0);
+        put_labels(net, labels.as_slice(), board);
+        Ok(IdleLabels { labels, reached })
+    }
+
+    // Begins with a transition at a source: the labels are then the hull of the start by the narrowings inside, or no state is left
+    // at the line that it gives. Takes no memory, and costs what the source reaches.
+    pub(crate) fn begin<A: Algebra>(
+        &mut self,
+        net: &Netlist,
+        rules: &Rules,
+        begun: Beginning,
+        board: &mut Board<A>,
+        conditions: &Conditions,
+        scratch: &mut NarrowScratch,
+    ) -> Option<LineId>
+        requires source { begun.source.0 < source_count net.now }
+        requires idle { IsIdleBoard A.algebra net.now rules.now self.old board.old }
+        requires conditions { IsEnteredOn net.now conditions.now }
+        requires no_steps { conditions.now.steps ≡ [] }
+        ensures hull { IfNone result (IsHull A.algebra net.now (IsNarrowingIn net.now (is_inside board.old.inside) conditions.now.kind [])
+            (MayStart A.algebra net.now rules.now begun.source.0 begun.direction) board.new.labels) }
+        ensures none_empty { IfNone result (HasNoEmptySet net.now board.new.labels) }
+        ensures emptied { IfSome result (λ line. (line.0 < line_count net.now)
+            × IsEmptied A.algebra net.now (IsNarrowingIn net.now (is_inside board.old.inside) conditions.now.kind [])
+            (MayStart A.algebra net.now rules.now begun.source.0 begun.direction) line.0) }
+        ensures stands { StandsBy A.algebra net.now rules.now self.new board.new }
+        ensures board { IsLeftAtRest board.old board.new }
+    {
+        let launched = launching_states::<A>(begun.direction);
+        if launched == StateSet::EMPTY {
+            return Some(begun.source);
+        }
+        if let Some(other) = stuck_source::<A>(net, rules, begun.source) {
+            return Some(other);
+        }
+        reach(net, board, begun.source, &mut self.reached);
+        start_lines(net, self.reached.lines(), launched, board);
+        board.settle(net, conditions, scratch)
+    }
+
+    // Undoes all changes of the board, and gives it the idle labels back. Takes no memory, and costs what was changed and reached.
+    pub(crate) fn end<A: Algebra>(&mut self, board: &mut Board<A>)
+        requires stands { (c : Circuit) × (rules : Rules) × StandsBy A.algebra c rules self.old board.old }
+        ensures idle { (c : Circuit) (rules : Rules) → StandsBy A.algebra c rules self.old board.old
+            → IsIdleBoard A.algebra c rules self.new board.new }
+        ensures board { IsLeftAtRest board.old board.new }
+    {
+        board.undo_to(0);
+        give_back(self.labels.as_slice(), &mut self.reached, board);
+    }
+}
+
+// The set of the sources while no scope is open.
+fn idle_set<A: Algebra>(rules: &Rules) -> StateSet
+    ensures within { IsWithin A.algebra.count result }
+    ensures set { IsIdleSet A.algebra rules.now result }
+{
+    let others = other_states::<A>(rules);
+    if others == StateSet::EMPTY {
+        return every_state::<A>();
+    }
+    others
+}
+
+// Narrows from a new board, on which the sources get this set.
+fn settle_idle<A: Algebra>(
+    net: &Netlist,
+    set: StateSet,
+    board: &mut Board<A>,
+    conditions: &Conditions,
+    scratch: &mut NarrowScratch,
+)
+    requires set { IsWithin A.algebra.count set }
+    requires some { set ≢ no_states }
+    requires board { IsNewBoard A.algebra.count net.now board.old }
+    requires conditions { IsEnteredOn net.now conditions.now }
+    requires no_steps { conditions.now.steps ≡ [] }
+    ensures forward { IsForward A.algebra net.now (is_inside board.old.inside) set board.new.labels }
+    ensures board { IsLeftAtRest board.old board.new }
+{
+    write_sources(net, set, board);
+    board.settle_all(net, conditions, scratch);
+}
+
+// Writes a set at each source.
+fn write_sources<A: Algebra>(net: &Netlist, set: StateSet, board: &mut Board<A>)
+    requires set { IsWithin A.algebra.count set }
+    requires lines { length board.old.labels ≡ line_count net.now }
+    requires unnoted { board.old.notes ≡ [] }
+    ensures board { board.new ≡ record board.old { labels = board.new.labels } }
+    ensures circuit { IsCircuit net.now }
+    ensures one_each { length board.new.labels ≡ length board.old.labels }
+    ensures sources { (line : ℕ) → line < source_count net.now → label_at board.new.labels line ≡ set }
+    ensures gates { (line : ℕ) → source_count net.now ≤ line → label_at board.new.labels line ≡ label_at board.old.labels line }
+{
+    for source in 0..net.sources() {
+        board.write(LineId(source), set);
+    }
+}
+
+// Writes these labels.
+fn put_labels<A: Algebra>(net: &Netlist, labels: &[StateSet], board: &mut Board<A>)
+    requires within { AreWithin A.algebra.count labels.now }
+    requires one_each { length labels.now ≡ line_count net.now }
+    requires lines { length board.old.labels ≡ line_count net.now }
+    requires unnoted { board.old.notes ≡ [] }
+    ensures { board.new ≡ record board.old { labels = labels.now } }
+{
+    for line in 0..net.lines() {
+        board.write(LineId(line), labels[line as usize]);
+    }
+}
+
+// Another source than this one, if there is one and the rules leave it no state.
+fn stuck_source<A: Algebra>(net: &Netlist, rules: &Rules, source: LineId) -> Option<LineId>
+    requires { source.0 < source_count net.now }
+    ensures stuck { IfSome result (λ other. (other.0 < source_count net.now) × (other.0 ≢ source.0) × StartsNowhere A.algebra rules.now) }
+    ensures circuit { IsCircuit net.now }
+    ensures none { IfNone result (StartsNowhere A.algebra rules.now → (line : ℕ) → line < source_count net.now → line ≡ source.0) }
+{
+    let sources = net.sources();
+    if other_states::<A>(rules) != StateSet::EMPTY {
+        return None;
+    }
+    let other = if source.0 == 0 { 1 } else { 0 };
+    if other < sources {
+        return Some(LineId(other));
+    }
+    None
+}
+
+// Writes the start at the lines reached, and lets the gates inside wait whose lines are among them.
+fn start_lines<A: Algebra>(
+    net: &Netlist,
+    reached: &[LineId],
+    launched: StateSet,
+    board: &mut Board<A>,
+)
+    requires of { IsBoardOf net.now board.old }
+    requires in_circuit { All (λ line. line.0 < line_count net.now) reached.now }
+    requires launched { IsWithin A.algebra.count launched }
+    requires unnoted { board.old.notes ≡ [] }
+    ensures { IsStartWritten A.algebra.count net.now launched reached.now board.old board.new }
+{
+    for line in reached {
+        start_line(net, *line, launched, board);
+    }
+}
+
+// The same at one line.
+fn start_line<A: Algebra>(net: &Netlist, line: LineId, launched: StateSet, board: &mut Board<A>)
+    requires of { IsBoardOf net.now board.old }
+    requires in_circuit { line.0 < line_count net.now }
+    requires launched { IsWithin A.algebra.count launched }
+    requires unnoted { board.old.notes ≡ [] }
+    ensures { IsStartWritten A.algebra.count net.now launched (line ∷ []) board.old board.new }
+{
+    match net.gate_of(line) {
+        None => board.write(line, launched),
+        Some(gate) => {
+            board.write(line, every_state::<A>());
+            board.ask(gate);
+        }
+    }
+}
+
+// Writes the labels at the lines reached, and takes these away.
+fn give_back<A: Algebra>(labels: &[StateSet], reached: &mut ReachedLines, board: &mut Board<A>)
+    requires within { AreWithin A.algebra.count labels.now }
+    requires one_each { length board.old.labels ≡ length labels.now }
+    requires count { reached.old.count ≡ length labels.now }
+    requires unnoted { board.old.notes ≡ [] }
+    requires same { (line : LineId) → ¬ Contains reached.old.lines line → label_at board.old.labels line.0 ≡ label_at labels.now line.0 }
+    ensures board { board.new ≡ record board.old { labels = labels.now } }
+    ensures reached { reached.new.lines ≡ [] }
+    ensures count { reached.new.count ≡ reached.old.count }
+{
+    while let Some(line) = reached.pop() {
+        board.write(line, labels[line.0 as usize]);
+    }
+}

@@ -1,0 +1,179 @@
+-- A visit of a place: how the search goes on where the place is shut out, and where a trial has failed there.
+use Rattle.std.proofs.Common.{◌≡◌, ℕ, ◌+◌, ◌*◌, ◌-◌, ◌<◌, ◌≤◌, ◌^◌, ⊎_elim, List, [], ◌∷◌, ◌++◌, length, reverse, Option, Some, None, true, false, refl, sym, ap, ◌∙◌, subst, arith}
+use Rattle.std.specs.Prelude.{is_some}
+use Rattle.std.proofs.lemmas.Bool.{cases_lt, false≢true}
+use Rattle.std.proofs.lemmas.List.{length_push}
+use Rattle.pd_base.specs.Pair.{Vectors}
+use Rattle.pd_base.specs.Target.{Target}
+use Rattle.netlist.specs.Circuit.{Circuit}
+use Rattle.netlist.specs.Paths.{IsPrefix}
+use Rattle.runs.specs.declared.tree.Node.{Node}
+use Rattle.runs.specs.declared.tree.Node.TheVariants.{Closed}
+use Rattle.implication.specs.Clients.{IsRestored}
+use Rattle.implication.specs.Moves.{risen}
+use Rattle.implication.specs.Standing.{Standing}
+use Rattle.justify.specs.declared.desk.Desk.{Desk}
+use Rattle.justify.specs.declared.growing.Growth.{Growth}
+use Rattle.justify.specs.declared.growing.Place.{Place}
+use Rattle.justify.specs.declared.task.Task.{Task}
+use Rattle.justify.specs.Choices.{AreSingle}
+use Rattle.justify.specs.Desks.{IsDesk}
+use Rattle.justify.specs.Growths.{IsEntered, IsShut, IsGrowing, IsExtended}
+use Rattle.justify.specs.Nodes.{StandsAtNode}
+use Rattle.justify.specs.Searches.{IsSearching, SearchGoesOn, AddsNode, IsVisit, IsGrowthOf}
+use Rattle.justify.specs.Tasks.{task_target}
+use Rattle.justify.specs.Tests.{IsFitTest}
+use Rattle.justify.specs.Trying.{HasFailed, FailsAtNode, IsTrialOf}
+use Rattle.justify.specs.UnderWay.{IsUnderWay, IsSameSetting}
+use Rattle.justify.proofs.SameNodes.{same_restored, stays_at_node}
+use Rattle.justify.proofs.Placing.{IsNext, next_place}
+use Rattle.justify.proofs.Visits.{growing_same, reverse_push, reverse_none, shut_under_way, shut_growing, entered_at_node, last_under_way, extended_growing, extended_by_one, extended_left}
+
+module _ (task : Task) (old : Standing) (desk : Desk) (growth : Growth) (place : Place)
+    (searching : IsSearching task old desk (place ∷ reverse growth.places.items) growth) where
+  abbrev target : Target
+  target = task_target task
+
+  next : IsNext old.net old.rules target task.budget old.assumptions place (reverse growth.places.items) growth.nodes.items growth.splits
+  next = next_place old.net old.rules target task.budget old.assumptions place (reverse growth.places.items) growth.nodes.items growth.splits
+      searching.growing
+
+  module _ (new : Standing) (shut : IsShut place old new) (later : old.closings ≤ new.closings) where
+    pub shut_goes_on : SearchGoesOn task old new desk
+    shut_goes_on = record {
+      setting = record {
+        net = ap (λ (s : Standing). s.net) shut.now;
+        rules = ap (λ (s : Standing). s.rules) shut.now;
+        ends = ap (λ (s : Standing). s.ends) shut.now;
+      };
+      under_way = shut_under_way target task.budget old searching.under_way place (reverse growth.places.items) growth.nodes.items growth.splits
+          next new shut;
+      serves =
+          let P : Circuit → Type 0 = λ c. IsDesk c task.path.now desk in
+          subst P (sym (ap (λ (s : Standing). s.net) shut.now)) searching.serves;
+      later = later;
+    }
+
+    pub shut_adds : (after : Growth) → after.nodes.items ≡ growth.nodes.items ++ Closed ∷ [] → after.places.items ≡ growth.places.items
+        → after.splits ≡ growth.splits → AddsNode task old new growth after
+    shut_adds after nodes places splits = record {
+      counted = let e = ap (λ (s : Standing). s.closings) shut.now in omega (arith, e);
+      one_more = ap length nodes ∙ length_push growth.nodes.items Closed;
+      left = let e = ap length places in omega (arith, e, splits);
+      growing =
+          growing_same new.net new.net new.rules new.rules target task.budget new.assumptions new.assumptions (reverse growth.places.items)
+          (reverse after.places.items) after.nodes.items after.nodes.items growth.splits after.splits refl refl refl
+          (sym (ap reverse places)) refl (sym splits)
+          (shut_growing target task.budget old searching.under_way place (reverse growth.places.items) growth.nodes.items growth.splits
+          next new shut after.nodes.items nodes);
+    }
+
+  module _ (new : Standing) (entered : IsEntered place old new) where
+    same_net : new.net ≡ old.net
+    same_net = ap (λ (s : Standing). s.net) entered.now
+
+    pub entered_node : StandsAtNode target new
+    entered_node = entered_at_node target task.budget old searching.under_way place (reverse growth.places.items) growth.nodes.items growth.splits
+        next new entered
+
+    pub entered_prefix : IsPrefix new.net task.path.now
+    entered_prefix = let P : Circuit → Type 0 = λ c. IsPrefix c task.path.now in subst P (sym same_net) searching.prefix
+
+    pub entered_desk : IsDesk new.net task.path.now desk
+    entered_desk = let P : Circuit → Type 0 = λ c. IsDesk c task.path.now desk in subst P (sym same_net) searching.serves
+
+    module _ (last : Standing) (restored : IsRestored new last) where
+      pub entered_goes_on : (later : Desk) → IsDesk new.net task.path.now later → SearchGoesOn task old last later
+      entered_goes_on later made = record {
+        setting = record {
+          net = restored.net ∙ same_net;
+          rules = restored.rules ∙ ap (λ (s : Standing). s.rules) entered.now;
+          ends = restored.ends ∙ ap (λ (s : Standing). s.ends) entered.now;
+        };
+        under_way = last_under_way target task.budget old searching.under_way place (reverse growth.places.items) growth.nodes.items growth.splits
+            next new entered last restored;
+        serves = let P : Circuit → Type 0 = λ c. IsDesk c task.path.now later in subst P (sym restored.net) made;
+        later = let e = ap (λ (s : Standing). s.closings) entered.now in let f = restored.later in omega (arith, e, f);
+      }
+
+      pub last_node : StandsAtNode target last
+      last_node = stays_at_node target new last (same_restored new last restored) entered_node
+
+      pub failed_adds : HasFailed target last → risen new.closings ≤ last.closings → (after : Growth)
+          → IsExtended target last task.budget growth after → AddsNode task old last growth after
+      failed_adds failed counted after extended = record {
+        counted = let e = ap (λ (s : Standing). risen s.closings) entered.now in omega (arith, e, counted);
+        one_more = extended_by_one target last task.budget growth after extended;
+        left = extended_left target last task.budget growth after extended;
+        growing = extended_growing target task.budget old searching.under_way place growth after next new entered last restored failed extended;
+      }
+
+-- what a trial found, by whether it is a test
+pub trial_none : (target : Target) (first last : Standing) (answer : Option Vectors) → is_some answer ≡ false → IsTrialOf target first last answer
+    → FailsAtNode target first last
+trial_none target first last None none fails = fails
+trial_none target first last (Some pair) none fit = absurd (false≢true (sym none))
+
+pub visit_some : (task : Task) (old new last : Standing) (before after : Growth) (answer : Option Vectors) → is_some answer ≡ true
+    → new.net ≡ old.net → IsTrialOf (task_target task) new last answer → IsVisit task old last before after answer
+visit_some task old new last before after (Some pair) some same fit =
+    let P : Circuit → Type 0 = λ c. IsFitTest c (task_target task) pair in subst P same fit
+visit_some task old new last before after None some same fails = absurd (false≢true some)
+
+-- the next place is taken off the list
+pub searching_popped : (task : Task) (standing : Standing) (desk : Desk) (before after : Growth) (place : Place)
+    → IsSearching task standing desk (reverse before.places.items) before → before.places.items ≡ after.places.items ++ place ∷ []
+    → before.nodes.items ≡ after.nodes.items → before.splits ≡ after.splits
+    → IsSearching task standing desk (place ∷ reverse after.places.items) after
+searching_popped task standing desk before after place searching places nodes splits = record {
+  prefix = searching.prefix;
+  under_way = searching.under_way;
+  serves = searching.serves;
+  growing =
+      growing_same standing.net standing.net standing.rules standing.rules (task_target task) task.budget standing.assumptions standing.assumptions
+      (reverse before.places.items) (place ∷ reverse after.places.items) before.nodes.items after.nodes.items before.splits after.splits
+      refl refl refl (reverse_push after.places.items before.places.items place places) nodes splits searching.growing;
+}
+
+-- a visit that added a node goes on with the search
+pub searching_on : (task : Task) (old new : Standing) (desk later : Desk) (places : List Place) (growth before after : Growth)
+    → IsSearching task old desk places growth → SearchGoesOn task old new later → AddsNode task old new before after
+    → IsSearching task new later (reverse after.places.items) after
+searching_on task old new desk later places growth before after searching goes adds = record {
+  prefix = let P : Circuit → Type 0 = λ c. IsPrefix c task.path.now in subst P (sym goes.setting.net) searching.prefix;
+  under_way = goes.under_way;
+  serves = goes.serves;
+  growing = adds.growing;
+}
+
+-- where no place is left, the tree is whole
+pub searching_ended : (task : Task) (standing : Standing) (desk : Desk) (growth : Growth)
+    → IsSearching task standing desk (reverse growth.places.items) growth → length growth.places.items ≡ 0
+    → IsGrowing standing.net standing.rules (task_target task) task.budget standing.assumptions [] growth.nodes.items growth.splits
+searching_ended task standing desk growth searching none =
+    growing_same standing.net standing.net standing.rules standing.rules (task_target task) task.budget standing.assumptions standing.assumptions
+    (reverse growth.places.items) [] growth.nodes.items growth.nodes.items growth.splits growth.splits
+    refl refl refl (reverse_none growth.places.items none) refl refl searching.growing
+
+pub setting_trans : (first middle last : Standing) → IsSameSetting first middle → IsSameSetting middle last → IsSameSetting first last
+setting_trans first middle last one two = record {
+  net = two.net ∙ one.net;
+  rules = two.rules ∙ one.rules;
+  ends = two.ends ∙ one.ends;
+}
+
+pub visit_none : (task : Task) (old new : Standing) (before after : Growth) (answer : Option Vectors) → is_some answer ≡ false
+    → IsVisit task old new before after answer → AddsNode task old new before after
+visit_none task old new before after None none adds = adds
+visit_none task old new before after (Some pair) none fit = absurd (false≢true (sym none))
+
+pub grown_some : (task : Task) (first old new : Standing) (before after growth : Growth) (answer : Option Vectors) → is_some answer ≡ true
+    → old.net ≡ first.net → IsVisit task old new before after answer → IsGrowthOf task first new growth answer
+grown_some task first old new before after growth (Some pair) some same fit =
+    let P : Circuit → Type 0 = λ c. IsFitTest c (task_target task) pair in subst P same fit
+grown_some task first old new before after growth None some same adds = absurd (false≢true some)
+
+-- where a trial has failed, some source of the support has two states
+pub two_where_failed : (target : Target) (standing : Standing) → HasFailed target standing → ¬ AreSingle target standing
+two_where_failed target standing failed single =
+    failed.two (λ source support. single source support failed.hull failed.labels)

@@ -1,0 +1,37 @@
+-- The choice of a split: one at a source of the support may be chosen.
+use Rattle.std.proofs.Common.{◌≡◌, ℕ, List, Option, Some, None, true, false, refl, sym, ◌∙◌, subst}
+use Rattle.std.specs.Prelude.{IfSome, IfNone, is_some}
+use Rattle.pd_base.specs.Route.{Route}
+use Rattle.pd_base.specs.Target.{Target}
+use Rattle.pd_base.specs.declared.ids.LineId.{LineId}
+use Rattle.netlist.specs.Circuit.{Circuit}
+use Rattle.netlist.specs.Paths.{end_of}
+use Rattle.state_sets.specs.Labellings.{label_at}
+use Rattle.tree_laws.specs.Spent.{IsInSupport, HasInHalf}
+use Rattle.implication.specs.Standing.{Standing}
+use Rattle.justify.specs.declared.choosing.Split.{Split}
+use Rattle.justify.specs.Choices.{SplitsAt, IsUsefulSplit}
+use Rattle.justify.specs.Desks.{AreInSupport}
+use Rattle.justify.specs.KeptCones.{AreConeSources}
+use Rattle.justify.proofs.TriedSources.{cone_in_support}
+
+pub useful_at : (target : Target) (standing : Standing) (source : LineId) → IsInSupport standing.net target.path source.0 → (found : Option Split)
+    → IfSome found (SplitsAt standing source) → IfSome found (IsUsefulSplit target standing)
+useful_at target standing source support None at = tt
+useful_at target standing source support (Some split) at =
+    let P : LineId → Type 0 = λ l. IsInSupport standing.net target.path l.0 in
+    record {
+      in_support = subst P (sym at.at_source) support;
+      splits = record {
+        at_source = refl;
+        in_half = λ labels is second.
+            let Q : LineId → Type 0 = λ l. HasInHalf (label_at labels l.0) split.steadiness second in
+            subst Q (sym at.at_source) (at.in_half labels is second);
+      };
+    }
+
+-- the sources of a cone, as they are read
+pub read_in_support : (c : Circuit) (path : Route) (kept sources : List LineId) → AreConeSources c (end_of c path) kept → sources ≡ kept
+    → AreInSupport c path sources
+read_in_support c path kept sources cone same =
+    let P : List LineId → Type 0 = λ xs. AreInSupport c path xs in subst P (sym same) (cone_in_support c path kept cone)

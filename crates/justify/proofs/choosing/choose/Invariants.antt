@@ -1,0 +1,9 @@
+-- No split was found at the sources so far.
+use Rattle.std.proofs.Common.{take}
+use Rattle.std.specs.List.{All}
+use Rattle.implication.specs.Scopes.{standing}
+use Rattle.justify.specs.Choices.{IsSingleAt}
+use Rattle.justify.proofs.choosing.choose.Given as goal
+
+abbrev pub invariant-loop-source : goal.invariant-loop-source
+invariant-loop-source g l = All (λ source. IsSingleAt (standing l.scope) source.0) (take l.source-index l.sources)

@@ -1,0 +1,7 @@
+use Rattle.justify.proofs.HalfStates.{shares_half}
+use Rattle.justify.proofs.halves.has_in_half.Goals as goal
+
+pub returns : goal.returns
+returns c =
+    shares_half c.args.set c.half_states.result c.intersect.result c.args.steadiness c.args.second c.ne.result
+    c.half_states.ensures.means c.half_states.ensures.within c.intersect.ensures c.ne.ensures

@@ -1,0 +1,25 @@
+use Rattle.std.proofs.Common.{ap, ◌∙◌, length}
+use Rattle.implication.specs.Scopes.{standing}
+use Rattle.justify.proofs.SplitChoices.{read_in_support}
+use Rattle.justify.proofs.TriedSources.{support_within}
+use Rattle.justify.proofs.searching.propose.Goals as goal
+
+pub take_preferred-requires-clause-labels : goal.take_preferred-requires-clause-labels
+take_preferred-requires-clause-labels g c =
+    let net = (standing c.args.scope.now).net in
+    support_within net c.args.task.now.path.now c.sources.result.now (length c.labels.result.now) c.labels.ensures.one_each
+    (read_in_support net c.args.task.now.path.now c.args.desk.now.cone.sources c.sources.result.now c.requires.desk.cone.sources c.sources.ensures)
+
+pub take_preferred-requires-clause-wanted : goal.take_preferred-requires-clause-wanted
+take_preferred-requires-clause-wanted g c =
+    let net = (standing c.args.scope.now).net in
+    support_within net c.args.task.now.path.now c.sources.result.now (length c.as_slice.result.now)
+    (ap length c.as_slice.ensures.value ∙ c.requires.desk.made.wanted)
+    (read_in_support net c.args.task.now.path.now c.args.desk.now.cone.sources c.sources.result.now c.requires.desk.cone.sources c.sources.ensures)
+
+pub take_preferred-requires-clause-places : goal.take_preferred-requires-clause-places
+take_preferred-requires-clause-places g c =
+    let net = (standing c.args.scope.now).net in
+    support_within net c.args.task.now.path.now c.sources.result.now (length c.as_mut_slice.result.now)
+    (ap length c.as_mut_slice.ensures.value ∙ c.requires.desk.made.states)
+    (read_in_support net c.args.task.now.path.now c.args.desk.now.cone.sources c.sources.result.now c.requires.desk.cone.sources c.sources.ensures)

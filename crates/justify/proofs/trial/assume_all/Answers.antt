@@ -1,0 +1,72 @@
+-- Each source more stays within the trial; a conflict closes it, and where none came all are held.
+use Rattle.std.proofs.Common.{ap, sym, ◌∙◌, Some, IsSome, subst, take, get_or}
+use Rattle.std.specs.Prelude.{is_some}
+use Rattle.std.specs.List.{All}
+use Rattle.std.proofs.lemmas.List.{take_all}
+use Rattle.std.proofs.lemmas.List.Elements.{All-more}
+use Rattle.implication.specs.Scopes.{standing}
+use Rattle.implication.specs.Standing.{Standing, IsFree}
+use Rattle.implication.proofs.Restoring.{extends_trans}
+use Rattle.justify.specs.declared.trial.Tried.{Tried}
+use Rattle.justify.specs.Tasks.{task_target}
+use Rattle.justify.specs.Nodes.{beginning_of}
+use Rattle.justify.specs.Trying.{IsHeldIn}
+use Rattle.justify.proofs.Resting.{counted_later, closes_there}
+use Rattle.justify.proofs.Trials.{within_itself, within_more, held_here, held_before}
+use Rattle.justify.proofs.trial.assume_all.Goals as goal
+
+pub returns-in-Err-clause-trial : goal.returns-in-Err-clause-trial
+returns-in-Err-clause-trial g c =
+    let first = standing c.args.scope.now in let now = standing c.loop-entry.scope in
+    let free : IsFree now = record {
+      begun = ap is_some (c.loop-entry.invariant.extends.beginning ∙ c.requires.node.beginning);
+      free = c.loop-entry.invariant.held.free;
+    } in
+    within_more (task_target c.args.task.now) first c.requires.node now (standing c.assume.new.self) _
+    (c.requires.tried c.loop-entry.entry-index _ c.loop-entry-test.true) c.only.result c.only.ensures
+    (ap (λ (s : Standing). s.assumptions) (c.in-Err.ensures.err free)) c.loop-entry.invariant.trial
+
+pub returns-in-Err-clause-ends : goal.returns-in-Err-clause-ends
+returns-in-Err-clause-ends g c =
+    let first = standing c.args.scope.now in let now = standing c.loop-entry.scope in let new = standing c.assume.new.self in
+    let before = c.loop-entry.invariant.extends in
+    let free : IsFree now = record { begun = ap is_some (before.beginning ∙ c.requires.node.beginning); free = c.loop-entry.invariant.held.free } in
+    record {
+      closes = closes_there first new (beginning_of (task_target c.args.task.now)) (c.assume.ensures.extends.net ∙ before.net)
+          (c.assume.ensures.extends.rules ∙ before.rules) (c.assume.ensures.extends.beginning ∙ before.beginning ∙ c.requires.node.beginning)
+          _ c.in-Err.ensures.emptied;
+      counted = counted_later first.closings now.closings new.closings before.later
+          (ap (λ (s : Standing). s.closings) (c.in-Err.ensures.err free));
+    }
+
+pub loop-entry-preserved : goal.loop-entry-preserved
+loop-entry-preserved g c =
+    let first = standing c.args.scope.now in let now = standing c.loop-entry.scope in let new = standing c.assume.new.self in
+    let target = task_target c.args.task.now in
+    let before = c.loop-entry.invariant in
+    let more = ap (λ (s : Standing). s.assumptions) c.in-Ok.ensures.ok in
+    let is = c.requires.tried c.loop-entry.entry-index _ c.loop-entry-test.true in
+    record {
+      scope = record {
+        engine = c.assume.ensures.scope.engine ∙ before.scope.engine;
+        origin = c.assume.ensures.scope.origin ∙ before.scope.origin;
+      };
+      extends = extends_trans first now new before.extends c.assume.ensures.extends;
+      trial = within_more target first c.requires.node now new _ is c.only.result c.only.ensures more before.trial;
+      held = record {
+        free = ap (λ (s : Standing). s.conflict) c.in-Ok.ensures.ok ∙ before.held.free;
+        left_open = c.in-Ok.ensures.open;
+        held = All-more (IsHeldIn target first new) c.args.tried.now c.loop-entry.entry-index _ c.loop-entry-test.true
+            (held_before target first c.requires.node now new _ is c.only.result c.only.ensures more (take c.loop-entry.entry-index c.args.tried.now) before.held.held)
+            (held_here target first c.requires.node now new _ is c.only.result c.only.ensures more);
+      };
+    }
+
+pub returns-clause-ends : goal.returns-clause-ends
+returns-clause-ends g c =
+    let P : _ → Type 0 = λ xs. All (IsHeldIn (task_target c.args.task.now) (standing c.args.scope.now) (standing c.loop-entry.scope)) xs in
+    record {
+      free = c.loop-entry.invariant.held.free;
+      left_open = c.loop-entry.invariant.held.left_open;
+      held = subst P (take_all c.loop-entry.entry-index c.args.tried.now c.loop-entry-test.false) c.loop-entry.invariant.held.held;
+    }

@@ -1,0 +1,15 @@
+-- The sources so far are held in the states tried, and no conflict came.
+use Rattle.std.proofs.Common.{take}
+use Rattle.implication.specs.Clients.{ExtendsStanding}
+use Rattle.implication.specs.Scopes.{IsSameScope, standing}
+use Rattle.justify.specs.Tasks.{task_target}
+use Rattle.justify.specs.Trying.{IsWithinTrial, AreHeld}
+use Rattle.justify.proofs.trial.assume_all.Given as goal
+
+abbrev pub invariant-loop-entry : goal.invariant-loop-entry
+invariant-loop-entry g l = record {
+  scope : IsSameScope l.initial.scope l.scope;
+  extends : ExtendsStanding (standing l.initial.scope) (standing l.scope);
+  trial : IsWithinTrial (task_target l.task) (standing l.initial.scope) (standing l.scope);
+  held : AreHeld (task_target l.task) (standing l.initial.scope) (standing l.scope) (take l.entry-index l.tried);
+}

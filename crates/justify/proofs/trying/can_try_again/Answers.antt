@@ -1,0 +1,24 @@
+use Rattle.std.proofs.Common.{sym, ◌∙◌, subst, List}
+use Rattle.std.specs.List.{All}
+use Rattle.std.proofs.lemmas.List.{take_all}
+use Rattle.std.proofs.lemmas.List.Elements.{All-more}
+use Rattle.implication.specs.Scopes.{standing}
+use Rattle.justify.specs.declared.trial.Tried.{Tried}
+use Rattle.justify.specs.Tasks.{task_target}
+use Rattle.justify.specs.Trying.{CanTry}
+use Rattle.justify.proofs.TriedSources.{tried_again}
+use Rattle.justify.proofs.trying.can_try_again.Goals as goal
+
+pub loop-entry-preserved : goal.loop-entry-preserved
+loop-entry-preserved g c =
+    let target = task_target c.args.task.now in let now = standing c.args.scope.now in
+    All-more (CanTry target now) c.as_slice-tried.result.now c.loop-entry.entry-index _ c.loop-entry-test.true c.loop-entry.invariant
+    (tried_again target now c.marks.result.now _
+    (λ line marked. (c.requires.desk.cone.lines line).0 ((c.marks.ensures.exactly line).0 marked))
+    (c.has_least.ensures c.if-not-has_least.false))
+
+pub returns : goal.returns
+returns g c = λ some.
+    let P : List Tried → Type 0 = λ xs. All (CanTry (task_target c.args.task.now) (standing c.args.scope.now)) xs in
+    subst P (take_all c.loop-entry.entry-index c.as_slice-tried.result.now c.loop-entry-test.false ∙ c.as_slice-tried.ensures.value)
+    c.loop-entry.invariant

@@ -1,0 +1,10 @@
+-- The sources so far can be tried again.
+use Rattle.std.proofs.Common.{take}
+use Rattle.std.specs.List.{All}
+use Rattle.implication.specs.Scopes.{standing}
+use Rattle.justify.specs.Tasks.{task_target}
+use Rattle.justify.specs.Trying.{CanTry}
+use Rattle.justify.proofs.trying.can_try_again.Given as goal
+
+abbrev pub invariant-loop-entry : goal.invariant-loop-entry
+invariant-loop-entry g l = All (CanTry (task_target l.task) (standing l.scope)) (take l.entry-index l.tried)

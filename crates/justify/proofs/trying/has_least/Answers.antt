@@ -1,0 +1,26 @@
+use Rattle.std.proofs.Common.{◌≡◌, ◌<◌, sym, ap, ◌∙◌, subst, arith}
+use Rattle.std.proofs.lemmas.Bool.{eqb-true}
+use Rattle.netlist.specs.Circuit.{source_count}
+use Rattle.state_sets.specs.declared.state.State.{State}
+use Rattle.implication.specs.Scopes.{standing}
+use Rattle.justify.specs.LeastStates.{least_of}
+use Rattle.justify.specs.Nodes.{beginning_of}
+use Rattle.justify.specs.Tasks.{task_target}
+use Rattle.justify.proofs.Resting.{label_is}
+use Rattle.justify.proofs.trying.has_least.Goals as goal
+
+pub returns-then-marked : goal.returns-then-marked
+returns-then-marked g c = λ yes.
+    let now = standing c.args.scope.now in
+    let count = c.sources-sources.ensures.count in let same_count = ap source_count c.net.ensures in
+    let within : c.args.entry.source.0 < source_count now.net = omega (arith, c.if-entry-sources.false, count, same_count) in
+    let same = eqb-true c.least.result.0 c.args.entry.state.0 (sym c.eq.ensures ∙ yes) in
+    let is : c.args.entry.state ≡ c.least.result = ap (λ n. record { 0 = n }) (sym same) in
+    let P : State → Type 0 = λ state. state.0 < 4 in
+    record {
+      is_source = within;
+      marked = c.if-marked.true;
+      in_range = subst P (sym is) c.least.ensures.in_range;
+      least = λ labels labelled. is ∙ c.least.ensures.least ∙ ap least_of (label_is now (beginning_of (task_target c.args.task.now))
+          c.requires.node.beginning c.args.entry.source.0 c.label.result within (c.label.ensures c.requires.node.free) labels labelled);
+    }

@@ -1,0 +1,51 @@
+use Rattle.std.proofs.Common.{◌≡◌, ◌<◌, refl, sym, ap, ◌∙◌, subst, length, List}
+use Rattle.std.proofs.lemmas.List.{with_items_is}
+use Rattle.netlist.specs.Circuit.{Circuit, source_count}
+use Rattle.netlist.specs.Paths.{IsPrefix}
+use Rattle.state_sets.specs.declared.state.State.{State}
+use Rattle.implication.specs.Scopes.{standing}
+use Rattle.justify.specs.ConeStates.{state_in}
+use Rattle.justify.specs.Tasks.{task_target}
+use Rattle.justify.proofs.TriedSources.{in_cone_within, side_within, desk_again, read_at, judged_fits}
+use Rattle.justify.proofs.trying.judge_states.Goals as goal
+
+pub set_failure-requires-clause-line : goal.set_failure-requires-clause-line
+set_failure-requires-clause-line g c =
+    let P : Circuit → Type 0 = λ n. IsPrefix n c.args.task.now.path.now in
+    in_cone_within c.net-net.result.now c.sources.ensures.circuit c.args.task.now.path.now (subst P (sym c.net-net.ensures) c.requires.prefix)
+    c.in-FailsAt.line.0 c.in-FailsAt.ensures.within.0
+
+pub set_failure-requires-clause-side : goal.set_failure-requires-clause-side
+set_failure-requires-clause-side g c =
+    let P : Circuit → Type 0 = λ n. IsPrefix n c.args.task.now.path.now in
+    side_within c.net-net.result.now c.sources.ensures.circuit c.args.task.now.path.now (subst P (sym c.net-net.ensures) c.requires.prefix)
+    c.in-FailsAt.side c.in-FailsAt.ensures.within.1
+
+pub returns-in_ok-pair-in-IsTest-clause-desk : goal.returns-in_ok-pair-in-IsTest-clause-desk
+returns-in_ok-pair-in-IsTest-clause-desk g c =
+    let long = c.judge-judgement.ensures.places ∙ ap length c.as_mut_slice.ensures.value in
+    desk_again (standing c.args.scope.now).net c.args.task.now.path.now c.args.desk.now _ c.judge-judgement.new.states c.requires.desk refl refl refl
+    (with_items_is c.args.desk.now.states c.judge-judgement.new.states (long ∙ sym c.args.desk.now.states.ok.0))
+    c.judge-judgement.ensures.states long c.requires.desk.made.justifier
+
+pub returns-in_ok-pair-in-IsTest-clause-kept : goal.returns-in_ok-pair-in-IsTest-clause-kept
+returns-in_ok-pair-in-IsTest-clause-kept g c =
+    let long = c.judge-judgement.ensures.places ∙ ap length c.as_mut_slice.ensures.value ∙ sym c.args.desk.now.states.ok.0 in
+    record {
+      cone = refl;
+      states = λ source within.
+          ap (λ (xs : List State). state_in xs source) (with_items_is c.args.desk.now.states c.judge-judgement.new.states long)
+          ∙ c.judge-judgement.ensures.sources source (subst (λ (n : Circuit). source < source_count n) (sym c.net-net.ensures) within)
+          ∙ ap (λ (xs : List State). state_in xs source) c.as_mut_slice.ensures.value;
+    }
+
+pub returns-in_ok-pair-in-IsTest-clause-test : goal.returns-in_ok-pair-in-IsTest-clause-test
+returns-in_ok-pair-in-IsTest-clause-test g c =
+    let long = c.judge-judgement.ensures.places ∙ ap length c.as_mut_slice.ensures.value ∙ sym c.args.desk.now.states.ok.0 in
+    let net = (standing c.args.scope.now).net in let target = task_target c.args.task.now in
+    judged_fits c.net-net.result.now net c.net-net.ensures target c.judge-judgement.new.states c.in_ok-pair-in-IsTest.pair
+    (read_at c.net-net.result.now net c.net-net.ensures target c.marks.result.now c.args.desk.now.cone c.marks.ensures.exactly c.requires.desk.cone
+    c.as_slice.result.now c.judge-judgement.new.states
+    (c.as_slice.ensures.value ∙ with_items_is c.args.desk.now.states c.judge-judgement.new.states long)
+    c.in_ok-pair-in-IsTest.pair c.in_ok-pair-in-IsTest.ensures)
+    c.in-IsTest.ensures.judged

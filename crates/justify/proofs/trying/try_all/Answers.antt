@@ -1,0 +1,45 @@
+use Rattle.std.proofs.Common.{sym, ap, ◌∙◌, subst, length, List}
+use Rattle.std.specs.List.{All}
+use Rattle.netlist.specs.Paths.{end_of}
+use Rattle.pd_base.specs.declared.ids.LineId.{LineId}
+use Rattle.state_sets.specs.declared.state.State.{State}
+use Rattle.implication.specs.Scopes.{standing}
+use Rattle.justify.specs.declared.trial.Tried.{Tried}
+use Rattle.justify.specs.ConeStates.{AreFourStates}
+use Rattle.justify.specs.KeptCones.{AreConeSources}
+use Rattle.justify.specs.Tasks.{task_target}
+use Rattle.justify.specs.Trying.{CanTry, HasLeast, GivesTest}
+use Rattle.justify.proofs.SplitChoices.{read_in_support}
+use Rattle.justify.proofs.TriedSources.{support_within, all_tried, read_at, tried_fits}
+use Rattle.justify.proofs.trying.try_all.Goals as goal
+
+pub collect-requires-clause-sources : goal.collect-requires-clause-sources
+collect-requires-clause-sources g c =
+    let net = (standing c.args.scope.now).net in
+    support_within net c.args.task.now.path.now c.sources.result.now (length c.as_slice.result.now)
+    (ap length c.as_slice.ensures.value ∙ c.requires.desk.made.states)
+    (read_in_support net c.args.task.now.path.now c.args.desk.now.cone.sources c.sources.result.now c.requires.desk.cone.sources c.sources.ensures)
+
+pub closes-requires-clause-tried : goal.closes-requires-clause-tried
+closes-requires-clause-tried g c =
+    let now = standing c.args.scope.now in let target = task_target c.args.task.now in
+    let P : List Tried → Type 0 = λ xs. All (CanTry target now) xs in
+    let Q : List State → Type 0 = λ xs. HasLeast target now xs in
+    let R : List State → Type 0 = λ xs. AreFourStates xs in
+    let same = sym c.as_slice.ensures.value in
+    subst P (sym c.as_slice-2.ensures.value)
+    (all_tried target now c.sources.result.now c.as_slice.result.now c.collect.new.tried.items c.in_ok-collect.ensures
+    (read_in_support now.net c.args.task.now.path.now c.args.desk.now.cone.sources c.sources.result.now c.requires.desk.cone.sources c.sources.ensures)
+    (subst Q same c.requires.least) (subst R same c.requires.desk.made.four) (ap length c.as_slice.ensures.value ∙ c.requires.desk.made.states))
+
+pub returns-clause-answer : goal.returns-clause-answer
+returns-clause-answer g c =
+    let net = (standing c.args.scope.now).net in let target = task_target c.args.task.now in
+    let P : List LineId → Type 0 = λ xs. AreConeSources net (end_of net target.path) xs in
+    let Q : List Tried → Type 0 = λ xs. GivesTest net target xs in
+    tried_fits net target c.sources.result.now c.as_slice.result.now c.collect.new.tried.items c.in_ok-pair.pair
+    (subst P (sym c.sources.ensures) c.requires.desk.cone.sources) c.in_ok-collect.ensures
+    (read_at c.net.result.now net (c.net.ensures ∙ c.closes.ensures.restored.net) target c.marks.result.now c.args.desk.now.cone
+    c.marks.ensures.exactly c.requires.desk.cone c.as_slice-3.result.now c.as_slice.result.now
+    (c.as_slice-3.ensures.value ∙ sym c.as_slice.ensures.value) c.in_ok-pair.pair c.in_ok-pair.ensures)
+    (subst Q c.as_slice-2.ensures.value c.if-closes.ensures.ends)

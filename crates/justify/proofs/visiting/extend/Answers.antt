@@ -1,0 +1,8 @@
+use Rattle.std.proofs.Common.{arith}
+use Rattle.justify.specs.Growths.IsExtended.{splits}
+use Rattle.justify.proofs.visiting.extend.Goals as goal
+
+pub returns : goal.returns
+returns g c =
+    splits c.in-Some.split c.mark.result c.mark.ensures c.in-Some.ensures.some (omega (arith, c.if-growth-task.false, c.requires.budget))
+    c.in_ok-split.ensures

@@ -1,0 +1,41 @@
+-- A node of a tree at which a pair is tried, and how the scope stands there (this project's own).
+use Rattle.std.specs.Prelude.{◌≡◌, ℕ, ◌<◌, ◌↔◌, List, length, Some, None, IsTrue, Bool}
+use Rattle.pd_base.specs.Route.{Route}
+use Rattle.pd_base.specs.Target.{Target}
+use Rattle.pd_base.specs.declared.rules.Rules.{Rules}
+use Rattle.netlist.specs.Circuit.{Circuit, source_count, line_count}
+use Rattle.netlist.specs.Pins.{IsInFanIn}
+use Rattle.netlist.specs.Paths.{end_of}
+use Rattle.logic_values.specs.Marks.{is_marked}
+use Rattle.state_sets.specs.declared.state.State.{State}
+use Rattle.state_sets.specs.declared.state.StateSet.{StateSet}
+use Rattle.state_sets.specs.States.{Has}
+use Rattle.state_sets.specs.FourStates.{four_states}
+use Rattle.state_sets.specs.Labellings.{label_at}
+use Rattle.state_laws.specs.declared.half.Half.{Half}
+use Rattle.state_laws.specs.Nodes.{MayBe}
+use Rattle.tree_laws.specs.Spent.{IsOpen}
+use Rattle.implication.specs.declared.assumption.Beginning.{Beginning}
+use Rattle.implication.specs.declared.assumption.Assumption.{Assumption}
+use Rattle.implication.specs.Assumptions.{entered_pins, MayUnder}
+use Rattle.implication.specs.Standing.{Standing, IsOpenIn}
+
+-- with what the scopes of a search begin
+abbrev pub beginning_of : Target → Beginning
+beginning_of target = record { source = target.path.source; direction = target.direction; kind = target.kind }
+
+-- at a node: the pins entered are the path's alone, no conflict stands, and each line has some state left
+pub record StandsAtNode (target : Target) (standing : Standing) : Type 0 where
+  pub beginning : standing.beginning ≡ Some (beginning_of target)
+  pub entered : entered_pins standing.assumptions ≡ target.path.steps
+  pub free : standing.conflict ≡ None
+  pub left_open : IsOpenIn four_states standing
+
+-- lines may be in the same states by both
+abbrev pub AllowSame : Circuit → (ℕ → State → Type 0) → (ℕ → State → Type 0) → Type 0
+AllowSame c May Might = (line : ℕ) (state : State) → line < line_count c → state.0 < four_states.count → May line state ↔ Might line state
+
+-- the assumptions leave lines the same states as the node of a tree below these halves
+abbrev pub AllowAsNode : Circuit → Rules → Target → List Assumption → List Half → Type 0
+AllowAsNode c rules target assumptions halves =
+    AllowSame c (MayUnder four_states c rules (beginning_of target) assumptions) (MayBe four_states c rules target halves)

@@ -1,0 +1,49 @@
+-- A search that is under way on a scope, and what a visit of a place makes of it (this project's own).
+use Rattle.std.specs.Prelude.{◌≡◌, ℕ, ◌+◌, ◌*◌, ◌-◌, ◌≤◌, List, [], length, reverse, Option, Some, None}
+use Rattle.pd_base.specs.Pair.{Vectors}
+use Rattle.netlist.specs.Paths.{IsPrefix}
+use Rattle.implication.specs.Moves.{risen}
+use Rattle.implication.specs.Standing.{Standing}
+use Rattle.justify.specs.declared.desk.Desk.{Desk}
+use Rattle.justify.specs.declared.growing.Growth.{Growth}
+use Rattle.justify.specs.declared.growing.Place.{Place}
+use Rattle.justify.specs.declared.task.Task.{Task}
+use Rattle.justify.specs.Answers.{HasCounted}
+use Rattle.justify.specs.Desks.{IsDesk}
+use Rattle.justify.specs.Growths.{IsGrowing}
+use Rattle.justify.specs.Tasks.{task_target}
+use Rattle.justify.specs.Tests.{IsFitTest}
+use Rattle.justify.specs.UnderWay.{IsUnderWay, IsSameSetting}
+
+-- The task's path is one of the circuit, what was entered stands, the desk is the path's, and the tree has grown so far, with these
+-- places left, the next one first.
+pub record IsSearching (task : Task) (standing : Standing) (desk : Desk) (places : List Place) (growth : Growth) : Type 0 where
+  pub prefix : IsPrefix standing.net task.path.now
+  pub under_way : IsUnderWay (task_target task) standing
+  pub serves : IsDesk standing.net task.path.now desk
+  pub growing : IsGrowing standing.net standing.rules (task_target task) task.budget standing.assumptions places growth.nodes.items growth.splits
+
+-- what was entered still stands, and no count has fallen
+pub record SearchGoesOn (task : Task) (old new : Standing) (desk : Desk) : Type 0 where
+  pub setting : IsSameSetting old new
+  pub under_way : IsUnderWay (task_target task) new
+  pub serves : IsDesk new.net task.path.now desk
+  pub later : old.closings ≤ new.closings
+
+-- the tree has one node more, a conflict was counted, and less is left to do
+pub record AddsNode (task : Task) (old new : Standing) (before after : Growth) : Type 0 where
+  pub counted : risen old.closings ≤ new.closings
+  pub one_more : length after.nodes.items ≡ length before.nodes.items + 1
+  pub left : 2 * (task.budget - after.splits) + length after.places.items ≤ 2 * (task.budget - before.splits) + length before.places.items
+  pub growing : IsGrowing new.net new.rules (task_target task) task.budget new.assumptions (reverse after.places.items) after.nodes.items after.splits
+
+-- what a visit finds: a test, or one node more
+abbrev pub IsVisit : Task → Standing → Standing → Growth → Growth → Option Vectors → Type 0
+IsVisit task old new before after (Some pair) = IsFitTest old.net (task_target task) pair
+IsVisit task old new before after None = AddsNode task old new before after
+
+-- what comes of visiting place after place: a test, or a tree with no place left, for each node of which a conflict was counted
+abbrev pub IsGrowthOf : Task → Standing → Standing → Growth → Option Vectors → Type 0
+IsGrowthOf task old new growth (Some pair) = IsFitTest old.net (task_target task) pair
+IsGrowthOf task old new growth None = HasCounted (length growth.nodes.items) old new
+    × IsGrowing new.net new.rules (task_target task) task.budget new.assumptions [] growth.nodes.items growth.splits

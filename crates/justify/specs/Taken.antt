@@ -1,0 +1,24 @@
+-- The states that are taken of the labels of sources (this project's own).
+use Rattle.std.specs.Prelude.{◌≡◌, ◌==◌, ℕ, cond, List, Contains}
+use Rattle.pd_base.specs.declared.ids.LineId.{LineId}
+use Rattle.state_sets.specs.declared.state.State.{State}
+use Rattle.state_sets.specs.declared.state.StateSet.{StateSet}
+use Rattle.state_sets.specs.States.{both_sets}
+use Rattle.state_sets.specs.Labellings.{label_at}
+use Rattle.justify.specs.ConeStates.{state_in}
+use Rattle.justify.specs.LeastStates.{least_of}
+
+-- what a set has of another one, and all of it where that is nothing
+abbrev pub preferred_of : StateSet → StateSet → StateSet
+preferred_of set wanted = cond ((both_sets set wanted).0 == 0) set (both_sets set wanted)
+
+-- each of these sources is in the least state of its set
+abbrev pub AreLeast : List LineId → List StateSet → List State → Type 0
+AreLeast sources sets states =
+    (source : ℕ) → Contains sources (record { 0 = source }) → state_in states source ≡ least_of (label_at sets source)
+
+-- or in the least state of what its set has of another one
+abbrev pub ArePreferred : List LineId → List StateSet → List StateSet → List State → Type 0
+ArePreferred sources sets wanted states =
+    (source : ℕ) → Contains sources (record { 0 = source })
+    → state_in states source ≡ least_of (preferred_of (label_at sets source) (label_at wanted source))

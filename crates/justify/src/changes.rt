@@ -1,0 +1,18 @@
+// Why a line of a draft was cut.
+use pd_base::{GateId, LineId};
+use state_sets::StateSet;
+
+// What cut a line: a decision, by its place among them, or narrowing at a gate.
+#[derive(Clone, Copy, Debug, PartialEq, Eq)]
+pub(crate) enum Cause {
+    Decision(usize),
+    Gate(GateId),
+}
+
+// A cut of a line: what stood there before, and why it was cut.
+#[derive(Clone, Copy, Debug)]
+pub(crate) struct Change {
+    pub(crate) line: LineId,
+    pub(crate) old: StateSet,
+    pub(crate) cause: Cause,
+}

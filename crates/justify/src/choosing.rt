@@ -1,0 +1,81 @@
+// The choice of a split. Any source of the support will do whose label has a state of each half: the one that frontier.rt leads to, else
+// the first one that can be split, by its last value if it has both.
+ghost use Rattle.std.specs.Prelude.{◌≡◌, ◌<◌, IfSome, IfNone};
+ghost use Rattle.netlist.specs.Circuit.{source_count};
+ghost use Rattle.implication.specs.Scopes.{standing};
+ghost use Rattle.justify.specs.Tasks.{task_target};
+ghost use Rattle.justify.specs.Nodes.{StandsAtNode};
+ghost use Rattle.justify.specs.Desks.{IsDesk};
+ghost use Rattle.justify.specs.Choices.{IsUsefulSplit, AreSingle, SplitsAt, IsSingleAt};
+
+use crate::desk::Desk;
+use crate::halves::way_to_split;
+use crate::task::Task;
+use implication::{Scope, Setting};
+use pd_base::LineId;
+use state_sets::FourStates;
+
+// A split of the cases at a source, by steadiness or by the last value.
+#[derive(Clone, Copy, Debug, PartialEq, Eq)]
+pub(crate) struct Split {
+    pub(crate) source: LineId,
+    pub(crate) steadiness: bool,
+}
+
+// A split at a source of the support, of which each half has a state in the source's label: at the lead, if that can be split. There
+// is none where each source of the support has less than two states.
+pub(crate) fn choose<S: Setting>(
+    scope: &Scope<FourStates, S>,
+    task: &Task,
+    desk: &Desk,
+    lead: Option<LineId>,
+) -> Option<Split>
+    requires node { StandsAtNode (task_target task.now) (standing scope.now) }
+    requires desk { IsDesk (standing scope.now).net task.now.path.now desk.now }
+    ensures some { IfSome result (IsUsefulSplit (task_target task.now) (standing scope.now)) }
+    ensures none { IfNone result (AreSingle (task_target task.now) (standing scope.now)) }
+{
+    if let Some(source) = lead {
+        let split = split_at_lead(scope, task, desk, source);
+        if split.is_some() {
+            return split;
+        }
+    }
+    let sources = desk.cone.sources();
+    for source in sources {
+        let split = split_at(scope, task, *source);
+        if split.is_some() {
+            return split;
+        }
+    }
+    None
+}
+
+// A split at the source that is led to, if it is one of the cone and can be split.
+fn split_at_lead<S: Setting>(
+    scope: &Scope<FourStates, S>,
+    task: &Task,
+    desk: &Desk,
+    source: LineId,
+) -> Option<Split>
+    requires node { StandsAtNode (task_target task.now) (standing scope.now) }
+    requires desk { IsDesk (standing scope.now).net task.now.path.now desk.now }
+    ensures { IfSome result (IsUsefulSplit (task_target task.now) (standing scope.now)) }
+{
+    if source.0 < scope.net().sources() && desk.cone.marks()[source.0 as usize] {
+        split_at(scope, task, source)
+    } else {
+        None
+    }
+}
+
+// A split at a source, if its label has two states.
+fn split_at<S: Setting>(scope: &Scope<FourStates, S>, task: &Task, source: LineId) -> Option<Split>
+    requires node { StandsAtNode (task_target task.now) (standing scope.now) }
+    requires source { source.0 < source_count (standing scope.now).net }
+    ensures some { IfSome result (SplitsAt (standing scope.now) source) }
+    ensures none { IfNone result (IsSingleAt (standing scope.now) source.0) }
+{
+    let steadiness = way_to_split(scope.label(source))?;
+    Some(Split { source, steadiness })
+}

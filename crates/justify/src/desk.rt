@@ -1,0 +1,72 @@
+// The buffers of searches: the cone of one path's end, the states in which its sources were judged last, and what the last trial and
+// the last test were. No search takes memory for these but for the list of what was tried, or clears more than the cones before and
+// after.
+ghost use Rattle.std.specs.Prelude.{◌≡◌, ◌<◌, IfOk};
+ghost use Rattle.netlist.specs.Circuit.{line_count};
+ghost use Rattle.justify.specs.ConeStates.{AreFourStates};
+ghost use Rattle.justify.specs.Desks.{IsDeskFor, IsSameDesk};
+
+use crate::blaming::Blame;
+use crate::cone::Cone;
+use crate::justifier::Justifier;
+use crate::trial::Tried;
+use narrowing::half_states;
+use netlist::Netlist;
+use pd_base::OutOfMemory;
+use state_sets::{Algebra, FourStates, State, StateSet, every_state};
+use std::alloc::Global;
+
+/// The buffers of searches on one netlist. One desk serves them all, one after another.
+#[derive(Drop)]
+pub struct Desk {
+    pub(crate) cone: Cone,
+    // by line; those of the cone's sources tell the pair that is judged
+    pub(crate) states: Vec<State>,
+    pub(crate) blame: Blame,
+    // what was tried last through a scope
+    pub(crate) tried: Vec<Tried>,
+    // by line; what the last test had at sources, and all states where it had nothing
+    pub(crate) wanted: Vec<StateSet>,
+    pub(crate) justifier: Justifier,
+}
+
+impl Desk {
+    /// A desk for searches on this netlist. The one error is that memory ran out.
+    pub fn new(alloc: Global, net: &Netlist) -> Result<Desk, OutOfMemory>
+        ensures { IfOk result (IsDeskFor net.now) }
+    {
+        let lines = net.lines() as usize;
+        let cone = Cone::new(alloc, net)?;
+        let states = vec![in alloc; State(0); lines]?;
+        let blame = Blame::new(alloc, net)?;
+        let wanted = vec![in alloc; every_state::<FourStates>(); lines]?;
+        let justifier = Justifier::new(alloc, net)?;
+        Ok(Desk {
+            cone,
+            states,
+            blame,
+            tried: Vec::new(alloc),
+            wanted,
+            justifier,
+        })
+    }
+
+    // Keeps of each line of the cone the states with the last value that it has now, for later searches to try first.
+    pub(crate) fn keep(&mut self)
+        requires { AreFourStates self.old.states.items }
+        ensures { IsSameDesk self.old self.new }
+    {
+        let Desk {
+            cone,
+            states,
+            wanted,
+            ..
+        } = self;
+        for line in cone.lines() {
+            let at = line.0 as usize;
+            if at < wanted.len() && at < states.len() {
+                wanted[at] = half_states::<FourStates>(false, FourStates::last(states[at]));
+            }
+        }
+    }
+}

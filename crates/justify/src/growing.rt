@@ -1,0 +1,104 @@
+// The tree that a search grows: its nodes in preorder, and the places behind them at which trees are still due.
+ghost use Rattle.std.specs.Prelude.{◌≡◌, ◌-◌, ◌<◌, ◌≤◌, ◌^◌, ◌∷◌, [], IfOk, length};
+ghost use Rattle.tree_laws.specs.Growing.{split_node};
+ghost use Rattle.justify.specs.Growths.{root_place, IsSplitAt, IsHalfPlace};
+
+use crate::choosing::Split;
+use crate::frontier::Settled;
+use implication::ScopeMark;
+use narrowing::half_states;
+use pd_base::{LineId, OutOfMemory};
+use runs::Node;
+use state_sets::{FourStates, StateSet, every_state};
+use std::alloc::Global;
+
+/// A place at which a tree is due: the scope goes back to the mark, and a set is assumed of a source.
+#[derive(Clone, Copy, Debug)]
+pub(crate) struct Place {
+    /// What stood where the node above was split.
+    pub mark: ScopeMark,
+    /// The source of the split.
+    pub source: LineId,
+    /// The states that the source may be in at this place.
+    pub set: StateSet,
+    /// What is settled at the node above.
+    pub settled: Settled,
+}
+
+/// The tree that a search grows.
+#[derive(Debug, Drop)]
+pub(crate) struct Growth {
+    /// The nodes so far, in preorder.
+    pub nodes: Vec<Node>,
+    /// The places at which trees are still due, the next one last.
+    pub places: Vec<Place>,
+    /// How many of the nodes are splits.
+    pub splits: u32,
+}
+
+impl Growth {
+    /// At first there is the place of the root, at which nothing new is assumed: every state of a source. The one error is that memory
+    /// ran out.
+    pub(crate) fn new(alloc: Global, mark: ScopeMark, source: LineId) -> Result<Growth, OutOfMemory>
+        ensures nodes { IfOk result (λ growth. growth.nodes.items ≡ []) }
+        ensures places { IfOk result (λ growth. growth.places.items
+            ≡ root_place mark source ∷ []) }
+        ensures splits { IfOk result (λ growth. growth.splits ≡ 0) }
+    {
+        let mut places = Vec::new(alloc);
+        places.push(Place {
+            mark,
+            source,
+            set: every_state::<FourStates>(),
+            settled: Settled {
+                steps: 0,
+                changes: 0,
+            },
+        })?;
+        Ok(Growth {
+            nodes: Vec::new(alloc),
+            places,
+            splits: 0,
+        })
+    }
+
+    // Adds a split, and the places of its two halves, the first half next.
+    pub(crate) fn split(
+        &mut self,
+        split: Split,
+        mark: ScopeMark,
+        settled: Settled,
+    ) -> Result<(), OutOfMemory>
+        requires { self.old.splits < 2 ^ 32 - 1 }
+        ensures { IfOk result (λ done. IsSplitAt split mark self.old self.new) }
+    {
+        self.nodes.push(node_of(split))?;
+        self.places.push(half_place(split, mark, settled, true))?;
+        self.places.push(half_place(split, mark, settled, false))?;
+        self.splits += 1;
+        Ok(())
+    }
+}
+
+// The node of a split.
+fn node_of(split: Split) -> Node
+    ensures { result ≡ split_node split.steadiness split.source.0 }
+{
+    if split.steadiness {
+        Node::Steadiness(split.source.0)
+    } else {
+        Node::Value(split.source.0)
+    }
+}
+
+// The place of a half of a split.
+fn half_place(split: Split, mark: ScopeMark, settled: Settled, second: bool) -> Place
+    ensures { IsHalfPlace split mark second result }
+{
+    Place {
+        mark,
+        source: split.source,
+        set: half_states::<FourStates>(split.steadiness, second),
+        settled,
+    }
+}

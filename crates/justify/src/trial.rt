@@ -1,0 +1,69 @@
+// Trying the states of a pair through the scope: they are assumed of sources of the path's support, one after another. A conflict
+// shows that the trial of the node closes, and the scope counts it; where none comes of all sources, the pair is a test.
+ghost use Rattle.std.specs.Prelude.{◌≡◌, ◌<◌, true, false, IsTrue, All};
+ghost use Rattle.netlist.specs.Paths.{IsPrefix};
+ghost use Rattle.state_sets.specs.FourStates.{four_states};
+ghost use Rattle.implication.specs.Standing.{IsFree, IsOpenIn};
+ghost use Rattle.implication.specs.Scopes.{IsSameScope, standing};
+ghost use Rattle.implication.specs.Clients.{IsRestored, ExtendsStanding};
+ghost use Rattle.justify.specs.Tasks.{task_target};
+ghost use Rattle.justify.specs.Nodes.{StandsAtNode};
+ghost use Rattle.justify.specs.Trying.{CanTry, IsWithinTrial, EndsTrial, EndsAtNode};
+
+use crate::task::Task;
+use implication::{Scope, Setting};
+use pd_base::LineId;
+use state_sets::{FourStates, State, StateSet};
+
+/// A source of a path's support, and the state in which it is tried.
+#[derive(Clone, Copy, Debug)]
+pub(crate) struct Tried {
+    pub(crate) source: LineId,
+    pub(crate) state: State,
+}
+
+// Whether the trial of the node at which the scope stands closes by these sources. Then it has failed, and a conflict was counted.
+// Where it does not, a pair is a test that has the states tried at all sources of the support. The scope is afterwards as before.
+pub(crate) fn closes<S: Setting>(
+    scope: &mut Scope<FourStates, S>,
+    task: &Task,
+    tried: &[Tried],
+) -> bool
+    requires prefix { IsPrefix (standing scope.old).net task.now.path.now }
+    requires node { StandsAtNode (task_target task.now) (standing scope.old) }
+    requires tried { All (CanTry (task_target task.now) (standing scope.old)) tried.now }
+    ensures scope { IsSameScope scope.old scope.new }
+    ensures restored { IsRestored (standing scope.old) (standing scope.new) }
+    ensures ends { EndsAtNode (task_target task.now) (standing scope.old) (standing scope.new) tried.now result }
+{
+    // there are labels here, of a circuit; and where no conflict comes there are also then
+    let at_source = task.path.source().0 < scope.net().sources();
+    prove!(at_source);
+    scope.label(task.path.source());
+    let mark = scope.mark();
+    if assume_all(scope, task, tried) {
+        scope.back_to(mark);
+        return true;
+    }
+    scope.label(task.path.source());
+    scope.back_to(mark);
+    false
+}
+
+// Assumes of source after source that it is in the state tried, until a conflict comes. Whether one came.
+fn assume_all<S: Setting>(scope: &mut Scope<FourStates, S>, task: &Task, tried: &[Tried]) -> bool
+    requires node { StandsAtNode (task_target task.now) (standing scope.old) }
+    requires tried { All (CanTry (task_target task.now) (standing scope.old)) tried.now }
+    ensures scope { IsSameScope scope.old scope.new }
+    ensures extends { ExtendsStanding (standing scope.old) (standing scope.new) }
+    ensures trial { IsWithinTrial (task_target task.now) (standing scope.old) (standing scope.new) }
+    ensures ends { EndsTrial (task_target task.now) (standing scope.old) (standing scope.new) tried.now result }
+{
+    for entry in tried {
+        match scope.assume(entry.source, StateSet::only(entry.state)) {
+            Ok(()) => {}
+            Err(_) => return true,
+        }
+    }
+    false
+}

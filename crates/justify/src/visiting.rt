@@ -1,0 +1,79 @@
+// A visit of the place that is due next: pairs are tried at the node there, and where none is a test the tree grows by that node.
+ghost use Rattle.std.specs.Prelude.{◌≡◌, ◌≤◌, ◌∷◌, IfOk, length, reverse};
+ghost use Rattle.implication.specs.Moves.{start_at};
+ghost use Rattle.implication.specs.Scopes.{IsSameScope, standing};
+ghost use Rattle.justify.specs.Choices.{AreSingle};
+ghost use Rattle.justify.specs.Desks.{IsDesk};
+ghost use Rattle.justify.specs.Growths.{IsExtended};
+ghost use Rattle.justify.specs.Nodes.{StandsAtNode};
+ghost use Rattle.justify.specs.Searches.{IsSearching, SearchGoesOn, IsVisit};
+ghost use Rattle.justify.specs.Tasks.{task_target};
+
+use crate::choosing::choose;
+use crate::desk::Desk;
+use crate::entering::enter;
+use crate::frontier::{Settled, follow};
+use crate::growing::{Growth, Place};
+use crate::task::Task;
+use crate::trying::try_node;
+use implication::{Scope, Setting};
+use pd_base::{OutOfMemory, Pair};
+use runs::Node;
+use state_sets::FourStates;
+use std::alloc::Global;
+
+// Visits a place: adds the node that stands there, and the places below it. A test is the answer as soon as one is found; where there
+// is none, the tree has one node more, and a conflict was counted.
+//
+// What was entered stays entered, also where memory runs out, which is the one error.
+pub(crate) fn visit<S: Setting>(
+    alloc: Global,
+    scope: &mut Scope<FourStates, S>,
+    task: &Task,
+    desk: &mut Desk,
+    growth: &mut Growth,
+    place: Place,
+) -> Result<Option<Pair>, OutOfMemory>
+    requires searching { IsSearching task.now (standing scope.old) desk.old (place ∷ reverse growth.old.places.items) growth.old }
+    requires origin { start_at scope.old.origin ≤ length task.now.path.now.steps }
+    ensures scope { IsSameScope scope.old scope.new }
+    ensures goes_on { SearchGoesOn task.now (standing scope.old) (standing scope.new) desk.new }
+    ensures answer { IfOk result (IsVisit task.now (standing scope.old) (standing scope.new) growth.old growth.new) }
+{
+    if !enter(scope, place) {
+        growth.nodes.push(Node::Closed)?;
+        return Ok(None);
+    }
+    let test = try_node(alloc, scope, task, desk)?;
+    if test.is_some() {
+        return Ok(test);
+    }
+    extend(scope, task, desk, growth, place.settled)?;
+    Ok(None)
+}
+
+// What becomes of an open node whose trial has failed: a leaf that waits, if no split is left of the budget, else a split.
+fn extend<S: Setting>(
+    scope: &Scope<FourStates, S>,
+    task: &Task,
+    desk: &Desk,
+    growth: &mut Growth,
+    settled: Settled,
+) -> Result<(), OutOfMemory>
+    requires node { StandsAtNode (task_target task.now) (standing scope.now) }
+    requires desk { IsDesk (standing scope.now).net task.now.path.now desk.now }
+    requires two { ¬ AreSingle (task_target task.now) (standing scope.now) }
+    requires budget { growth.old.splits ≤ task.now.budget }
+    ensures { IfOk result (λ done. IsExtended (task_target task.now) (standing scope.now) task.now.budget growth.old growth.new) }
+{
+    if growth.splits == task.budget {
+        growth.nodes.push(Node::Waiting)?;
+        return Ok(());
+    }
+    let lead = follow(scope, task, desk.wanted.as_slice(), settled);
+    let Some(split) = choose(scope, task, desk, lead.source) else {
+        unreachable!()
+    };
+    growth.split(split, scope.mark(), lead.settled)?;
+    Ok(())
+}

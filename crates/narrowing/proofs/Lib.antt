@@ -1,0 +1,11 @@
+pub mod Cuts
+pub mod Folds
+pub mod Limited
+pub mod Marks
+pub mod OneOrTwo
+pub mod Passing
+pub mod Prefixes
+pub mod Sets
+pub mod Suffixes
+pub mod Ties
+pub mod Whole

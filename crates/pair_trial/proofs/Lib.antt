@@ -1,7 +1,0 @@
-mod LeastState
-mod Lists
-pub mod Assuming
-pub mod Resting
-pub mod Nodes
-mod Walking
-mod Tried

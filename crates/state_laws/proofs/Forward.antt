@@ -1,0 +1,322 @@
+-- Where sources are in one set each and lines of gates in any state, the hull of the narrowings without steps is computed forward, and
+-- none of its sets is empty. Where a transition is launched at a source, it changes at the lines reached from the source alone: the labels
+-- with all states there have each labelling at rest that lies in the start.
+use Rattle.std.proofs.Common.{◌≡◌, ◌≢◌, ℕ, zero, suc, ◌<◌, ◌≤◌, ◌^◌, ◌↔◌, ◌⊎◌, inl, inr, ⊎_elim, Bool, true, false, List, [], ◌∷◌, length, map, get_or, Some, None, refl, sym, ap, ◌∙◌, subst, arith, set}
+use Rattle.std.specs.List.{All, Contains}
+use Rattle.std.proofs.lemmas.Bool.{cases_Bool, cases_eq, false≢true}
+use Rattle.std.proofs.lemmas.List.{length-set, get_or-set_same, get_or-set_other}
+use Rattle.std.proofs.lemmas.List.Elements.{All-nil, All-set, All-push, All-contains}
+use Rattle.std.proofs.lemmas.Nat.{pow_pos}
+use Rattle.std.proofs.lemmas.Nat.Bits.{bit_at_ones}
+use Rattle.pd_base.specs.declared.fault.Direction.{Direction}
+use Rattle.pd_base.specs.declared.fault.Kind.{Kind}
+use Rattle.pd_base.specs.declared.ids.LineId.{LineId}
+use Rattle.pd_base.specs.declared.ids.PinRef.{PinRef}
+use Rattle.pd_base.specs.declared.rules.Rules.{Rules}
+use Rattle.netlist.specs.Circuit.{Circuit, source_count, gate_count, line_count, gate_line, kind_at, pins_at}
+use Rattle.netlist.specs.Lawful.{ReadsLines, IsLoopFree}
+use Rattle.netlist.specs.declared.op.Op.TheVariants.{And}
+use Rattle.netlist.proofs.Evaluation.{map_agree, all_from_places, line_induction}
+use Rattle.state_sets.specs.declared.state.State.{State}
+use Rattle.state_sets.specs.declared.state.StateSet.{StateSet}
+use Rattle.state_sets.specs.States.{Has, no_states, all_states}
+use Rattle.state_sets.specs.StateAlgebra.{StateAlgebra, HasLaws}
+use Rattle.state_sets.specs.Starts.{MayStart, IsOtherStart}
+use Rattle.state_sets.specs.Labellings.{label_at, IsLabelling, LiesIn}
+use Rattle.state_sets.specs.Narrowing.{IsChoice, IsNarrowing, gate_lines, gate_state}
+use Rattle.state_sets.specs.Hulls.{IsNarrowingOf, IsAtRest, IsRestAmong, IsAmong, IsHull, IsEmptied, HasNoEmptySet, HasAt}
+use Rattle.state_sets.specs.Hulls.Narrowing.{at_gate, along_link}
+use Rattle.state_laws.specs.Cones.{IsClosedBack, IsNarrowingIn, IsLineIn, IsPartOfHull}
+use Rattle.state_laws.specs.Forward.{IsForward, AreReached, IsLaunchedFrom}
+use Rattle.state_laws.proofs.Choices.{choice_into}
+use Rattle.state_laws.proofs.Cones.{whole, whole_hull, whole_some, whole_same, made, rest_inside, pins_inside, same_rests, part_of_hull}
+use Rattle.state_laws.proofs.Hulls.{hull_once}
+use Rattle.state_laws.proofs.Sets.{none_has, has_in_circuit}
+
+-- all states are in the set of all, which is not empty
+all_have : (count : ℕ) (state : State) → state.0 < count → Has count (all_states count) state
+all_have count state below = record { in_range = below; bit = bit_at_ones count state.0 below }
+
+-- a line stands in a list, or not
+behind_first : (first : LineId) (lines : List LineId) (line : ℕ) → first.0 ≢ line → (k : ℕ) → k < length (first ∷ lines)
+    → get_or (first ∷ lines) k (record { 0 = line }) ≡ record { 0 = line } → Contains lines (record { 0 = line })
+behind_first first lines line away zero inside is = absurd (away (ap (λ (l : LineId). l.0) is))
+behind_first first lines line away (suc k) inside is = (k, (let i = inside in omega arith), is)
+
+pub stands_or_not : (lines : List LineId) (line : LineId) → Contains lines line ⊎ ¬ Contains lines line
+stands_or_not [] line = inr (λ stands. absurd (let s = stands.1 in omega arith))
+stands_or_not (first ∷ lines) line =
+    ⊎_elim
+    (λ (here : first.0 ≡ line.0). inl (zero, omega arith, ap (λ (n : ℕ). let l : LineId = record { 0 = n } in l) here))
+    (λ (away : first.0 ≢ line.0).
+    ⊎_elim
+    (λ (later : Contains lines line). inl (suc later.0, (let l = later.1 in omega arith), later.2))
+    (λ (not : ¬ Contains lines line). inr (λ stands. not (behind_first first lines line.0 away stands.0 stands.1 stands.2)))
+    (stands_or_not lines line))
+    (cases_eq first.0 line.0)
+
+module _ (a : StateAlgebra) (c : Circuit) (inside : ℕ → Bool) (closed : IsClosedBack c inside) where
+  -- the line of a gate outside is none of those of a gate inside
+  apart : (gate : ℕ) → inside gate ≡ false → (other : ℕ) → other < gate_count c → inside other ≡ true
+      → All (λ line. line.0 ≢ gate_line c gate) (gate_lines c other)
+  apart gate outside other within is =
+      All-push (λ (line : LineId). line.0 ≢ gate_line c gate) (pins_at c other) (record { 0 = gate_line c other })
+      (all_from_places (λ (line : LineId). line.0 ≢ gate_line c gate) (pins_at c other)
+      (λ pin line reads here. false≢true (sym outside
+      ∙ closed other gate within is (pin, reads ∙ ap (λ (n : ℕ). let l : LineId = record { 0 = n } in Some l) here))))
+      (λ here. let same : other ≡ gate = omega arith in false≢true (sym outside ∙ sym (ap inside same) ∙ is))
+
+  -- The hull inside has each state at the line of a gate outside that this may be in.
+  pub free_outside : (kind : Kind) (steps : List PinRef) (May : ℕ → State → Type 0) (labels : List StateSet)
+      → IsHull a c (IsNarrowingIn c inside kind steps) May labels → (gate : ℕ) → gate < gate_count c → inside gate ≡ false
+      → ((state : State) → state.0 < a.count → May (gate_line c gate) state)
+      → (state : State) → state.0 < a.count → Has a.count (label_at labels (gate_line c gate)) state
+  free_outside kind steps May labels is gate within outside free state below =
+      is.greatest more (record { labelling = labelling; rest = rests; among = among }) (gate_line c gate) state
+      (subst (λ (s : StateSet). Has a.count s state) (sym here) (all_have a.count state below))
+    where
+      more : List StateSet
+      more = set labels (gate_line c gate) (all_states a.count)
+
+      in_labels : gate_line c gate < length labels
+      in_labels = omega (arith, is.rest.labelling.one_each)
+
+      here : label_at more (gate_line c gate) ≡ all_states a.count
+      here = get_or-set_same labels (gate_line c gate) (all_states a.count) no_states in_labels
+
+      other : (line : ℕ) → line ≢ gate_line c gate → label_at more line ≡ label_at labels line
+      other line away = get_or-set_other labels (gate_line c gate) line (all_states a.count) no_states away
+
+      labelling : IsLabelling a.count c more
+      labelling = record {
+        one_each = length-set labels (gate_line c gate) (all_states a.count) ∙ is.rest.labelling.one_each;
+        within = All-set (λ (s : StateSet). s.0 < 2 ^ a.count) labels (gate_line c gate) (all_states a.count)
+            (let p = pow_pos a.count in omega arith) is.rest.labelling.within;
+      }
+
+      rests : IsAtRest a c (IsNarrowingIn c inside kind steps) more
+      rests (at_gate g condition) of =
+          same_rests a c g condition labels more
+          (λ k d k_in. other (get_or (gate_lines c g) k d).0 (apart gate outside g of.0 of.1 k d k_in))
+          (is.rest.rest (at_gate g condition) of)
+      rests (along_link source line) of = absurd of
+
+      among : IsAmong a.count May more
+      among line s has = ⊎_elim
+          (λ (same : line ≡ gate_line c gate). subst (λ l. May l s) (sym same) (free s has.in_range))
+          (λ (away : line ≢ gate_line c gate).
+          is.rest.among line s (subst (λ (x : StateSet). Has a.count x s) (other line away) has))
+          (cases_eq line (gate_line c gate))
+
+module _ (a : StateAlgebra) (c : Circuit) (laws : HasLaws a) (reads : ReadsLines c) (loop_free : IsLoopFree c)
+    (start : StateSet) (some_start : start ≢ no_states) (old : List StateSet) (is_old : IsLabelling a.count c old)
+    (sources : (line : ℕ) → line < source_count c → label_at old line ≡ start)
+    (gates : (gate : ℕ) → gate < gate_count c → label_at old (gate_line c gate) ≡ all_states a.count) (kind : Kind) where
+  abbrev none : ℕ → Bool
+  none gate = false
+
+  old_hull : IsHull a c (IsNarrowingIn c none kind []) (HasAt a.count old) old
+  old_hull = record {
+    rest = record { labelling = is_old; rest = rests; among = λ line state has. has };
+    greatest = λ other among. among.among;
+  }
+    where
+      rests : IsAtRest a c (IsNarrowingIn c none kind []) old
+      rests (at_gate gate condition) of = absurd (false≢true of.1)
+      rests (along_link source line) of = absurd of
+
+  free_gates : (gate : ℕ) → gate < gate_count c → (state : State) → state.0 < a.count → HasAt a.count old (gate_line c gate) state
+  free_gates gate within state below =
+      subst (λ (s : StateSet). Has a.count s state) (sym (gates gate within)) (all_have a.count state below)
+
+  some_old : (line : ℕ) → IsLineIn c none line → label_at old line ≢ no_states
+  some_old line of = ⊎_elim (λ (source : line < source_count c) (e : label_at old line ≡ no_states). some_start (sym (sources line source) ∙ e))
+      (λ (gate : (g : ℕ) × (g < gate_count c) × (none g ≡ true) × (line ≡ gate_line c g)). absurd (false≢true gate.2)) of
+
+  -- what the gates make of the start, forward from the sources
+  abbrev forward : List StateSet
+  forward = whole a c none kind [] (HasAt a.count old) laws reads loop_free (λ gate other within is reads_it. absurd (false≢true is))
+      (All-nil (λ (step : PinRef). none step.gate.0 ≡ true)) (λ gate within outside. free_gates gate within) old old_hull some_old
+
+  forward_hull : IsHull a c (IsNarrowingOf c kind []) (HasAt a.count old) forward
+  forward_hull = whole_hull a c none kind [] (HasAt a.count old) laws reads loop_free (λ gate other within is reads_it. absurd (false≢true is))
+      (All-nil (λ (step : PinRef). none step.gate.0 ≡ true)) (λ gate within outside. free_gates gate within) old old_hull some_old
+
+  forward_some : HasNoEmptySet c forward
+  forward_some = whole_some a c none kind [] (HasAt a.count old) laws reads loop_free (λ gate other within is reads_it. absurd (false≢true is))
+      (All-nil (λ (step : PinRef). none step.gate.0 ≡ true)) (λ gate within outside. free_gates gate within) old old_hull some_old
+
+  forward_same : (line : ℕ) → line < source_count c → label_at forward line ≡ label_at old line
+  forward_same line source = whole_same a c none kind [] (HasAt a.count old) laws reads loop_free
+      (λ gate other within is reads_it. absurd (false≢true is)) (All-nil (λ (step : PinRef). none step.gate.0 ≡ true))
+      (λ gate within outside. free_gates gate within) old old_hull some_old line (inl source)
+
+  forward_made : (gate : ℕ) → gate < gate_count c → (choice : List State)
+      → IsChoice a.count (map (λ pin. label_at forward pin.0) (pins_at c gate)) choice
+      → Has a.count (label_at forward (gate_line c gate)) (gate_state a (kind_at c gate) choice)
+  forward_made gate within choice each = made a c none kind [] (HasAt a.count old) laws reads loop_free
+      (λ gate other within is reads_it. absurd (false≢true is)) (All-nil (λ (step : PinRef). none step.gate.0 ≡ true))
+      (λ gate within outside. free_gates gate within) old old_hull some_old gate within refl choice each
+
+  module _ (inside : ℕ → Bool) (closed : IsClosedBack c inside) where
+    -- no line is emptied there
+    pub start_keeps : (line : ℕ) → line < line_count c → ¬ IsEmptied a c (IsNarrowingIn c inside kind []) (HasAt a.count old) line
+    start_keeps line within emptied =
+        forward_some line within (emptied forward (rest_inside a c inside kind [] (HasAt a.count old) forward forward_hull.rest))
+
+    -- and the hull is computed forward
+    pub settled_forward : (labels : List StateSet) → IsHull a c (IsNarrowingIn c inside kind []) (HasAt a.count old) labels
+        → HasNoEmptySet c labels → IsForward a c inside start labels
+    settled_forward labels is some = record {
+      labelling = is.rest.labelling;
+      sources = λ line source. sym (same line (inl source)) ∙ forward_same line source ∙ sources line source;
+      images = λ gate within is_in choice each.
+          subst (λ (s : StateSet). Has a.count s (gate_state a (kind_at c gate) choice)) (same (gate_line c gate) (inr (gate, within, is_in, refl)))
+          (forward_made gate within choice
+          (subst (λ (sets : List StateSet). IsChoice a.count sets choice)
+          (map_agree (λ (pin : LineId). label_at labels pin.0) (λ (pin : LineId). label_at forward pin.0) (pins_at c gate)
+          (λ k d k_in. sym (same (get_or (pins_at c gate) k d).0 (pins_inside c inside reads closed gate within is_in k d k_in)))) each));
+      outside = λ gate within is_out. free_outside a c inside closed kind [] (HasAt a.count old) labels is gate within is_out
+          (free_gates gate within);
+      rests = rests;
+      none_empty = some;
+    }
+      where
+        part : IsPartOfHull a c inside kind [] (HasAt a.count old) labels
+        part = part_of_hull a c laws reads loop_free inside closed kind [] (All-nil (λ (step : PinRef). inside step.gate.0 ≡ true))
+            (HasAt a.count old) free_gates labels is some
+
+        same : (line : ℕ) → IsLineIn c inside line → label_at forward line ≡ label_at labels line
+        same line of =
+            ap (λ (l : List StateSet). label_at l line)
+            (hull_once a c (IsNarrowingOf c kind []) (HasAt a.count old) forward forward_hull part.whole part.hull)
+            ∙ part.same line of
+
+        rests : (other : Kind) → IsAtRest a c (IsNarrowingIn c inside other []) labels
+        rests other (at_gate gate condition) of = is.rest.rest (at_gate gate condition) of
+        rests other (along_link source line) of = absurd of
+
+module _ (a : StateAlgebra) (c : Circuit) (laws : HasLaws a) (reads : ReadsLines c) (loop_free : IsLoopFree c) (inside : ℕ → Bool)
+    (start : StateSet) (base : List StateSet) (forward : IsForward a c inside start base) (rules : Rules) (source : ℕ)
+    (others : (line : ℕ) → line < source_count c → line ≢ source → (state : State) → state.0 < a.count
+    → IsOtherStart a rules state ↔ Has a.count start state)
+    (direction : Direction) (reached : List LineId) (of : AreReached c inside source reached)
+    (labels : List StateSet) (from : IsLaunchedFrom a c source direction reached base labels) (kind : Kind) where
+  abbrev May : ℕ → State → Type 0
+  May = MayStart a c rules source direction
+
+  abbrev line_of : ℕ → LineId
+  line_of line = record { 0 = line }
+
+  -- another source is not reached
+  not_reached : (line : ℕ) → line < source_count c → line ≢ source → ¬ Contains reached (line_of line)
+  not_reached line is_source away stands = ⊎_elim away (λ (above : source_count c ≤ line). absurd (omega arith))
+      (All-contains (λ (l : LineId). (l.0 ≡ source) ⊎ (source_count c ≤ l.0)) reached (line_of line) of.behind stands)
+
+  -- a line has only states that it may start in
+  pub launched_among : IsAmong a.count May labels
+  launched_among line state has = record {
+    own = λ here. ((from.launched state).0 (subst (λ (l : ℕ). Has a.count (label_at labels l) state) here has)).1;
+    other = λ is_source away.
+        let base_has : Has a.count (label_at base line) state =
+        subst (λ (s : StateSet). Has a.count s state) (from.same (line_of line) (not_reached line is_source away)) has in
+        (others line is_source away state has.in_range).1
+        (subst (λ (s : StateSet). Has a.count s state) (forward.sources line is_source) base_has);
+  }
+
+  -- the sets of a gate's pins, where its line is not reached
+  pins_same : (gate : ℕ) → gate < gate_count c → inside gate ≡ true → ¬ Contains reached (line_of (gate_line c gate))
+      → All (λ pin. label_at labels pin.0 ≡ label_at base pin.0) (pins_at c gate)
+  pins_same gate within is_in not = all_from_places (λ (pin : LineId). label_at labels pin.0 ≡ label_at base pin.0) (pins_at c gate)
+      (λ place pin reads_pin. from.same pin (λ stands. not (of.readers gate place pin within is_in reads_pin stands)))
+
+  module _ (other : List StateSet) (among : IsRestAmong a c (IsNarrowingIn c inside kind []) May other) where
+    abbrev Lies : ℕ → Type 0
+    Lies line = (state : State) → Has a.count (label_at other line) state → Has a.count (label_at labels line) state
+
+    lies_at_source : (line : ℕ) → line < source_count c → Lies line
+    lies_at_source line is_source state has = ⊎_elim
+        (λ (here : line ≡ source).
+        subst (λ (l : ℕ). Has a.count (label_at labels l) state) (sym here)
+        ((from.launched state).1 (has.in_range, (among.among line state has).own here)))
+        (λ (away : line ≢ source).
+        subst (λ (s : StateSet). Has a.count s state)
+        (sym (forward.sources line is_source) ∙ sym (from.same (line_of line) (not_reached line is_source away)))
+        ((others line is_source away state has.in_range).0 ((among.among line state has).other is_source away)))
+        (cases_eq line source)
+
+    lies_at_reached : (gate : ℕ) → source ≢ gate_line c gate → Contains reached (line_of (gate_line c gate)) → Lies (gate_line c gate)
+    lies_at_reached gate away stands state has =
+        subst (λ (s : StateSet). Has a.count s state)
+        (sym (from.full (line_of (gate_line c gate)) stands (λ here. away (sym here)))) (all_have a.count state has.in_range)
+
+    lies_inside : (gate : ℕ) → gate < gate_count c → inside gate ≡ true → ¬ Contains reached (line_of (gate_line c gate))
+        → All (λ pin. Lies pin.0) (pins_at c gate) → Lies (gate_line c gate)
+    lies_inside gate within is_in not pins state has =
+        let gives = ((among.rest (at_gate gate None) (within, is_in, refl)).exactly (gate_line c gate) state).0 has in
+        let at = gives.at_gate refl in
+        let each = choice_into a.count (label_at other) (label_at labels) (pins_at c gate) pins at.allowed.at_pins in
+        let base_each = subst (λ (sets : List StateSet). IsChoice a.count sets at.choice)
+        (map_agree (λ (pin : LineId). label_at labels pin.0) (λ (pin : LineId). label_at base pin.0) (pins_at c gate)
+        (pins_same gate within is_in not)) each in
+        subst (λ (s : StateSet). Has a.count s state) (sym (from.same (line_of (gate_line c gate)) not))
+        (subst (Has a.count (label_at base (gate_line c gate))) at.gives (forward.images gate within is_in at.choice base_each))
+
+    lies_at_gate : source < source_count c → (gate : ℕ) → gate < gate_count c → All (λ pin. Lies pin.0) (pins_at c gate)
+        → Lies (gate_line c gate)
+    lies_at_gate is_source gate within pins state has = ⊎_elim
+        (λ (stands : Contains reached (line_of (gate_line c gate))).
+        lies_at_reached gate (λ here. absurd (omega arith)) stands state has)
+        (λ (not : ¬ Contains reached (line_of (gate_line c gate))).
+        ⊎_elim (λ (is_in : inside gate ≡ true). lies_inside gate within is_in not pins state has)
+        (λ (is_out : inside gate ≡ false).
+        subst (λ (s : StateSet). Has a.count s state) (sym (from.same (line_of (gate_line c gate)) not))
+        (forward.outside gate within is_out state has.in_range))
+        (cases_Bool (inside gate)))
+        (stands_or_not reached (line_of (gate_line c gate)))
+
+    -- each labelling at rest in the start lies in the labels
+    pub launched_keeps : source < source_count c → LiesIn a.count other labels
+    launched_keeps is_source line state has =
+        line_induction c reads Lies lies_at_source (lies_at_gate is_source) loop_free line
+        (has_in_circuit a.count c other among.labelling line state has) state has
+
+  -- so their hull is that of the start, and what is emptied in them is emptied in the start
+  pub launched_hull : source < source_count c → (hull : List StateSet)
+      → IsHull a c (IsNarrowingIn c inside kind []) (HasAt a.count labels) hull → IsHull a c (IsNarrowingIn c inside kind []) May hull
+  launched_hull is_source hull is = record {
+    rest = record {
+      labelling = is.rest.labelling;
+      rest = is.rest.rest;
+      among = λ line state has. launched_among line state (is.rest.among line state has);
+    };
+    greatest = λ other among. is.greatest other
+        (record { labelling = among.labelling; rest = among.rest; among = launched_keeps other among is_source });
+  }
+
+  pub launched_emptied : source < source_count c → (line : ℕ)
+      → IsEmptied a c (IsNarrowingIn c inside kind []) (HasAt a.count labels) line → IsEmptied a c (IsNarrowingIn c inside kind []) May line
+  launched_emptied is_source line emptied other among =
+      emptied other (record { labelling = among.labelling; rest = among.rest; among = launched_keeps other among is_source })
+
+  -- a gate inside whose line is not reached rests
+  pub launched_rests : (gate : ℕ) → gate < gate_count c → inside gate ≡ true → ¬ Contains reached (line_of (gate_line c gate))
+      → IsNarrowing a c gate None labels labels
+  launched_rests gate within is_in not =
+      same_rests a c gate None base labels
+      (All-push (λ (line : LineId). label_at labels line.0 ≡ label_at base line.0) (pins_at c gate) (line_of (gate_line c gate))
+      (pins_same gate within is_in not) (from.same (line_of (gate_line c gate)) not))
+      (forward.rests kind (at_gate gate None) (within, is_in, refl))
+
+  -- and no set is empty, if the source's is not
+  pub launched_some : label_at labels source ≢ no_states → HasNoEmptySet c labels
+  launched_some some line within = ⊎_elim
+      (λ (stands : Contains reached (line_of line)). ⊎_elim
+      (λ (here : line ≡ source) (e : label_at labels line ≡ no_states). some (ap (label_at labels) (sym here) ∙ e))
+      (λ (away : line ≢ source) (e : label_at labels line ≡ no_states).
+      none_has a.count (a.unit And) (subst (λ (s : StateSet). Has a.count s (a.unit And)) (sym (from.full (line_of line) stands away) ∙ e)
+      (all_have a.count (a.unit And) (laws.unit_within And))))
+      (cases_eq line source))
+      (λ (not : ¬ Contains reached (line_of line)) (e : label_at labels line ≡ no_states).
+      forward.none_empty line within (sym (from.same (line_of line) not) ∙ e))
+      (stands_or_not reached (line_of line))

@@ -1,3 +1,0 @@
-mod HalfStates
-pub mod Placing
-pub mod Visits
