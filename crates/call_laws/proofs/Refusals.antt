@@ -3,7 +3,7 @@
 use Rattle.std.proofs.Common.{◌≡◌, ℕ, List, [], ◌∷◌, ◌++◌, Option, refl, sym, ap, subst, ◌∙◌}
 use Rattle.pd_io.specs.Folder.{Folder}
 use Rattle.pd_io.specs.Seen.{SinkSeen, Outside, seen_of}
-use Rattle.calls.specs.declared.word_refusal.WordsRefusal.{WordsRefusal}
+use Rattle.command_line.specs.declared.refusal.WordsRefusal.{WordsRefusal}
 use Rattle.calls.specs.declared.role.Role.{Role}
 use Rattle.calls.specs.declared.refusal.Refusal.{Refusal}
 use Rattle.calls.specs.declared.refusal.Refusal.TheVariants.{Words}

@@ -1,5 +1,3 @@
-pub mod Commands
-pub mod Words
 pub mod Lines
 pub mod Reports
 pub mod Calls

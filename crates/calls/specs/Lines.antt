@@ -2,8 +2,9 @@
 use Rattle.std.specs.Prelude.{ℕ, List, [], ◌++◌, map, codes, decimal}
 use Rattle.std.specs.List.{concat}
 use denote.Ref.{Bor}
-use Rattle.calls.specs.declared.word_refusal.WordsRefusal.{WordsRefusal}
-use Rattle.calls.specs.declared.word_refusal.WordsRefusal.TheVariants.{Command, OptionAt, EmptyAt, Count, SameAt}
+use Rattle.command_line.specs.Options.{option_word}
+use Rattle.command_line.specs.declared.refusal.WordsRefusal.{WordsRefusal}
+use Rattle.command_line.specs.declared.refusal.WordsRefusal.TheVariants.{Command, Repeat, Value, OptionAt, EmptyAt, Count, SameAt, Product}
 use Rattle.calls.specs.declared.role.Role.{Role}
 use Rattle.calls.specs.declared.role.Role.TheVariants.{Net, Delays, Tests, Report, Proofs}
 use Rattle.calls.specs.declared.netlist_refusal.NetlistRefusal.{NetlistRefusal}
@@ -29,10 +30,13 @@ role_word Proofs = codes "PROOFS"
 -- why the words were refused, as the line on err says it
 abbrev pub words_reason : WordsRefusal → List ℕ
 words_reason Command = codes "command"
+words_reason (Repeat option) = codes "repeat " ++ option_word option
+words_reason (Value option) = codes "value " ++ option_word option
 words_reason (OptionAt place) = codes "option at " ++ decimal place
 words_reason (EmptyAt place) = codes "empty at " ++ decimal place
 words_reason Count = codes "count"
 words_reason (SameAt first second) = codes "same at " ++ decimal first ++ after_space (decimal second)
+words_reason (Product product) = codes "product " ++ decimal product
 
 -- a place, and what is wrong there
 abbrev pub reason_at_line : ℕ → List ℕ → List ℕ

@@ -1,6 +1,6 @@
 -- What words ask for that are refused: nothing but the requirement that refuses them (this project's own).
 use Rattle.std.specs.Prelude.{◌≡◌, ℕ, List, [], ◌∷◌}
-use Rattle.calls.specs.declared.word_refusal.WordsRefusal.{WordsRefusal}
+use Rattle.command_line.specs.declared.refusal.WordsRefusal.{WordsRefusal}
 use Rattle.calls.specs.declared.refusal.Refusal.{Refusal}
 use Rattle.calls.specs.declared.refusal.Refusal.TheVariants.{Words}
 use Rattle.calls.specs.Work.{Work, Require, Wording, Products}

@@ -1,5 +1,6 @@
 // Why a call is refused, before anything was written. A refusal owns all that its line on err names.
-use crate::{DelaysRefusal, NetlistRefusal, Role, WordsRefusal};
+use crate::{DelaysRefusal, NetlistRefusal, Role};
+use command_line::WordsRefusal;
 
 /// A reason for which the words or the inputs of a call are refused.
 #[derive(Debug, Drop)]

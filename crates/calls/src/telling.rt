@@ -7,7 +7,8 @@ ghost use Rattle.text_pieces.specs.Tokens.{line};
 
 use crate::delays_telling::write_delays_refusal;
 use crate::netlist_telling::write_netlist_refusal;
-use crate::{Ending, Refusal, Role, Status, WordsRefusal};
+use crate::{Ending, Refusal, Role, Status};
+use command_line::WordsRefusal;
 use itoa::Buffer;
 use pd_io::{FileFault, Sink, write_all};
 
@@ -98,26 +99,33 @@ fn write_words_refusal<E: Sink>(reason: WordsRefusal, err: &mut E) -> Result<(),
     let mut first = Buffer::new();
     let mut second = Buffer::new();
     match reason {
-        WordsRefusal::Command => write_pieces(err, &[b"words: command\n"]),
+        WordsRefusal::Command => write_reason(err, b"command", b""),
+        WordsRefusal::Repeat(option) => write_reason(err, b"repeat ", option.word().as_bytes()),
+        WordsRefusal::Value(option) => write_reason(err, b"value ", option.word().as_bytes()),
         WordsRefusal::OptionAt(place) => {
-            write_pieces(
-                err,
-                &[b"words: option at ", first.format(place).as_bytes(), b"\n"],
-            )
+            write_reason(err, b"option at ", first.format(place).as_bytes())
         }
         WordsRefusal::EmptyAt(place) => {
-            write_pieces(
-                err,
-                &[b"words: empty at ", first.format(place).as_bytes(), b"\n"],
-            )
+            write_reason(err, b"empty at ", first.format(place).as_bytes())
         }
-        WordsRefusal::Count => write_pieces(err, &[b"words: count\n"]),
+        WordsRefusal::Count => write_reason(err, b"count", b""),
         WordsRefusal::SameAt(place, later) => {
             let place = first.format(place).as_bytes();
             let later = second.format(later).as_bytes();
             write_pieces(err, &[b"words: same at ", place, b" ", later, b"\n"])
         }
+        WordsRefusal::Product(product) => {
+            write_reason(err, b"product ", first.format(product).as_bytes())
+        }
     }
+}
+
+// Writes the line of words that are refused for a reason of these two pieces.
+fn write_reason<E: Sink>(err: &mut E, reason: &[u8], more: &[u8]) -> Result<(), FileFault>
+    ensures { LineEnds (line (codes "words: " ++ (reason.now ++ more.now))) result
+        (sink_seen E.Sink err.old) (sink_seen E.Sink err.new) }
+{
+    write_pieces(err, &[b"words: ", reason, more, b"\n"])
 }
 
 // The word for a file, by its role.

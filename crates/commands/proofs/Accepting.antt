@@ -6,7 +6,7 @@ use Rattle.bench_reader.specs.Circuits.{HasCircuit}
 use Rattle.bench_reader.proofs.Answering.{one_circuit}
 use Rattle.bench_reader.proofs.LawfulCircuits.{is_circuit}
 use Rattle.delay_annotation.specs.DelayFile.{HasDelays}
-use Rattle.calls.specs.Words.{GenCall}
+use Rattle.command_line.specs.Words.{GenCall}
 use Rattle.calls.specs.declared.delays_refusal.DelaysRefusal.{DelaysRefusal}
 use Rattle.calls.specs.declared.role.Role.{Role}
 use Rattle.calls.specs.declared.role.Role.TheVariants as role

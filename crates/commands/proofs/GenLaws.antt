@@ -5,7 +5,7 @@ use Rattle.netlist.specs.Circuit.{Circuit}
 use Rattle.bench_reader.specs.Circuits.{HasCircuit}
 use Rattle.netlist.specs.Waves.{Delays}
 use Rattle.delay_annotation.specs.DelayFile.{HasDelays}
-use Rattle.calls.specs.Words.{GenCall}
+use Rattle.command_line.specs.Words.{GenCall}
 use Rattle.calls.specs.declared.role.Role.TheVariants as role
 use Rattle.calls.specs.Calls.{HasAcceptedInputs}
 use Rattle.commands.specs.declared.judging.TheConstants.{INPUT_LIMIT}

@@ -1,5 +1,5 @@
 -- The stages of `gen`, one after the other, up to its products.
-use Rattle.std.proofs.Common.{ℕ, ◌<◌, ◌≤◌, List, [], ◌∷◌, ◌++◌, length, Some, refl, sym, subst}
+use Rattle.std.proofs.Common.{ℕ, ◌<◌, ◌≤◌, List, [], ◌∷◌, ◌++◌, length, Some, Result, Ok, Err, IfErr, IfOk, refl, sym, subst}
 use Rattle.std.specs.Prelude.{Vec}
 use Rattle.std.specs.declared.alloc.Global.{Global}
 use Rattle.pd_io.specs.Seen.{FilesSeen}
@@ -7,7 +7,7 @@ use Rattle.netlist.specs.Circuit.{Circuit}
 use Rattle.bench_reader.specs.Circuits.{HasCircuit}
 use Rattle.netlist.specs.Waves.{Delays}
 use Rattle.delay_annotation.specs.DelayFile.{HasDelays}
-use Rattle.calls.specs.Words.{GenCall}
+use Rattle.command_line.specs.Words.{GenCall}
 use Rattle.calls.specs.declared.role.Role.{Role}
 use Rattle.calls.specs.declared.role.Role.TheVariants as role
 use Rattle.calls.specs.declared.refusal.Refusal.TheVariants as refused
@@ -17,14 +17,17 @@ use Rattle.calls.specs.Work.{Stage, Read, Require, WithinLimit, SpellsCircuit, S
 use Rattle.calls.specs.Passing.{HasBytes, HasPassed}
 use Rattle.calls.specs.Stopping.{Stops}
 use Rattle.calls.specs.Inputs.{ReadsInput}
-use Rattle.calls.specs.Preparing.{IsPrepared}
+use Rattle.calls.specs.Preparing.{IsPrepared, Prepares}
+use Rattle.calls.specs.Texts.{products_of}
+use Rattle.calls.specs.declared.texts.Texts.{Texts}
 use Rattle.call_laws.proofs.Stages.{begun, then_read, then_required, stops_refused, stops_for_memory, stops_unread}
 use Rattle.commands.specs.declared.judging.TheConstants.{INPUT_LIMIT}
 use Rattle.commands.specs.declared.sizes.TheConstants.{MOST_PATH_TEXT, MOST_TEST_TEXT}
-use Rattle.commands.specs.InputJudging.{FailsWithin, FailsNet, FailsDelays}
+use Rattle.commands.specs.InputJudging.{FailsWithin, FailsNet, FailsDelays, FailsToGiveDelays, FailsToGiveNet, GivesDelays, GivesNet}
 use Rattle.commands.specs.InputJudging as judging
-use Rattle.commands.specs.Judging.{IsRefusedFor}
-use Rattle.commands.specs.Gen.{gen_work, gen_stages, GivesProductsOf}
+use Rattle.commands.specs.Judging.{FailsShort, IsRefusedFor}
+use Rattle.commands.specs.Judging as found
+use Rattle.commands.specs.Gen.{gen_work, gen_stages, GivesProductsOf, GivesShort}
 use Rattle.commands.specs.Sizes.{path_text_product, test_text_product}
 use Rattle.commands.proofs.Accepting.{accepts_net_size, accepts_circuit, accepts_delays_size, accepts_delays, accepts_path_text, accepts_test_text, has_delays, is_within}
 
@@ -44,7 +47,7 @@ module _ (call : GenCall) where
       (subst (HasBytes mid.folder name) (sym it.is_read.items) it.has) it.asked it.only
 
   -- NET was not read whole
-  pub net_unread : (ending : Ending) (old new : FilesSeen) → FailsWithin role.Net call.net ending old new
+  net_unread : (ending : Ending) (old new : FilesSeen) → FailsWithin role.Net call.net ending old new
       → Stops (gen_work call) ending old new
   net_unread ending old new (judging.unread fails) =
       stops_unread (gen_work call) role.Net call.net ending (begun (gen_work call) old) (_, refl) fails
@@ -64,7 +67,7 @@ module _ (call : GenCall) where
         (accepts_net_size call net.items (read_is_within call.net net old mid read_net))
 
     -- and has no circuit, or memory ran out
-    pub no_netlist : (ending : Ending) → FailsNet net.items ending → Stops (gen_work call) ending old mid
+    no_netlist : (ending : Ending) → FailsNet net.items ending → Stops (gen_work call) ending old mid
     no_netlist ending (judging.refused reason is why) =
         subst (λ (e : Ending). Stops (gen_work call) e old mid) (sym is)
         (stops_refused (gen_work call) (refused.Netlist reason) net_within (_, refl) why)
@@ -79,7 +82,7 @@ module _ (call : GenCall) where
       net_spells = then_required (gen_work call) SpellsCircuit net_within (accepts_circuit call net.items c has)
 
       -- DELAYS was not read whole
-      pub delays_unread : (ending : Ending) (new : FilesSeen) → FailsWithin role.Delays call.delays ending mid new
+      delays_unread : (ending : Ending) (new : FilesSeen) → FailsWithin role.Delays call.delays ending mid new
           → Stops (gen_work call) ending old new
       delays_unread ending new (judging.unread fails) =
           stops_unread (gen_work call) role.Delays call.delays ending net_spells (_, refl) fails
@@ -109,7 +112,7 @@ module _ (call : GenCall) where
             (accepts_delays_size call net.items delays.items (read_is_within call.delays delays mid new read_delays))
 
         -- and gives no delays, or memory ran out
-        pub no_delays : (ending : Ending) → FailsDelays c delays.items ending → Stops (gen_work call) ending old new
+        no_delays : (ending : Ending) → FailsDelays c delays.items ending → Stops (gen_work call) ending old new
         no_delays ending (judging.refused reason is why) =
             subst (λ (e : Ending). Stops (gen_work call) e old new) (sym is)
             (stops_refused (gen_work call) (refused.Delays reason) delays_within (_, refl)
@@ -128,7 +131,7 @@ module _ (call : GenCall) where
               (λ reason. has_delays net.items c has delays.items given reason gives))
 
           -- the texts of the paths may be too long
-          pub long_paths : (ending : Ending)
+          long_paths : (ending : Ending)
               → IsRefusedFor (refused.PathText (path_text_product call.paths c))
               (MOST_PATH_TEXT < path_text_product call.paths c) ending
               → Stops (gen_work call) ending old new
@@ -148,7 +151,7 @@ module _ (call : GenCall) where
                 (λ product. is_within net.items c has (path_text_product call.paths) MOST_PATH_TEXT product short_paths))
 
             -- the texts of the tests may be too long
-            pub long_tests : (ending : Ending)
+            long_tests : (ending : Ending)
                 → IsRefusedFor (refused.TestText (test_text_product call.paths c))
                 (MOST_TEST_TEXT < test_text_product call.paths c) ending
                 → Stops (gen_work call) ending old new
@@ -167,11 +170,11 @@ module _ (call : GenCall) where
                   (λ product. is_within net.items c has (test_text_product call.paths) MOST_TEST_TEXT product short_tests))
 
               -- memory ran out while the texts were made
-              pub no_texts : Stops (gen_work call) NoMemory old new
+              no_texts : Stops (gen_work call) NoMemory old new
               no_texts = stops_for_memory (gen_work call) all_passed ([], refl)
 
               -- the texts were made
-              pub has_texts : (products : Products) → GivesProductsOf call c given products
+              has_texts : (products : Products) → GivesProductsOf call c given products
                   → IsPrepared (gen_work call) products old new
               has_texts products made = record {
                 inputs = both;
@@ -181,8 +184,38 @@ module _ (call : GenCall) where
                   has = has;
                   delays = given;
                   has_delays = gives;
-                  path_text = short_paths;
-                  test_text = short_tests;
-                  products_of_run = made;
+                  short = record { path_text = short_paths; test_text = short_tests; products_of_run = made };
                 };
               }
+
+module _ (call : GenCall) where
+  -- NET gives no circuit
+  pub net_fails : (ending : Ending) (old new : FilesSeen) → FailsToGiveNet call.net ending old new → Stops (gen_work call) ending old new
+  net_fails ending old new (judging.not_read fails) = net_unread call ending old new fails
+  net_fails ending old new (judging.gives_none text read fails) = no_netlist call text old new read ending fails
+
+  module _ (c : Circuit) (old mid new : FilesSeen) (net : GivesNet call.net c old mid) where
+    -- DELAYS gives it no delays
+    pub delays_fail : (ending : Ending) → FailsToGiveDelays call.delays c ending mid new → Stops (gen_work call) ending old new
+    delays_fail ending (judging.not_read fails) = delays_unread call net.text old mid net.read c net.holds ending new fails
+    delays_fail ending (judging.gives_none text read fails) =
+        no_delays call net.text old mid net.read c net.holds text new read ending fails
+
+    module _ (given : Delays) (delays : GivesDelays call.delays c given mid new) where
+      -- the texts are not made
+      texts_fail : (ending : Ending) → FailsShort call.paths c ending → Stops (gen_work call) ending old new
+      texts_fail ending (found.long_paths refused) =
+          long_paths call net.text old mid net.read c net.holds delays.text new delays.read given delays.holds ending refused
+      texts_fail ending (found.long_tests short_paths refused) =
+          long_tests call net.text old mid net.read c net.holds delays.text new delays.read given delays.holds short_paths ending refused
+      texts_fail ending (found.no_memory short_paths short_tests is) =
+          subst (λ (e : Ending). Stops (gen_work call) e old new) (sym is)
+          (no_texts call net.text old mid net.read c net.holds delays.text new delays.read given delays.holds short_paths short_tests)
+
+      -- the texts are made, or not
+      pub prepared : (result : Result Texts Ending) → IfOk result (λ texts. GivesShort call c given (products_of texts))
+          → IfErr result (FailsShort call.paths c) → Prepares (gen_work call) result old new
+      prepared (Ok texts) made fails =
+          has_texts call net.text old mid net.read c net.holds delays.text new delays.read given delays.holds made.path_text
+          made.test_text (products_of texts) made.products_of_run
+      prepared (Err ending) made fails = texts_fail ending fails

@@ -20,7 +20,7 @@ use Rattle.runs.specs.declared.run.Verdict.{Verdict}
 use Rattle.runs.specs.declared.run.Verdict.TheVariants.{Robust, Nonrobust, Untestable, Aborted}
 use Rattle.good_runs.specs.Faults.{IsFault, IsNumber}
 use Rattle.good_runs.specs.GoodRun.{HasRobustProof, IsGoodRun}
-use Rattle.good_runs.specs.GoodRun.HasRobustProof.{refuted, spent}
+use Rattle.good_runs.specs.Faults.HasProof.{refuted, spent}
 use Rattle.good_runs.proofs.Verdicts.{cited_excludes, cited_spent, robust_test_detects, nonrobust_test_detects_settled, untestable_excludes_every_pair}
 use Rattle.good_runs.proofs.Completeness.{great_budget_decides, closed_start_is_untestable, open_start_is_robust}
 use Rattle.commands.specs.Headline.{HasSpentBudget, FoundNoRobustTest, TellsOf, Promises, AllPromise}

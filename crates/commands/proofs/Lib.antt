@@ -5,5 +5,6 @@ pub mod GenLaws
 pub mod GenStages
 pub mod GenTexts
 pub mod Headline
+pub mod Judged
 pub mod Products
 pub mod WordsLaws

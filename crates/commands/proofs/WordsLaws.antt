@@ -2,8 +2,8 @@
 use Rattle.std.proofs.Common.{◌≡◌, ℕ, List, ap, subst}
 use Rattle.std.specs.Prelude.{Err}
 use Rattle.pd_io.specs.Seen.{Outside}
-use Rattle.calls.specs.declared.word_refusal.WordsRefusal.{WordsRefusal}
-use Rattle.calls.specs.Words.{asked_call}
+use Rattle.command_line.specs.declared.refusal.WordsRefusal.{WordsRefusal}
+use Rattle.command_line.specs.Words.{asked_call}
 use Rattle.calls.specs.declared.status.Status.{Status}
 use Rattle.calls.specs.Work.{Work}
 use Rattle.calls.specs.Calls.{Ends}

@@ -1,7 +1,7 @@
 -- What the words ask for, as the work of a command (this project's own). A further command adds a case here.
 use Rattle.std.specs.Prelude.{ℕ, List, Result, Ok, Err}
-use Rattle.calls.specs.declared.word_refusal.WordsRefusal.{WordsRefusal}
-use Rattle.calls.specs.Words.{Call, gen, asked_call}
+use Rattle.command_line.specs.declared.refusal.WordsRefusal.{WordsRefusal}
+use Rattle.command_line.specs.Words.{Call, gen, asked_call}
 use Rattle.calls.specs.Work.{Work}
 use Rattle.calls.specs.Refused.{refused_words}
 use Rattle.commands.specs.Gen.{gen_work}

@@ -8,13 +8,14 @@ use Rattle.netlist.specs.Waves.{Delays}
 use Rattle.runs.specs.declared.run.Run.{Run}
 use Rattle.runs.specs.Lawful.{IsLawfulRun}
 use Rattle.good_runs.specs.GoodRun.{IsGoodRun}
+use Rattle.good_runs.specs.Shortest.{IsShortestRun}
 use Rattle.bench_reader.specs.Circuits.{HasCircuit}
 use Rattle.delay_annotation.specs.DelayFile.{HasDelays}
 use Rattle.pattern_writer.specs.TestsText.{tests_text}
 use Rattle.verdict_report.specs.ReportText.{report_text}
 use Rattle.verdict_report.specs.ProofsText.{proofs_text}
 use Rattle.verdict_report.specs.Summary.{summary_text}
-use Rattle.calls.specs.Words.{GenCall}
+use Rattle.command_line.specs.Words.{GenCall}
 use Rattle.calls.specs.declared.delays_refusal.DelaysRefusal.{DelaysRefusal}
 use Rattle.calls.specs.declared.role.Role.{Role}
 use Rattle.calls.specs.declared.role.Role.TheVariants as role
@@ -82,19 +83,27 @@ gen_files call tests report proofs =
 -- the files that are written for a circuit and a run, and the line on out
 abbrev pub gen_products : GenCall → Circuit → Run → Products
 gen_products call c run = record {
-  files = gen_files call (tests_text c run.tests) (report_text c run.paths) (proofs_text run.proofs);
+  files = gen_files call (tests_text c run.tests) (report_text c run.paths) (proofs_text run.rules run.proofs);
   out = summary_text run;
 }
 
 -- the products are the texts of one good run under rules One, for the paths and the budget that are asked for, which the files can
--- spell: its tests are numbered in the order of the report, and each proof where it is first named; its verdicts keep their promises
+-- spell: its tests are numbered in the order of the report, and each proof where it is first named; its verdicts keep their promises,
+-- and each refutation stands at its shortest prefix
 pub record GivesProductsOf (call : GenCall) (c : Circuit) (delays : Delays) (products : Products) : Type 0 where
   pub run : Run
   pub rules : run.rules ≡ One
   pub good : IsGoodRun c delays call.paths call.budget run
   pub lawful : IsLawfulRun c run
   pub promises : AllPromise c call.budget run
+  pub shortest : IsShortestRun c run
   pub texts : products ≡ gen_products call c run
+
+-- the texts are short, and the products are those of a good run
+pub record GivesShort (call : GenCall) (c : Circuit) (delays : Delays) (products : Products) : Type 0 where
+  pub path_text : path_text_product call.paths c ≤ MOST_PATH_TEXT
+  pub test_text : test_text_product call.paths c ≤ MOST_TEST_TEXT
+  pub products_of_run : GivesProductsOf call c delays products
 
 -- NET has this circuit, DELAYS gives these delays to its pins, the texts are short, and the products are those of a good run for
 -- them
@@ -103,9 +112,7 @@ pub record GivesRun (call : GenCall) (net delay_file : List ℕ) (products : Pro
   pub has : HasCircuit net circuit
   pub delays : Delays
   pub has_delays : HasDelays circuit delay_file delays
-  pub path_text : path_text_product call.paths circuit ≤ MOST_PATH_TEXT
-  pub test_text : test_text_product call.paths circuit ≤ MOST_TEST_TEXT
-  pub products_of_run : GivesProductsOf call circuit delays products
+  pub short : GivesShort call circuit delays products
 
 -- what gen gives for its two inputs
 abbrev pub GivesGen : GenCall → List (List ℕ) → Products → Type 0

@@ -1,7 +1,7 @@
 // A whole call of the program, over any files and sinks.
 ghost use Rattle.std.specs.Prelude.{◌≡◌};
 ghost use Rattle.pd_io.specs.Seen.{outside, seen};
-ghost use Rattle.calls.specs.Commands.{bytes_of_words};
+ghost use Rattle.command_line.specs.Commands.{bytes_of_words};
 ghost use Rattle.calls.specs.Calls.{Ends, HasAcceptedInputs, IsDone, IsDoneOrNoMemory, NoneFailed, Performs};
 ghost use Rattle.commands.specs.Commands.{asked_work};
 

@@ -5,7 +5,7 @@ ghost use Rattle.bench_reader.specs.Circuits.{HasCircuit};
 ghost use Rattle.calls.specs.Inputs.{ReadsInput};
 ghost use Rattle.delay_annotation.specs.Annotation.{Fits, delays_of};
 ghost use Rattle.delay_annotation.specs.DelayFile.{HasDelays};
-ghost use Rattle.commands.specs.InputJudging.{FailsDelays, FailsNet, FailsWithin};
+ghost use Rattle.commands.specs.InputJudging.{FailsDelays, FailsNet, FailsToGiveDelays, FailsToGiveNet, FailsWithin, GivesDelays, GivesNet};
 
 use crate::reasons::{delays_reason_of, reason_of};
 use bench_reader::read_bench;
@@ -18,8 +18,36 @@ use std::alloc::Global;
 /// How many bytes an input may have.
 pub const INPUT_LIMIT: usize = 33_554_432;
 
-/// The bytes of the input of this role. One over the limit is refused, and a failed read ends the call.
-pub fn read_within<F: Files>(
+/// Reads NET, and gives the netlist of the circuit that its text has. One over the limit is refused, and one that has no circuit.
+pub fn netlist_from<F: Files>(alloc: Global, files: &mut F, name: &str) -> Result<Netlist, Ending>
+    ensures gives { IfOk result (λ net. GivesNet name.now net
+        (files_seen F.Files files.old) (files_seen F.Files files.new)) }
+    ensures fails { IfErr result (λ ending. FailsToGiveNet name.now ending
+        (files_seen F.Files files.old) (files_seen F.Files files.new)) }
+{
+    let text = read_within(alloc, files, Role::Net, name)?;
+    netlist_of(alloc, text.as_slice())
+}
+
+/// Reads DELAYS, and gives the delays that its text gives to the pins of NET. One over the limit is refused, and one that gives none.
+pub fn delays_from<F: Files>(
+    alloc: Global,
+    files: &mut F,
+    net: &Netlist,
+    name: &str,
+) -> Result<Delays, Ending>
+    ensures fits { IfOk result (λ kept. Fits net.now kept) }
+    ensures gives { IfOk result (λ kept. GivesDelays name.now net.now (delays_of net.now kept)
+        (files_seen F.Files files.old) (files_seen F.Files files.new)) }
+    ensures fails { IfErr result (λ ending. FailsToGiveDelays name.now net.now ending
+        (files_seen F.Files files.old) (files_seen F.Files files.new)) }
+{
+    let text = read_within(alloc, files, Role::Delays, name)?;
+    delays_in(alloc, net, text.as_slice())
+}
+
+// The bytes of the input of this role. One over the limit is refused, and a failed read ends the call.
+fn read_within<F: Files>(
     alloc: Global,
     files: &mut F,
     role: Role,
@@ -36,8 +64,8 @@ pub fn read_within<F: Files>(
     }
 }
 
-/// The netlist of the circuit that the text of NET has. A text is refused exactly where it has none.
-pub fn netlist_of(alloc: Global, net: &[u8]) -> Result<Netlist, Ending>
+// The netlist of the circuit that the text of NET has. A text is refused exactly where it has none.
+fn netlist_of(alloc: Global, net: &[u8]) -> Result<Netlist, Ending>
     requires { length net.now ≤ INPUT_LIMIT }
     ensures circuit { IfOk result (HasCircuit net.now) }
     ensures fails { IfErr result (FailsNet net.now) }
@@ -51,8 +79,8 @@ pub fn netlist_of(alloc: Global, net: &[u8]) -> Result<Netlist, Ending>
     }
 }
 
-/// The delays that the text of DELAYS gives to the pins of NET. A text is refused exactly where it gives none.
-pub fn delays_in(alloc: Global, net: &Netlist, delays: &[u8]) -> Result<Delays, Ending>
+// The delays that the text of DELAYS gives to the pins of NET. A text is refused exactly where it gives none.
+fn delays_in(alloc: Global, net: &Netlist, delays: &[u8]) -> Result<Delays, Ending>
     requires { length delays.now ≤ INPUT_LIMIT }
     ensures fits { IfOk result (λ kept. Fits net.now kept) }
     ensures delays { IfOk result (λ kept. HasDelays net.now delays.now (delays_of net.now kept)) }

@@ -1,7 +1,7 @@
 //! The commands, over any files and streams: `run`, which does what the program's words ask for (specs/Commands.antt), and `gen`,
 //! which leads from a netlist and its delays to the texts of one run (specs/Gen.antt, specs/Headline.antt).
 //! Stands on calls and call_laws, on the readers, on the search of all paths, on the writers of the three files and, for the
-//! system's own files and streams, on system_files. The program is `serve`; one that measures uses `read_within` and its kin.
+//! system's own files and streams, on system_files. The program is `serve`; one that measures uses `netlist_from` and `delays_from`.
 #![tactic(auto)]
 
 mod calling;
@@ -13,5 +13,5 @@ mod serving;
 mod sizes;
 
 pub use calling::run;
-pub use judging::{INPUT_LIMIT, delays_in, netlist_of, read_within};
+pub use judging::{INPUT_LIMIT, delays_from, netlist_from};
 pub use serving::serve;

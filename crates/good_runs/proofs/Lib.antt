@@ -1,4 +1,6 @@
+pub mod Applying
 pub mod Completeness
+pub mod Growing
 pub mod LeastPairs
 pub mod Numbers
 pub mod Verdicts

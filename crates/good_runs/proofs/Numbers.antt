@@ -28,6 +28,15 @@ module _ {T : Type 0} where
   get_of_push (first ∷ items) pushed item (suc place) found =
       ⊎_elim (λ before. inl before) (λ last. inr (ap suc last.0, last.1)) (get_of_push items pushed item place found)
 
+  -- what stands in an appended list stood there before, or stands in what was appended
+  get_of_append : (items more : List T) (place : ℕ) (item : T) → slice_get (items ++ more) place ≡ Some item
+      → (slice_get items place ≡ Some item) ⊎ ((behind : ℕ) × (place ≡ length items + behind) × (slice_get more behind ≡ Some item))
+  get_of_append [] more place item found = inr (place, omega arith, found)
+  get_of_append (first ∷ items) more zero item found = inl found
+  get_of_append (first ∷ items) more (suc place) item found =
+      ⊎_elim (λ before. inl before) (λ last. inr (last.0, let same = last.1 in omega arith, last.2))
+      (get_of_append items more place item found)
+
   -- the place that was written over has what was written
   pub get_set_same : (items : List T) (place : ℕ) (item : T) → place < length items
       → slice_get (set items place item) place ≡ Some item
@@ -44,6 +53,13 @@ module _ {T : Type 0} where
   get_set_other (first ∷ items) (suc place) zero item differs = refl
   get_set_other (first ∷ items) (suc place) (suc other) item differs =
       get_set_other items place other item (λ same. differs (ap suc same))
+
+  -- what stands in a place has the number after it
+  pub number_of_place : (items : List T) (place : ℕ) (item : T) → slice_get items place ≡ Some item → IsNumber items (place + 1) item
+  number_of_place items place item found = record {
+    positive = omega arith;
+    found = subst (λ (k : ℕ). slice_get items k ≡ Some item) (let e : place ≡ place + 1 - 1 = omega arith in e) found;
+  }
 
   -- an item keeps its number as more are pushed
   pub number_kept : (items more : List T) (number : ℕ) (item : T) → IsNumber items number item → IsNumber (items ++ more) number item
@@ -72,6 +88,14 @@ module _ {T : Type 0} where
       ⊎_elim (λ before. inl (record { positive = is.positive; found = before }))
       (λ last. inr (let place = last.0 in let some = is.positive in (omega arith, last.1)))
       (get_of_push items pushed item (number - 1) is.found)
+
+  -- an item of an appended list had its number before, or has one in what was appended
+  pub number_of_append : (items more : List T) (number : ℕ) (item : T) → IsNumber (items ++ more) number item
+      → IsNumber items number item ⊎ ((behind : ℕ) × (number ≡ length items + behind) × IsNumber more behind item)
+  number_of_append items more number item is =
+      ⊎_elim (λ before. inl (record { positive = is.positive; found = before }))
+      (λ last. inr (last.0 + 1, let place = last.1 in let some = is.positive in omega arith, number_of_place more last.0 item last.2))
+      (get_of_append items more (number - 1) item is.found)
 
   -- no number is past the end
   pub number_within : (items : List T) (number : ℕ) (item : T) → IsNumber items number item → number ≤ length items

@@ -1,5 +1,5 @@
 -- What each verdict of a good run tells of its fault.
-use Rattle.std.proofs.Common.{◌≡◌, ◌⊎◌, inl, inr, ℕ, true, false, map, subst}
+use Rattle.std.proofs.Common.{◌≡◌, ◌⊎◌, inl, inr, ℕ, true, false, subst}
 use Rattle.pd_base.specs.Target.{Target, target_of}
 use Rattle.pd_base.specs.Pair.{Vectors}
 use Rattle.pd_base.specs.Route.{Route}
@@ -11,7 +11,7 @@ use Rattle.netlist.specs.Circuit.{Circuit}
 use Rattle.netlist.specs.Conditions.{Meets}
 use Rattle.netlist.specs.Lawful.{IsCircuit}
 use Rattle.netlist.specs.Meaning.{Detects, DetectsSettled}
-use Rattle.netlist.specs.Paths.{IsPath, IsPrefixOf, prefix_of}
+use Rattle.netlist.specs.Paths.{IsPath, IsPrefixOf}
 use Rattle.netlist.specs.Waves.{Delays}
 use Rattle.path_laws.proofs.NonrobustPath.{nonrobust_detects}
 use Rattle.path_laws.proofs.RobustPath.{robust_detects}
@@ -22,9 +22,10 @@ use Rattle.runs.specs.declared.run.Verdict.TheVariants.{Robust, Nonrobust, Untes
 use Rattle.tree_laws.specs.Refutations.{IsRefutation}
 use Rattle.tree_laws.specs.Spent.{IsSpent}
 use Rattle.tree_laws.proofs.Refuting.{nonrobust_excludes_path, refutation_excludes_path}
-use Rattle.good_runs.specs.Faults.{CitesRefutation, CitesSpent, IsFault, IsNumber}
+use Rattle.good_runs.specs.Faults.{CitesRefutation, CitesSpent, IsFault, IsNumber, routes_of}
+use Rattle.good_runs.specs.Faults.HasProof.{refuted, spent}
 use Rattle.good_runs.specs.GoodRun.{HasRobustProof, IsGoodRefutation, IsGoodRun, IsGoodSpent}
-use Rattle.good_runs.specs.GoodRun.HasRobustProof.{refuted, spent}
+use Rattle.good_runs.proofs.Applying.{refutes_on_prefix}
 use Rattle.good_runs.proofs.Numbers.{all_at_number, number_in_map, number_same}
 
 -- the budget was spent on the target: the proof of this number has a tree that shows it
@@ -45,52 +46,50 @@ module _ (c : Circuit) (circuit : IsCircuit c) (delays : Delays) (count budget :
     (good : IsGoodRun c delays count budget run) where
   -- what holds of all proofs holds of that of a number
   good_refutation : (number : ℕ) (proof : Proof) → IsNumber run.proofs number proof → proof.spent ≡ false
-      → IsGoodRefutation c budget run proof
+      → IsGoodRefutation c run.rules budget (routes_of run) proof
   good_refutation number proof =
-      all_at_number (λ (p : Proof). p.spent ≡ false → IsGoodRefutation c budget run p) run.proofs number proof good.refutations
+      all_at_number (λ (p : Proof). p.spent ≡ false → IsGoodRefutation c run.rules budget (routes_of run) p) run.proofs number proof
+      good.refutations
 
   good_spent : (number : ℕ) (proof : Proof) → IsNumber run.proofs number proof → proof.spent ≡ true
-      → IsGoodSpent c budget run proof
+      → IsGoodSpent c run.rules budget (routes_of run) proof
   good_spent number proof =
-      all_at_number (λ (p : Proof). p.spent ≡ true → IsGoodSpent c budget run p) run.proofs number proof good.spent
+      all_at_number (λ (p : Proof). p.spent ≡ true → IsGoodSpent c run.rules budget (routes_of run) p) run.proofs number proof good.spent
 
   module _ (number : ℕ) (listed : ListedPath) (is_listed : IsNumber run.paths number listed) (direction : Direction) where
+    -- it is the route of this number
+    listed_route : IsNumber (routes_of run) number listed.path
+    listed_route = number_in_map (λ (l : ListedPath). l.path) run.paths number listed is_listed
+
     -- a listed path is one of the circuit
     pub listed_is_path : IsPath c listed.path
-    listed_is_path =
-        all_at_number (IsPath c) (map (λ (l : ListedPath). l.path) run.paths) number listed.path good.first.are_paths
-        (number_in_map (λ (l : ListedPath). l.path) run.paths number listed is_listed)
+    listed_is_path = all_at_number (IsPath c) (routes_of run) number listed.path good.first.are_paths listed_route
 
     -- a refutation that is cited refutes a prefix of the path
-    pub cited_refutes : (kind : Kind) (proof_number : ℕ) → CitesRefutation run (target_of listed.path direction kind) proof_number
+    pub cited_refutes : (kind : Kind) (proof_number : ℕ)
+        → CitesRefutation (routes_of run) run.proofs (target_of listed.path direction kind) proof_number
         → HasRefutingTree c run (target_of listed.path direction kind) proof_number
     cited_refutes kind proof_number cites =
         let proof = cites.proof in
-        let is_good = good_refutation proof_number proof cites.is_proof cites.applies.refutes in
-        let same = number_same run.paths proof.path is_good.listed cites.applies.listed is_good.is_listed cites.applies.is_listed in
-        let about = cites.applies.is_about in
-        let OfPath : ListedPath → Type 0 = λ l.
-        IsRefutation c run.rules (target_of (prefix_of proof.steps l.path) proof.dir proof.kind) proof.tree in
-        let prefix = prefix_of proof.steps cites.applies.listed.path in
-        let OfKind : Kind → Type 0 = λ k. IsRefutation c run.rules (target_of prefix proof.dir k) proof.tree in
-        let OfDirection : Direction → Type 0 = λ d. IsRefutation c run.rules (target_of prefix d kind) proof.tree in
+        let on_prefix = refutes_on_prefix c run.rules budget (routes_of run) (target_of listed.path direction kind) proof
+        (good_refutation proof_number proof cites.is_proof cites.applies.refutes) cites.applies in
         record {
           proof = proof;
           is_proof = cites.is_proof;
-          prefix = prefix;
-          is_prefix = cites.applies.has_prefix;
-          refutes = subst OfDirection about.of_direction (subst OfKind about.of_kind (subst OfPath same is_good.refutation));
+          prefix = on_prefix.prefix;
+          is_prefix = on_prefix.is_prefix;
+          refutes = on_prefix.refutes;
         }
 
     -- a spent proof that is cited spent the budget on the path
-    pub cited_spent : (kind : Kind) (proof_number : ℕ) → CitesSpent run kind direction number proof_number
+    pub cited_spent : (kind : Kind) (proof_number : ℕ) → CitesSpent run.proofs kind direction number proof_number
         → HasSpentTree c budget run (target_of listed.path direction kind) proof_number
     cited_spent kind proof_number cites =
         let proof = cites.proof in
         let is_good = good_spent proof_number proof cites.is_proof cites.spent in
-        let At : ℕ → Type 0 = λ n. IsNumber run.paths n is_good.listed in
-        let same = number_same run.paths number is_good.listed listed (subst At cites.of_path is_good.is_listed) is_listed in
-        let OfPath : ListedPath → Type 0 = λ l. IsSpent c run.rules (target_of l.path proof.dir proof.kind) budget proof.tree in
+        let At : ℕ → Type 0 = λ n. IsNumber (routes_of run) n is_good.listed in
+        let same = number_same (routes_of run) number is_good.listed listed.path (subst At cites.of_path is_good.is_listed) listed_route in
+        let OfPath : Route → Type 0 = λ route. IsSpent c run.rules (target_of route proof.dir proof.kind) budget proof.tree in
         let OfKind : Kind → Type 0 = λ k. IsSpent c run.rules (target_of listed.path proof.dir k) budget proof.tree in
         let OfDirection : Direction → Type 0 = λ d. IsSpent c run.rules (target_of listed.path d kind) budget proof.tree in
         record {
@@ -101,7 +100,8 @@ module _ (c : Circuit) (circuit : IsCircuit c) (delays : Delays) (count budget :
         }
 
     -- no pair is a test of a kind that a cited refutation excludes
-    pub cited_excludes : (kind : Kind) (proof_number : ℕ) → CitesRefutation run (target_of listed.path direction kind) proof_number
+    pub cited_excludes : (kind : Kind) (proof_number : ℕ)
+        → CitesRefutation (routes_of run) run.proofs (target_of listed.path direction kind) proof_number
         → (pair : Vectors) → ¬ Meets c (target_of listed.path direction kind) pair
     cited_excludes kind proof_number cites =
         let has = cited_refutes kind proof_number cites in

@@ -1,3 +1,4 @@
 pub mod Faults
 pub mod GoodRun
 pub mod Truth
+pub mod Shortest

@@ -1,5 +1,5 @@
 -- Lines that differ, each from all behind it.
-use Rattle.std.proofs.Common.{◌≡◌, ◌≢◌, ℕ, ◌+◌, ◌-◌, ◌<◌, ◌≤◌, ⊎_elim, List, length, drop, get_or, slice_get, Some, sym, ap, ◌∙◌, subst, arith}
+use Rattle.std.proofs.Common.{◌≡◌, ◌≢◌, ℕ, zero, suc, ◌+◌, ◌-◌, ◌<◌, ◌≤◌, ⊎_elim, List, [], ◌∷◌, length, drop, get_or, slice_get, Some, refl, sym, ap, ◌∙◌, subst, arith}
 use Rattle.std.specs.List.{Contains}
 use Rattle.std.proofs.lemmas.Bool.{cases_eq, cases_lt}
 use Rattle.std.proofs.lemmas.List.{get_or-drop, length-drop}
@@ -45,3 +45,48 @@ all_differ lines place all up_to first second line at_first at_second =
     (λ (behind : second ≤ first). absurd (up_to second first line (omega arith) (omega arith) at_second at_first))
     (cases_lt first second))
     (cases_eq first second)
+
+-- one line more in front, which is none of the rest
+differ_cons : (first : LineId) (rest : List LineId) → ((place : ℕ) → ¬ (slice_get rest place ≡ Some first)) → AllDiffer rest
+    → AllDiffer (first ∷ rest)
+differ_cons first rest away differ zero zero line at at_other = refl
+differ_cons first rest away differ zero (suc other) line at at_other = absurd (away other (at_other ∙ sym at))
+differ_cons first rest away differ (suc place) zero line at at_other = absurd (away place (at ∙ sym at_other))
+differ_cons first rest away differ (suc place) (suc other) line at at_other = ap (λ (n : ℕ). suc n) (differ place other line at at_other)
+
+none_differ : AllDiffer []
+none_differ place other line at at_other = absurd cc
+
+nowhere : (line : LineId) (place : ℕ) → ¬ (slice_get [] place ≡ Some line)
+nowhere line place at = absurd cc
+
+-- a line that is not the first and none of the rest
+elsewhere : (first : LineId) (rest : List LineId) (line : LineId) → first ≢ line → ((place : ℕ) → ¬ (slice_get rest place ≡ Some line))
+    → (place : ℕ) → ¬ (slice_get (first ∷ rest) place ≡ Some line)
+elsewhere first rest line away rest_away zero at = away (same_Some first line at)
+elsewhere first rest line away rest_away (suc place) at = rest_away place at
+
+-- two lines, and three
+two_apart : (first second : LineId) → first ≢ second → AllDiffer (first ∷ second ∷ [])
+two_apart first second apart = differ_cons first (second ∷ []) (elsewhere second [] first (λ same. apart (sym same)) (nowhere first))
+    (differ_cons second [] (nowhere second) none_differ)
+
+three_apart : (first second third : LineId) → first ≢ second → first ≢ third → second ≢ third → AllDiffer (first ∷ second ∷ third ∷ [])
+three_apart first second third apart ends last =
+    differ_cons first (second ∷ third ∷ [])
+    (elsewhere second (third ∷ []) first (λ same. apart (sym same)) (elsewhere third [] first (λ same. ends (sym same)) (nowhere first)))
+    (two_apart second third last)
+
+pub two_differ : (lines : List LineId) (none : LineId) → length lines ≡ 2 → get_or lines 0 none ≢ get_or lines 1 none → AllDiffer lines
+two_differ [] none two apart = absurd (omega (arith, two))
+two_differ (first ∷ []) none two apart = absurd (omega (arith, two))
+two_differ (first ∷ second ∷ []) none two apart = two_apart first second apart
+two_differ (first ∷ second ∷ third ∷ rest) none two apart = absurd (omega (arith, two))
+
+pub three_differ : (lines : List LineId) (none : LineId) → length lines ≡ 3 → get_or lines 0 none ≢ get_or lines 1 none
+    → get_or lines 0 none ≢ get_or lines 2 none → get_or lines 1 none ≢ get_or lines 2 none → AllDiffer lines
+three_differ [] none three apart ends last = absurd (omega (arith, three))
+three_differ (first ∷ []) none three apart ends last = absurd (omega (arith, three))
+three_differ (first ∷ second ∷ []) none three apart ends last = absurd (omega (arith, three))
+three_differ (first ∷ second ∷ third ∷ []) none three apart ends last = three_apart first second third apart ends last
+three_differ (first ∷ second ∷ third ∷ fourth ∷ rest) none three apart ends last = absurd (omega (arith, three))

@@ -22,7 +22,7 @@ use undo_trail::{Note, Trail};
 /// part of the netlist: all gates, or some.
 ///
 /// Contracts see the labels, the notes of the changes, the gates that wait in their order, and for each gate whether it is inside.
-#[derive(Drop)]
+#[derive(Debug, Drop)]
 pub struct Board<A: Algebra> {
     labels: Labels<A>,
     trail: Trail<StateSet>,

@@ -8,6 +8,7 @@ ghost use Rattle.state_sets.specs.declared.state.State.{State};
 ghost use Rattle.state_sets.specs.Labellings.{IsLabelling};
 ghost use Rattle.state_sets.specs.Hulls.{HasAt};
 ghost use Rattle.state_laws.specs.Nodes.{IsCut};
+ghost use Rattle.narrowing.specs.Conditions.{IsEnteredOn};
 ghost use Rattle.hulls.specs.Answers.{IsAtNode};
 ghost use Rattle.hulls.specs.Pairs.{LosesNoPair, DecidesSingletons};
 
@@ -59,12 +60,31 @@ fn hull_at(
 {
     let mut conditions = Conditions::new(alloc, net, kind)?;
     enter_all(&mut conditions, net, prefix);
+    hull_under(alloc, net, rules, prefix, dir, &conditions, halves)
+}
+
+// The same under these conditions, which are those at the steps of the prefix.
+fn hull_under(
+    alloc: Global,
+    net: &Netlist,
+    rules: &Rules,
+    prefix: &Path,
+    dir: Direction,
+    conditions: &Conditions,
+    halves: &[Half],
+) -> Result<Hull, OutOfMemory>
+    requires prefix { IsPrefix net.now prefix.now }
+    requires sources { All (λ half. half.source < source_count net.now) halves.now }
+    requires conditions { IsEnteredOn net.now conditions.now }
+    requires steps { conditions.now.steps ≡ prefix.now.steps }
+    ensures { IfOk result (IsAtNode net.now rules.now (target_of prefix.now dir conditions.now.kind) halves.now) }
+{
     let mut labels = Labels::full(alloc, net)?;
     launch(&mut labels, net, rules, prefix.source(), dir);
     cut_to_halves(&mut labels, net, halves);
     let mut board = Board::with_labels(alloc, net, labels)?;
     let mut scratch = NarrowScratch::new(alloc, net)?;
-    match board.settle_all(net, &conditions, &mut scratch) {
+    match board.settle_all(net, conditions, &mut scratch) {
         None => Ok(Hull::Rest(board.into_labels())),
         Some(line) => Ok(Hull::Empty(line)),
     }

@@ -1,5 +1,5 @@
-// Gates in a queue, first in, first out, as two lists: one is read from a place on, the other is written; where the first is done,
-// they are exchanged.
+// Gates in a queue, first in, first out, as two lists: one is read from a place on, and as long as there is room behind its gates it is
+// written too; then the other is written, and where the first is done, they are exchanged.
 ghost use Rattle.std.specs.Prelude.{◌≡◌, ◌<◌, List, [], ◌∷◌, ◌++◌, length, IfOk, MatchOption};
 
 use pd_base::{GateId, OutOfMemory};
@@ -8,7 +8,7 @@ use std::marker::Model;
 use std::mem;
 
 // Gates in a queue, with room for so many. Contracts see the gates in their order, and the room.
-#[derive(Drop)]
+#[derive(Debug, Drop)]
 pub(crate) struct Queue {
     front: Vec<GateId>,
     at: usize,
@@ -47,7 +47,11 @@ impl Queue {
         requires { length self.old.gates < self.old.room }
         ensures { self.new ≡ record self.old { gates = self.old.gates ++ gate ∷ [] } }
     {
-        self.back.push_reserved(gate);
+        if self.back.is_empty() && self.front.len() < self.room {
+            self.front.push_reserved(gate);
+        } else {
+            self.back.push_reserved(gate);
+        }
     }
 
     // Takes the first gate, if there is one.

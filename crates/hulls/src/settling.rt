@@ -1,5 +1,5 @@
 // A board settles: gate by gate is narrowed, as long as one waits and each line has some state.
-ghost use Rattle.std.specs.Prelude.{◌≡◌, ◌<◌, ◌+◌, ◌↔◌, [], true, length, Contains, IfSome, IfNone, IsTrue, MatchOption};
+ghost use Rattle.std.specs.Prelude.{◌≡◌, ◌≢◌, ◌<◌, ◌+◌, ◌↔◌, [], true, length, Contains, IfSome, IfNone, IsTrue, MatchOption};
 ghost use Rattle.netlist.specs.Circuit.{gate_count, line_count};
 ghost use Rattle.netlist.specs.Lawful.{IsCircuit};
 ghost use Rattle.state_sets.specs.States.{AreWithin, no_states};
@@ -153,13 +153,36 @@ fn passed_by(net: &Netlist, gate: GateId) -> Option<GateId>
     }
 }
 
-// Whether no two of these lines are the same. Of more than a few lines it is not looked for, and the answer is no.
+// Whether no two of these lines are the same. Of more than a few lines it is not looked for, and the answer is no. Most gates have two
+// pins or three, and these are compared without a loop.
 fn are_found_to_differ(lines: &[LineId]) -> bool
     ensures { IsTrue result → AllDiffer lines.now }
 {
-    if lines.len() > MOST_COMPARED {
-        return false;
+    match lines.len() {
+        2 => do_two_differ(lines[0], lines[1]),
+        3 => do_three_differ(lines[0], lines[1], lines[2]),
+        count => count <= MOST_COMPARED && does_each_differ(lines),
     }
+}
+
+fn do_two_differ(first: LineId, second: LineId) -> bool
+    ensures { IsTrue result → first ≢ second }
+{
+    first != second
+}
+
+fn do_three_differ(first: LineId, second: LineId, third: LineId) -> bool
+    ensures first { IsTrue result → first ≢ second }
+    ensures last { IsTrue result → first ≢ third }
+    ensures second { IsTrue result → second ≢ third }
+{
+    first != second && first != third && second != third
+}
+
+// Whether each of these lines is another one than all behind it.
+fn does_each_differ(lines: &[LineId]) -> bool
+    ensures { IsTrue result → AllDiffer lines.now }
+{
     for place in 0..lines.len() {
         if stands_among(&lines[place + 1..], lines[place]) {
             return false;

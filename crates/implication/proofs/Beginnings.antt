@@ -1,16 +1,15 @@
 -- What an engine keeps as the outermost scope begins and as it ends.
-use Rattle.std.proofs.Common.{◌≡◌, ℕ, ◌<◌, Bool, List, [], ◌∷◌, length, replicate, Option, Some, None, IfSome, IfNone, refl, sym, ap, ◌∙◌, subst, arith}
+use Rattle.std.proofs.Common.{◌≡◌, ℕ, ◌<◌, Bool, List, [], ◌∷◌, length, Option, Some, None, IfSome, IfNone, refl, sym, ap, ◌∙◌, subst, arith}
 use Rattle.std.proofs.lemmas.List.Elements.{All-nil}
 use Rattle.pd_base.specs.declared.ids.LineId.{LineId}
 use Rattle.pd_base.specs.declared.ids.PinRef.{PinRef}
 use Rattle.pd_base.specs.declared.rules.Rules.{Rules}
-use Rattle.netlist.specs.Circuit.{Circuit, source_count, line_count, gate_count, gate_line}
-use Rattle.state_sets.specs.States.{all_states}
+use Rattle.netlist.specs.Circuit.{Circuit, source_count, line_count, gate_line}
 use Rattle.state_sets.specs.StateAlgebra.{StateAlgebra}
 use Rattle.state_sets.specs.FourStates.{four_states}
 use Rattle.state_sets.specs.Starts.{MayStart}
 use Rattle.state_sets.specs.Hulls.{IsHull, IsEmptied, HasNoEmptySet}
-use Rattle.state_laws.specs.Cones.{IsClosedBack, IsNarrowingIn}
+use Rattle.state_laws.specs.Cones.{IsNarrowingIn}
 use Rattle.narrowing.specs.Conditions.{Entered as Steps}
 use Rattle.hulls.specs.Awaiting.{is_inside}
 use Rattle.hulls.specs.Boards.{OnBoard}
@@ -19,7 +18,7 @@ use Rattle.implication.specs.declared.assumption.Assumption.{Assumption}
 use Rattle.implication.specs.declared.before.Before.{Before}
 use Rattle.implication.specs.Assumptions.{entered_pins}
 use Rattle.implication.specs.Standing.{Standing, IsToldBy}
-use Rattle.implication.specs.Idling.{Idling, StandsBy, IsIdleBoard, IsNewBoard}
+use Rattle.implication.specs.Idling.{Idling, StandsBy, IsIdleBoard}
 use Rattle.implication.specs.Kept.{Outset, Kept, AreLabelsUnder, AreLeft, StandsOpen, StandsIdle, StandsFrom, AreToldGates, KeepsStanding}
 use Rattle.implication.proofs.Lists.{list_empty}
 use Rattle.implication.proofs.Labels.{labels_at_start}
@@ -144,16 +143,6 @@ stands_here a {standing} {kept} {room} {befores_room} keeps nothing = (
   standing.rules,
   (idle_parts a standing.net standing.rules standing.ends standing.assumptions nothing standing.conflict kept standing.beginning keeps.stands).3,
 )
-
--- a board as it is made
-pub new_board : (count : ℕ) (c seen : Circuit) → seen ≡ c → (ends : Option (List LineId)) (inside : List Bool) → AreToldGates c ends inside
-    → IsNewBoard count seen (record { labels = replicate (line_count seen) (all_states count); notes = []; waiting = []; inside = inside })
-new_board count c seen same ends inside cone = record {
-  labels = refl;
-  unnoted = refl;
-  gates = cone.one_each ∙ ap gate_count (sym same);
-  closed = let P : Circuit → Type 0 = λ x. IsClosedBack x (is_inside inside) in subst P (sym same) cone.closed;
-}
 
 -- what an engine keeps as the outermost scope ends
 pub kept_ended : (a : StateAlgebra) {standing : Standing} {kept : Kept} {room befores_room : ℕ}

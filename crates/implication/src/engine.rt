@@ -12,18 +12,19 @@ ghost use Rattle.state_sets.specs.FourStates.{four_states};
 ghost use Rattle.implication.specs.Standing.{IsIdle, IsFree, IsLabels, IsTold, TellsLabels, IsEmptiedIn, IsOpenIn, end_of_scope};
 ghost use Rattle.implication.specs.Moves.{with_entered, with_assumed, grown, closed_at, back_at, left_behind, idle_again, HasBegun};
 ghost use Rattle.implication.specs.Clients.{ExtendsStanding};
-ghost use Rattle.implication.specs.Kept.{IsListFrom, IsLeftBefore, AreToldGates, most_assumptions};
+ghost use Rattle.implication.specs.Kept.{IsListFrom, IsLeftBefore, AreToldGates};
 
 use crate::before::Before;
 use crate::cones::inside_of;
 use crate::idle::IdleLabels;
+use crate::making::{IdleParts, Lists};
 use crate::narrowing_on::{leave_step, narrow_on, put_back, take_from};
 use crate::{Assumption, Beginning, Conflict, Origin, Setting};
 use hulls::Board;
 use narrowing::{Conditions, NarrowScratch};
 use netlist::Netlist;
-use pd_base::{Kind, LineId, OutOfMemory, PinRef, Rules};
-use state_sets::{Algebra, StateSet, count_states, every_state};
+use pd_base::{LineId, OutOfMemory, PinRef, Rules};
+use state_sets::{Algebra, StateSet};
 use std::alloc::Global;
 use std::marker::Model;
 use undo_trail::Note;
@@ -32,7 +33,7 @@ use undo_trail::Note;
 ///
 /// Contracts see how it stands: the circuit, the rules, the lines whose fan-in is told, with what the outermost scope began, the list
 /// of assumptions, the conflict that stands, and the count of conflicts.
-#[derive(Drop)]
+#[derive(Debug, Drop)]
 pub struct Engine<A: Algebra, S: Setting> {
     setting: S,
     // None: all lines are told.
@@ -138,22 +139,19 @@ impl<A: Algebra, S: Setting> Engine<A, S> {
           closings = 0;
         }) }
     {
-        let net = setting.netlist();
-        let most = most_assumptions::<A>(net);
-        let assumptions = Vec::with_capacity(alloc, most)?;
-        let befores = Vec::with_capacity(alloc, most)?;
-        let left = vec![in alloc; every_state::<A>(); net.sources() as usize]?;
-        let conditions = Conditions::new(alloc, net, Kind::Robust)?;
-        let mut scratch = NarrowScratch::new(alloc, net)?;
-        let mut board = Board::within(alloc, net, inside)?;
-        let idle = IdleLabels::new(
-            alloc,
-            net,
-            setting.rules(),
-            &mut board,
-            &conditions,
-            &mut scratch,
-        )?;
+        let parts = IdleParts::new(alloc, setting.netlist(), setting.rules(), inside)?;
+        let lists = Lists::new::<A>(alloc, setting.netlist())?;
+        let IdleParts {
+            board,
+            idle,
+            conditions,
+            scratch,
+        } = parts;
+        let Lists {
+            assumptions,
+            befores,
+            left,
+        } = lists;
         Ok(Engine {
             setting,
             ends,
@@ -397,15 +395,6 @@ fn all_gates(alloc: Global, net: &Netlist) -> Result<Vec<bool>, OutOfMemory>
     let gates = net.lines() - net.sources();
     let inside = vec![in alloc; true; gates as usize]?;
     Ok(inside)
-}
-
-// The most assumptions that can stand at once: of each source as many sets as there are states, since each takes some state away,
-// and as many pins as there are levels.
-fn most_assumptions<A: Algebra>(net: &Netlist) -> usize
-    ensures room { most_assumptions A.algebra.count net.now ≤ result }
-    ensures circuit { IsCircuit net.now }
-{
-    count_states::<A>() as usize * net.sources() as usize + net.levels() as usize
 }
 
 // The line to which these steps lead from a source.

@@ -1,6 +1,7 @@
-// The labels of a board while no scope is open, and how a scope begins at the cost of the lines that its source reaches. The idle labels
-// are computed once, forward from sources that start as the rules leave them. A beginning writes the states that launch the transition
-// at its source, and all states at the lines behind it, and narrows there alone: no other line can have less than its idle label.
+// The labels of a board while no scope is open, and how a scope begins. The idle labels are computed once, forward from sources that start
+// as the rules leave them. Where the source may launch its transition by its idle label, a beginning cuts that label, at the cost of what
+// changes. Else it writes the states that launch the transition at the source, and all states at the lines behind it, and narrows
+// there: no other line can have less than its idle label.
 ghost use Rattle.std.specs.Prelude.{◌≡◌, ◌≢◌, ◌<◌, ◌≤◌, ◌∷◌, [], ℕ, length, replicate, All, Contains, IfOk, IfSome, IfNone};
 ghost use Rattle.pd_base.specs.declared.ids.LineId.{LineId};
 ghost use Rattle.pd_base.specs.declared.rules.Rules.{Rules};
@@ -18,6 +19,7 @@ ghost use Rattle.hulls.specs.Boards.{IsBoardOf};
 ghost use Rattle.implication.specs.Idling.{IsIdleSet, StartsNowhere, StandsBy, IsIdleBoard, IsNewBoard, IsLeftAtRest, IsStartWritten};
 
 use crate::Beginning;
+use crate::narrowing_on::narrow_on_cut;
 use crate::reached::ReachedLines;
 use crate::reaching::reach;
 use hulls::{Board, launching_states, other_states};
@@ -29,7 +31,7 @@ use std::alloc::Global;
 use std::marker::Model;
 
 // The idle labels of a board, and the lines reached from the source of the scope that is open.
-#[derive(Drop)]
+#[derive(Debug, Drop)]
 pub(crate) struct IdleLabels {
     labels: Vec<StateSet>,
     reached: ReachedLines,
@@ -72,7 +74,7 @@ impl IdleLabels {
     }
 
     // Begins with a transition at a source: the labels are then the hull of the start by the narrowings inside, or no state is left
-    // at the line that it gives. Takes no memory, and costs what the source reaches.
+    // at the line that it gives. Takes no memory, and costs what changes, or what the source reaches.
     pub(crate) fn begin<A: Algebra>(
         &mut self,
         net: &Netlist,
@@ -101,6 +103,10 @@ impl IdleLabels {
         }
         if let Some(other) = stuck_source::<A>(net, rules, begun.source) {
             return Some(other);
+        }
+        let common = board.get(begun.source).intersect(launched);
+        if common == launched {
+            return narrow_on_cut(net, begun.source, launched, board, conditions, scratch);
         }
         reach(net, board, begun.source, &mut self.reached);
         start_lines(net, self.reached.lines(), launched, board);

@@ -8,6 +8,7 @@ mod before;
 mod cones;
 mod engine;
 mod idle;
+mod making;
 mod narrowing_on;
 mod reached;
 mod reaching;

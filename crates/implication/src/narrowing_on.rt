@@ -70,7 +70,7 @@ fn narrow_on_entered<A: Algebra>(
 }
 
 // The same where a source is cut down to a set: the gates on its line are narrowed again.
-fn narrow_on_cut<A: Algebra>(
+pub(crate) fn narrow_on_cut<A: Algebra>(
     net: &Netlist,
     source: LineId,
     set: StateSet,

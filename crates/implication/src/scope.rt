@@ -3,7 +3,7 @@
 ghost use Rattle.std.specs.Prelude.{All, ◌≡◌, ◌<◌, ◌≤◌, ◌+◌, List, Some, None, Ok, Err, IfSome, IfNone, IfErr, OnOk, IsSome, length};
 ghost use Rattle.netlist.specs.Circuit.{source_count, line_count, gate_line};
 ghost use Rattle.netlist.specs.Pins.{IsPinOn};
-ghost use Rattle.state_sets.specs.States.{AreWithin};
+ghost use Rattle.state_sets.specs.States.{IsWithin, AreWithin};
 ghost use Rattle.state_sets.specs.FourStates.{four_states};
 ghost use Rattle.implication.specs.Standing.{Standing, IsIdle, IsFree, IsLabels, IsTold, TellsLabel, TellsLabels, IsEmptiedIn, IsOpenIn, end_of_scope};
 ghost use Rattle.implication.specs.Moves.{with_entered, with_assumed, grown, closed_at, back_at, left_behind, HasBegun, start_at};
@@ -133,7 +133,8 @@ impl<'e, A: Algebra, S: Setting> Scope<'e, A, S> {
     /// stands nothing is said of it.
     pub fn label(&self, line: LineId) -> StateSet
         requires { line.0 < line_count (standing self.now).net }
-        ensures { (standing self.now).conflict ≡ None
+        ensures within { IsWithin A.algebra.count result }
+        ensures told { (standing self.now).conflict ≡ None
             → (labels : List StateSet) × IsLabels A.algebra (standing self.now) labels
             × TellsLabel A.algebra.count (standing self.now) labels line.0 result }
     {

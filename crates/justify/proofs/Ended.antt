@@ -82,7 +82,7 @@ module _ (c : Circuit) (rules : Rules) (target : Target) (budget : ℕ) (list : 
       (λ (all : 2 ^ 64 - 1 ≤ new.closings). inr all) counted
 
 -- the count alone matters
-counts_same : (budget : ℕ) (found : Found) (old new last : Standing) → last.closings ≡ new.closings
+pub counts_same : (budget : ℕ) (found : Found) (old new last : Standing) → last.closings ≡ new.closings
     → CountsConflicts budget found old new → CountsConflicts budget found old last
 counts_same budget (Test pair) old new last same counts = tt
 counts_same budget (Refuted tree) old new last same counts = ⊎_elim

@@ -1,13 +1,12 @@
 -- A visit of a place: how the search goes on where the place is shut out, and where a trial has failed there.
-use Rattle.std.proofs.Common.{◌≡◌, ℕ, ◌+◌, ◌*◌, ◌-◌, ◌<◌, ◌≤◌, ◌^◌, ⊎_elim, List, [], ◌∷◌, ◌++◌, length, reverse, Option, Some, None, true, false, refl, sym, ap, ◌∙◌, subst, arith}
+use Rattle.std.proofs.Common.{◌≡◌, ◌≤◌, List, [], ◌∷◌, ◌++◌, length, reverse, Option, Some, None, true, false, refl, sym, ap, ◌∙◌, subst, arith}
 use Rattle.std.specs.Prelude.{is_some}
-use Rattle.std.proofs.lemmas.Bool.{cases_lt, false≢true}
+use Rattle.std.proofs.lemmas.Bool.{false≢true}
 use Rattle.std.proofs.lemmas.List.{length_push}
 use Rattle.pd_base.specs.Pair.{Vectors}
 use Rattle.pd_base.specs.Target.{Target}
 use Rattle.netlist.specs.Circuit.{Circuit}
 use Rattle.netlist.specs.Paths.{IsPrefix}
-use Rattle.runs.specs.declared.tree.Node.{Node}
 use Rattle.runs.specs.declared.tree.Node.TheVariants.{Closed}
 use Rattle.implication.specs.Clients.{IsRestored}
 use Rattle.implication.specs.Moves.{risen}
@@ -24,7 +23,7 @@ use Rattle.justify.specs.Searches.{IsSearching, SearchGoesOn, AddsNode, IsVisit,
 use Rattle.justify.specs.Tasks.{task_target}
 use Rattle.justify.specs.Tests.{IsFitTest}
 use Rattle.justify.specs.Trying.{HasFailed, FailsAtNode, IsTrialOf}
-use Rattle.justify.specs.UnderWay.{IsUnderWay, IsSameSetting}
+use Rattle.justify.specs.UnderWay.{IsSameSetting}
 use Rattle.justify.proofs.SameNodes.{same_restored, stays_at_node}
 use Rattle.justify.proofs.Placing.{IsNext, next_place}
 use Rattle.justify.proofs.Visits.{growing_same, reverse_push, reverse_none, shut_under_way, shut_growing, entered_at_node, last_under_way, extended_growing, extended_by_one, extended_left}
@@ -177,3 +176,13 @@ grown_some task first old new before after growth None some same adds = absurd (
 pub two_where_failed : (target : Target) (standing : Standing) → HasFailed target standing → ¬ AreSingle target standing
 two_where_failed target standing failed single =
     failed.two (λ source support. single source support failed.hull failed.labels)
+
+-- what goes on from where the setting was the same, and no count has fallen, goes on from there
+pub goes_further : (task : Task) (first middle last : Standing) (desk : Desk) → IsSameSetting first middle → first.closings ≤ middle.closings
+    → SearchGoesOn task middle last desk → SearchGoesOn task first last desk
+goes_further task first middle last desk setting rising goes = record {
+  setting = setting_trans first middle last setting goes.setting;
+  under_way = goes.under_way;
+  serves = goes.serves;
+  later = let more = goes.later in omega (arith, rising, more);
+}

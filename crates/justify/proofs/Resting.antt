@@ -1,5 +1,5 @@
 -- The labels as a scope stands: there is one hull, a scope answers it for sources, and it stays where the scope is restored.
-use Rattle.std.proofs.Common.{◌≡◌, ℕ, ◌+◌, ◌-◌, ◌<◌, ◌≤◌, ◌^◌, ⊎_elim, inl, List, Option, Some, None, IsSome, true, sym, ◌∙◌, ap, subst, arith}
+use Rattle.std.proofs.Common.{◌≡◌, ℕ, ◌+◌, ◌-◌, ◌<◌, ◌≤◌, ◌^◌, ⊎_elim, inl, List, Option, Some, None, IsSome, sym, ◌∙◌, ap, subst, arith}
 use Rattle.std.specs.Prelude.{is_some}
 use Rattle.std.proofs.lemmas.Bool.{false≢true, cases_lt}
 use Rattle.pd_base.specs.declared.ids.LineId.{LineId}

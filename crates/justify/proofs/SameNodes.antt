@@ -1,9 +1,8 @@
 -- A scope that is restored stands at the same node: what holds of the one standing holds of the other.
-use Rattle.std.proofs.Common.{◌≡◌, ◌≤◌, ℕ, List, Option, Some, None, Result, Ok, Err, sym, ap, ◌∙◌, subst, arith}
+use Rattle.std.proofs.Common.{◌≡◌, ℕ, List, Option, Some, None, Result, Ok, Err, sym, ap, ◌∙◌, subst, arith}
 use Rattle.std.specs.Prelude.{IfOk}
 use Rattle.pd_base.specs.Pair.{Vectors}
 use Rattle.pd_base.specs.Target.{Target}
-use Rattle.pd_base.specs.declared.ids.LineId.{LineId}
 use Rattle.pd_base.specs.declared.rules.Rules.{Rules}
 use Rattle.netlist.specs.Circuit.{Circuit}
 use Rattle.state_sets.specs.declared.state.State.{State}
@@ -16,11 +15,10 @@ use Rattle.implication.specs.declared.assumption.Beginning.{Beginning}
 use Rattle.implication.specs.declared.assumption.Assumption.{Assumption}
 use Rattle.implication.specs.Assumptions.{entered_pins}
 use Rattle.implication.specs.Clients.{IsRestored}
-use Rattle.implication.specs.Moves.{risen}
 use Rattle.implication.specs.Standing.{Standing, IsHullFrom, IsLabels, IsOpenFrom}
 use Rattle.justify.specs.Nodes.{StandsAtNode, AllowAsNode}
 use Rattle.justify.specs.Tests.{IsFitTest}
-use Rattle.justify.specs.Trying.{HasFailed, FailsAtNode, IsTrialOf, HasLeast, IsSingle}
+use Rattle.justify.specs.Trying.{HasFailed, IsTrialOf, HasLeast, IsSingle}
 use Rattle.justify.proofs.Resting.{there_too, counted_before}
 
 -- the same circuit, rules, beginning, assumptions and conflict

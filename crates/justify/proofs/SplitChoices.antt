@@ -1,6 +1,6 @@
 -- The choice of a split: one at a source of the support may be chosen.
-use Rattle.std.proofs.Common.{◌≡◌, ℕ, List, Option, Some, None, true, false, refl, sym, ◌∙◌, subst}
-use Rattle.std.specs.Prelude.{IfSome, IfNone, is_some}
+use Rattle.std.proofs.Common.{◌≡◌, List, Option, Some, None, refl, sym, subst}
+use Rattle.std.specs.Prelude.{IfSome}
 use Rattle.pd_base.specs.Route.{Route}
 use Rattle.pd_base.specs.Target.{Target}
 use Rattle.pd_base.specs.declared.ids.LineId.{LineId}

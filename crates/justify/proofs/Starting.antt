@@ -5,7 +5,6 @@ use Rattle.std.proofs.lemmas.List.{length-map, take_all}
 use Rattle.std.proofs.lemmas.List.Elements.{All-nil, All-cons}
 use Rattle.pd_base.specs.Target.{Target}
 use Rattle.pd_base.specs.declared.ids.PinRef.{PinRef}
-use Rattle.pd_base.specs.declared.rules.Rules.TheVariants.{One}
 use Rattle.netlist.specs.Circuit.{Circuit, line_count, gate_line}
 use Rattle.netlist.specs.Paths.{IsPrefix, Connects, end_of, line_after}
 use Rattle.state_sets.specs.declared.state.State.{State}
@@ -94,7 +93,7 @@ module _ (target : Target) (standing : Standing) (start : IsStart target standin
             states = made.states;
             four = made.four;
             blame = made.blame;
-            wanted = made.wanted;
+            liked = made.liked;
             justifier = made.justifier;
           };
           cone = subst R (same_line ∙ start_end) (subst Q same_net at);

@@ -1,22 +1,19 @@
 -- What follows where sources of the support are assumed to be in the least states of their labels: a conflict shows that the trial of
 -- the node closes, and where none comes of all of them, the pair of these states is a test.
-use Rattle.std.proofs.Common.{◌≡◌, ℕ, ◌<◌, ◌≤◌, ◌^◌, List, [], ◌∷◌, length, take, get_or, Option, Some, None, Bool, true, false, refl, sym, ap, ◌∙◌, subst, arith}
-use Rattle.std.specs.List.{All, Contains}
-use Rattle.std.proofs.lemmas.List.Elements.{All-more, All-weaker, All-contains}
-use Rattle.pd_base.specs.Pair.{Vectors}
+use Rattle.std.proofs.Common.{◌≡◌, ℕ, ◌<◌, ◌≤◌, ◌^◌, List, None, Bool, true, false, refl, sym, ap, ◌∙◌, subst, arith}
+use Rattle.std.specs.List.{All}
+use Rattle.std.proofs.lemmas.List.Elements.{All-weaker, All-contains}
 use Rattle.pd_base.specs.Target.{Target}
 use Rattle.pd_base.specs.declared.ids.PinRef.{PinRef}
 use Rattle.pd_base.specs.declared.rules.Rules.{Rules}
-use Rattle.netlist.specs.Circuit.{Circuit, source_count, line_count}
-use Rattle.netlist.specs.Conditions.{Meets}
+use Rattle.netlist.specs.Circuit.{Circuit}
 use Rattle.netlist.specs.Lawful.{IsCircuit}
 use Rattle.netlist.specs.Paths.{IsPrefix}
 use Rattle.state_sets.specs.declared.state.State.{State}
 use Rattle.state_sets.specs.declared.state.StateSet.{StateSet}
-use Rattle.state_sets.specs.States.{Has, no_states}
+use Rattle.state_sets.specs.States.{Has}
 use Rattle.state_sets.specs.FourStates.{four_states}
 use Rattle.state_sets.specs.Labellings.{label_at}
-use Rattle.state_sets.specs.LineStates.{state_under}
 use Rattle.state_sets.specs.Starts.{IsLeast}
 use Rattle.state_sets.specs.Hulls.{IsNarrowingOf, IsRestAmong, HasNoEmptySet, Closes}
 use Rattle.state_laws.specs.declared.half.Half.{Half}
@@ -34,7 +31,7 @@ use Rattle.implication.specs.Standing.{Standing, IsLabels}
 use Rattle.justify.specs.declared.trial.Tried.{Tried}
 use Rattle.justify.specs.Nodes.{beginning_of, StandsAtNode, AllowAsNode}
 use Rattle.justify.specs.LeastStates.{least_of}
-use Rattle.justify.specs.Trying.{CanTry, LetsTrial, IsWithinTrial, IsHeldIn, EndsTrial, HasFailed, IsSingle, IsTriedAs, GivesTest}
+use Rattle.justify.specs.Trying.{CanTry, IsWithinTrial, IsHeldIn, EndsTrial, HasFailed, IsSingle, GivesTest}
 use Rattle.justify.proofs.Assuming.{may_assumed, entered_assumed}
 use Rattle.justify.proofs.LeastState.{least_is_least}
 use Rattle.justify.proofs.Nodes.{hull_at_node}

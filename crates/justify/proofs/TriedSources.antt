@@ -1,10 +1,10 @@
 -- Sources that are tried in the states of a desk: they are such as a trial assumes; and a pair that is read off these states is a test
 -- where it meets the conditions.
-use Rattle.std.proofs.Common.{◌≡◌, ℕ, ◌+◌, ◌<◌, ◌≤◌, ◌↔◌, ⊎_elim, Bool, Option, Some, None, List, [], ◌∷◌, ◌++◌, length, take, get_or, refl, sym, ap, ◌∙◌, subst, arith}
+use Rattle.std.proofs.Common.{◌≡◌, ℕ, ◌+◌, ◌<◌, ◌↔◌, ⊎_elim, Bool, Option, Some, None, List, [], ◌∷◌, ◌++◌, length, take, get_or, refl, sym, ap, ◌∙◌, subst, arith}
 use Rattle.std.specs.Prelude.{IfSome}
 use Rattle.std.specs.List.{All, Contains}
 use Rattle.std.proofs.lemmas.List.{take_more}
-use Rattle.std.proofs.lemmas.List.Elements.{All-more, All-push, Contains-get_or, Contains-push, Contains-push_cases, Contains-append_left}
+use Rattle.std.proofs.lemmas.List.Elements.{All-push, Contains-get_or, Contains-push, Contains-push_cases, Contains-append_left}
 use Rattle.pd_base.specs.Pair.{Vectors}
 use Rattle.pd_base.specs.Route.{Route}
 use Rattle.pd_base.specs.Target.{Target}
@@ -19,7 +19,6 @@ use Rattle.state_sets.specs.declared.state.State.{State}
 use Rattle.state_sets.specs.declared.state.StateSet.{StateSet}
 use Rattle.state_sets.specs.FourStates.{four_states}
 use Rattle.state_sets.specs.Labellings.{label_at}
-use Rattle.state_sets.specs.LineStates.{state_under}
 use Rattle.state_laws.proofs.FanIns.{fan_in_in_circuit}
 use Rattle.tree_laws.specs.Spent.{IsInSupport}
 use Rattle.implication.specs.Standing.{Standing, IsLabels, TellsLabels}
@@ -179,9 +178,9 @@ judged_fits n c same target states pair read judged =
 
 -- a desk with other states
 pub desk_again : (c : Circuit) (path : Route) (desk after : Desk) (states : List State) → IsDesk c path desk → after.cone ≡ desk.cone
-    → after.blame.room ≡ desk.blame.room → length after.wanted.items ≡ length desk.wanted.items → after.states.items ≡ states
+    → after.blame.room ≡ desk.blame.room → length after.liked.items ≡ length desk.liked.items → after.states.items ≡ states
     → AreFourStates states → length states ≡ length desk.states.items → IsJustifierOf c after.justifier → IsDesk c path after
-desk_again c path desk after states is cone room wanted same four long justifier =
+desk_again c path desk after states is cone room liked same four long justifier =
     let P : KeptCone → Type 0 = λ k. IsConeFor c k in
     let Q : KeptCone → Type 0 = λ k. IsConeAt c (end_of c path) k in
     let R : List State → Type 0 = λ xs. AreFourStates xs in
@@ -191,7 +190,7 @@ desk_again c path desk after states is cone room wanted same four long justifier
         states = ap length same ∙ long ∙ is.made.states;
         four = subst R (sym same) four;
         blame = room ∙ is.made.blame;
-        wanted = wanted ∙ is.made.wanted;
+        liked = liked ∙ is.made.liked;
         justifier = justifier;
       };
       cone = subst Q (sym cone) is.cone;
@@ -220,5 +219,5 @@ kept_least target standing first later kept least source support labels is =
 pub kept_desk : (c : Circuit) (path : Route) (old new : Desk) → IsSameDesk old new → IsDesk c path old → IsDesk c path new
 kept_desk c path old new same is =
     let P : Prepared → Type 0 = λ j. IsJustifierOf c j in
-    desk_again c path old new old.states.items is same.cone same.blame same.wanted same.states is.made.four refl
+    desk_again c path old new old.states.items is same.cone same.blame same.liked same.states is.made.four refl
     (subst P (sym same.justifier) is.made.justifier)

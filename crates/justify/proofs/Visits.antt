@@ -7,7 +7,6 @@ use Rattle.pd_base.specs.Target.{Target}
 use Rattle.pd_base.specs.declared.rules.Rules.{Rules}
 use Rattle.netlist.specs.Circuit.{Circuit}
 use Rattle.state_sets.specs.FourStates.{four_states}
-use Rattle.state_sets.specs.Labellings.{label_at}
 use Rattle.state_laws.specs.declared.half.Half.{Half}
 use Rattle.runs.specs.declared.tree.Node.{Node}
 use Rattle.runs.specs.declared.tree.Node.TheVariants.{Closed, Waiting}

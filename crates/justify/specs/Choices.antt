@@ -1,5 +1,5 @@
 -- Which splits of the cases may be chosen (this project's own).
-use Rattle.std.specs.Prelude.{◌≡◌, ◌<◌, ℕ, Bool, false, true, List}
+use Rattle.std.specs.Prelude.{◌≡◌, ℕ, Bool, List}
 use Rattle.pd_base.specs.Target.{Target}
 use Rattle.pd_base.specs.declared.ids.LineId.{LineId}
 use Rattle.state_sets.specs.declared.state.StateSet.{StateSet}

@@ -16,7 +16,7 @@ pub record IsDeskFor (c : Circuit) (desk : Desk) : Type 0 where
   pub states : length desk.states.items ≡ line_count c
   pub four : AreFourStates desk.states.items
   pub blame : desk.blame.room ≡ line_count c
-  pub wanted : length desk.wanted.items ≡ line_count c
+  pub liked : length desk.liked.items ≡ line_count c
   pub justifier : IsJustifierOf c desk.justifier
 
 -- and its cone is that of this path's end
@@ -38,5 +38,5 @@ pub record IsSameDesk (old new : Desk) : Type 0 where
   pub cone : new.cone ≡ old.cone
   pub states : new.states.items ≡ old.states.items
   pub blame : new.blame.room ≡ old.blame.room
-  pub wanted : length new.wanted.items ≡ length old.wanted.items
+  pub liked : length new.liked.items ≡ length old.liked.items
   pub justifier : new.justifier ≡ old.justifier

@@ -10,7 +10,6 @@ pub mod Nodes
 pub mod Tests
 pub mod Trying
 pub mod Choices
-pub mod Seeing
 pub mod Desks
 pub mod UnderWay
 pub mod Growths

@@ -1,20 +1,12 @@
 -- A node of a tree at which a pair is tried, and how the scope stands there (this project's own).
-use Rattle.std.specs.Prelude.{◌≡◌, ℕ, ◌<◌, ◌↔◌, List, length, Some, None, IsTrue, Bool}
-use Rattle.pd_base.specs.Route.{Route}
+use Rattle.std.specs.Prelude.{◌≡◌, ℕ, ◌<◌, ◌↔◌, List, Some, None}
 use Rattle.pd_base.specs.Target.{Target}
 use Rattle.pd_base.specs.declared.rules.Rules.{Rules}
-use Rattle.netlist.specs.Circuit.{Circuit, source_count, line_count}
-use Rattle.netlist.specs.Pins.{IsInFanIn}
-use Rattle.netlist.specs.Paths.{end_of}
-use Rattle.logic_values.specs.Marks.{is_marked}
+use Rattle.netlist.specs.Circuit.{Circuit, line_count}
 use Rattle.state_sets.specs.declared.state.State.{State}
-use Rattle.state_sets.specs.declared.state.StateSet.{StateSet}
-use Rattle.state_sets.specs.States.{Has}
 use Rattle.state_sets.specs.FourStates.{four_states}
-use Rattle.state_sets.specs.Labellings.{label_at}
 use Rattle.state_laws.specs.declared.half.Half.{Half}
 use Rattle.state_laws.specs.Nodes.{MayBe}
-use Rattle.tree_laws.specs.Spent.{IsOpen}
 use Rattle.implication.specs.declared.assumption.Beginning.{Beginning}
 use Rattle.implication.specs.declared.assumption.Assumption.{Assumption}
 use Rattle.implication.specs.Assumptions.{entered_pins, MayUnder}

@@ -1,5 +1,5 @@
 -- A search that is under way on a scope, and what a visit of a place makes of it (this project's own).
-use Rattle.std.specs.Prelude.{◌≡◌, ℕ, ◌+◌, ◌*◌, ◌-◌, ◌≤◌, List, [], length, reverse, Option, Some, None}
+use Rattle.std.specs.Prelude.{◌≡◌, ◌+◌, ◌*◌, ◌-◌, ◌≤◌, List, [], length, reverse, Option, Some, None}
 use Rattle.pd_base.specs.Pair.{Vectors}
 use Rattle.netlist.specs.Paths.{IsPrefix}
 use Rattle.implication.specs.Moves.{risen}

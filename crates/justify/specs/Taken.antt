@@ -10,7 +10,7 @@ use Rattle.justify.specs.LeastStates.{least_of}
 
 -- what a set has of another one, and all of it where that is nothing
 abbrev pub preferred_of : StateSet → StateSet → StateSet
-preferred_of set wanted = cond ((both_sets set wanted).0 == 0) set (both_sets set wanted)
+preferred_of set liked = cond ((both_sets set liked).0 == 0) set (both_sets set liked)
 
 -- each of these sources is in the least state of its set
 abbrev pub AreLeast : List LineId → List StateSet → List State → Type 0
@@ -19,6 +19,6 @@ AreLeast sources sets states =
 
 -- or in the least state of what its set has of another one
 abbrev pub ArePreferred : List LineId → List StateSet → List StateSet → List State → Type 0
-ArePreferred sources sets wanted states =
+ArePreferred sources sets liked states =
     (source : ℕ) → Contains sources (record { 0 = source })
-    → state_in states source ≡ least_of (preferred_of (label_at sets source) (label_at wanted source))
+    → state_in states source ≡ least_of (preferred_of (label_at sets source) (label_at liked source))

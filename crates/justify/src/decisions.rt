@@ -8,7 +8,7 @@ use crate::changes::Cause;
 use crate::culprits::Culprits;
 use crate::draft::{Draft, Settled};
 use crate::open_lines::{is_justified, open_side};
-use crate::picking::{Cut, pick, pick_any, without};
+use crate::picking::{Cut, Sight, pick, pick_any, without};
 use crate::region::Region;
 use netlist::Netlist;
 use pd_base::{GateId, LineId, OutOfMemory};
@@ -27,14 +27,14 @@ pub(crate) struct Cursor {
     places: usize,
 }
 
-// A decision: what was noted before it, its line, and the states of the line that are left to be tried. A second part leaves none,
-// and rests on older decisions: those that stand in the list of reasons from this place on.
+// A decision: what was noted before it, its line, and the second part of the line's states, which is left to be tried. Where that is
+// none, the second part is being tried, and rests on older decisions: those that stand in the list of reasons from this place on.
 #[derive(Clone, Copy, Debug)]
 pub(crate) struct Decision {
     mark: usize,
     cursor: Cursor,
     pub(crate) line: LineId,
-    rest: StateSet,
+    second: StateSet,
     reasons: usize,
 }
 
@@ -206,10 +206,16 @@ impl Decisions {
         requires gate { gate.0 < gate_count region.now.net.now }
         ensures { IsNextIn region.now.net.now result }
     {
-        if let Some(cut) = pick(region.net, self.draft.labels(), gate) {
+        let sight = Sight {
+            net: region.net,
+            labels: self.draft.labels(),
+            liked: region.liked,
+        };
+        let states = sight.labels[region.net.line_of(gate).0 as usize];
+        if let Some(cut) = pick(&sight, gate, states) {
             return Next::Decide(cut);
         }
-        match pick_any(self.draft.labels(), region.sources) {
+        match pick_any(&sight, region.sources) {
             Some(cut) => Next::Decide(cut),
             None => Next::GiveUp,
         }
@@ -222,15 +228,15 @@ impl Decisions {
         ensures same { self.new ≡ self.old }
         ensures gate { IfOk result (HasGate region.now.net.now) }
     {
-        let rest = without(self.draft.labels()[cut.line.0 as usize], cut.to);
-        if rest == StateSet::EMPTY || cut.to == StateSet::EMPTY {
+        let second = without(self.draft.labels()[cut.line.0 as usize], cut.to);
+        if second == StateSet::EMPTY || cut.to == StateSet::EMPTY {
             return Ok(Settled::Unknown);
         }
-        self.take(region, cut, rest)
+        self.take(region, cut, second)
     }
 
-    // Takes a part of the states of a line, where so many are left for later.
-    fn take(&mut self, region: &Region, cut: Cut, rest: StateSet) -> Result<Settled, OutOfMemory>
+    // Takes a part of the states of a line, where a second one is left for later, or none.
+    fn take(&mut self, region: &Region, cut: Cut, second: StateSet) -> Result<Settled, OutOfMemory>
         requires sized { IsSizedFor region.now.net.now self.old }
         requires line { cut.line.0 < line_count region.now.net.now }
         ensures same { self.new ≡ self.old }
@@ -241,7 +247,7 @@ impl Decisions {
             mark: self.draft.mark(),
             cursor: self.cursor,
             line: cut.line,
-            rest,
+            second,
             reasons: self.reasons.len(),
         };
         self.made.push(decision)?;
@@ -311,7 +317,7 @@ impl Decisions {
         let decision = self.made.pop()?;
         self.draft.undo_to(decision.mark);
         let is_culprit = self.culprits.take(self.made.len());
-        if is_culprit && decision.rest != StateSet::EMPTY {
+        if is_culprit && decision.second != StateSet::EMPTY {
             return Some(decision);
         }
         drop_reasons(
@@ -333,7 +339,7 @@ impl Decisions {
         self.cursor = decision.cursor;
         let cut = Cut {
             line: decision.line,
-            to: decision.rest,
+            to: decision.second,
         };
         let settled = self.take(region, cut, StateSet::EMPTY)?;
         self.culprits.list(&mut self.reasons)?;

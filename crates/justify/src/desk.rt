@@ -10,7 +10,6 @@ use crate::blaming::Blame;
 use crate::cone::Cone;
 use crate::justifier::Justifier;
 use crate::trial::Tried;
-use narrowing::half_states;
 use netlist::Netlist;
 use pd_base::OutOfMemory;
 use state_sets::{Algebra, FourStates, State, StateSet, every_state};
@@ -25,8 +24,8 @@ pub struct Desk {
     pub(crate) blame: Blame,
     // what was tried last through a scope
     pub(crate) tried: Vec<Tried>,
-    // by line; what the last test had at sources, and all states where it had nothing
-    pub(crate) wanted: Vec<StateSet>,
+    // by line; what it is liked to be in: the states with the last value that the last test gave it, or all
+    pub(crate) liked: Vec<StateSet>,
     pub(crate) justifier: Justifier,
 }
 
@@ -39,19 +38,19 @@ impl Desk {
         let cone = Cone::new(alloc, net)?;
         let states = vec![in alloc; State(0); lines]?;
         let blame = Blame::new(alloc, net)?;
-        let wanted = vec![in alloc; every_state::<FourStates>(); lines]?;
+        let liked = vec![in alloc; every_state::<FourStates>(); lines]?;
         let justifier = Justifier::new(alloc, net)?;
         Ok(Desk {
             cone,
             states,
             blame,
             tried: Vec::new(alloc),
-            wanted,
+            liked,
             justifier,
         })
     }
 
-    // Keeps of each line of the cone the states with the last value that it has now, for later searches to try first.
+    // From now on each line of the cone is liked to have the last value that it has now.
     pub(crate) fn keep(&mut self)
         requires { AreFourStates self.old.states.items }
         ensures { IsSameDesk self.old self.new }
@@ -59,13 +58,13 @@ impl Desk {
         let Desk {
             cone,
             states,
-            wanted,
+            liked,
             ..
         } = self;
         for line in cone.lines() {
             let at = line.0 as usize;
-            if at < wanted.len() && at < states.len() {
-                wanted[at] = half_states::<FourStates>(false, FourStates::last(states[at]));
+            if at < liked.len() && at < states.len() {
+                liked[at] = FourStates::ending_at(FourStates::last(states[at]));
             }
         }
     }

@@ -4,109 +4,109 @@ ghost use Rattle.std.specs.Prelude.{◌≡◌, ◌<◌, length, IfSome};
 ghost use Rattle.netlist.specs.Circuit.{line_count};
 ghost use Rattle.implication.specs.Scopes.{standing};
 
+use crate::open_lines::{is_justified, open_side};
+use crate::picking::{Cut, Sight, pick};
 use crate::task::Task;
-use crate::wishes::{Wish, is_justified, wish_at_step, wish_below};
 use implication::{Scope, Setting};
 use pd_base::LineId;
 use state_sets::{FourStates, StateSet};
 
 /// How many of the path's steps, and of the changes of labels, are known to leave nothing open, at a node and below it.
 #[derive(Clone, Copy, Debug, PartialEq, Eq)]
-pub struct Settled {
+pub struct Frontier {
     pub(crate) steps: usize,
     pub(crate) changes: usize,
 }
 
-/// A source at which a split may settle what is open, and what is settled already.
+/// A source at which a split may close what is open, and the frontier.
 #[derive(Clone, Copy, Debug)]
 pub(crate) struct Lead {
     pub(crate) source: Option<LineId>,
-    pub(crate) settled: Settled,
+    pub(crate) frontier: Frontier,
 }
 
-// Leads from the first thing that is open to a source. `liked` has for each line the states that it had under the last test, or all.
+// Leads from the first thing that is open to a source. `liked` has for each line what it is liked to be in.
 pub(crate) fn follow<S: Setting>(
     scope: &Scope<FourStates, S>,
     task: &Task,
     liked: &[StateSet],
-    settled: Settled,
+    frontier: Frontier,
 ) -> Lead
     requires { length liked.now ≡ line_count (standing scope.now).net }
 {
-    let mut settled = settled;
-    if let Some(wish) = open_step(scope, task, &mut settled) {
-        let source = descend(scope, liked, wish);
-        return Lead { source, settled };
+    let sight = Sight {
+        net: scope.net(),
+        labels: scope.labels(),
+        liked,
+    };
+    let mut frontier = frontier;
+    if let Some(cut) = open_step(scope, task, &mut frontier) {
+        let source = descend(&sight, cut);
+        return Lead { source, frontier };
     }
-    let source = match open_line(scope, &mut settled) {
-        Some(wish) => descend(scope, liked, wish),
+    let source = match open_line(scope, &mut frontier) {
+        Some(cut) => descend(&sight, cut),
         None => None,
     };
-    Lead { source, settled }
+    Lead { source, frontier }
 }
 
-// What is wanted at the first step that leaves something open.
+// What the first step needs that leaves something open.
 fn open_step<S: Setting>(
     scope: &Scope<FourStates, S>,
     task: &Task,
-    settled: &mut Settled,
-) -> Option<Wish>
-    ensures { IfSome result (λ wish. wish.line.0 < line_count (standing scope.now).net) }
+    frontier: &mut Frontier,
+) -> Option<Cut>
+    ensures { IfSome result (λ cut. cut.line.0 < line_count (standing scope.now).net) }
 {
     let net = scope.net();
     let steps = task.path.steps();
-    for place in settled.steps..steps.len() {
+    for place in frontier.steps..steps.len() {
         let step = steps[place];
         if step.gate.0 < net.gates()
-            && let Some(wish) = wish_at_step(net, scope.labels(), task.kind, step)
+            && let Some(cut) = open_side(net, scope.labels(), step, task.kind)
         {
-            settled.steps = place;
-            return Some(wish);
+            frontier.steps = place;
+            return Some(cut);
         }
     }
-    settled.steps = steps.len();
+    frontier.steps = steps.len();
     None
 }
 
 // The first line, in the order of the changes, whose label its gate does not justify, with that label.
-fn open_line<S: Setting>(scope: &Scope<FourStates, S>, settled: &mut Settled) -> Option<Wish>
-    ensures { IfSome result (λ wish. wish.line.0 < line_count (standing scope.now).net) }
+fn open_line<S: Setting>(scope: &Scope<FourStates, S>, frontier: &mut Frontier) -> Option<Cut>
+    ensures { IfSome result (λ cut. cut.line.0 < line_count (standing scope.now).net) }
 {
     let net = scope.net();
     let labels = scope.labels();
     let changes = scope.changes();
-    for place in settled.changes..changes.len() {
+    for place in frontier.changes..changes.len() {
         let line = LineId(changes[place].index);
         if let Some(gate) = net.gate_of(line)
             && !is_justified(net, labels, gate)
         {
-            settled.changes = place;
-            return Some(Wish {
+            frontier.changes = place;
+            return Some(Cut {
                 line,
-                states: labels[line.0 as usize],
+                to: labels[line.0 as usize],
             });
         }
     }
-    settled.changes = changes.len();
+    frontier.changes = changes.len();
     None
 }
 
 // From a line back to a source, by what is wanted of it.
-fn descend<S: Setting>(
-    scope: &Scope<FourStates, S>,
-    liked: &[StateSet],
-    wish: Wish,
-) -> Option<LineId>
-    requires liked { length liked.now ≡ line_count (standing scope.now).net }
-    requires line { wish.line.0 < line_count (standing scope.now).net }
+fn descend(sight: &Sight, cut: Cut) -> Option<LineId>
+    requires { cut.line.0 < line_count sight.now.net.now }
 {
-    let net = scope.net();
-    let mut wish = wish;
-    for _ in 0..net.levels() {
-        let Some(gate) = net.gate_of(wish.line) else {
-            return Some(wish.line);
+    let mut cut = cut;
+    for _ in 0..sight.net.levels() {
+        let Some(gate) = sight.net.gate_of(cut.line) else {
+            return Some(cut.line);
         };
-        wish = wish_below(net, scope.labels(), liked, gate, wish.states)?;
+        cut = pick(sight, gate, cut.to)?;
     }
-    Some(wish.line)
+    Some(cut.line)
 }

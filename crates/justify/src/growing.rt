@@ -4,7 +4,7 @@ ghost use Rattle.tree_laws.specs.Growing.{split_node};
 ghost use Rattle.justify.specs.Growths.{root_place, IsSplitAt, IsHalfPlace};
 
 use crate::choosing::Split;
-use crate::frontier::Settled;
+use crate::frontier::Frontier;
 use implication::ScopeMark;
 use narrowing::half_states;
 use pd_base::{LineId, OutOfMemory};
@@ -21,8 +21,8 @@ pub(crate) struct Place {
     pub source: LineId,
     /// The states that the source may be in at this place.
     pub set: StateSet,
-    /// What is settled at the node above.
-    pub settled: Settled,
+    /// How far nothing was open at the node above.
+    pub frontier: Frontier,
 }
 
 /// The tree that a search grows.
@@ -50,7 +50,7 @@ impl Growth {
             mark,
             source,
             set: every_state::<FourStates>(),
-            settled: Settled {
+            frontier: Frontier {
                 steps: 0,
                 changes: 0,
             },
@@ -67,14 +67,14 @@ impl Growth {
         &mut self,
         split: Split,
         mark: ScopeMark,
-        settled: Settled,
+        frontier: Frontier,
     ) -> Result<(), OutOfMemory>
         requires { self.old.splits < 2 ^ 32 - 1 }
         ensures { IfOk result (λ done. IsSplitAt split mark self.old self.new) }
     {
         self.nodes.push(node_of(split))?;
-        self.places.push(half_place(split, mark, settled, true))?;
-        self.places.push(half_place(split, mark, settled, false))?;
+        self.places.push(half_place(split, mark, frontier, true))?;
+        self.places.push(half_place(split, mark, frontier, false))?;
         self.splits += 1;
         Ok(())
     }
@@ -92,13 +92,13 @@ fn node_of(split: Split) -> Node
 }
 
 // The place of a half of a split.
-fn half_place(split: Split, mark: ScopeMark, settled: Settled, second: bool) -> Place
+fn half_place(split: Split, mark: ScopeMark, frontier: Frontier, second: bool) -> Place
     ensures { IsHalfPlace split mark second result }
 {
     Place {
         mark,
         source: split.source,
         set: half_states::<FourStates>(split.steadiness, second),
-        settled,
+        frontier,
     }
 }

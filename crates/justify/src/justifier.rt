@@ -9,6 +9,8 @@ ghost use Rattle.justify.specs.Drafts.{IsJustifierOf, IsSizedFor, IsConeIn};
 
 use crate::cone::Cone;
 use crate::decisions::{Decisions, Ended, Order};
+use crate::patience::Patience;
+use crate::picking::Sight;
 use crate::region::Region;
 use narrowing::{Conditions, enter_all};
 use netlist::Netlist;
@@ -16,6 +18,9 @@ use pd_base::{Kind, OutOfMemory, Path};
 use state_sets::StateSet;
 use std::alloc::Global;
 use std::marker::Model;
+
+// The most conflicts in one order where a budget was spent.
+const MOST_CONFLICTS: u32 = 300;
 
 // How much is tried: as much as pays before any split, or as much as pays where a budget was spent.
 #[derive(Clone, Copy, Debug, PartialEq, Eq)]
@@ -30,6 +35,7 @@ pub(crate) enum Effort {
 pub(crate) struct Justifier {
     conditions: Conditions,
     decisions: Decisions,
+    patience: Patience,
 }
 
 impl Model for Justifier {
@@ -50,31 +56,41 @@ impl Justifier {
         Ok(Justifier {
             conditions,
             decisions,
+            patience: Patience::new(),
         })
     }
 
-    // Looks for states of the cone's sources that justify the labels of all of its lines, under the conditions of a kind at the gates
+    // Learns from a search for tests of a kind whether it ended in a refutation.
+    pub(crate) fn learn(&mut self, kind: Kind, is_refuted: bool)
+        ensures { self.new ≡ self.old }
+    {
+        self.patience.learn(kind, is_refuted);
+    }
+
+    // Looks for states of the cone's sources that justify the labels that all of its lines are seen with, under the conditions of a kind at the gates
     // of a path that ends where the cone does. Whether it found some: `labels` then has them, with the states that are left where any
     // does. It costs the cone, and what narrowing changes there. It fails only where memory runs out, and still serves then.
     pub(crate) fn propose(
         &mut self,
-        net: &Netlist,
+        sight: &Sight,
         cone: &Cone,
-        labels: &[StateSet],
         path: &Path,
         kind: Kind,
         effort: Effort,
     ) -> Result<bool, OutOfMemory>
-        requires of { IsJustifierOf net.now self.old }
-        requires cone_for { IsConeFor net.now cone.now }
-        requires cone_at { IsConeAt net.now (end_of net.now path.now) cone.now }
-        requires labels { length labels.now ≡ line_count net.now }
-        requires prefix { IsPrefix net.now path.now }
-        ensures { IsJustifierOf net.now self.new }
+        requires of { IsJustifierOf sight.now.net.now self.old }
+        requires cone_for { IsConeFor sight.now.net.now cone.now }
+        requires cone_at { IsConeAt sight.now.net.now (end_of sight.now.net.now path.now) cone.now }
+        requires prefix { IsPrefix sight.now.net.now path.now }
+        ensures { IsJustifierOf sight.now.net.now self.new }
     {
         self.conditions.set_kind(kind);
-        enter_all(&mut self.conditions, net, path);
-        let found = self.decide(net, cone, labels, effort);
+        enter_all(&mut self.conditions, sight.net, path);
+        let most_conflicts = match effort {
+            Effort::Little => self.patience.conflicts(kind),
+            Effort::Much => MOST_CONFLICTS,
+        };
+        let found = self.decide(sight, cone, most_conflicts);
         leave_all(&mut self.conditions);
         found
     }
@@ -82,25 +98,24 @@ impl Justifier {
     // The same where the conditions are entered.
     fn decide(
         &mut self,
-        net: &Netlist,
+        sight: &Sight,
         cone: &Cone,
-        labels: &[StateSet],
-        effort: Effort,
+        most_conflicts: u32,
     ) -> Result<bool, OutOfMemory>
-        requires sizes { IsSizedFor net.now self.old.sizes }
-        requires cone { IsConeIn net.now cone.now }
-        requires labels { length labels.now ≡ line_count net.now }
-        requires entered { IsEnteredOn net.now self.old.entered }
+        requires sizes { IsSizedFor sight.now.net.now self.old.sizes }
+        requires cone { IsConeIn sight.now.net.now cone.now }
+        requires entered { IsEnteredOn sight.now.net.now self.old.entered }
         ensures { self.new ≡ self.old }
     {
-        begin(&mut self.decisions, net, cone, labels)?;
+        begin(&mut self.decisions, sight, cone)?;
         let region = Region {
-            net,
+            net: sight.net,
             conditions: &self.conditions,
             marks: cone.marks(),
             sources: cone.sources(),
+            liked: sight.liked,
         };
-        search(&mut self.decisions, &region, most_conflicts(effort))
+        search(&mut self.decisions, &region, most_conflicts)
     }
 
     // The labels that the last call of `propose` came to, by line number; of lines that are not in its cone those of earlier calls.
@@ -111,34 +126,20 @@ impl Justifier {
     }
 }
 
-// How many conflicts are tried in one order.
-fn most_conflicts(effort: Effort) -> u32 {
-    match effort {
-        Effort::Little => 20,
-        Effort::Much => 300,
-    }
-}
-
 // Copies the labels of the cone's lines, and notes which of its gates are open.
-fn begin(
-    decisions: &mut Decisions,
-    net: &Netlist,
-    cone: &Cone,
-    labels: &[StateSet],
-) -> Result<(), OutOfMemory>
-    requires sizes { IsSizedFor net.now decisions.old }
-    requires cone { IsConeIn net.now cone.now }
-    requires labels { length labels.now ≡ line_count net.now }
+fn begin(decisions: &mut Decisions, sight: &Sight, cone: &Cone) -> Result<(), OutOfMemory>
+    requires sizes { IsSizedFor sight.now.net.now decisions.old }
+    requires cone { IsConeIn sight.now.net.now cone.now }
     ensures { decisions.new ≡ decisions.old }
 {
     decisions.forget();
     for source in cone.sources() {
-        decisions.write(*source, labels[source.0 as usize]);
+        decisions.write(*source, sight.labels[source.0 as usize]);
     }
     for gate in cone.gates() {
-        let line = net.line_of(*gate);
-        decisions.write(line, labels[line.0 as usize]);
-        decisions.note_open(net, *gate)?;
+        let line = sight.net.line_of(*gate);
+        decisions.write(line, sight.labels[line.0 as usize]);
+        decisions.note_open(sight.net, *gate)?;
     }
     Ok(())
 }

@@ -26,6 +26,7 @@ mod justifier;
 mod least_states;
 mod open_lines;
 mod path_states;
+mod patience;
 mod picking;
 mod read_states;
 mod region;
@@ -34,7 +35,6 @@ mod task;
 mod trial;
 mod trying;
 mod visiting;
-mod wishes;
 
 pub use answer::Found;
 pub use desk::Desk;

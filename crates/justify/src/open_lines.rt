@@ -1,7 +1,6 @@
 // What is still open under labels: a line that its gate's pins do not justify, and a side pin whose condition may fail.
 ghost use Rattle.std.specs.Prelude.{◌≡◌, ◌<◌, ℕ, length, All, IfSome};
 ghost use Rattle.netlist.specs.Circuit.{gate_count, line_count};
-ghost use Rattle.netlist.specs.Pins.{IsPin};
 ghost use Rattle.state_sets.specs.States.{IsWithin};
 
 use crate::picking::{Cut, ENDS_AT_0, ENDS_AT_1, STEADY, uninverted, without};
@@ -38,11 +37,11 @@ fn join_all(labels: &[StateSet], op: Op, lines: &[LineId]) -> StateSet
 // The cut that a side pin of a step needs, if some side pin may still fail its condition.
 pub(crate) fn open_side(net: &Netlist, labels: &[StateSet], step: PinRef, kind: Kind) -> Option<Cut>
     requires lines { length labels.now ≡ line_count net.now }
-    requires step { IsPin net.now step }
+    requires gate { step.gate.0 < gate_count net.now }
     ensures { IfSome result (λ cut. cut.line.0 < line_count net.now) }
 {
     let pins = net.pins(step.gate);
-    let on_path = pins[step.pin as usize];
+    let on_path = *pins.get(step.pin as usize)?;
     let ends = labels[on_path.0 as usize];
     let allowed = allowed_sides(kind, net.kind(step.gate), ends);
     for (pin, side) in pins.iter().enumerate() {

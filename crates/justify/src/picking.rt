@@ -1,7 +1,7 @@
-// On which pin of a gate to decide, so that the label of the gate's line gets justified: a line, and the part of its states that is
-// tried first. A hint alone: what it leads to is judged before it is taken.
-ghost use Rattle.std.specs.Prelude.{◌≡◌, ◌<◌, length, All, IfSome};
-ghost use Rattle.netlist.specs.Circuit.{gate_count, line_count};
+// On which pin of a gate to decide, so that its line comes into states that are wanted of it: a line, and the part of its states that
+// is tried first. A hint alone: what it leads to is judged before it is taken.
+ghost use Rattle.std.specs.Prelude.{◌≡◌, ◌<◌, length, IfSome};
+ghost use Rattle.netlist.specs.Circuit.{gate_count, line_count, HasLines};
 
 use netlist::{GateKind, Netlist, Op};
 use pd_base::{GateId, LineId};
@@ -23,21 +23,15 @@ pub(crate) struct Cut {
     pub(crate) to: StateSet,
 }
 
-// Which of several pins: that of the lowest level where one pin is enough, that of the highest where all pins have to follow.
-#[derive(Clone, Copy, Debug)]
-enum Preferred {
-    Lowest,
-    Highest,
-}
-
-// What is seen at a gate: the labels of all lines, and the lines that its pins read.
+// What is seen of a netlist: the labels of its lines, and what the lines are liked to be in, which is the states with the last value
+// that they had under the last test, or all.
 #[derive(Drop)]
-struct Pins<'a> {
-    net: &'a Netlist,
-    labels: &'a [StateSet],
-    lines: &'a [LineId],
+pub(crate) struct Sight<'a> {
+    pub(crate) net: &'a Netlist,
+    pub(crate) labels: &'a [StateSet],
+    pub(crate) liked: &'a [StateSet],
     ghost one_each: { length labels.now ≡ line_count net.now },
-    ghost in_circuit: { All (λ line. line.0 < line_count net.now) lines.now },
+    ghost liked_each: { length liked.now ≡ line_count net.now },
 }
 
 // The states of one set that another one has not.
@@ -55,40 +49,41 @@ pub(crate) fn uninverted(kind: GateKind, set: StateSet) -> StateSet {
     }
 }
 
-// A cut of a line that a pin of the gate reads, towards the label of the gate's line.
-pub(crate) fn pick(net: &Netlist, labels: &[StateSet], gate: GateId) -> Option<Cut>
-    requires lines { length labels.now ≡ line_count net.now }
-    requires gate { gate.0 < gate_count net.now }
-    ensures { IfSome result (λ cut. cut.line.0 < line_count net.now) }
+// A cut of a line that a pin of the gate reads, towards these states of the gate's line.
+pub(crate) fn pick(sight: &Sight, gate: GateId, states: StateSet) -> Option<Cut>
+    requires { gate.0 < gate_count sight.now.net.now }
+    ensures { IfSome result (λ cut. cut.line.0 < line_count sight.now.net.now) }
 {
-    let kind = net.kind(gate);
-    let wanted = uninverted(kind, labels[net.line_of(gate).0 as usize]);
-    let pins = Pins {
-        net,
-        labels,
-        lines: net.pins(gate),
-    };
+    let kind = sight.net.kind(gate);
+    let pins = sight.net.pins(gate);
+    let wanted = uninverted(kind, states);
+    if let [pin] = pins {
+        return cut_into(sight, *pin, wanted);
+    }
     let picked = match kind.operation() {
-        Op::And => pick_controlled(&pins, wanted, ENDS_AT_0, ENDS_AT_1),
-        Op::Or => pick_controlled(&pins, wanted, ENDS_AT_1, ENDS_AT_0),
-        Op::Xor => pick_parity(&pins, wanted),
+        Op::And => pick_controlled(sight, pins, wanted, ENDS_AT_0, ENDS_AT_1),
+        Op::Or => pick_controlled(sight, pins, wanted, ENDS_AT_1, ENDS_AT_0),
+        Op::Xor => pick_parity(sight, pins, wanted),
     };
     if picked.is_some() {
         return picked;
     }
-    pick_any(labels, net.pins(gate))
+    pick_any(sight, pins)
 }
 
-// The same where one pin can control the gate: one pin into the controlling states that are wanted, else all into the others.
+// The same where one pin can control the gate: the easiest pin into the controlling states that are wanted, and into the steady ones
+// where that takes no pin anywhere; else all pins into the other states, the hardest one first.
 fn pick_controlled(
-    pins: &Pins,
+    sight: &Sight,
+    pins: &[LineId],
     wanted: StateSet,
     controlling: StateSet,
     others: StateSet,
 ) -> Option<Cut>
-    ensures { IfSome result (λ cut. cut.line.0 < line_count pins.now.net.now) }
+    requires { HasLines sight.now.net.now pins.now }
+    ensures { IfSome result (λ cut. cut.line.0 < line_count sight.now.net.now) }
 {
-    let picked = pick_into(pins, wanted.intersect(controlling), Preferred::Lowest);
+    let picked = easiest_into(sight, pins, wanted.intersect(controlling));
     if picked.is_some() {
         return picked;
     }
@@ -97,94 +92,151 @@ fn pick_controlled(
         return None;
     }
     if without(free, STEADY) == StateSet::EMPTY {
-        return pick_into(pins, others.intersect(STEADY), Preferred::Highest);
+        return hardest(sight, pins, others.intersect(STEADY));
     }
-    pick_into(pins, others, Preferred::Highest)
+    hardest_into(sight, pins, others)
 }
 
-// The same at a parity: all pins steady where that is wanted, else one after another to a final value.
-fn pick_parity(pins: &Pins, wanted: StateSet) -> Option<Cut>
-    ensures { IfSome result (λ cut. cut.line.0 < line_count pins.now.net.now) }
+// The same at a parity: all pins steady, the hardest one first, where that is wanted; else the easiest pin to the final value that its
+// line is liked to have.
+fn pick_parity(sight: &Sight, pins: &[LineId], wanted: StateSet) -> Option<Cut>
+    requires { HasLines sight.now.net.now pins.now }
+    ensures { IfSome result (λ cut. cut.line.0 < line_count sight.now.net.now) }
 {
     if without(wanted, STEADY) == StateSet::EMPTY {
-        let picked = pick_into(pins, STEADY, Preferred::Highest);
+        let picked = hardest(sight, pins, STEADY);
         if picked.is_some() {
             return picked;
         }
     }
-    pick_into(pins, ENDS_AT_0, Preferred::Lowest)
+    match easiest(sight, pins, ENDS_AT_0) {
+        Some(cut) => Some(as_liked(sight, cut)),
+        None => easiest(sight, pins, STEADY),
+    }
 }
 
-// A pin whose label has states in a set and others, cut to that set, or to its steady states where no pin has others.
-fn pick_into(pins: &Pins, to: StateSet, preferred: Preferred) -> Option<Cut>
-    ensures { IfSome result (λ cut. cut.line.0 < line_count pins.now.net.now) }
+// The easiest pin into a set, or into its steady states where no pin has states in the set and others.
+fn easiest_into(sight: &Sight, pins: &[LineId], to: StateSet) -> Option<Cut>
+    requires { HasLines sight.now.net.now pins.now }
+    ensures { IfSome result (λ cut. cut.line.0 < line_count sight.now.net.now) }
 {
-    let picked = pick_pin(pins, to, preferred);
+    let picked = easiest(sight, pins, to);
     if picked.is_some() {
         return picked;
     }
-    pick_pin(pins, to.intersect(STEADY), preferred)
+    easiest(sight, pins, to.intersect(STEADY))
 }
 
-// The pin, of those whose labels have states in a set and others, of the lowest or of the highest level.
-fn pick_pin(pins: &Pins, to: StateSet, preferred: Preferred) -> Option<Cut>
-    ensures { IfSome result (λ cut. cut.line.0 < line_count pins.now.net.now) }
+// The hardest pin, in the same way.
+fn hardest_into(sight: &Sight, pins: &[LineId], to: StateSet) -> Option<Cut>
+    requires { HasLines sight.now.net.now pins.now }
+    ensures { IfSome result (λ cut. cut.line.0 < line_count sight.now.net.now) }
+{
+    let picked = hardest(sight, pins, to);
+    if picked.is_some() {
+        return picked;
+    }
+    hardest(sight, pins, to.intersect(STEADY))
+}
+
+// The cut to what its line is liked to be in, where that leaves the line some states and takes some away.
+fn as_liked(sight: &Sight, cut: Cut) -> Cut
+    requires { cut.line.0 < line_count sight.now.net.now }
+    ensures { result.line ≡ cut.line }
+{
+    match cut_into(sight, cut.line, sight.liked[cut.line.0 as usize]) {
+        Some(liked) => liked,
+        None => cut,
+    }
+}
+
+// Of the pins with states in a set and others: one that is liked to be there, else one of the lowest level.
+fn easiest(sight: &Sight, pins: &[LineId], to: StateSet) -> Option<Cut>
+    requires { HasLines sight.now.net.now pins.now }
+    ensures { IfSome result (λ cut. cut.line.0 < line_count sight.now.net.now) }
 {
     let mut best: Option<Cut> = None;
-    for line in pins.lines {
-        let label = pins.labels[line.0 as usize];
-        let inside = label.intersect(to);
-        if inside != StateSet::EMPTY
-            && inside != label
-            && is_better(pins.net, *line, best, preferred)
-        {
-            best = Some(Cut {
-                line: *line,
-                to: inside,
+    for line in pins {
+        if let Some(cut) = cut_into(sight, *line, to) {
+            best = Some(match best {
+                Some(other) if !is_easier(sight, cut, other) => other,
+                _ => cut,
             });
         }
     }
     best
 }
 
-// Whether a line is preferred to that of a cut.
-fn is_better(net: &Netlist, line: LineId, best: Option<Cut>, preferred: Preferred) -> bool
-    requires line { line.0 < line_count net.now }
-    requires best { IfSome best (λ cut. cut.line.0 < line_count net.now) }
+// Of the pins with states in a set and others, one of the highest level.
+fn hardest(sight: &Sight, pins: &[LineId], to: StateSet) -> Option<Cut>
+    requires { HasLines sight.now.net.now pins.now }
+    ensures { IfSome result (λ cut. cut.line.0 < line_count sight.now.net.now) }
 {
-    let Some(best) = best else {
-        return true;
-    };
-    match preferred {
-        Preferred::Lowest => net.level(line) < net.level(best.line),
-        Preferred::Highest => net.level(line) > net.level(best.line),
+    let mut best: Option<Cut> = None;
+    for line in pins {
+        if let Some(cut) = cut_into(sight, *line, to) {
+            best = Some(match best {
+                Some(other) if sight.net.level(cut.line) <= sight.net.level(other.line) => other,
+                _ => cut,
+            });
+        }
     }
+    best
 }
 
-// The first of these lines that has several states, cut to a part of them.
-pub(crate) fn pick_any(labels: &[StateSet], lines: &[LineId]) -> Option<Cut>
-    requires { All (λ line. line.0 < length labels.now) lines.now }
-    ensures { IfSome result (λ cut. cut.line.0 < length labels.now) }
+// The cut of a line to its states in a set, if it has some of them and others.
+fn cut_into(sight: &Sight, line: LineId, to: StateSet) -> Option<Cut>
+    requires { line.0 < line_count sight.now.net.now }
+    ensures { IfSome result (λ cut. cut.line ≡ line) }
+{
+    let label = sight.labels[line.0 as usize];
+    let inside = label.intersect(to);
+    if inside == StateSet::EMPTY || inside == label {
+        return None;
+    }
+    Some(Cut { line, to: inside })
+}
+
+// Whether a cut is preferred to another one: where its line alone is liked to be in such states, else where it is on a lower level.
+fn is_easier(sight: &Sight, cut: Cut, other: Cut) -> bool
+    requires cut { cut.line.0 < line_count sight.now.net.now }
+    requires other { other.line.0 < line_count sight.now.net.now }
+{
+    let likes = is_liked(sight.liked[cut.line.0 as usize], cut.to);
+    let likes_other = is_liked(sight.liked[other.line.0 as usize], other.to);
+    if likes != likes_other {
+        return likes;
+    }
+    sight.net.level(cut.line) < sight.net.level(other.line)
+}
+
+// Whether a line that is liked to be in some states alone is liked to be in one of these.
+fn is_liked(liked: StateSet, states: StateSet) -> bool {
+    liked != every_state::<FourStates>() && liked.intersect(states) != StateSet::EMPTY
+}
+
+// The first of these lines that has several states: its steady ones, if it has others too, else the least one.
+pub(crate) fn pick_any(sight: &Sight, lines: &[LineId]) -> Option<Cut>
+    requires { HasLines sight.now.net.now lines.now }
+    ensures { IfSome result (λ cut. cut.line.0 < line_count sight.now.net.now) }
 {
     for line in lines {
-        let label = labels[line.0 as usize];
-        let to = first_part(label);
-        if to != label {
-            return Some(Cut { line: *line, to });
+        let label = sight.labels[line.0 as usize];
+        if label.0 & label.0.wrapping_sub(1) != 0 {
+            return Some(Cut {
+                line: *line,
+                to: first_part(label),
+            });
         }
     }
     None
 }
 
-// The steady states of a set that has others too, else those that end at 0, else all.
+// The steady states of a set that has others too, else its least state.
 fn first_part(set: StateSet) -> StateSet {
     let steady = set.intersect(STEADY);
     if steady != StateSet::EMPTY && steady != set {
         return steady;
     }
-    let ending_at_0 = set.intersect(ENDS_AT_0);
-    if ending_at_0 != StateSet::EMPTY {
-        return ending_at_0;
-    }
-    set
+    StateSet(set.0 & set.0.wrapping_neg())
 }

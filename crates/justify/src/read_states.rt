@@ -29,33 +29,33 @@ pub fn take_least(sources: &[LineId], labels: &[StateSet], states: &mut [State])
     }
 }
 
-/// Puts each of these sources into the least state of what its label has of the set that is wanted there, or of its label where that
+/// Puts each of these sources into the least state of what its label has of the set that is liked there, or of its label where that
 /// is nothing. Takes no memory.
 pub fn take_preferred(
     sources: &[LineId],
     labels: &[StateSet],
-    wanted: &[StateSet],
+    liked: &[StateSet],
     states: &mut [State],
 )
     requires labels { All (λ source. source.0 < length labels.now) sources.now }
-    requires wanted { All (λ source. source.0 < length wanted.now) sources.now }
+    requires liked { All (λ source. source.0 < length liked.now) sources.now }
     requires places { All (λ source. source.0 < length states.old) sources.now }
     requires states { AreFourStates states.old }
     ensures places { length states.new ≡ length states.old }
     ensures states { AreFourStates states.new }
-    ensures taken { ArePreferred sources.now labels.now wanted.now states.new }
+    ensures taken { ArePreferred sources.now labels.now liked.now states.new }
 {
     for source in sources {
         let at = source.0 as usize;
-        states[at] = least(preferred(labels[at], wanted[at]));
+        states[at] = least(preferred(labels[at], liked[at]));
     }
 }
 
 // What a set has of another one, or all of it where that is nothing.
-fn preferred(set: StateSet, wanted: StateSet) -> StateSet
-    ensures { result ≡ preferred_of set wanted }
+fn preferred(set: StateSet, liked: StateSet) -> StateSet
+    ensures { result ≡ preferred_of set liked }
 {
-    let both = set.intersect(wanted);
+    let both = set.intersect(liked);
     if both == StateSet::EMPTY { set } else { both }
 }
 

@@ -6,17 +6,20 @@ ghost use Rattle.narrowing.specs.Conditions.{IsEnteredOn};
 use narrowing::Conditions;
 use netlist::Netlist;
 use pd_base::{GateId, LineId};
-use state_sets::Condition;
+use state_sets::{Condition, StateSet};
 
-// A netlist, the conditions at the gates of a path, and the cone of the path's end: a mark by line, and its sources.
+// A netlist, the conditions at the gates of a path, the cone of the path's end (a mark by line, and its sources), and what lines are
+// liked to be in.
 #[derive(Drop)]
 pub(crate) struct Region<'a> {
     pub(crate) net: &'a Netlist,
     pub(crate) conditions: &'a Conditions,
     pub(crate) marks: &'a [bool],
     pub(crate) sources: &'a [LineId],
+    pub(crate) liked: &'a [StateSet],
     ghost entered: { IsEnteredOn net.now conditions.now },
     ghost one_each: { length marks.now ≡ line_count net.now },
+    ghost liked_each: { length liked.now ≡ line_count net.now },
     ghost in_circuit: { All (λ source. source.0 < line_count net.now) sources.now },
 }
 

@@ -20,6 +20,7 @@ use crate::desk::Desk;
 use crate::ending::end;
 use crate::growing::Growth;
 use crate::justifier::Effort;
+use crate::picking::Sight;
 use crate::read_states::{take_least, take_preferred};
 use crate::task::Task;
 use crate::trying::judge_states;
@@ -91,9 +92,20 @@ pub fn search_at<S: Setting>(
         budget,
     };
     let mark = scope.mark();
-    let found = find(alloc, scope, &task, desk);
+    let ended = find(alloc, scope, &task, desk);
     scope.back_to(mark);
-    found
+    let found = ended?;
+    desk.justifier.learn(kind, is_refuted(&found));
+    let again = propose_again(alloc, scope, &task, desk, &found)?;
+    match again {
+        Some(pair) => Ok(Found::Test(pair)),
+        None => Ok(found),
+    }
+}
+
+// Whether a search ended in a refutation.
+fn is_refuted(found: &Found) -> bool {
+    matches!(found, Found::Refuted(_))
 }
 
 // The same, and leaves what was assumed.
@@ -116,16 +128,12 @@ fn find<S: Setting>(
     desk.cone.set_end(scope.net(), scope.last_line());
     let proposed = propose(alloc, scope, task, desk)?;
     if let Some(pair) = proposed {
-        desk.keep();
         return Ok(Found::Test(pair));
     }
     let mut growth = Growth::new(alloc, scope.mark(), task.path.source())?;
     let test = grow(alloc, scope, task, desk, &mut growth)?;
     match test {
-        Some(pair) => {
-            desk.keep();
-            Ok(Found::Test(pair))
-        }
+        Some(pair) => Ok(Found::Test(pair)),
         None => Ok(end(growth)),
     }
 }
@@ -145,7 +153,7 @@ fn propose<S: Setting>(
     take_preferred(
         desk.cone.sources(),
         scope.labels(),
-        desk.wanted.as_slice(),
+        desk.liked.as_slice(),
         desk.states.as_mut_slice(),
     );
     let test = judge_states(alloc, scope, task, desk)?;
@@ -153,6 +161,27 @@ fn propose<S: Setting>(
         return Ok(test);
     }
     justify_lines(alloc, scope, task, desk, Effort::Little)
+}
+
+// A test that is found by more decisions where the budget of a nonrobust search was spent. A robust one that is not found costs its
+// fault the better verdict alone, and is not looked for again.
+fn propose_again<S: Setting>(
+    alloc: Global,
+    scope: &Scope<FourStates, S>,
+    task: &Task,
+    desk: &mut Desk,
+    found: &Found,
+) -> Result<Option<Pair>, OutOfMemory>
+    requires prefix { IsPrefix (standing scope.now).net task.now.path.now }
+    requires desk { IsDesk (standing scope.now).net task.now.path.now desk.old }
+    ensures desk { IsDesk (standing scope.now).net task.now.path.now desk.new }
+    ensures test { IfOk result (λ pair. IfSome pair (IsFitTest (standing scope.now).net (task_target task.now))) }
+{
+    if task.kind == Kind::Nonrobust && matches!(found, Found::Spent(_)) {
+        justify_lines(alloc, scope, task, desk, Effort::Much)
+    } else {
+        Ok(None)
+    }
 }
 
 // A test with what decisions on lines of the cone come to, if they justify all of its lines.
@@ -168,14 +197,14 @@ fn justify_lines<S: Setting>(
     ensures desk { IsDesk (standing scope.now).net task.now.path.now desk.new }
     ensures test { IfOk result (λ found. IfSome found (IsFitTest (standing scope.now).net (task_target task.now))) }
 {
-    let is_justified = desk.justifier.propose(
-        scope.net(),
-        &desk.cone,
-        scope.labels(),
-        task.path,
-        task.kind,
-        effort,
-    )?;
+    let sight = Sight {
+        net: scope.net(),
+        labels: scope.labels(),
+        liked: desk.liked.as_slice(),
+    };
+    let is_justified = desk
+        .justifier
+        .propose(&sight, &desk.cone, task.path, task.kind, effort)?;
     if !is_justified {
         return Ok(None);
     }

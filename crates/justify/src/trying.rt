@@ -124,7 +124,8 @@ fn try_all<S: Setting>(
     Ok(Some(pair))
 }
 
-// Judges the pair that has the desk's states at the sources of the cone. It is the answer if it is a test; else sources are blamed.
+// Judges the pair that has the desk's states at the sources of the cone. It is the answer if it is a test, and lines are liked to be
+// as it has them from then on; else sources are blamed.
 pub(crate) fn judge_states<S: Setting>(
     alloc: Global,
     scope: &Scope<FourStates, S>,
@@ -155,6 +156,7 @@ pub(crate) fn judge_states<S: Setting>(
     match judgement {
         Judgement::IsTest => {
             let pair = read_test(alloc, net, desk.cone.marks(), desk.states.as_slice())?;
+            desk.keep();
             Ok(Some(pair))
         }
         Judgement::FailsAt(line, side) => {

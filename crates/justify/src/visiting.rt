@@ -12,7 +12,7 @@ ghost use Rattle.justify.specs.Tasks.{task_target};
 use crate::choosing::choose;
 use crate::desk::Desk;
 use crate::entering::enter;
-use crate::frontier::{Settled, follow};
+use crate::frontier::{Frontier, follow};
 use crate::growing::{Growth, Place};
 use crate::task::Task;
 use crate::trying::try_node;
@@ -48,7 +48,7 @@ pub(crate) fn visit<S: Setting>(
     if test.is_some() {
         return Ok(test);
     }
-    extend(scope, task, desk, growth, place.settled)?;
+    extend(scope, task, desk, growth, place.frontier)?;
     Ok(None)
 }
 
@@ -58,7 +58,7 @@ fn extend<S: Setting>(
     task: &Task,
     desk: &Desk,
     growth: &mut Growth,
-    settled: Settled,
+    frontier: Frontier,
 ) -> Result<(), OutOfMemory>
     requires node { StandsAtNode (task_target task.now) (standing scope.now) }
     requires desk { IsDesk (standing scope.now).net task.now.path.now desk.now }
@@ -70,10 +70,10 @@ fn extend<S: Setting>(
         growth.nodes.push(Node::Waiting)?;
         return Ok(());
     }
-    let lead = follow(scope, task, desk.wanted.as_slice(), settled);
+    let lead = follow(scope, task, desk.liked.as_slice(), frontier);
     let Some(split) = choose(scope, task, desk, lead.source) else {
         unreachable!()
     };
-    growth.split(split, scope.mark(), lead.settled)?;
+    growth.split(split, scope.mark(), lead.frontier)?;
     Ok(())
 }

@@ -1,6 +1,8 @@
 -- The limits as numbers (this project's own; docs/formats.md lists them).
 use Rattle.std.proofs.Common.{◌≡◌, pos, refl}
 use Rattle.pd_base.specs.declared.limits.TheConstants.{MOST_BUDGET, MOST_PATHS}
+use Rattle.command_line.specs.declared.number.TheConstants.{MOST_DIGITS}
+use Rattle.command_line.specs.declared.reading.TheConstants.{DEFAULT_BUDGET, DEFAULT_PATHS, MOST_PRODUCT}
 use Rattle.pd_io.specs.declared.named.TheConstants.{MOST_AT_ONCE}
 use Rattle.netlist.specs.declared.limits.TheConstants.{MOST_LINES, MOST_PINS, MOST_FAN_IN, MOST_LEVELS, MOST_NAME_BYTES, MOST_STATEMENTS}
 use Rattle.bench_reader.specs.declared.statements.TheConstants.{MOST_BYTES as MOST_NETLIST_BYTES}
@@ -71,6 +73,18 @@ most_paths = refl
 
 most_budget : MOST_BUDGET ≡ 1000000
 most_budget = refl
+
+most_product : MOST_PRODUCT ≡ 4000000
+most_product = refl
+
+most_digits : MOST_DIGITS ≡ 7
+most_digits = refl
+
+default_paths : DEFAULT_PATHS ≡ 100
+default_paths = refl
+
+default_budget : DEFAULT_BUDGET ≡ 1000
+default_budget = refl
 
 input_limit : INPUT_LIMIT ≡ 33554432
 input_limit = refl

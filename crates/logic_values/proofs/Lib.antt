@@ -1,4 +1,5 @@
 pub mod PinTests
 pub mod RankPass
+mod LaneBits
 mod Marking
 mod Sweep

@@ -1,15 +1,29 @@
 -- Tests and parities over the values at a gate's pins, as a walk over the pins computes them.
-use Rattle.std.proofs.Common.{◌≡◌, ℕ, ◌+◌, ◌<◌, Bool, true, false, not, cond, List, [], ◌∷◌, ◌++◌, map, take, length, get_or, Option, Some, None, unwrap_or, refl, ap, ap₂, ◌∙◌, ◌||◌}
+use Rattle.std.proofs.Common.{◌≡◌, ℕ, ◌+◌, ◌<◌, Bool, true, false, not, cond, List, [], ◌∷◌, ◌++◌, map, take, length, get_or, Option, Some, None, unwrap_or, refl, sym, ap, ap₂, ◌∙◌, ◌&&◌, ◌||◌}
 use Rattle.std.specs.Bool.{beq}
 use Rattle.std.specs.List.{list_any}
 use Rattle.std.proofs.lemmas.List.{take_more}
-use Rattle.netlist.specs.Values.{parity}
+use Rattle.std.proofs.lemmas.List.Folds.{list_all-map, list_all_more, list_any_more}
+use Rattle.netlist.specs.Values.{all_true, any_true, parity}
 use Rattle.netlist.specs.Steadiness.{is_known_as}
 
 -- some mapped element passes where some element does once mapped
 pub list_any-map : {X Y : Type 0} (p : Y → Bool) (f : X → Y) (xs : List X) → list_any p (map f xs) ≡ list_any (λ x. p (f x)) xs
 list_any-map p f [] = refl
 list_any-map p f (x ∷ xs) = ap (λ rest. p (f x) || rest) (list_any-map p f xs)
+
+module _ {X : Type 0} (f : X → Bool) (xs : List X) (place : ℕ) (d : X) (within : place < length xs) where
+  -- whether the first values and the next one are all true
+  pub all_true-take_more : all_true (map f (take (place + 1) xs)) ≡ (all_true (map f (take place xs)) && f (get_or xs place d))
+  all_true-take_more =
+      list_all-map (λ value. value) f (take (place + 1) xs) ∙ list_all_more f xs place d within
+      ∙ ap (λ first. first && f (get_or xs place d)) (sym (list_all-map (λ value. value) f (take place xs)))
+
+  -- whether some value among the first ones and the next one is true
+  pub any_true-take_more : any_true (map f (take (place + 1) xs)) ≡ (any_true (map f (take place xs)) || f (get_or xs place d))
+  any_true-take_more =
+      list_any-map (λ value. value) f (take (place + 1) xs) ∙ list_any_more f xs place d within
+      ∙ ap (λ first. first || f (get_or xs place d)) (sym (list_any-map (λ value. value) f (take place xs)))
 
 -- one more value turns a parity
 parity-push : {X : Type 0} (f : X → Bool) (xs : List X) (x : X)

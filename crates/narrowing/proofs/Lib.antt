@@ -2,7 +2,7 @@ pub mod Cuts
 pub mod Folds
 pub mod Limited
 pub mod Marks
-pub mod OneOrTwo
+pub mod OneToThree
 pub mod Passing
 pub mod Prefixes
 pub mod Sets

@@ -12,6 +12,7 @@ use crate::collecting::keep_at_all;
 use crate::cutting::{cut_line, cut_pins, told};
 use crate::few::{keep_at_one, keep_at_two};
 use crate::scratch::NarrowScratch;
+use crate::three::keep_at_three;
 use crate::view::GateView;
 use netlist::Netlist;
 use pd_base::{GateId, LineId};
@@ -105,6 +106,7 @@ fn keep<A: Algebra>(
     match gate.pins.len() {
         1 => keep_at_one::<A>(gate, condition, &mut scratch.kept),
         2 => keep_at_two::<A>(gate, condition, &mut scratch.kept),
+        3 => keep_at_three::<A>(gate, condition, &mut scratch.kept),
         _ => keep_at_all::<A>(
             gate,
             condition,

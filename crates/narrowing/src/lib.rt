@@ -16,6 +16,7 @@ mod limits;
 mod link;
 mod scratch;
 mod selecting;
+mod three;
 mod view;
 
 pub use conditions::Conditions;

@@ -1,2 +1,5 @@
 pub mod ObservedNames
 pub mod KnownTests
+pub mod TestLines
+pub mod WholeTests
+pub mod TestFiles

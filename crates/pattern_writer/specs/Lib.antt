@@ -1,1 +1,2 @@
+pub mod TestsReading
 pub mod TestsText

@@ -1,32 +1,46 @@
 -- The text of the tests file: the names of the sources and of the observed lines, then one line per test (this project's
--- own format).
-use Rattle.std.specs.Prelude.{ℕ, ◌+◌, List, [], ◌∷◌, ◌++◌, map, flat_map, codes, decimal}
+-- own format). Whoever writes or reads it cites `tests_form`: which test may come next, and its line.
+use Rattle.std.specs.Prelude.{⊤, ℕ, ◌+◌, List, [], ◌∷◌, ◌++◌, map, flat_map, codes, decimal}
+use Rattle.std.specs.List.{join_with_byte}
 use Rattle.pd_base.specs.declared.test.Test.{Test}
 use Rattle.netlist.specs.Circuit.{Circuit, observed_lines}
 use Rattle.netlist.specs.Names.{name_at}
-use Rattle.text_pieces.specs.Tokens.{after_space, line, direction_word, kind_word, digits}
+use Rattle.runs.specs.Lawful.{IsLawfulTest}
+use Rattle.text_pieces.specs.Tokens.{after_space, space, direction_word, kind_word, digits}
+use Rattle.text_pieces.specs.LineFiles.{Form, headed, lines_text}
 
--- a heading, then the names, each behind a space
-abbrev pub names_line : List ℕ → List (List ℕ) → List ℕ
-names_line heading names = line (heading ++ flat_map after_space names)
+-- a word, then the names, each behind a space
+abbrev pub names_text : List ℕ → List (List ℕ) → List ℕ
+names_text word names = word ++ flat_map after_space names
 
 -- the names of the observed lines, in order
 abbrev pub observed_names : Circuit → List (List ℕ)
 observed_names c = map (λ observed. name_at c observed.0) (observed_lines c)
 
 -- a test: its number, path, transition, kind, first vector, second vector and the expected bits
-abbrev pub test_line : ℕ → Test → List ℕ
-test_line number test = line (decimal number
-    ++ after_space (decimal test.path) ++ after_space (direction_word test.dir) ++ after_space (kind_word test.kind)
-    ++ after_space (digits test.pair.first) ++ after_space (digits test.pair.second)
-    ++ after_space (digits test.expected))
+abbrev pub test_words : ℕ → Test → List (List ℕ)
+test_words number test =
+    decimal number ∷ decimal test.path ∷ direction_word test.dir ∷ kind_word test.kind
+    ∷ digits test.pair.first ∷ digits test.pair.second ∷ digits test.expected ∷ []
 
--- the lines of the tests, numbered on from this number
-abbrev pub test_lines : ℕ → List Test → List ℕ
-test_lines number [] = []
-test_lines number (test ∷ tests) = test_line number test ++ test_lines (number + 1) tests
+-- these words with single spaces between
+abbrev pub test_text : ℕ → Test → List ℕ
+test_text number test = join_with_byte space (test_words number test)
+
+-- the tests of this circuit, numbered on from the number of the next; the text may end behind each
+abbrev pub tests_form : Circuit → Form ℕ Test
+tests_form c = record {
+  text_of = test_text;
+  Fits = λ number test. IsLawfulTest c test;
+  next = λ number test. number + 1;
+  Ends = λ number. ⊤;
+}
+
+-- the lines in front of the tests
+abbrev pub tests_headings : Circuit → List (List ℕ)
+tests_headings c =
+    codes "pdfgen tests 1" ∷ names_text (codes "sources") c.sources ∷ names_text (codes "observed") (observed_names c) ∷ []
 
 -- the whole file
 abbrev pub tests_text : Circuit → List Test → List ℕ
-tests_text c tests = line (codes "pdfgen tests 1") ++ names_line (codes "sources") c.sources
-    ++ names_line (codes "observed") (observed_names c) ++ test_lines 1 tests
+tests_text c tests = headed (tests_headings c) (lines_text (tests_form c) 1 tests)

@@ -1,7 +1,11 @@
-//! The text of the tests file: what a tester reads of a circuit's sources, observed lines and tests.
-//! Stands on pd_base, netlist, runs (lawful tests) and text_pieces. The layer above uses `tests_text`.
+//! The tests file both ways: what a tester reads of a circuit's sources, observed lines and tests.
+//! Stands on pd_base, netlist, runs (lawful tests), text_pieces. The layers above use `tests_text` and
+//! `read_tests`.
 #![tactic(auto)]
 
+mod test_line;
 mod tests_file;
+mod tests_reading;
 
 pub use tests_file::tests_text;
+pub use tests_reading::{TestsFault, read_tests};

@@ -1,8 +1,8 @@
-// The tests file.
+// The tests file, written. It is read in tests_reading.rt.
 ghost use Rattle.std.specs.Prelude.{◌≡◌, ◌++◌, IfOk, OnOk, codes};
 ghost use Rattle.runs.specs.Lawful.{AreLawfulTests};
-ghost use Rattle.pattern_writer.specs.TestsText.{names_line, observed_names, test_line, tests_text};
-ghost use Rattle.text_pieces.specs.Tokens.{digits, after_space};
+ghost use Rattle.pattern_writer.specs.TestsText.{names_text, observed_names, test_text, tests_text};
+ghost use Rattle.text_pieces.specs.Tokens.{digits, after_space, line};
 
 use netlist::Netlist;
 use pd_base::{LineId, OutOfMemory, Test, push_decimal};
@@ -10,7 +10,7 @@ use std::alloc::Global;
 use text_pieces::{direction_word, kind_word, push_spaced, push_spaced_digits, push_spaced_number};
 
 /// The text of the tests file: its heading, the names of the sources and of the observed lines, and a line for each
-/// test, numbered from 1.
+/// test, numbered from 1. It fails only where memory runs out.
 pub fn tests_text(alloc: Global, net: &Netlist, tests: &[Test]) -> Result<Vec<u8>, OutOfMemory>
     requires { AreLawfulTests net.now tests.now }
     ensures { IfOk result (λ text. text.items ≡ tests_text net.now tests.now) }
@@ -24,10 +24,10 @@ pub fn tests_text(alloc: Global, net: &Netlist, tests: &[Test]) -> Result<Vec<u8
     Ok(text)
 }
 
-// Appends the line that names the sources. If memory runs out, a part of it may have been written; so too below.
-fn push_sources(out: &mut Vec<u8>, net: &Netlist) -> Result<(), OutOfMemory>
+/// Appends the line that names the sources. If memory runs out, a part of it may have been written; so too below.
+pub(crate) fn push_sources(out: &mut Vec<u8>, net: &Netlist) -> Result<(), OutOfMemory>
     ensures { OnOk result
-        (out.new.items ≡ out.old.items ++ names_line (codes "sources") net.now.sources) }
+        (out.new.items ≡ out.old.items ++ line (names_text (codes "sources") net.now.sources)) }
 {
     out.extend_from_slice(b"sources")?;
     for source in 0..net.sources() {
@@ -37,10 +37,10 @@ fn push_sources(out: &mut Vec<u8>, net: &Netlist) -> Result<(), OutOfMemory>
     Ok(())
 }
 
-// Appends the line that names the observed lines.
-fn push_observed(out: &mut Vec<u8>, net: &Netlist) -> Result<(), OutOfMemory>
+/// Appends the line that names the observed lines.
+pub(crate) fn push_observed(out: &mut Vec<u8>, net: &Netlist) -> Result<(), OutOfMemory>
     ensures { OnOk result (out.new.items
-        ≡ out.old.items ++ names_line (codes "observed") (observed_names net.now)) }
+        ≡ out.old.items ++ line (names_text (codes "observed") (observed_names net.now))) }
 {
     out.extend_from_slice(b"observed")?;
     for line in net.observed() {
@@ -52,7 +52,7 @@ fn push_observed(out: &mut Vec<u8>, net: &Netlist) -> Result<(), OutOfMemory>
 
 // Appends the line of a test.
 fn push_test_line(out: &mut Vec<u8>, number: u64, test: &Test) -> Result<(), OutOfMemory>
-    ensures { OnOk result (out.new.items ≡ out.old.items ++ test_line number test.now) }
+    ensures { OnOk result (out.new.items ≡ out.old.items ++ line (test_text number test.now)) }
 {
     push_decimal(out, number)?;
     push_spaced_number(out, u64::from(test.path))?;

@@ -1,219 +1,188 @@
--- The robust and the nonrobust walk for a transition, and then those for the other transition: what the first found stays as it is
--- promised while more is refuted.
-use Rattle.std.proofs.Common.{◌≡◌, ⊎_elim, ℕ, zero, suc, ◌<◌, Bool, true, false, not, List, [], ◌∷◌, ◌++◌, length, map, replicate, Some, All, sym, ap, subst, ◌∙◌, append_assoc, arith}
+-- The searches for the robust and then the nonrobust tests of a transition, and then for those of the other transition: what the first
+-- found stays as it is promised while more proofs are found.
+use Rattle.std.proofs.Common.{◌≡◌, ℕ, ◌+◌, ◌<◌, Bool, true, false, not, List, [], ◌++◌, length, map, replicate, Some, refl, sym, ap, subst, ◌∙◌, append_assoc, arith}
 use Rattle.std.specs.Prelude.{slice_get, slice_index_or}
-use Rattle.std.specs.List.{zip}
-use Rattle.std.proofs.lemmas.List.{length-map, get_or-map, get_or-replicate}
+use Rattle.std.proofs.lemmas.List.{get_or-map, get_or-replicate, length-map}
 use Rattle.std.proofs.lemmas.List.Elements.{All-append, All-nil}
-use Rattle.std.proofs.lemmas.Option.{none-some, same_Some, slice_get_within}
-use Rattle.std.proofs.lemmas.Slice.Zip.{length-zip}
+use Rattle.std.proofs.lemmas.Option.{none-some, slice_get_within}
+use Rattle.pd_base.specs.Route.{Route}
+use Rattle.pd_base.specs.Target.{Target, target_of}
 use Rattle.pd_base.specs.declared.fault.Direction.{Direction}
 use Rattle.pd_base.specs.declared.fault.Direction.TheVariants.{Rise, Fall}
 use Rattle.pd_base.specs.declared.fault.Kind.{Kind}
 use Rattle.pd_base.specs.declared.fault.Kind.TheVariants.{Robust, Nonrobust}
-use Rattle.pd_base.specs.Route.{Route}
-use Rattle.pd_base.specs.Target.{target_of}
 use Rattle.pd_base.specs.declared.rules.Rules.{Rules}
 use Rattle.netlist.specs.Circuit.{Circuit}
-use Rattle.verdict_runs.specs.declared.findings.Outcome.{Outcome}
-use Rattle.verdict_runs.specs.declared.findings.Outcome.TheVariants.{Unsearched, Tested, Refuted, Spent}
-use Rattle.verdict_runs.specs.declared.findings.Outcomes.{Outcomes}
-use Rattle.verdict_runs.specs.declared.findings.Refutation.{Refutation}
-use Rattle.verdict_runs.specs.Findings.{IsOutcome, NoneRefutes, is_test}
-use Rattle.fault_search.specs.declared.targets.Aim.{Aim}
-use Rattle.prefix_sensitize.specs.Gathering.{AreNewFor, AreSearchedFor, IsGrownFor, both_kinds}
-use Rattle.fault_search.specs.Walks.{AreRefutations, IsAimedAt, IsGrown, outcome_at, searches_with}
-use Rattle.prefix_sensitize.specs.Passes.{AreNew, ArePassOutcomes}
-use Rattle.fault_search.proofs.Places.{in_either, in_first}
-use Rattle.prefix_sensitize.proofs.Walking.{known_outcome}
+use Rattle.path_laws.proofs.NonrobustPath.{robust_is_nonrobust}
+use Rattle.runs.specs.declared.run.Proof.{Proof}
+use Rattle.good_runs.specs.Faults.{IsAbout, NoneApplies}
+use Rattle.good_runs.specs.Truth.{HasSomeTest}
+use Rattle.good_runs.proofs.Growing.{proof_kept}
+use Rattle.good_runs.proofs.Numbers.{all_at_number}
+use Rattle.prefix_sensitize.specs.declared.outcome.Aim.{Aim}
+use Rattle.prefix_sensitize.specs.declared.outcome.Outcome.{Outcome}
+use Rattle.prefix_sensitize.specs.declared.outcome.Outcome.TheVariants.{Unsearched, Tested, Proved}
+use Rattle.prefix_sensitize.specs.declared.searched.BothOutcomes.{BothOutcomes}
+use Rattle.prefix_sensitize.specs.Outcomes.{AddsProofs, AreFoundProofs, AreOutcomes, IsFoundProof, IsNeeded, IsOutcome, NoneIsAbout, outcome_at}
+use Rattle.prefix_sensitize.specs.Readiness.{AddsProofsFor, NoneIsFor}
+use Rattle.prefix_sensitize.specs.Searches.{AreSearchedFrom, is_test}
+use Rattle.prefix_sensitize.specs.Walks.{AreExcused}
 
--- the refutation is for this kind and transition
-abbrev IsFor : Kind → Direction → Refutation → Type 0
-IsFor kind direction refutation = (refutation.kind ≡ kind) × (refutation.dir ≡ direction)
+-- an outcome stays as it is promised while proofs are added that do not apply
+outcome_kept : (c : Circuit) (routes : List Route) (old more new : List Proof) → new ≡ old ++ more → (row : ℕ) (target : Target)
+    → NoneApplies routes more target → (outcome : Outcome) → IsOutcome c routes old row target outcome
+    → IsOutcome c routes new row target outcome
+outcome_kept c routes old more new grown row target none Unsearched is = is
+outcome_kept c routes old more new grown row target none (Tested pair) is = is
+outcome_kept c routes old more new grown row target none (Proved index) is =
+    subst (λ (proofs : List Proof). IsOutcome c routes proofs row target (Proved index)) (sym grown)
+    (proof_kept routes old more target none (row + 1) (index + 1) is)
 
-module _ (c : Circuit) (rules : Rules) (budget : ℕ) (routes : List Route) (kind : Kind) (direction : Direction) (old more new : List Refutation)
-    (grown : new ≡ old ++ more) (others : All (λ refutation. ¬ IsFor kind direction refutation) more) where
-  none_grown : (route : Route) → NoneRefutes (searches_with rules budget routes old) (target_of route direction kind)
-      → NoneRefutes (searches_with rules budget routes new) (target_of route direction kind)
-  none_grown route none index refutation here refutes =
-      let P : List Refutation → Type 0 = λ list. slice_get list index ≡ Some refutation in
-      ⊎_elim (λ (before : slice_get old index ≡ Some refutation). none index refutation before refutes)
-      (λ (other : ¬ IsFor kind direction refutation). other (refutes.of_kind, refutes.of_direction))
-      (in_either (λ (r : Refutation). ¬ IsFor kind direction r) old more index refutation others (subst P grown here))
+-- the two kinds and the two transitions differ
+kinds_differ : Robust ≡ Nonrobust → ⊥
+kinds_differ same = cc
 
-  -- an outcome stays as it is promised while refutations for others are added
-  pub outcome_grown : (route : Route) (outcome : Outcome) → IsOutcome c (searches_with rules budget routes old) (target_of route direction kind) outcome
-      → IsOutcome c (searches_with rules budget routes new) (target_of route direction kind) outcome
-  outcome_grown route Unsearched is = is
-  outcome_grown route (Tested pair) is = is
-  outcome_grown route (Refuted index) is = record {
-    refutation = is.refutation;
-    is_found =
-        let P : List Refutation → Type 0 = λ list. slice_get list index ≡ Some is.refutation in
-        subst P (sym grown) (in_first old more index is.refutation is.is_found);
-    applies = is.applies;
-  }
-  outcome_grown route (Spent tree) is = record { is_spent = is.is_spent; none_refutes = none_grown route is.none_refutes }
+ways_differ : Rise ≡ Fall → ⊥
+ways_differ same = cc
 
--- the outcomes of a path are those of the two lists
-kinds_at : (robust nonrobust : List Outcome) (at : ℕ) (outcomes : Outcomes) → slice_get (both_kinds robust nonrobust) at ≡ Some outcomes
-    → (outcomes.robust ≡ outcome_at robust at) × (outcomes.nonrobust ≡ outcome_at nonrobust at)
-kinds_at [] nonrobust at outcomes here = absurd (none-some outcomes here)
-kinds_at (r ∷ robust) [] at outcomes here = absurd (none-some outcomes here)
-kinds_at (r ∷ robust) (n ∷ nonrobust) zero outcomes here =
-    let same = sym (same_Some (record { robust = r; nonrobust = n }) outcomes here) in
-    (ap (λ (o : Outcomes). o.robust) same, ap (λ (o : Outcomes). o.nonrobust) same)
-kinds_at (r ∷ robust) (n ∷ nonrobust) (suc at) outcomes here = kinds_at robust nonrobust at outcomes here
+-- before all searches no proof was found
+pub none_found : (c : Circuit) (rules : Rules) (budget : ℕ) (routes : List Route) (proofs : List Proof) → proofs ≡ []
+    → AreFoundProofs c rules budget routes proofs
+none_found c rules budget routes proofs none =
+    subst (AreFoundProofs c rules budget routes) (sym none) (record {
+      each = All-nil (IsFoundProof c rules budget routes);
+      apart = λ number other proof other_proof target is its listed one two. absurd (none-some proof is.found);
+    })
 
--- a path without a test needs another search
-untested_at : (outcomes : List Outcome) (at : ℕ) → at < length outcomes → is_test (outcome_at outcomes at) ≡ false
-    → slice_index_or (map (λ outcome. not (is_test outcome)) outcomes) at false ≡ true
-untested_at outcomes at within not_test =
-    get_or-map (λ (outcome : Outcome). not (is_test outcome)) outcomes at Unsearched false within ∙ ap not not_test
+pub none_is_for : (direction : Direction) (proofs : List Proof) → proofs ≡ [] → NoneIsFor direction proofs
+none_is_for direction proofs none =
+    subst (NoneIsFor direction) (sym none) (All-nil (λ (proof : Proof). ¬ (proof.dir ≡ direction)))
 
-module _ (c : Circuit) (rules : Rules) (budget : ℕ) (routes : List Route) (direction : Direction) where
-  abbrev aim_at : Kind → Aim
-  aim_at kind = record { kind = kind; dir = direction; budget = budget }
+-- after those for the rising transition there is none for the falling one
+pub fall_is_new : (old new : List Proof) → old ≡ [] → AddsProofsFor Rise old new → NoneIsFor Fall new
+fall_is_new old new none adds =
+    let all : new ≡ adds.more = adds.adds ∙ ap (λ (list : List Proof). list ++ adds.more) none in
+    subst (NoneIsFor Fall) (sym all) (λ place d within falls. ways_differ (sym (adds.aimed place d within) ∙ falls))
 
-  -- nothing was searched for the robust tests
-  pub robust_new : (refutations : List Refutation) → AreNewFor c rules budget routes direction refutations
-      → AreNew c rules routes (aim_at Robust) refutations
-  robust_new refutations new = record {
-    are_refutations = new.are_refutations;
-    none = λ place d within aimed. new.none place d within aimed.of_direction;
-  }
+module _ (c : Circuit) (routes : List Route) (direction : Direction) (budget : ℕ) where
+  -- what is searched for
+  abbrev aim_for : Kind → Aim
+  aim_for kind = record { kind = kind; dir = direction; budget = budget }
 
-  -- nor, after that, for the nonrobust ones
-  pub nonrobust_new : (old new : List Refutation) → AreNewFor c rules budget routes direction old
-      → AreRefutations c (searches_with rules budget routes new) → IsGrown (aim_at Robust) old new
-      → AreNew c rules routes (aim_at Nonrobust) new
-  nonrobust_new old new before are grown =
-      let Other : Refutation → Type 0 = λ r. ¬ IsAimedAt (aim_at Nonrobust) r in
-      record {
-        are_refutations = are;
-        none =
-            let P : List Refutation → Type 0 = λ list. All Other list in
-            subst P (sym grown.grown)
-            (All-append Other old grown.more (λ place d within aimed. before.none place d within aimed.of_direction)
-            (λ place d within aimed. differ (sym (grown.aimed place d within).of_kind ∙ aimed.of_kind)));
+  -- where all outcomes are needed
+  module _ (needed : List Bool) (all : needed ≡ replicate (length routes) true) where
+    pub is_needed : (row : ℕ) → row < length routes → IsNeeded needed row
+    is_needed row within =
+        ap (λ (list : List Bool). slice_index_or list row false) all ∙ get_or-replicate (length routes) row true false within
+
+    -- none is left out
+    pub all_excused : (kind : Kind) → AreExcused c (aim_for kind) routes needed
+    all_excused kind row route there not_needed = absurd (not_needed (is_needed row (slice_get_within routes row route there)))
+
+    -- and each is told
+    pub each_outcome : (kind : Kind) (proofs : List Proof) (outcomes : List Outcome)
+        → AreOutcomes c routes proofs needed (aim_for kind) outcomes → (row : ℕ) (route : Route) → slice_get routes row ≡ Some route
+        → IsOutcome c routes proofs row (target_of route direction kind) (outcome_at outcomes row)
+    each_outcome kind proofs outcomes are row route there =
+        are.each row route there (is_needed row (slice_get_within routes row route there))
+
+    module _ (middle : List Proof) (robust : List Outcome) (are : AreOutcomes c routes middle needed (aim_for Robust) robust)
+        (some : List Bool) (untested : some ≡ map (λ outcome. not (is_test outcome)) robust) where
+      -- whether the nonrobust outcome is needed
+      need_of : (row : ℕ) → row < length routes → slice_index_or some row false ≡ not (is_test (outcome_at robust row))
+      need_of row within =
+          let same = are.one_each in
+          ap (λ (list : List Bool). slice_index_or list row false) untested
+          ∙ get_or-map (λ (outcome : Outcome). not (is_test outcome)) robust row Unsearched false (omega arith)
+
+      -- a path that has a robust test has a nonrobust one
+      pub untested_excused : AreExcused c (aim_for Nonrobust) routes some
+      untested_excused row route there not_needed =
+          by (outcome_at robust row) (each_outcome Robust middle robust are row route there)
+          (λ clear. not_needed (need_of row (slice_get_within routes row route there) ∙ ap not clear))
+        where
+          by : (outcome : Outcome) → IsOutcome c routes middle row (target_of route direction Robust) outcome
+              → (is_test outcome ≡ false → ⊥) → HasSomeTest c (target_of route direction Nonrobust)
+          by Unsearched is tested = absurd is
+          by (Tested pair) is tested = record {
+            pair = pair;
+            first_fits = is.first_fits;
+            second_fits = is.second_fits;
+            meets = robust_is_nonrobust c route direction pair is.meets;
+          }
+          by (Proved index) is tested = absurd (tested refl)
+
+      pub some_each : length some ≡ length routes
+      some_each =
+          ap length untested ∙ length-map robust (λ (outcome : Outcome). not (is_test outcome)) ∙ are.one_each
+
+      -- the outcomes of both searches are those of the faults
+      pub both_are : (new : List Proof) (nonrobust : List Outcome) → AddsProofs (aim_for Nonrobust) middle new
+          → AreOutcomes c routes new some (aim_for Nonrobust) nonrobust → (both : BothOutcomes) → both.robust.items ≡ robust
+          → both.nonrobust.items ≡ nonrobust → AreSearchedFrom c routes new direction 0 both
+      both_are new nonrobust adds are_too both is_robust is_nonrobust = record {
+        robust = ap length is_robust ∙ are.one_each;
+        nonrobust = ap length is_nonrobust ∙ are_too.one_each;
+        each = λ row route from there.
+            (let within = slice_get_within routes row route there in
+            let R : List Outcome → Type 0 = λ list. IsOutcome c routes new row (target_of route direction Robust) (outcome_at list row) in
+            let N : List Outcome → Type 0 =
+            λ list. IsOutcome c routes new row (target_of route direction Nonrobust) (outcome_at list row) in
+            record {
+              robust = subst R (sym is_robust)
+                  (outcome_kept c routes middle adds.more new adds.adds row (target_of route direction Robust) (none_more route)
+                  (outcome_at robust row) (each_outcome Robust middle robust are row route there));
+              nonrobust = λ clear. subst N (sym is_nonrobust)
+                  (are_too.each row route there
+                  (need_of row within
+                  ∙ ap not (sym (ap (λ (list : List Outcome). is_test (outcome_at list row)) is_robust) ∙ clear)));
+            });
       }
-    where
-      differ : Robust ≡ Nonrobust → ⊥
-      differ same = cc
+        where
+          none_more : (route : Route) → NoneApplies routes adds.more (target_of route direction Robust)
+          none_more route number proof numbered applies =
+              let about = all_at_number (IsAbout Nonrobust direction) adds.more number proof adds.aimed numbered in
+              kinds_differ (sym applies.is_about.of_kind ∙ about.of_kind)
 
-  pub grown_for : (first second third : List Refutation) → IsGrown (aim_at Robust) first second
-      → IsGrown (aim_at Nonrobust) second third → IsGrownFor direction first third
-  grown_for first second third one two = record {
+  -- no proof is about a kind while none is for the transition
+  pub none_about : (kind : Kind) (proofs : List Proof) → NoneIsFor direction proofs → NoneIsAbout (aim_for kind) proofs
+  none_about kind proofs none place d within about = none place d within about.of_direction
+
+  -- none is about the nonrobust kind after the robust search
+  pub nonrobust_is_new : (old middle : List Proof) → NoneIsFor direction old → AddsProofs (aim_for Robust) old middle
+      → NoneIsAbout (aim_for Nonrobust) middle
+  nonrobust_is_new old middle none adds =
+      subst (NoneIsAbout (aim_for Nonrobust)) (sym adds.adds)
+      (All-append (λ (proof : Proof). ¬ IsAbout Nonrobust direction proof) old adds.more (none_about Nonrobust old none)
+      (λ place d within about. kinds_differ (sym (adds.aimed place d within).of_kind ∙ about.of_kind)))
+
+  -- all that both searches add is for the transition
+  pub both_add : (old middle new : List Proof) → AddsProofs (aim_for Robust) old middle → AddsProofs (aim_for Nonrobust) middle new
+      → AddsProofsFor direction old new
+  both_add old middle new one two = record {
     more = one.more ++ two.more;
-    grown = two.grown ∙ ap (λ list. list ++ two.more) one.grown ∙ append_assoc first one.more two.more;
-    aimed =
-        All-append (λ (r : Refutation). r.dir ≡ direction) one.more two.more
+    adds = two.adds ∙ ap (λ (list : List Proof). list ++ two.more) one.adds ∙ append_assoc old one.more two.more;
+    aimed = All-append (λ (proof : Proof). proof.dir ≡ direction) one.more two.more
         (λ place d within. (one.aimed place d within).of_direction) (λ place d within. (two.aimed place d within).of_direction);
   }
 
-  -- the two walks give the outcomes for the transition
-  pub searched_for : (all needed : List Bool) (robust nonrobust : List Outcome) (outcomes : List Outcomes) (second third : List Refutation)
-      → all ≡ replicate (length routes) true → needed ≡ map (λ outcome. not (is_test outcome)) robust
-      → ArePassOutcomes c rules routes all (aim_at Robust) robust second → ArePassOutcomes c rules routes needed (aim_at Nonrobust) nonrobust third
-      → IsGrown (aim_at Nonrobust) second third → outcomes ≡ both_kinds robust nonrobust
-      → AreSearchedFor c rules budget routes direction outcomes third
-  searched_for all needed robust nonrobust outcomes second third alls needs one two grown is = record {
-    one_each =
-        let zipped = length-zip robust nonrobust in
-        let first = one.standing.one_each in
-        let others = two.standing.one_each in
-        let mapped = length-map (zip robust nonrobust)
-        (λ (o : Outcome × Outcome). (let made : Outcomes = record { robust = o.0; nonrobust = o.1 } in made)) in
-        ap length is ∙ omega (arith, zipped, first, others, mapped);
-    each =
-        λ at route of_route here there.
-        (let inside : at < length routes = slice_get_within routes at route here in
-        let P : List Outcomes → Type 0 = λ list. slice_get list at ≡ Some of_route in
-        let its = kinds_at robust nonrobust at of_route (subst P is there) in
-        record {
-          robust = robust_at at route of_route here inside its.0;
-          nonrobust = λ not_test. nonrobust_at at route of_route here inside its.0 its.1 not_test;
-        });
-  }
-    where
-      robust_at : (at : ℕ) (route : Route) (of_route : Outcomes) → slice_get routes at ≡ Some route → at < length routes
-          → of_route.robust ≡ outcome_at robust at
-          → IsOutcome c (searches_with rules budget routes third) (target_of route direction Robust) of_route.robust
-      robust_at at route of_route here inside its =
-          let P : Outcome → Type 0 = λ o. IsOutcome c (searches_with rules budget routes third) (target_of route direction Robust) o in
-          let need : slice_index_or all at false ≡ true =
-          ap (λ (list : List Bool). slice_index_or list at false) alls ∙ get_or-replicate (length routes) at true false inside in
-          subst P (sym its)
-          (outcome_grown c rules budget routes Robust direction second grown.more third grown.grown
-          (λ place d within aimed. differ (sym aimed.0 ∙ (grown.aimed place d within).of_kind)) route (outcome_at robust at)
-          (known_outcome c (searches_with rules budget routes second) (target_of route direction Robust) (outcome_at robust at)
-          (one.standing.stands at route here) (one.known at inside need)))
-        where
-          differ : Robust ≡ Nonrobust → ⊥
-          differ same = cc
-
-      nonrobust_at : (at : ℕ) (route : Route) (of_route : Outcomes) → slice_get routes at ≡ Some route → at < length routes
-          → of_route.robust ≡ outcome_at robust at → of_route.nonrobust ≡ outcome_at nonrobust at
-          → is_test of_route.robust ≡ false
-          → IsOutcome c (searches_with rules budget routes third) (target_of route direction Nonrobust) of_route.nonrobust
-      nonrobust_at at route of_route here inside its other not_test =
-          let P : Outcome → Type 0 = λ o. IsOutcome c (searches_with rules budget routes third) (target_of route direction Nonrobust) o in
-          let one_each = one.standing.one_each in
-          let need : slice_index_or needed at false ≡ true =
-          ap (λ (list : List Bool). slice_index_or list at false) needs
-          ∙ untested_at robust at (omega (arith, inside, one_each)) (sym (ap is_test its) ∙ not_test) in
-          subst P (sym other)
-          (known_outcome c (searches_with rules budget routes third) (target_of route direction Nonrobust) (outcome_at nonrobust at)
-          (two.standing.stands at route here) (two.known at inside need))
-
--- before all searches there is nothing
-pub none_new : (c : Circuit) (rules : Rules) (budget : ℕ) (routes : List Route) → AreNewFor c rules budget routes Rise []
-none_new c rules budget routes = record {
-  are_refutations = record {
-    found = λ index refutation here. absurd (none-some refutation here);
-    apart =
-        λ i j upper lower prefix longer is_upper is_lower kinds directions has_upper has_lower begins.
-        absurd (none-some upper is_upper);
-  };
-  none = All-nil (λ (refutation : Refutation). ¬ (refutation.dir ≡ Rise));
+-- what was found for the rising transition stays while the falling one is searched for
+pub rises_stay : (c : Circuit) (routes : List Route) (middle new : List Proof) (rises : BothOutcomes) → AddsProofsFor Fall middle new
+    → AreSearchedFrom c routes middle Rise 0 rises → AreSearchedFrom c routes new Rise 0 rises
+rises_stay c routes middle new rises adds are = record {
+  robust = are.robust;
+  nonrobust = are.nonrobust;
+  each = λ row route from there.
+      (let told = are.each row route from there in
+      record {
+        robust = outcome_kept c routes middle adds.more new adds.adds row (target_of route Rise Robust) (none_more route Robust)
+            (outcome_at rises.robust.items row) told.robust;
+        nonrobust = λ clear. outcome_kept c routes middle adds.more new adds.adds row (target_of route Rise Nonrobust)
+            (none_more route Nonrobust) (outcome_at rises.nonrobust.items row) (told.nonrobust clear);
+      });
 }
-
-module _ (c : Circuit) (rules : Rules) (budget : ℕ) (routes : List Route) where
-  -- after the searches for the rising transition there is nothing for the falling one
-  pub fall_new : (old new : List Refutation) → old ≡ [] → AreRefutations c (searches_with rules budget routes new)
-      → IsGrownFor Rise old new → AreNewFor c rules budget routes Fall new
-  fall_new old new none are grown = record {
-    are_refutations = are;
-    none =
-        let P : List Refutation → Type 0 = λ list. All (λ r. ¬ (r.dir ≡ Fall)) list in
-        let all : new ≡ grown.more = grown.grown ∙ ap (λ list. list ++ grown.more) none in
-        subst P (sym all) (λ place d within falls. differ (sym (grown.aimed place d within) ∙ falls));
-  }
-    where
-      differ : Rise ≡ Fall → ⊥
-      differ same = cc
-
-  -- and what they found stays
-  pub rises_stay : (outcomes : List Outcomes) (second third : List Refutation) → IsGrownFor Fall second third
-      → AreSearchedFor c rules budget routes Rise outcomes second → AreSearchedFor c rules budget routes Rise outcomes third
-  rises_stay outcomes second third grown searched = record {
-    one_each = searched.one_each;
-    each =
-        λ at route of_route here there.
-        (let are = searched.each at route of_route here there in
-        record {
-          robust =
-              outcome_grown c rules budget routes Robust Rise second grown.more third grown.grown (not_rise Robust) route of_route.robust
-              are.robust;
-          nonrobust =
-              λ not_test.
-              outcome_grown c rules budget routes Nonrobust Rise second grown.more third grown.grown (not_rise Nonrobust) route
-              of_route.nonrobust (are.nonrobust not_test);
-        });
-  }
-    where
-      differ : Rise ≡ Fall → ⊥
-      differ same = cc
-
-      not_rise : (kind : Kind) → All (λ refutation. ¬ IsFor kind Rise refutation) grown.more
-      not_rise kind place d within aimed = differ (sym aimed.1 ∙ grown.aimed place d within)
+  where
+    none_more : (route : Route) (kind : Kind) → NoneApplies routes adds.more (target_of route Rise kind)
+    none_more route kind number proof numbered applies =
+        let falls = all_at_number (λ (p : Proof). p.dir ≡ Fall) adds.more number proof adds.aimed numbered in
+        ways_differ (sym applies.is_about.of_direction ∙ falls)

@@ -1,5 +1,34 @@
-pub mod Ordering
-pub mod Walking
-pub mod BothKinds
-pub mod Findings
+pub mod PathOrder
+mod PathOrderEntries
+mod PathOrderPrefixes
+mod PathOrderShares
+mod PathOrderSteps
+pub mod Prefixes
 mod EndLines
+mod Told
+mod AlongPaths
+mod Descents
+mod RoutePrefixes
+mod EnteredPrefixes
+mod OrderPlaces
+mod FoundProofs
+mod NewRefutations
+mod Ahead
+mod SettledRows
+mod Visits
+mod Reached
+mod Ended
+mod Passing
+mod Along
+mod Answered
+mod Citing
+mod GoodRuns
+mod LawfulRuns
+mod ListedPaths
+mod Naming
+mod Filling
+mod Renumbering
+mod Rows
+mod BothKinds
+mod FirstPaths
+mod Ready

@@ -1,13 +1,24 @@
-//! Searches for the first paths of a circuit, for both transitions and both kinds of test: the listed paths are put in an order,
-//! from fewer steps to more, and searched one after another, so that a refutation that was found is taken for each path that has
-//! its prefix. Stands on fault_search, which searches for one of them, and on verdict_runs, which makes the run.
-//! The layer above uses `sensitize_all` and cites its contract.
+//! Searches for tests of the first paths of a circuit, for both transitions and both kinds of test, and the run that they make. The
+//! paths are walked in an order in which those that share a prefix stand side by side, so that each prefix is entered once; a
+//! refutation that comes up at a prefix settles all paths that have it. Stands on implication and justify, which search.
+//! The layer above uses `sensitize_all` and `PathTree`, and cites their contracts.
 #![tactic(auto)]
 
+mod course;
+mod descent;
 mod ends;
-mod gathering;
-mod order;
-mod passes;
+mod expected;
+mod listing;
+mod numbering;
+mod outcome;
+mod path_tree;
+mod searched;
 mod sensitizing;
+mod settling;
+mod sharing;
+mod stretch;
+mod verdicts;
+mod walking;
 
+pub use path_tree::PathTree;
 pub use sensitizing::sensitize_all;

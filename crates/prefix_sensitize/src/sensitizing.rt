@@ -1,36 +1,43 @@
-// All searches for the first paths of a circuit, and the run that their findings make.
-ghost use Rattle.std.specs.Prelude.{◌≡◌, ◌+◌, ◌*◌, ◌<◌, ◌≤◌, ◌^◌, None, length, IfOk, OnOk};
+// All searches for the first paths of a circuit, and the run that they make.
+ghost use Rattle.std.specs.Prelude.{◌≡◌, ◌+◌, ◌*◌, ◌<◌, ◌≤◌, ◌^◌, None, length, map, not, IfOk, OnOk};
 ghost use Rattle.pd_base.specs.declared.limits.TheConstants.{MOST_PATHS};
 ghost use Rattle.netlist.specs.declared.limits.TheConstants.{MOST_LEVELS};
-ghost use Rattle.pd_base.specs.declared.rules.Rules.TheVariants.{One};
 ghost use Rattle.delay_annotation.specs.Annotation.{delays_of, Fits};
 ghost use Rattle.netlist.specs.Order.{AreFirst};
 ghost use Rattle.good_runs.specs.GoodRun.{IsGoodRun};
+ghost use Rattle.good_runs.specs.Shortest.{IsShortestRun};
 ghost use Rattle.runs.specs.Lawful.{IsLawfulRun};
 ghost use Rattle.justify.specs.Desks.{IsDeskFor};
-ghost use Rattle.fault_search.specs.Entering.{IsIdleAgain};
-ghost use Rattle.prefix_sensitize.specs.Order.{IsOrder};
-ghost use Rattle.fault_search.specs.Walks.{AreSearchablePaths, AreToldPaths, IsBudget, AreRefutations, searches_with};
-ghost use Rattle.prefix_sensitize.specs.Gathering.{AreSearchedFor, AreNewFor, IsGrownFor};
+ghost use Rattle.prefix_sensitize.specs.Entering.{IsIdleAgain};
+ghost use Rattle.prefix_sensitize.specs.Listed.{AreSearchedAll};
+ghost use Rattle.prefix_sensitize.specs.Outcomes.{AddsProofs, AreFoundProofs, AreOutcomes, NoneIsAbout};
+ghost use Rattle.prefix_sensitize.specs.Readiness.{AddsProofsFor, CountsAtMost, CountsWithin, IsReadyFor, NoneIsFor};
+ghost use Rattle.prefix_sensitize.specs.Searches.{AreSearchedFrom, is_test, searches_of};
+ghost use Rattle.prefix_sensitize.specs.Walks.{AreExcused, AreSearchablePaths, AreToldPaths, IsBudget};
 
 use crate::ends::ends_of;
-use crate::gathering::{pair_kinds, pair_ways, untested};
-use crate::order::order_of;
-use crate::passes::pass;
+use crate::listing::run_of;
+use crate::outcome::{Aim, Outcome};
+use crate::path_tree::PathTree;
+use crate::searched::{BothOutcomes, Searched};
+use crate::walking::walk;
 use delay_annotation::Delays;
-use fault_search::{Aim, PathEntry};
 use implication::{Engine, RuledNetlist, Setting};
 use justify::Desk;
 use netlist::Netlist;
 use pd_base::{Direction, Kind, OutOfMemory, Path, Rules, Steps};
-use runs::Run;
+use runs::{Proof, Run};
 use state_sets::FourStates;
 use std::alloc::Global;
-use verdict_runs::{Findings, Outcomes, Refutation, verdict_run};
 
-/// A good run for the first `count` paths of a circuit, which are given, and a budget of splits for each search: each verdict has
-/// the test or the proofs that it asks for, and each test and each proof is what it says, under rules One. The run can be written
-/// as files. In which order it searches, and how far `steps` counts on, is not promised. The one error is that memory ran out.
+/// A good run for the first `count` paths of a circuit, which are given, at most `MOST_PATHS` of them, and a budget of splits for each
+/// search, 1 to `MOST_BUDGET`: each verdict has the test or the proofs that it asks for, and each test and each proof is what it says,
+/// under these rules (this project's own). The run can be written as files, and each of its refutations stands as near to the source as
+/// it can.
+///
+/// `steps` stands at no more than 2^63, and counts the pins that are entered: at most four times as many as the paths have different
+/// prefixes of at least one step, once for each transition and kind of test. The one error is that memory ran out; `steps` has counted
+/// no more then.
 pub fn sensitize_all<L>(
     alloc: Global,
     net: &Netlist,
@@ -38,6 +45,7 @@ pub fn sensitize_all<L>(
     paths: Vec<Path>,
     count: u32,
     budget: u32,
+    rules: Rules,
     steps: &mut Steps<L>,
 ) -> Result<Run, OutOfMemory>
     requires fits { Fits net.now delays.now }
@@ -47,43 +55,66 @@ pub fn sensitize_all<L>(
     requires steps { steps.old ≤ 2 ^ 63 }
     ensures good { IfOk result (λ run. IsGoodRun net.now (delays_of net.now delays.now) count budget run) }
     ensures lawful { IfOk result (λ run. IsLawfulRun net.now run) }
-    ensures rules { IfOk result (λ run. run.rules ≡ One) }
+    ensures rules { IfOk result (λ run. run.rules ≡ rules) }
+    ensures shortest { IfOk result (λ run. IsShortestRun net.now run) }
+    ensures steps { OnOk result (CountsAtMost paths.items 4 steps.old steps.new) }
+    ensures counted { CountsWithin paths.items 4 steps.old steps.new }
 {
     // a netlist has few levels, and so its paths have few steps
     let _ = net.sources();
-    let ends = ends_of(alloc, net, paths.as_slice())?;
-    let rules = Rules::One;
-    let setting = RuledNetlist { net, rules: &rules };
-    let mut engine = Engine::within(alloc, setting, ends.as_slice())?;
-    let mut desk = Desk::new(alloc, net)?;
-    let searched = search_all(
-        alloc,
-        &mut engine,
-        &mut desk,
-        paths.as_slice(),
-        budget,
-        steps,
-    )?;
-    let paths = pair_ways(alloc, paths, searched.rises, searched.falls)?;
-    let findings = Findings {
-        count,
-        budget,
-        paths,
-        refutations: searched.refutations,
-    };
-    verdict_run(alloc, net, delays, findings)
-}
-
-// What the searches for some paths found.
-#[derive(Drop)]
-struct Searched {
-    rises: Vec<Outcomes>,
-    falls: Vec<Outcomes>,
-    refutations: Vec<Refutation>,
+    let searched = search_paths(alloc, net, paths.as_slice(), budget, &rules, steps)?;
+    run_of(alloc, net, delays, rules, paths, searched)
 }
 
 // Searches for all tests of these paths.
-fn search_all<S: Setting, L>(
+fn search_paths<L>(
+    alloc: Global,
+    net: &Netlist,
+    paths: &[Path],
+    budget: u32,
+    rules: &Rules,
+    steps: &mut Steps<L>,
+) -> Result<Searched, OutOfMemory>
+    requires listed { AreSearchablePaths net.now paths.now }
+    requires budget { IsBudget budget }
+    requires steps { steps.old ≤ 2 ^ 63 }
+    ensures searched { IfOk result (λ searched. AreSearchedAll net.now (searches_of rules.now budget paths.now searched) searched) }
+    ensures steps { OnOk result (CountsAtMost paths.now 4 steps.old steps.new) }
+    ensures counted { CountsWithin paths.now 4 steps.old steps.new }
+{
+    // a netlist is a circuit
+    let _ = net.sources();
+    let ends = ends_of(alloc, net, paths)?;
+    let setting = RuledNetlist { net, rules };
+    let mut engine = Engine::within(alloc, setting, ends.as_slice())?;
+    search_on(alloc, net, &mut engine, paths, budget, steps)
+}
+
+// Does so with this engine, on which no scope is open.
+fn search_on<S: Setting, L>(
+    alloc: Global,
+    net: &Netlist,
+    engine: &mut Engine<FourStates, S>,
+    paths: &[Path],
+    budget: u32,
+    steps: &mut Steps<L>,
+) -> Result<Searched, OutOfMemory>
+    requires net { engine.old.net ≡ net.now }
+    requires idle { engine.old.beginning ≡ None }
+    requires listed { AreSearchablePaths engine.old.net paths.now }
+    requires told { AreToldPaths engine.old paths.now }
+    requires budget { IsBudget budget }
+    requires steps { steps.old ≤ 2 ^ 63 }
+    ensures searched { IfOk result (λ searched. AreSearchedAll engine.old.net (searches_of engine.old.rules budget paths.now searched) searched) }
+    ensures steps { OnOk result (CountsAtMost paths.now 4 steps.old steps.new) }
+    ensures counted { CountsWithin paths.now 4 steps.old steps.new }
+{
+    let mut desk = Desk::new(alloc, net)?;
+    search_in_order(alloc, engine, &mut desk, paths, budget, steps)
+}
+
+// Does so at this desk, in an order in which each prefix is entered once.
+fn search_in_order<S: Setting, L>(
     alloc: Global,
     engine: &mut Engine<FourStates, S>,
     desk: &mut Desk,
@@ -97,68 +128,82 @@ fn search_all<S: Setting, L>(
     requires desk { IsDeskFor engine.old.net desk.old }
     requires budget { IsBudget budget }
     requires steps { steps.old ≤ 2 ^ 63 }
-    ensures rises { IfOk result (λ s. AreSearchedFor engine.old.net engine.old.rules budget paths.now Direction.Rise s.rises.items s.refutations.items) }
-    ensures falls { IfOk result (λ s. AreSearchedFor engine.old.net engine.old.rules budget paths.now Direction.Fall s.falls.items s.refutations.items) }
-    ensures refutations { IfOk result (λ s. AreRefutations engine.old.net (searches_with engine.old.rules budget paths.now s.refutations.items)) }
+    ensures searched { IfOk result (λ searched. AreSearchedAll engine.old.net (searches_of engine.old.rules budget paths.now searched) searched) }
+    ensures steps { OnOk result (CountsAtMost paths.now 4 steps.old steps.new) }
+    ensures counted { CountsWithin paths.now 4 steps.old steps.new }
 {
-    let order = order_of(alloc, paths)?;
-    let order = order.as_slice();
-    let mut refutations = Vec::new(alloc);
-    let rises = search_for(
-        alloc,
-        engine,
-        desk,
-        paths,
-        order,
-        Direction::Rise,
-        budget,
-        &mut refutations,
-        steps,
-    )?;
-    let falls = search_for(
-        alloc,
-        engine,
-        desk,
-        paths,
-        order,
-        Direction::Fall,
-        budget,
-        &mut refutations,
-        steps,
-    )?;
-    Ok(Searched {
-        rises,
-        falls,
-        refutations,
-    })
+    let tree = PathTree::new(alloc, paths)?;
+    search_all(alloc, engine, desk, paths, &tree, budget, steps)
 }
 
-// Searches for the robust tests of a transition, and then for nonrobust ones where there is none.
-fn search_for<S: Setting, L>(
+// Searches for the tests of both transitions.
+fn search_all<S: Setting, L>(
     alloc: Global,
     engine: &mut Engine<FourStates, S>,
     desk: &mut Desk,
     paths: &[Path],
-    order: &[PathEntry],
+    tree: &PathTree,
+    budget: u32,
+    steps: &mut Steps<L>,
+) -> Result<Searched, OutOfMemory>
+    requires ready { IsReadyFor paths.now tree.now budget engine.old desk.old }
+    requires steps { steps.old ≤ 2 ^ 63 }
+    ensures searched { IfOk result (λ searched. AreSearchedAll engine.old.net (searches_of engine.old.rules budget paths.now searched) searched) }
+    ensures steps { steps.new ≤ steps.old + 4 * tree.now.prefixes }
+{
+    let mut proofs = Vec::new(alloc);
+    let rises = search_way(
+        alloc,
+        engine,
+        desk,
+        paths,
+        tree,
+        Direction::Rise,
+        budget,
+        &mut proofs,
+        steps,
+    )?;
+    let falls = search_way(
+        alloc,
+        engine,
+        desk,
+        paths,
+        tree,
+        Direction::Fall,
+        budget,
+        &mut proofs,
+        steps,
+    )?;
+    Ok(Searched {
+        budget,
+        rises,
+        falls,
+        proofs,
+    })
+}
+
+// Searches for the robust tests of a transition, and then for nonrobust ones where there is none.
+fn search_way<S: Setting, L>(
+    alloc: Global,
+    engine: &mut Engine<FourStates, S>,
+    desk: &mut Desk,
+    paths: &[Path],
+    tree: &PathTree,
     dir: Direction,
     budget: u32,
-    refutations: &mut Vec<Refutation>,
+    proofs: &mut Vec<Proof>,
     steps: &mut Steps<L>,
-) -> Result<Vec<Outcomes>, OutOfMemory>
-    requires idle { engine.old.beginning ≡ None }
-    requires listed { AreSearchablePaths engine.old.net paths.now }
-    requires told { AreToldPaths engine.old paths.now }
-    requires desk { IsDeskFor engine.old.net desk.old }
-    requires order { IsOrder paths.now order.now }
-    requires budget { IsBudget budget }
-    requires fresh { AreNewFor engine.old.net engine.old.rules budget paths.now dir refutations.old.items }
-    requires room { steps.old + 2 * (length order.now * MOST_LEVELS) < 2 ^ 64 }
-    ensures desk { OnOk result (IsDeskFor engine.old.net desk.new) }
+) -> Result<BothOutcomes, OutOfMemory>
+    requires ready { IsReadyFor paths.now tree.now budget engine.old desk.old }
+    requires found { AreFoundProofs engine.old.net engine.old.rules budget paths.now proofs.old.items }
+    requires fresh { NoneIsFor dir proofs.old.items }
+    requires room { steps.old + 2 * (length paths.now * MOST_LEVELS) < 2 ^ 64 }
+    ensures ready { OnOk result (IsReadyFor paths.now tree.now budget engine.new desk.new) }
     ensures rest { OnOk result (IsIdleAgain engine.old engine.new) }
-    ensures searched { IfOk result (λ outcomes. AreSearchedFor engine.old.net engine.old.rules budget paths.now dir outcomes.items refutations.new.items) }
-    ensures refutations { OnOk result (AreRefutations engine.old.net (searches_with engine.old.rules budget paths.now refutations.new.items)) }
-    ensures grown { OnOk result (IsGrownFor dir refutations.old.items refutations.new.items) }
-    ensures steps { OnOk result (steps.new ≤ steps.old + 2 * (length order.now * MOST_LEVELS)) }
+    ensures outcomes { IfOk result (λ outcomes. AreSearchedFrom engine.old.net paths.now proofs.new.items dir 0 outcomes) }
+    ensures found { OnOk result (AreFoundProofs engine.old.net engine.old.rules budget paths.now proofs.new.items) }
+    ensures adds { OnOk result (AddsProofsFor dir proofs.old.items proofs.new.items) }
+    ensures steps { steps.new ≤ steps.old + 2 * tree.now.prefixes }
 {
     let aim = Aim {
         kind: Kind::Robust,
@@ -166,33 +211,71 @@ fn search_for<S: Setting, L>(
         budget,
     };
     let all = vec![in alloc; true; paths.len()]?;
-    let robust = pass(
-        alloc,
-        engine,
-        desk,
-        paths,
-        order,
-        all.as_slice(),
-        aim,
-        refutations,
-        steps,
-    )?;
+    let robust = search_for(alloc, engine, desk, paths, tree, all, aim, proofs, steps)?;
     let aim = Aim {
         kind: Kind::Nonrobust,
         dir,
         budget,
     };
-    let some = untested(alloc, robust.as_slice())?;
-    let nonrobust = pass(
+    let untested = untested(alloc, robust.as_slice())?;
+    let nonrobust = search_for(
+        alloc, engine, desk, paths, tree, untested, aim, proofs, steps,
+    )?;
+    Ok(BothOutcomes { robust, nonrobust })
+}
+
+// Searches for the tests of one kind and transition, as far as they are needed.
+fn search_for<S: Setting, L>(
+    alloc: Global,
+    engine: &mut Engine<FourStates, S>,
+    desk: &mut Desk,
+    paths: &[Path],
+    tree: &PathTree,
+    needed: Vec<bool>,
+    aim: Aim,
+    proofs: &mut Vec<Proof>,
+    steps: &mut Steps<L>,
+) -> Result<Vec<Outcome>, OutOfMemory>
+    requires ready { IsReadyFor paths.now tree.now aim.budget engine.old desk.old }
+    requires needed { length needed.items ≡ length paths.now }
+    requires excused { AreExcused engine.old.net aim paths.now needed.items }
+    requires found { AreFoundProofs engine.old.net engine.old.rules aim.budget paths.now proofs.old.items }
+    requires fresh { NoneIsAbout aim proofs.old.items }
+    requires room { steps.old + length paths.now * MOST_LEVELS < 2 ^ 64 }
+    ensures ready { OnOk result (IsReadyFor paths.now tree.now aim.budget engine.new desk.new) }
+    ensures rest { OnOk result (IsIdleAgain engine.old engine.new) }
+    ensures outcomes { IfOk result (λ outcomes. AreOutcomes engine.old.net paths.now proofs.new.items needed.items aim outcomes.items) }
+    ensures found { OnOk result (AreFoundProofs engine.old.net engine.old.rules aim.budget paths.now proofs.new.items) }
+    ensures adds { OnOk result (AddsProofs aim proofs.old.items proofs.new.items) }
+    ensures steps { steps.new ≤ steps.old + tree.now.prefixes }
+{
+    walk(
         alloc,
         engine,
         desk,
         paths,
-        order,
-        some.as_slice(),
+        tree,
+        needed.as_slice(),
         aim,
-        refutations,
+        proofs,
         steps,
-    )?;
-    pair_kinds(alloc, robust, nonrobust)
+    )
+}
+
+// For which paths no test was found.
+fn untested(alloc: Global, outcomes: &[Outcome]) -> Result<Vec<bool>, OutOfMemory>
+    ensures { IfOk result (λ untested. untested.items ≡ map (λ outcome. not (is_test outcome)) outcomes.now) }
+{
+    let mut untested = Vec::with_capacity(alloc, outcomes.len())?;
+    for outcome in outcomes {
+        untested.push(!is_test(outcome))?;
+    }
+    Ok(untested)
+}
+
+// Whether a test was found.
+fn is_test(outcome: &Outcome) -> bool
+    ensures { result ≡ is_test outcome.now }
+{
+    matches!(outcome, Outcome::Tested(_))
 }

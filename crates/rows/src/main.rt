@@ -3,6 +3,7 @@
 //! was worked out by hand. Stands on row_answers and commands, and is no part of the product.
 #![tactic(auto)]
 
+mod chain;
 mod questions;
 mod row;
 mod subject;
@@ -44,6 +45,7 @@ fn play(
     match Row::of(line)? {
         Row::Put(name, text) => table.put(name, text)?,
         Row::Remove(name) => table.remove(name),
+        Row::Show(names) => table.show(names)?,
         Row::Fail(object, nth) => table.fail(object, nth)?,
         row => {
             println!(rt; "{line}")?;
@@ -64,6 +66,7 @@ fn answer(
         Row::Call(words) => called(alloc, table, words),
         Row::BareCall => table.call(&[]),
         Row::Wide(buffers) => wide::call(alloc, buffers),
+        Row::Chain(paths) => chain::call(alloc, paths),
         Row::Ask(word, rest) => subject.answer(alloc, word, rest),
         _ => Ok(String::new(alloc)),
     }

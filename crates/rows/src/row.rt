@@ -22,6 +22,8 @@ pub enum Row<'a> {
     Put(&'a str, &'a str),
     /// From now on the name is absent.
     Remove(&'a str),
+    /// From now on, of the files that a call changes only these are told, single spaces between.
+    Show(&'a str),
     /// In the next call the call of this number fails.
     Fail(Object, u64),
     /// A call without words.
@@ -30,6 +32,8 @@ pub enum Row<'a> {
     Call(&'a str),
     /// A call on a netlist of one source and so many buffers of it, all observed.
     Wide(u32),
+    /// A call for so many paths of a chain of a thousand buffers, each with a name of a hundred bytes.
+    Chain(&'a str),
     /// A word of the rows about netlists, and what stands behind it.
     Ask(&'a str, &'a str),
 }
@@ -50,9 +54,11 @@ impl<'a> Row<'a> {
                 Ok(Row::Put(name, text))
             }
             "remove" => Ok(Row::Remove(rest)),
+            "show" => Ok(Row::Show(rest)),
             "fail" => failure(rest),
             "call" => Ok(Row::Call(rest)),
             "wide" => Ok(Row::Wide(number_of(rest)?)),
+            "chain" => Ok(Row::Chain(rest)),
             _ => Ok(Row::Ask(word, rest)),
         }
     }

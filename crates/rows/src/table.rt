@@ -14,6 +14,7 @@ const NAMES: [&str; 6] = ["net", "delays", "tests", "report", "proofs", "other"]
 pub struct Table {
     alloc: Global,
     held: BTreeMap<String, String>,
+    shown: Option<String>,
     failing: Vec<(Object, u64)>,
 }
 
@@ -23,6 +24,7 @@ impl Table {
         Table {
             alloc,
             held: BTreeMap::new(alloc),
+            shown: None,
             failing: Vec::new(alloc),
         }
     }
@@ -37,6 +39,12 @@ impl Table {
     /// Makes a name absent.
     pub fn remove(&mut self, name: &str) {
         self.held.remove(name);
+    }
+
+    /// Of the files that a call changes tells only these, single spaces between.
+    pub fn show(&mut self, names: &str) -> Result<(), AllocError> {
+        self.shown = Some(String::from_str(self.alloc, names)?);
+        Ok(())
     }
 
     /// Plans a failure of the next call.
@@ -84,12 +92,20 @@ impl Table {
         Ok(files)
     }
 
-    // A line for each file that holds another text than before.
+    // Whether a change of this file is told.
+    fn shows(&self, name: &str) -> bool {
+        match &self.shown {
+            Some(names) => names.as_str().split(' ').any(|shown| shown == name),
+            None => true,
+        }
+    }
+
+    // A line for each file that holds another text than before, if it is told.
     fn add_changed(&self, came: &mut String, files: &MemoryFiles) -> Result<(), Trouble> {
         for name in NAMES {
             let before = self.held.get(name).map(|text| text.as_bytes());
             let after = files.get(name);
-            if after == before {
+            if after == before || !self.shows(name) {
                 continue;
             }
             match after {

@@ -21,7 +21,7 @@ use Rattle.state_sets.specs.declared.state.State.{State}
 use Rattle.state_sets.specs.declared.state.StateSet.{StateSet}
 use Rattle.state_sets.specs.States.{Has, no_states, all_states}
 use Rattle.state_sets.specs.StateAlgebra.{StateAlgebra, HasLaws}
-use Rattle.state_sets.specs.Starts.{MayStart, IsOtherStart}
+use Rattle.state_sets.specs.Starts.{MayStart, IsLaunching, IsOtherStart}
 use Rattle.state_sets.specs.Labellings.{label_at, IsLabelling, LiesIn}
 use Rattle.state_sets.specs.Narrowing.{IsChoice, IsNarrowing, gate_lines, gate_state}
 use Rattle.state_sets.specs.Hulls.{IsNarrowingOf, IsAtRest, IsRestAmong, IsAmong, IsHull, IsEmptied, HasNoEmptySet, HasAt}
@@ -196,6 +196,42 @@ module _ (a : StateAlgebra) (c : Circuit) (laws : HasLaws a) (reads : ReadsLines
         rests other (at_gate gate condition) of = is.rest.rest (at_gate gate condition) of
         rests other (along_link source line) of = absurd of
 
+-- the line has every state
+abbrev IsFullAt : StateAlgebra → List StateSet → ℕ → Type 0
+IsFullAt a labels line = (state : State) → state.0 < a.count → Has a.count (label_at labels line) state
+
+-- the gate's line has each state that the gate has of choices out of the sets of its pins' lines
+abbrev HasImages : StateAlgebra → Circuit → List StateSet → ℕ → Type 0
+HasImages a c labels gate = (choice : List State) → IsChoice a.count (map (λ pin. label_at labels pin.0) (pins_at c gate)) choice
+    → Has a.count (label_at labels (gate_line c gate)) (gate_state a (kind_at c gate) choice)
+
+-- Labels that have of each source what it may be in, and of each gate all states or, where it is inside, those of the choices: each
+-- labelling at rest, in which lines have only states that they may be in, lies in them.
+module _ (a : StateAlgebra) (c : Circuit) (reads : ReadsLines c) (loop_free : IsLoopFree c) (inside : ℕ → Bool) (kind : Kind)
+    (May : ℕ → State → Type 0) (labels : List StateSet)
+    (at_sources : (line : ℕ) → line < source_count c → (state : State) → state.0 < a.count → May line state → Has a.count (label_at labels line) state)
+    (at_gates : (gate : ℕ) → gate < gate_count c → IsFullAt a labels (gate_line c gate) ⊎ ((inside gate ≡ true) × HasImages a c labels gate))
+    (other : List StateSet) (among : IsRestAmong a c (IsNarrowingIn c inside kind []) May other) where
+  abbrev Lies : ℕ → Type 0
+  Lies line = (state : State) → Has a.count (label_at other line) state → Has a.count (label_at labels line) state
+
+  lies_in_image : (gate : ℕ) → gate < gate_count c → inside gate ≡ true → HasImages a c labels gate → All (λ pin. Lies pin.0) (pins_at c gate)
+      → Lies (gate_line c gate)
+  lies_in_image gate within is_in images pins state has =
+      let gives = ((among.rest (at_gate gate None) (within, is_in, refl)).exactly (gate_line c gate) state).0 has in
+      let at = gives.at_gate refl in
+      subst (Has a.count (label_at labels (gate_line c gate))) at.gives
+      (images at.choice (choice_into a.count (label_at other) (label_at labels) (pins_at c gate) pins at.allowed.at_pins))
+
+  lies_at_gate : (gate : ℕ) → gate < gate_count c → All (λ pin. Lies pin.0) (pins_at c gate) → Lies (gate_line c gate)
+  lies_at_gate gate within pins = ⊎_elim (λ (full : IsFullAt a labels (gate_line c gate)) (state : State) has. full state has.in_range)
+      (λ (image : (inside gate ≡ true) × HasImages a c labels gate). lies_in_image gate within image.0 image.1 pins) (at_gates gate within)
+
+  pub rest_lies : LiesIn a.count other labels
+  rest_lies line state has =
+      line_induction c reads Lies (λ source within s s_has. at_sources source within s s_has.in_range (among.among source s s_has))
+      lies_at_gate loop_free line (has_in_circuit a.count c other among.labelling line state has) state has
+
 module _ (a : StateAlgebra) (c : Circuit) (laws : HasLaws a) (reads : ReadsLines c) (loop_free : IsLoopFree c) (inside : ℕ → Bool)
     (start : StateSet) (base : List StateSet) (forward : IsForward a c inside start base) (rules : Rules) (source : ℕ)
     (others : (line : ℕ) → line < source_count c → line ≢ source → (state : State) → state.0 < a.count
@@ -230,56 +266,46 @@ module _ (a : StateAlgebra) (c : Circuit) (laws : HasLaws a) (reads : ReadsLines
   pins_same gate within is_in not = all_from_places (λ (pin : LineId). label_at labels pin.0 ≡ label_at base pin.0) (pins_at c gate)
       (λ place pin reads_pin. from.same pin (λ stands. not (of.readers gate place pin within is_in reads_pin stands)))
 
-  module _ (other : List StateSet) (among : IsRestAmong a c (IsNarrowingIn c inside kind []) May other) where
-    abbrev Lies : ℕ → Type 0
-    Lies line = (state : State) → Has a.count (label_at other line) state → Has a.count (label_at labels line) state
+  -- a source has the states that it may start in
+  at_sources : (line : ℕ) → line < source_count c → (state : State) → state.0 < a.count → May line state → Has a.count (label_at labels line) state
+  at_sources line is_source state below may = ⊎_elim
+      (λ (here : line ≡ source).
+      subst (λ (l : ℕ). Has a.count (label_at labels l) state) (sym here) ((from.launched state).1 (below, may.own here)))
+      (λ (away : line ≢ source).
+      subst (λ (s : StateSet). Has a.count s state)
+      (sym (forward.sources line is_source) ∙ sym (from.same (line_of line) (not_reached line is_source away)))
+      ((others line is_source away state below).0 (may.other is_source away)))
+      (cases_eq line source)
 
-    lies_at_source : (line : ℕ) → line < source_count c → Lies line
-    lies_at_source line is_source state has = ⊎_elim
-        (λ (here : line ≡ source).
-        subst (λ (l : ℕ). Has a.count (label_at labels l) state) (sym here)
-        ((from.launched state).1 (has.in_range, (among.among line state has).own here)))
-        (λ (away : line ≢ source).
-        subst (λ (s : StateSet). Has a.count s state)
-        (sym (forward.sources line is_source) ∙ sym (from.same (line_of line) (not_reached line is_source away)))
-        ((others line is_source away state has.in_range).0 ((among.among line state has).other is_source away)))
-        (cases_eq line source)
+  -- a gate inside whose line is not reached has what it makes of its pins' lines
+  images_kept : (gate : ℕ) → gate < gate_count c → inside gate ≡ true → ¬ Contains reached (line_of (gate_line c gate))
+      → HasImages a c labels gate
+  images_kept gate within is_in not choice each =
+      subst (λ (s : StateSet). Has a.count s (gate_state a (kind_at c gate) choice)) (sym (from.same (line_of (gate_line c gate)) not))
+      (forward.images gate within is_in choice
+      (subst (λ (sets : List StateSet). IsChoice a.count sets choice)
+      (map_agree (λ (pin : LineId). label_at labels pin.0) (λ (pin : LineId). label_at base pin.0) (pins_at c gate)
+      (pins_same gate within is_in not)) each))
 
-    lies_at_reached : (gate : ℕ) → source ≢ gate_line c gate → Contains reached (line_of (gate_line c gate)) → Lies (gate_line c gate)
-    lies_at_reached gate away stands state has =
-        subst (λ (s : StateSet). Has a.count s state)
-        (sym (from.full (line_of (gate_line c gate)) stands (λ here. away (sym here)))) (all_have a.count state has.in_range)
+  at_gates : source < source_count c → (gate : ℕ) → gate < gate_count c
+      → IsFullAt a labels (gate_line c gate)
+      ⊎ ((inside gate ≡ true) × HasImages a c labels gate)
+  at_gates is_source gate within = ⊎_elim
+      (λ (stands : Contains reached (line_of (gate_line c gate))).
+      inl (λ state below. subst (λ (s : StateSet). Has a.count s state)
+      (sym (from.full (line_of (gate_line c gate)) stands (λ here. absurd (omega arith)))) (all_have a.count state below)))
+      (λ (not : ¬ Contains reached (line_of (gate_line c gate))).
+      ⊎_elim (λ (is_in : inside gate ≡ true). inr (is_in, images_kept gate within is_in not))
+      (λ (is_out : inside gate ≡ false).
+      inl (λ state below. subst (λ (s : StateSet). Has a.count s state) (sym (from.same (line_of (gate_line c gate)) not))
+      (forward.outside gate within is_out state below)))
+      (cases_Bool (inside gate)))
+      (stands_or_not reached (line_of (gate_line c gate)))
 
-    lies_inside : (gate : ℕ) → gate < gate_count c → inside gate ≡ true → ¬ Contains reached (line_of (gate_line c gate))
-        → All (λ pin. Lies pin.0) (pins_at c gate) → Lies (gate_line c gate)
-    lies_inside gate within is_in not pins state has =
-        let gives = ((among.rest (at_gate gate None) (within, is_in, refl)).exactly (gate_line c gate) state).0 has in
-        let at = gives.at_gate refl in
-        let each = choice_into a.count (label_at other) (label_at labels) (pins_at c gate) pins at.allowed.at_pins in
-        let base_each = subst (λ (sets : List StateSet). IsChoice a.count sets at.choice)
-        (map_agree (λ (pin : LineId). label_at labels pin.0) (λ (pin : LineId). label_at base pin.0) (pins_at c gate)
-        (pins_same gate within is_in not)) each in
-        subst (λ (s : StateSet). Has a.count s state) (sym (from.same (line_of (gate_line c gate)) not))
-        (subst (Has a.count (label_at base (gate_line c gate))) at.gives (forward.images gate within is_in at.choice base_each))
-
-    lies_at_gate : source < source_count c → (gate : ℕ) → gate < gate_count c → All (λ pin. Lies pin.0) (pins_at c gate)
-        → Lies (gate_line c gate)
-    lies_at_gate is_source gate within pins state has = ⊎_elim
-        (λ (stands : Contains reached (line_of (gate_line c gate))).
-        lies_at_reached gate (λ here. absurd (omega arith)) stands state has)
-        (λ (not : ¬ Contains reached (line_of (gate_line c gate))).
-        ⊎_elim (λ (is_in : inside gate ≡ true). lies_inside gate within is_in not pins state has)
-        (λ (is_out : inside gate ≡ false).
-        subst (λ (s : StateSet). Has a.count s state) (sym (from.same (line_of (gate_line c gate)) not))
-        (forward.outside gate within is_out state has.in_range))
-        (cases_Bool (inside gate)))
-        (stands_or_not reached (line_of (gate_line c gate)))
-
-    -- each labelling at rest in the start lies in the labels
-    pub launched_keeps : source < source_count c → LiesIn a.count other labels
-    launched_keeps is_source line state has =
-        line_induction c reads Lies lies_at_source (lies_at_gate is_source) loop_free line
-        (has_in_circuit a.count c other among.labelling line state has) state has
+  -- each labelling at rest lies in the labels
+  pub launched_keeps : source < source_count c → (other : List StateSet) → IsRestAmong a c (IsNarrowingIn c inside kind []) May other
+      → LiesIn a.count other labels
+  launched_keeps is_source = rest_lies a c reads loop_free inside kind May labels at_sources (at_gates is_source)
 
   -- so their hull is that of the start, and what is emptied in them is emptied in the start
   pub launched_hull : source < source_count c → (hull : List StateSet)
@@ -291,13 +317,13 @@ module _ (a : StateAlgebra) (c : Circuit) (laws : HasLaws a) (reads : ReadsLines
       among = λ line state has. launched_among line state (is.rest.among line state has);
     };
     greatest = λ other among. is.greatest other
-        (record { labelling = among.labelling; rest = among.rest; among = launched_keeps other among is_source });
+        (record { labelling = among.labelling; rest = among.rest; among = launched_keeps is_source other among });
   }
 
   pub launched_emptied : source < source_count c → (line : ℕ)
       → IsEmptied a c (IsNarrowingIn c inside kind []) (HasAt a.count labels) line → IsEmptied a c (IsNarrowingIn c inside kind []) May line
   launched_emptied is_source line emptied other among =
-      emptied other (record { labelling = among.labelling; rest = among.rest; among = launched_keeps other among is_source })
+      emptied other (record { labelling = among.labelling; rest = among.rest; among = launched_keeps is_source other among })
 
   -- a gate inside whose line is not reached rests
   pub launched_rests : (gate : ℕ) → gate < gate_count c → inside gate ≡ true → ¬ Contains reached (line_of (gate_line c gate))
@@ -320,3 +346,61 @@ module _ (a : StateAlgebra) (c : Circuit) (laws : HasLaws a) (reads : ReadsLines
       (λ (not : ¬ Contains reached (line_of line)) (e : label_at labels line ≡ no_states).
       forward.none_empty line within (sym (from.same (line_of line) not) ∙ e))
       (stands_or_not reached (line_of line))
+
+-- Where the set of the start has the states that launch the transition too, nothing has to be widened: the labels are cut at the source alone.
+module _ (a : StateAlgebra) (c : Circuit) (reads : ReadsLines c) (loop_free : IsLoopFree c) (inside : ℕ → Bool) (start : StateSet)
+    (base : List StateSet) (forward : IsForward a c inside start base) (rules : Rules) (source : ℕ)
+    (others : (line : ℕ) → line < source_count c → line ≢ source → (state : State) → state.0 < a.count
+    → IsOtherStart a rules state ↔ Has a.count start state)
+    (direction : Direction) (launching : (state : State) → state.0 < a.count → IsLaunching a direction state → Has a.count start state)
+    (kind : Kind) where
+  abbrev MayBegin : ℕ → State → Type 0
+  MayBegin = MayStart a c rules source direction
+
+  has_start : (line : ℕ) → line < source_count c → (state : State) → state.0 < a.count → MayBegin line state → Has a.count (label_at base line) state
+  has_start line is_source state below may =
+      subst (λ (s : StateSet). Has a.count s state) (sym (forward.sources line is_source))
+      (⊎_elim (λ (here : line ≡ source). launching state below (may.own here))
+      (λ (away : line ≢ source). (others line is_source away state below).0 (may.other is_source away)) (cases_eq line source))
+
+  has_images : (gate : ℕ) → gate < gate_count c
+      → IsFullAt a base (gate_line c gate)
+      ⊎ ((inside gate ≡ true) × HasImages a c base gate)
+  has_images gate within = ⊎_elim (λ (is_in : inside gate ≡ true). inr (is_in, forward.images gate within is_in))
+      (λ (is_out : inside gate ≡ false). inl (forward.outside gate within is_out)) (cases_Bool (inside gate))
+
+  module _ (labels : List StateSet) (cut : (line : ℕ) (state : State)
+      → HasAt a.count labels line state ↔ (HasAt a.count base line state × (line ≡ source → IsLaunching a direction state))) where
+    -- a line has only states that it may start in
+    cut_among : IsAmong a.count MayBegin labels
+    cut_among line state has =
+        let had = (cut line state).0 has in record {
+          own = had.1;
+          other = λ is_source away. (others line is_source away state had.0.in_range).1
+              (subst (λ (s : StateSet). Has a.count s state) (forward.sources line is_source) had.0);
+        }
+
+    -- and each labelling at rest among these lies in the labels
+    cut_keeps : (other : List StateSet) → IsRestAmong a c (IsNarrowingIn c inside kind []) MayBegin other → LiesIn a.count other labels
+    cut_keeps other among line state has = (cut line state).1 (
+      rest_lies a c reads loop_free inside kind MayBegin base has_start has_images other among line state has,
+      (among.among line state has).own,
+    )
+
+    -- so their hull is that of the start, and what is emptied in them is emptied in the start
+    pub cut_hull : (hull : List StateSet) → IsHull a c (IsNarrowingIn c inside kind []) (HasAt a.count labels) hull
+        → IsHull a c (IsNarrowingIn c inside kind []) MayBegin hull
+    cut_hull hull is = record {
+      rest = record {
+        labelling = is.rest.labelling;
+        rest = is.rest.rest;
+        among = λ line state has. cut_among line state (is.rest.among line state has);
+      };
+      greatest = λ other among. is.greatest other
+          (record { labelling = among.labelling; rest = among.rest; among = cut_keeps other among });
+    }
+
+    pub cut_emptied : (line : ℕ) → IsEmptied a c (IsNarrowingIn c inside kind []) (HasAt a.count labels) line
+        → IsEmptied a c (IsNarrowingIn c inside kind []) MayBegin line
+    cut_emptied line emptied other among =
+        emptied other (record { labelling = among.labelling; rest = among.rest; among = cut_keeps other among })

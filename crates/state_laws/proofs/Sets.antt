@@ -1,18 +1,15 @@
--- Sets of states below a count as numbers: which states they have says which number they are, and labels that lose states have
--- a lesser sum.
-use Rattle.std.proofs.Common.{◌≡◌, ℕ, zero, suc, ◌<◌, ◌≤◌, ◌^◌, ◌⊎◌, inl, inr, ⊎_elim, min, bit_and, List, [], ◌∷◌, length, refl, sym, ap, ap₂, ◌∙◌, subst, arith}
+-- Sets of states below a count as numbers: which states they have says which number they are.
+use Rattle.std.proofs.Common.{◌≡◌, ℕ, ◌<◌, ◌≤◌, ◌^◌, ⊎_elim, min, bit_and, List, length, sym, ap, ◌∙◌, subst, arith}
 use Rattle.std.specs.Int.{bit_at}
 use Rattle.std.proofs.lemmas.Nat.{and_le_r, pow_pos}
 use Rattle.std.proofs.lemmas.List.{get_or_past}
 use Rattle.std.proofs.lemmas.Nat.Bits.{bit_at-zero, bit_at-lt, bit_at_and, same_from_bits_below}
 use Rattle.std.proofs.lemmas.Bool.{cases_eq, cases_lt}
-use Rattle.std.proofs.lemmas.List.Sums.{sum_by-cons}
 use Rattle.netlist.specs.Circuit.{Circuit, line_count}
 use Rattle.state_sets.specs.declared.state.State.{State}
 use Rattle.state_sets.specs.declared.state.StateSet.{StateSet}
 use Rattle.state_sets.specs.States.{Has, no_states}
 use Rattle.state_sets.specs.Labellings.{label_at, IsLabelling}
-use Rattle.state_laws.specs.Sweeps.{label_total}
 
 -- the set of a number, and the state
 abbrev set_of : ℕ → StateSet
@@ -78,30 +75,3 @@ module _ (count : ℕ) where
         (λ (past : length labels ≤ line).
         absurd (none_has count state (subst (λ s. Has count s state) (get_or_past labels line no_states past) has)))
         (cases_lt line (length labels))
-
--- labels place by place not greater, as numbers
-abbrev pub IsBelow : List StateSet → List StateSet → Type 0
-IsBelow new old = (line : ℕ) → (label_at new line).0 ≤ (label_at old line).0
-
--- the sums of two such lists with one more set each
-total_more : (new old : StateSet) (news olds : List StateSet) → new.0 ≤ old.0 → (label_total news < label_total olds) ⊎ (news ≡ olds)
-    → (label_total (new ∷ news) < label_total (old ∷ olds)) ⊎ (◌≡◌ {A = List StateSet} (new ∷ news) (old ∷ olds))
-total_more new old news olds below rest =
-    let e = sum_by-cons (λ (s : StateSet). s.0) new news in let f = sum_by-cons (λ (s : StateSet). s.0) old olds in
-    ⊎_elim
-    (λ (less : label_total news < label_total olds). inl (omega arith))
-    (λ (same : news ≡ olds).
-    ⊎_elim
-    (λ (here : new.0 ≡ old.0). inr (ap₂ (λ (n : ℕ) (sets : List StateSet). set_of n ∷ sets) here same))
-    (λ (differ : new.0 ≡ old.0 → ⊥). inl (let g = ap label_total same in omega arith))
-    (cases_eq new.0 old.0))
-    rest
-
--- their sum is less, or they are the same
-pub total_below : (new old : List StateSet) → length new ≡ length old → IsBelow new old
-    → (label_total new < label_total old) ⊎ (new ≡ old)
-total_below [] [] same below = inr refl
-total_below [] (set ∷ sets) same below = absurd (omega arith)
-total_below (set ∷ sets) [] same below = absurd (omega arith)
-total_below (new ∷ news) (old ∷ olds) same below =
-    total_more new old news olds (below zero) (total_below news olds (omega arith) (λ line. below (suc line)))

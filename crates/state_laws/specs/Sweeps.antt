@@ -1,5 +1,5 @@
 -- What labels are while they are narrowed again and again (this project's own).
-use Rattle.std.specs.Prelude.{ℕ, List, sum_by}
+use Rattle.std.specs.Prelude.{List}
 use Rattle.netlist.specs.Circuit.{Circuit}
 use Rattle.state_sets.specs.declared.state.StateSet.{StateSet}
 use Rattle.state_sets.specs.StateAlgebra.{StateAlgebra}
@@ -12,7 +12,3 @@ pub record KeepsRests (a : StateAlgebra) (c : Circuit) (Narrowings : Narrowing �
   pub inside : LiesIn a.count new old
   pub keeps : (other : List StateSet) → IsLabelling a.count c other → IsAtRest a c Narrowings other → LiesIn a.count other old
       → LiesIn a.count other new
-
--- the sum of the sets of all lines as numbers, which falls where a set loses a state
-abbrev pub label_total : List StateSet → ℕ
-label_total labels = sum_by (λ set. set.0) labels

@@ -17,7 +17,7 @@ pub struct Note<T> {
 }
 
 /// The notes of the writes to a list, from the first on, with room for so many. Contracts see the notes and the room.
-#[derive(Drop)]
+#[derive(Debug, Drop)]
 pub struct Trail<T> {
     notes: Vec<Note<T>>,
     room: usize,

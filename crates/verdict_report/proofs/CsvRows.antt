@@ -1,16 +1,16 @@
 -- csv's text of a row is the plain one, fields joined by commas, where no field calls for quotes.
-use Rattle.std.proofs.Common.{◌≡◌, ◌≢◌, ℕ, ◌≤◌, false, Option, Some, List, [], ◌∷◌, ◌++◌, Vec, length, flat_map, refl, sym, ap, ◌∙◌, arith}
+use Rattle.std.proofs.Common.{◌≡◌, ◌≢◌, ℕ, ◌≤◌, false, Option, Some, List, [], ◌∷◌, ◌++◌, Vec, length, flat_map, refl, ap, ◌∙◌, arith}
 use Rattle.std.specs.declared.alloc.Global.{Global}
 use Rattle.std.specs.Io.KnownBytes.{Appends}
-use Rattle.std.specs.List.{AllByRecursion, join_with_byte}
+use Rattle.std.specs.List.{AllByRecursion}
 use Rattle.std.proofs.lemmas.Bool.Decides.{nat_tests}
-use Rattle.std.proofs.lemmas.List.{append-nil}
 use Rattle.std.proofs.lemmas.List.Elements.{All-head, All-tail}
 use Rattle.csv.specs.declared.writer.QuoteStyle.TheVariants as style
 use Rattle.csv.specs.declared.writer.Writer.{Writer}
 use Rattle.csv.specs.Quoting.{needs_byte}
 use Rattle.csv.specs.Writing.{default_writer, field_text, fields_text, fields_written, has_written, is_blank, needs_quotes, row_text, text_written, writer_setup}
 use Rattle.text_pieces.specs.Tokens.{comma}
+use Rattle.text_pieces.proofs.Cuts.{join_with_byte-cons}
 use Rattle.verdict_report.specs.PlainTexts.{IsPlain, IsPlainByte}
 use Rattle.verdict_report.specs.ReportRows.{IsBetweenRows, rows_text}
 use Rattle.verdict_report.specs.ReportText.{row_line}
@@ -34,11 +34,6 @@ plain_fields : (fields : List (List ℕ)) → AllByRecursion IsPlain fields → 
 unfolding fields_text
 plain_fields [] plain = refl
 plain_fields (field ∷ fields) plain = rw (plain_field field plain.0, plain_fields fields plain.1) refl
-
--- joined texts: the first one, and then each other one behind the byte
-pub join_with_byte-cons : (byte : ℕ) (first : List ℕ) (rest : List (List ℕ)) → join_with_byte byte (first ∷ rest) ≡ first ++ flat_map (λ text. byte ∷ text) rest
-join_with_byte-cons byte first [] = sym (append-nil first)
-join_with_byte-cons byte first (next ∷ rest) = ap (λ (text : List ℕ). first ++ byte ∷ text) (join_with_byte-cons byte next rest)
 
 -- csv's text of a row of plain fields, of which there is a second
 two_plain : (first next : List ℕ) (rest : List (List ℕ)) → AllByRecursion IsPlain (first ∷ next ∷ rest)

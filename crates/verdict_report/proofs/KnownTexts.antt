@@ -4,7 +4,7 @@ use Rattle.std.proofs.lemmas.Fmt.{decimal_digit}
 use Rattle.pd_base.specs.declared.ids.PinRef.{PinRef}
 use Rattle.pd_base.specs.declared.fault.Direction.TheVariants.{Rise, Fall}
 use Rattle.pd_base.specs.declared.fault.Kind.TheVariants as kind
-use Rattle.pd_base.specs.declared.rules.Rules.TheVariants.{One}
+use Rattle.pd_base.specs.declared.rules.Rules.TheVariants.{One, Two}
 use Rattle.netlist.specs.declared.kind.GateKind.TheVariants.{Not}
 use Rattle.netlist.specs.Circuit.{Circuit}
 use Rattle.runs.specs.declared.run.ListedPath.{ListedPath}
@@ -61,9 +61,12 @@ spent = record {
   tree = Value 1 ∷ Waiting ∷ Steadiness 0 ∷ Closed ∷ Waiting ∷ [];
 }
 
-two_proofs : proofs_text (refutation ∷ spent ∷ [])
+two_proofs : proofs_text One (refutation ∷ spent ∷ [])
     ≡ codes "pdfgen proofs 1\n1 refutes nonrobust fall 1 2 X\n2 spent robust rise 9 2 V1 O H0 X O\n"
 two_proofs = rw (decimal_digit 0 (lit< tt), decimal_digit 1 (lit< tt), decimal_digit 2 (lit< tt), decimal_digit 9 (lit< tt)) refl
+
+no_proofs_of_steady_sources : proofs_text Two [] ≡ codes "pdfgen proofs 2\n"
+no_proofs_of_steady_sources = refl
 
 -- a run of these paths, as far as a summary counts it
 abbrev run_of : List ListedPath → Run

@@ -3,3 +3,14 @@ pub mod PlainTexts
 pub mod StepTexts
 pub mod VerdictCounts
 pub mod KnownTexts
+pub mod ProofLines
+pub mod WholeProofs
+pub mod ProofFiles
+mod ReportVerdicts
+mod ReportNames
+mod ReportSteps
+mod ReportRises
+mod ReportLines
+mod ReportTurns
+pub mod ReportFiles
+pub mod ReportOnce

@@ -11,7 +11,7 @@ use Rattle.netlist.specs.Pins.{IsPin}
 use Rattle.text_pieces.specs.Tokens.{space, after_space}
 use Rattle.verdict_report.specs.PlainTexts.{HasPlainNames, IsPlain, IsPlainByte}
 use Rattle.verdict_report.specs.ReportText.{nothing, step_text, steps_text}
-use Rattle.verdict_report.proofs.CsvRows.{join_with_byte-cons}
+use Rattle.text_pieces.proofs.Cuts.{join_with_byte-cons}
 use Rattle.verdict_report.proofs.PlainTexts.{decimal_plain, plain_by_test}
 
 module _ (c : Circuit) where

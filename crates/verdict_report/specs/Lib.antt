@@ -1,5 +1,8 @@
 pub mod PlainTexts
+pub mod ProofsReading
 pub mod ProofsText
+pub mod ReportForm
+pub mod ReportReading
 pub mod ReportRows
 pub mod ReportText
 pub mod Summary

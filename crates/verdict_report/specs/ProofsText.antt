@@ -1,9 +1,15 @@
--- The text of the proofs file: one line per proof, the tree in preorder (this project's own format).
-use Rattle.std.specs.Prelude.{ℕ, ◌+◌, List, [], ◌∷◌, ◌++◌, Bool, true, false, flat_map, codes, decimal}
+-- The text of the proofs file: its version, then one line per proof, the tree in preorder (this project's own format). Whoever
+-- writes or reads it cites `proofs_form`: which proof may come next, and its line.
+use Rattle.std.specs.Prelude.{⊤, ℕ, ◌+◌, List, ◌∷◌, ◌++◌, Bool, true, false, map, codes, decimal}
+use Rattle.std.specs.List.{join_with_byte}
+use Rattle.pd_base.specs.declared.rules.Rules.{Rules}
+use Rattle.pd_base.specs.declared.rules.Rules.TheVariants.{One, Two}
 use Rattle.runs.specs.declared.run.Proof.{Proof}
 use Rattle.runs.specs.declared.tree.Node.{Node}
 use Rattle.runs.specs.declared.tree.Node.TheVariants.{Closed, Waiting, Value, Steadiness}
-use Rattle.text_pieces.specs.Tokens.{after_space, line, direction_word, kind_word}
+use Rattle.runs.specs.Lawful.{IsLawfulProof}
+use Rattle.text_pieces.specs.Tokens.{space, line, direction_word, kind_word}
+use Rattle.text_pieces.specs.LineFiles.{Form, lines_text}
 
 -- a closed leaf X, an open one O, a split on a source's final value V, or on its steadiness H
 abbrev pub node_text : Node → List ℕ
@@ -17,18 +23,35 @@ abbrev pub claim_word : Bool → List ℕ
 claim_word true = codes "spent"
 claim_word false = codes "refutes"
 
--- a proof: its number, what it claims, kind, transition, path, how many steps, and the tree
-abbrev pub proof_line : ℕ → Proof → List ℕ
-proof_line number proof = line (decimal number
-    ++ after_space (claim_word proof.spent) ++ after_space (kind_word proof.kind) ++ after_space (direction_word proof.dir)
-    ++ after_space (decimal proof.path) ++ after_space (decimal proof.steps)
-    ++ flat_map (λ node. after_space (node_text node)) proof.tree)
+-- a proof: its number, what it claims, kind, transition, path, how many steps, and the nodes of the tree
+abbrev pub proof_words : ℕ → Proof → List (List ℕ)
+proof_words number proof =
+    decimal number ∷ claim_word proof.spent ∷ kind_word proof.kind ∷ direction_word proof.dir ∷ decimal proof.path ∷ decimal proof.steps
+    ∷ map node_text proof.tree
 
--- the lines of the proofs, numbered on from this number
-abbrev pub proof_lines : ℕ → List Proof → List ℕ
-proof_lines number [] = []
-proof_lines number (proof ∷ proofs) = proof_line number proof ++ proof_lines (number + 1) proofs
+-- these words with single spaces between
+abbrev pub proof_text : ℕ → Proof → List ℕ
+proof_text number proof = join_with_byte space (proof_words number proof)
+
+-- proofs of which each is lawful in this sense, numbered on from the number of the next; the text may end behind each
+abbrev pub proofs_form : (Proof → Type 0) → Form ℕ Proof
+proofs_form Lawful = record {
+  text_of = proof_text;
+  Fits = λ number proof. Lawful proof;
+  next = λ number proof. number + 1;
+  Ends = λ number. ⊤;
+}
+
+-- the version of the file of proofs that are judged under these rules
+abbrev pub version_of : Rules → ℕ
+version_of One = 1
+version_of Two = 2
+
+-- its first line
+abbrev pub version_line : Rules → List ℕ
+version_line One = codes "pdfgen proofs 1"
+version_line Two = codes "pdfgen proofs 2"
 
 -- the whole file
-abbrev pub proofs_text : List Proof → List ℕ
-proofs_text proofs = line (codes "pdfgen proofs 1") ++ proof_lines 1 proofs
+abbrev pub proofs_text : Rules → List Proof → List ℕ
+proofs_text rules proofs = line (version_line rules) ++ lines_text (proofs_form IsLawfulProof) 1 proofs

@@ -1,30 +1,40 @@
-// The proofs file.
+// The proofs file, written. It is read in proofs_reading.rt.
 ghost use Rattle.std.specs.Prelude.{◌≡◌, ◌++◌, IfOk, OnOk, decimal, flat_map};
 ghost use Rattle.runs.specs.Lawful.{AreLawfulProofs};
-ghost use Rattle.verdict_report.specs.ProofsText.{claim_word, node_text, proof_line, proofs_text};
-ghost use Rattle.text_pieces.specs.Tokens.{after_space};
+ghost use Rattle.verdict_report.specs.ProofsText.{claim_word, node_text, proof_text, proofs_text, version_line};
+ghost use Rattle.text_pieces.specs.Tokens.{after_space, line};
 
-use pd_base::{OutOfMemory, push_decimal};
+use pd_base::{OutOfMemory, Rules, push_decimal};
 use runs::{Node, Proof, Run};
 use std::alloc::Global;
 use text_pieces::{direction_word, kind_word, push_spaced, push_spaced_number};
 
-/// The text of the proofs file of a run: its heading, and a line for each proof, numbered from 1. The proofs must be
-/// lawful as far as no circuit is asked.
+/// The text of the proofs file of a run: the version of the run's rules, and a line for each proof, numbered from 1. The
+/// proofs must be lawful as far as no circuit is asked. It fails only where memory runs out.
 pub fn proofs_text(alloc: Global, run: &Run) -> Result<Vec<u8>, OutOfMemory>
     requires { AreLawfulProofs run.now.proofs }
-    ensures { IfOk result (λ text. text.items ≡ proofs_text run.now.proofs) }
+    ensures { IfOk result (λ text. text.items ≡ proofs_text run.now.rules run.now.proofs) }
 {
-    let mut text = Vec::from_slice(alloc, b"pdfgen proofs 1\n")?;
+    let mut text = Vec::from_slice(alloc, version_line(&run.rules))?;
     for (index, proof) in run.proofs.as_slice().iter().enumerate() {
         push_proof_line(&mut text, index as u64 + 1, proof)?;
     }
     Ok(text)
 }
 
+/// The first line of a file of proofs that are judged under these rules, with its LF.
+pub(crate) fn version_line(rules: &Rules) -> &'static [u8]
+    ensures { result.now ≡ line (version_line rules.now) }
+{
+    match rules {
+        Rules::One => b"pdfgen proofs 1\n",
+        Rules::Two => b"pdfgen proofs 2\n",
+    }
+}
+
 // Appends the line of a proof. If memory runs out, a part of it may have been written.
 fn push_proof_line(out: &mut Vec<u8>, number: u64, proof: &Proof) -> Result<(), OutOfMemory>
-    ensures { OnOk result (out.new.items ≡ out.old.items ++ proof_line number proof.now) }
+    ensures { OnOk result (out.new.items ≡ out.old.items ++ line (proof_text number proof.now)) }
 {
     push_decimal(out, number)?;
     push_spaced(out, claim_word(proof.spent))?;

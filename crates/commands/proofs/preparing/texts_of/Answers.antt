@@ -1,33 +1,29 @@
--- The run is lawful in all three files, its circuit's names call for no quotes, and the products are those of the run.
-use Rattle.std.proofs.Common.{List, sym, subst, ap, ◌∙◌}
-use Rattle.pattern_writer.specs.TestsText.{tests_text}
-use Rattle.pd_base.specs.declared.test.Test.{Test}
-use Rattle.runs.specs.Lawful.{AreLawfulTests}
-use Rattle.calls.specs.Commands.{gen_call_of}
+-- The run is good and lawful, and the texts are its own.
+use Rattle.std.proofs.Common.{◌≡◌}
+use Rattle.std.proofs.lemmas.Result.{IfOk-weaker}
+use Rattle.delay_annotation.specs.Annotation.{delays_of}
+use Rattle.calls.specs.Texts.{products_of}
+use Rattle.command_line.specs.Commands.{gen_call_of}
+use Rattle.commands.specs.Gen.{GivesProductsOf, gen_products}
 use Rattle.commands.proofs.Headline.{good_run_promises}
-use Rattle.commands.proofs.GenTexts.{has_plain_names, products_of_run}
+use Rattle.commands.proofs.GenTexts.{has_plain_names}
 use Rattle.commands.proofs.preparing.texts_of.Goals as goal
 
-pub tests_text-requires : goal.tests_text-requires
-tests_text-requires c =
-    let P : List Test → Type 0 = AreLawfulTests c.args.net.now in
-    subst P (sym c.as_slice.ensures) c.in_ok-run.ensures.lawful.tests
-
-pub report_text-requires-clause-lawful : goal.report_text-requires-clause-lawful
-report_text-requires-clause-lawful c = c.in_ok-run.ensures.lawful.report
-
-pub report_text-requires-clause-names : goal.report_text-requires-clause-names
-report_text-requires-clause-names c = has_plain_names c.args.net.now c.requires.circuit
+pub texts_of_run-requires-clause-names : goal.texts_of_run-requires-clause-names
+texts_of_run-requires-clause-names c = has_plain_names c.args.net.now c.requires.circuit
 
 pub returns : goal.returns
-returns c = record {
-  run = c.in_ok-run.run';
-  rules = c.in_ok-run.ensures.rules;
-  good = c.in_ok-run.ensures.good;
-  lawful = c.in_ok-run.ensures.lawful;
-  promises = good_run_promises c.args.net.now c.requires.circuit _ _ _ c.in_ok-run.run' c.in_ok-run.ensures.rules
-      c.in_ok-run.ensures.good;
-  texts = products_of_run (gen_call_of c.args.command.now) c.args.net.now c.in_ok-run.run' _ _ _ _ _ c.in_ok-files.ensures
-      (c.in_ok-tests.ensures ∙ ap (tests_text c.args.net.now) c.as_slice.ensures) c.in_ok-report.ensures
-      c.in_ok-proofs.ensures c.in_ok-out.ensures;
-}
+returns c =
+    IfOk-weaker c.texts_of_run.result
+    (λ texts. products_of texts ≡ gen_products (gen_call_of c.args.command.now) c.args.net.now c.in_ok-run.run')
+    (λ texts. GivesProductsOf (gen_call_of c.args.command.now) c.args.net.now (delays_of c.args.net.now c.args.delays.now) (products_of texts))
+    (λ texts is. record {
+      run = c.in_ok-run.run';
+      rules = c.in_ok-run.ensures.rules;
+      good = c.in_ok-run.ensures.good;
+      lawful = c.in_ok-run.ensures.lawful;
+      promises = good_run_promises c.args.net.now c.requires.circuit _ _ _ c.in_ok-run.run' c.in_ok-run.ensures.rules
+          c.in_ok-run.ensures.good;
+      shortest = c.in_ok-run.ensures.shortest;
+      texts = is;
+    }) c.texts_of_run.ensures

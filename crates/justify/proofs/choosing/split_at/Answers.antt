@@ -14,6 +14,6 @@ returns-clause-some g c = record {
   in_half = λ labels is second.
       let P : StateSet → Type 0 = λ set. HasInHalf set c.in_ok-steadiness.steadiness second in
       subst P (label_is (standing c.args.scope.now) (beginning_of (task_target c.args.task.now)) c.requires.node.beginning c.args.source.0
-      c.label.result c.requires.source (c.label.ensures c.requires.node.free) labels is)
+      c.label.result c.requires.source (c.label.ensures.told c.requires.node.free) labels is)
       (in_both c.label.result c.in_ok-steadiness.steadiness c.in_ok-steadiness.ensures.some second);
 }

@@ -19,7 +19,7 @@ loop-source-preserved c =
     let at = (get_or sources place no_line).0 in
     let state = c.least.result in
     let before = c.loop-source.invariant in
-    let due : ℕ → State = λ source. least_of (preferred_of (label_at c.args.labels.now source) (label_at c.args.wanted.now source)) in
+    let due : ℕ → State = λ source. least_of (preferred_of (label_at c.args.labels.now source) (label_at c.args.liked.now source)) in
     record {
       places = length-set states at state ∙ before.places;
       four = All-set (λ (s : State). s.0 < four_states.count) states at state c.least.ensures.in_range before.four;
@@ -30,5 +30,5 @@ loop-source-preserved c =
 
 pub returns-clause-taken : goal.returns-clause-taken
 returns-clause-taken c =
-    due_all (λ source. least_of (preferred_of (label_at c.args.labels.now source) (label_at c.args.wanted.now source))) c.args.sources.now
+    due_all (λ source. least_of (preferred_of (label_at c.args.labels.now source) (label_at c.args.liked.now source))) c.args.sources.now
     c.loop-source.source-index c.loop-source.states c.loop-source-test.false c.loop-source.invariant.due

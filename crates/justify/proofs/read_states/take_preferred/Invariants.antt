@@ -11,5 +11,5 @@ abbrev pub invariant-loop-source : goal.invariant-loop-source
 invariant-loop-source l = record {
   places : length l.states ≡ length l.initial.states;
   four : AreFourStates l.states;
-  due : AreDue (λ source. least_of (preferred_of (label_at l.labels source) (label_at l.wanted source))) (take l.source-index l.sources) l.states;
+  due : AreDue (λ source. least_of (preferred_of (label_at l.labels source) (label_at l.liked source))) (take l.source-index l.sources) l.states;
 }

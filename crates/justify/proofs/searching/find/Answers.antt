@@ -1,4 +1,4 @@
-use Rattle.std.proofs.Common.{◌∷◌, [], List, Option, refl, ap, ◌∙◌, subst, reverse, arith}
+use Rattle.std.proofs.Common.{◌∷◌, [], List, Option, refl, ap, ◌∙◌, subst, arith}
 use Rattle.pd_base.specs.Pair.{Vectors}
 use Rattle.pd_base.specs.declared.ids.LineId.{LineId}
 use Rattle.pd_base.specs.declared.rules.Rules.{Rules}
@@ -11,7 +11,6 @@ use Rattle.justify.specs.Searches.{IsGrowthOf}
 use Rattle.justify.specs.Tasks.{task_target}
 use Rattle.justify.proofs.Resting.{there_too}
 use Rattle.justify.proofs.Starting.{start_under_way, start_desk, start_growing}
-use Rattle.justify.proofs.TriedSources.{kept_desk}
 use Rattle.justify.proofs.Ended.{end_is_tree, end_few, end_found, end_counts}
 use Rattle.justify.proofs.searching.find.Goals as goal
 
@@ -24,9 +23,49 @@ pub returns-in-Some-clause-goes_on : goal.returns-in-Some-clause-goes_on
 returns-in-Some-clause-goes_on g c = record {
   setting = record { net = refl; rules = refl; ends = refl };
   under_way = start_under_way (task_target c.args.task.now) (standing c.args.scope.now) c.requires.start;
-  serves = kept_desk (standing c.args.scope.now).net c.args.task.now.path.now c.propose.new.desk c.keep.new.self c.keep.ensures c.propose.ensures.desk;
+  serves = c.propose.ensures.desk;
   later = omega arith;
 }
+
+pub returns-in_err-proposed-clause-goes_on : goal.returns-in_err-proposed-clause-goes_on
+returns-in_err-proposed-clause-goes_on g c = record {
+  setting = record { net = refl; rules = refl; ends = refl };
+  under_way = start_under_way (task_target c.args.task.now) (standing c.args.scope.now) c.requires.start;
+  serves = c.propose.ensures.desk;
+  later = omega arith;
+}
+
+pub returns-in_err-growth-clause-goes_on : goal.returns-in_err-growth-clause-goes_on
+returns-in_err-growth-clause-goes_on g c = record {
+  setting = record { net = refl; rules = refl; ends = refl };
+  under_way = start_under_way (task_target c.args.task.now) (standing c.args.scope.now) c.requires.start;
+  serves = c.propose.ensures.desk;
+  later = omega arith;
+}
+
+pub returns-in_err-test-clause-goes_on : goal.returns-in_err-test-clause-goes_on
+returns-in_err-test-clause-goes_on g c = c.grow.ensures.goes_on
+
+pub returns-in-Some-test-clause-goes_on : goal.returns-in-Some-test-clause-goes_on
+returns-in-Some-test-clause-goes_on g c = c.grow.ensures.goes_on
+
+pub returns-in-None-clause-goes_on : goal.returns-in-None-clause-goes_on
+returns-in-None-clause-goes_on g c = c.grow.ensures.goes_on
+
+pub returns-in_err-test-clause-scope : goal.returns-in_err-test-clause-scope
+returns-in_err-test-clause-scope g c = c.grow.ensures.scope
+
+pub returns-in-Some-test-clause-scope : goal.returns-in-Some-test-clause-scope
+returns-in-Some-test-clause-scope g c = c.grow.ensures.scope
+
+pub returns-in-None-clause-scope : goal.returns-in-None-clause-scope
+returns-in-None-clause-scope g c = c.grow.ensures.scope
+
+pub returns-in-Some-test-clause-found : goal.returns-in-Some-test-clause-found
+returns-in-Some-test-clause-found g c =
+    let old = standing c.args.scope.now in let now = standing c.grow.new.scope in
+    let P : Option Vectors → Type 0 = λ t. IsGrowthOf c.args.task.now old now c.grow.new.growth t in
+    subst P c.in-Some-test.is c.in_ok-test.ensures.answer
 
 pub grow-requires-clause-searching : goal.grow-requires-clause-searching
 grow-requires-clause-searching g c =

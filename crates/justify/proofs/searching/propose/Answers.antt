@@ -10,11 +10,11 @@ take_preferred-requires-clause-labels g c =
     support_within net c.args.task.now.path.now c.sources.result.now (length c.labels.result.now) c.labels.ensures.one_each
     (read_in_support net c.args.task.now.path.now c.args.desk.now.cone.sources c.sources.result.now c.requires.desk.cone.sources c.sources.ensures)
 
-pub take_preferred-requires-clause-wanted : goal.take_preferred-requires-clause-wanted
-take_preferred-requires-clause-wanted g c =
+pub take_preferred-requires-clause-liked : goal.take_preferred-requires-clause-liked
+take_preferred-requires-clause-liked g c =
     let net = (standing c.args.scope.now).net in
     support_within net c.args.task.now.path.now c.sources.result.now (length c.as_slice.result.now)
-    (ap length c.as_slice.ensures.value ∙ c.requires.desk.made.wanted)
+    (ap length c.as_slice.ensures.value ∙ c.requires.desk.made.liked)
     (read_in_support net c.args.task.now.path.now c.args.desk.now.cone.sources c.sources.result.now c.requires.desk.cone.sources c.sources.ensures)
 
 pub take_preferred-requires-clause-places : goal.take_preferred-requires-clause-places

@@ -1,5 +1,5 @@
 -- Each source more stays within the trial; a conflict closes it, and where none came all are held.
-use Rattle.std.proofs.Common.{ap, sym, ◌∙◌, Some, IsSome, subst, take, get_or}
+use Rattle.std.proofs.Common.{ap, ◌∙◌, subst, take}
 use Rattle.std.specs.Prelude.{is_some}
 use Rattle.std.specs.List.{All}
 use Rattle.std.proofs.lemmas.List.{take_all}
@@ -7,12 +7,11 @@ use Rattle.std.proofs.lemmas.List.Elements.{All-more}
 use Rattle.implication.specs.Scopes.{standing}
 use Rattle.implication.specs.Standing.{Standing, IsFree}
 use Rattle.implication.proofs.Restoring.{extends_trans}
-use Rattle.justify.specs.declared.trial.Tried.{Tried}
 use Rattle.justify.specs.Tasks.{task_target}
 use Rattle.justify.specs.Nodes.{beginning_of}
 use Rattle.justify.specs.Trying.{IsHeldIn}
 use Rattle.justify.proofs.Resting.{counted_later, closes_there}
-use Rattle.justify.proofs.Trials.{within_itself, within_more, held_here, held_before}
+use Rattle.justify.proofs.Trials.{within_more, held_here, held_before}
 use Rattle.justify.proofs.trial.assume_all.Goals as goal
 
 pub returns-in-Err-clause-trial : goal.returns-in-Err-clause-trial

@@ -1,5 +1,5 @@
 -- A conflict shows that the node's trial closes; where none came, the labels that stand then give a test.
-use Rattle.std.proofs.Common.{ap, sym, ◌∙◌, subst, ◌≡◌, ◌≤◌, ℕ}
+use Rattle.std.proofs.Common.{ap, sym, subst, ◌≤◌, ℕ}
 use Rattle.netlist.specs.Circuit.{Circuit}
 use Rattle.netlist.specs.Lawful.{IsCircuit}
 use Rattle.implication.specs.Moves.{risen}
@@ -12,7 +12,7 @@ use Rattle.justify.proofs.trial.closes.Goals as goal
 pub returns-then-assume_all-clause-ends : goal.returns-then-assume_all-clause-ends
 returns-then-assume_all-clause-ends g c =
     let first = standing c.args.scope.now in let last = standing c.assume_all.new.scope in
-    let here = c.label.ensures c.requires.node.free in
+    let here = c.label.ensures.told c.requires.node.free in
     let fails = ends_failed (task_target c.args.task.now) first c.requires.node here.0 here.1 last c.assume_all.ensures.trial c.args.tried.now
     c.assume_all.result c.if-assume_all.true c.assume_all.ensures.ends in
     let P : ℕ → Type 0 = λ n. risen first.closings ≤ n in
@@ -21,9 +21,9 @@ returns-then-assume_all-clause-ends g c =
 pub returns-clause-ends : goal.returns-clause-ends
 returns-clause-ends g c =
     let first = standing c.args.scope.now in let last = standing c.assume_all.new.scope in
-    let here = c.label.ensures c.requires.node.free in
+    let here = c.label.ensures.told c.requires.node.free in
     let P : Circuit → Type 0 = λ n. IsCircuit n in
     let held = c.assume_all.ensures.ends in
-    let there = c.label-2.ensures (ends_free (task_target c.args.task.now) first last c.args.tried.now c.assume_all.result c.if-assume_all.false held) in
+    let there = c.label-2.ensures.told (ends_free (task_target c.args.task.now) first last c.args.tried.now c.assume_all.result c.if-assume_all.false held) in
     ends_open (task_target c.args.task.now) first c.requires.node here.0 here.1 (subst P c.net.ensures c.sources.ensures.circuit) c.requires.prefix
     last c.assume_all.ensures.trial c.assume_all.ensures.extends there.0 there.1 c.args.tried.now c.assume_all.result c.if-assume_all.false held

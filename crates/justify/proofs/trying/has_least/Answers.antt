@@ -22,5 +22,5 @@ returns-then-marked g c = λ yes.
       marked = c.if-marked.true;
       in_range = subst P (sym is) c.least.ensures.in_range;
       least = λ labels labelled. is ∙ c.least.ensures.least ∙ ap least_of (label_is now (beginning_of (task_target c.args.task.now))
-          c.requires.node.beginning c.args.entry.source.0 c.label.result within (c.label.ensures c.requires.node.free) labels labelled);
+          c.requires.node.beginning c.args.entry.source.0 c.label.result within (c.label.ensures.told c.requires.node.free) labels labelled);
     }

@@ -1,4 +1,4 @@
-use Rattle.std.proofs.Common.{◌≡◌, ◌<◌, refl, sym, ap, ◌∙◌, subst, length, List}
+use Rattle.std.proofs.Common.{◌<◌, refl, sym, ap, ◌∙◌, subst, length, List}
 use Rattle.std.proofs.lemmas.List.{with_items_is}
 use Rattle.netlist.specs.Circuit.{Circuit, source_count}
 use Rattle.netlist.specs.Paths.{IsPrefix}
@@ -6,7 +6,7 @@ use Rattle.state_sets.specs.declared.state.State.{State}
 use Rattle.implication.specs.Scopes.{standing}
 use Rattle.justify.specs.ConeStates.{state_in}
 use Rattle.justify.specs.Tasks.{task_target}
-use Rattle.justify.proofs.TriedSources.{in_cone_within, side_within, desk_again, read_at, judged_fits}
+use Rattle.justify.proofs.TriedSources.{in_cone_within, side_within, desk_again, kept_desk, read_at, judged_fits}
 use Rattle.justify.proofs.trying.judge_states.Goals as goal
 
 pub set_failure-requires-clause-line : goal.set_failure-requires-clause-line
@@ -24,17 +24,19 @@ set_failure-requires-clause-side g c =
 pub returns-in_ok-pair-in-IsTest-clause-desk : goal.returns-in_ok-pair-in-IsTest-clause-desk
 returns-in_ok-pair-in-IsTest-clause-desk g c =
     let long = c.judge-judgement.ensures.places ∙ ap length c.as_mut_slice.ensures.value in
-    desk_again (standing c.args.scope.now).net c.args.task.now.path.now c.args.desk.now _ c.judge-judgement.new.states c.requires.desk refl refl refl
+    kept_desk (standing c.args.scope.now).net c.args.task.now.path.now _ c.keep.new.self c.keep.ensures
+    (desk_again (standing c.args.scope.now).net c.args.task.now.path.now c.args.desk.now _ c.judge-judgement.new.states c.requires.desk refl refl refl
     (with_items_is c.args.desk.now.states c.judge-judgement.new.states (long ∙ sym c.args.desk.now.states.ok.0))
-    c.judge-judgement.ensures.states long c.requires.desk.made.justifier
+    c.judge-judgement.ensures.states long c.requires.desk.made.justifier)
 
 pub returns-in_ok-pair-in-IsTest-clause-kept : goal.returns-in_ok-pair-in-IsTest-clause-kept
 returns-in_ok-pair-in-IsTest-clause-kept g c =
     let long = c.judge-judgement.ensures.places ∙ ap length c.as_mut_slice.ensures.value ∙ sym c.args.desk.now.states.ok.0 in
     record {
-      cone = refl;
+      cone = c.keep.ensures.cone;
       states = λ source within.
-          ap (λ (xs : List State). state_in xs source) (with_items_is c.args.desk.now.states c.judge-judgement.new.states long)
+          ap (λ (xs : List State). state_in xs source)
+          (c.keep.ensures.states ∙ with_items_is c.args.desk.now.states c.judge-judgement.new.states long)
           ∙ c.judge-judgement.ensures.sources source (subst (λ (n : Circuit). source < source_count n) (sym c.net-net.ensures) within)
           ∙ ap (λ (xs : List State). state_in xs source) c.as_mut_slice.ensures.value;
     }

@@ -84,3 +84,20 @@ returns-clause-answer g c =
     (failed_stays (task_target c.args.task.now) (standing c.enter.new.scope) (standing c.try_node.new.scope)
     (same_restored (standing c.enter.new.scope) (standing c.try_node.new.scope) c.try_node.ensures.restored) fails.failed)
     fails.counted c.extend.new.growth c.in_ok-extend.ensures
+
+pub returns-in_err-push-clause-goes_on : goal.returns-in_err-push-clause-goes_on
+returns-in_err-push-clause-goes_on g c =
+    shut_goes_on c.args.task.now (standing c.args.scope.now) c.args.desk.now c.args.growth.now c.args.place c.requires.searching
+    (standing c.enter.new.scope) (c.enter.ensures.shut c.if-not-enter.true) c.enter.ensures.later
+
+pub returns-in_err-test-clause-goes_on : goal.returns-in_err-test-clause-goes_on
+returns-in_err-test-clause-goes_on g c =
+    entered_goes_on c.args.task.now (standing c.args.scope.now) c.args.desk.now c.args.growth.now c.args.place c.requires.searching
+    (standing c.enter.new.scope) (c.enter.ensures.entered c.if-not-enter.false)
+    (standing c.try_node.new.scope) c.try_node.ensures.restored c.try_node.new.desk c.try_node.ensures.desk
+
+pub returns-in_err-extend-clause-goes_on : goal.returns-in_err-extend-clause-goes_on
+returns-in_err-extend-clause-goes_on g c =
+    entered_goes_on c.args.task.now (standing c.args.scope.now) c.args.desk.now c.args.growth.now c.args.place c.requires.searching
+    (standing c.enter.new.scope) (c.enter.ensures.entered c.if-not-enter.false)
+    (standing c.try_node.new.scope) c.try_node.ensures.restored c.try_node.new.desk c.try_node.ensures.desk

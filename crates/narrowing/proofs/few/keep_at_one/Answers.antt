@@ -11,7 +11,7 @@ use Rattle.narrowing.specs.Limits.{AreCut}
 use Rattle.narrowing.specs.Passes.{all_limits}
 use Rattle.narrowing.specs.Sets.{Means}
 use Rattle.narrowing.specs.GateViews.{pin_sets, sets_seen}
-use Rattle.narrowing.proofs.OneOrTwo.{meets_at_one, cut_one, kept_one, alone_supports, alone_folds}
+use Rattle.narrowing.proofs.OneToThree.{meets_at_one, cut_one, kept_one, alone_supports, alone_folds}
 use Rattle.narrowing.proofs.Limited.{passed_supports, passed_folds}
 use Rattle.narrowing.proofs.Passing.{free_pin, free_gate}
 use Rattle.narrowing.proofs.few.keep_at_one.Goals as goal

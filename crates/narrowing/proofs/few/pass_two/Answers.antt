@@ -7,7 +7,7 @@ use Rattle.state_sets.specs.Labellings.{label_at}
 use Rattle.narrowing.specs.Passes.{PassFolds, PassSupports}
 use Rattle.narrowing.specs.Sets.{Means}
 use Rattle.narrowing.specs.GateViews.{pin_sets}
-use Rattle.narrowing.proofs.OneOrTwo.{cut_two, first_supports, second_supports, both_fold}
+use Rattle.narrowing.proofs.OneToThree.{cut_two, first_supports, second_supports, both_fold}
 use Rattle.narrowing.proofs.Limited.{passed_supports, passed_folds}
 use Rattle.narrowing.proofs.few.pass_two.Goals as goal
 

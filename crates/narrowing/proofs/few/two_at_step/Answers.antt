@@ -8,7 +8,7 @@ use Rattle.state_sets.specs.Narrowing.{GivesAtPin}
 use Rattle.narrowing.specs.Passes.{PassSupports}
 use Rattle.narrowing.specs.Sets.{Means}
 use Rattle.narrowing.specs.GateViews.{pin_sets, sets_seen}
-use Rattle.narrowing.proofs.OneOrTwo.{kept_two}
+use Rattle.narrowing.proofs.OneToThree.{kept_two}
 use Rattle.narrowing.proofs.Sets.{united}
 use Rattle.narrowing.proofs.Passing.{step_pin, step_gate}
 use Rattle.narrowing.proofs.few.two_at_step.Goals as goal

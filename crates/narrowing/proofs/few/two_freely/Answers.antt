@@ -6,7 +6,7 @@ use Rattle.narrowing.specs.declared.limits.Limits.{Limits}
 use Rattle.narrowing.specs.Passes.{PassFolds, PassSupports}
 use Rattle.narrowing.specs.Sets.{Means}
 use Rattle.narrowing.specs.GateViews.{pin_sets, sets_seen}
-use Rattle.narrowing.proofs.OneOrTwo.{kept_two}
+use Rattle.narrowing.proofs.OneToThree.{kept_two}
 use Rattle.narrowing.proofs.Passing.{free_pin, free_gate}
 use Rattle.narrowing.proofs.few.two_freely.Goals as goal
 

@@ -1,10 +1,15 @@
--- The start of a scope, written where its source reaches, settles to the hull of the start.
-use Rattle.std.proofs.Common.{Option, Some, None, IfSome, IfNone, refl, sym, subst, arith}
+-- The start of a scope, cut from the idle labels or written where its source reaches, settles to the hull of the start.
+use Rattle.std.proofs.Common.{◌≡◌, Bool, true, bit_and, List, Option, Some, None, IfSome, IfNone, refl, sym, ap, ◌∙◌, subst, arith}
+use Rattle.std.proofs.Math.Dec.{eqb}
+use Rattle.std.proofs.lemmas.Bool.{eqb-true}
 use Rattle.pd_base.specs.declared.ids.LineId.{LineId}
+use Rattle.state_sets.specs.declared.state.StateSet.{StateSet}
+use Rattle.state_sets.specs.States.{both_sets}
 use Rattle.state_laws.specs.Forward.{AreReached}
 use Rattle.hulls.specs.Awaiting.{is_inside}
 use Rattle.hulls.proofs.Narrowed.{is_none, is_some}
-use Rattle.implication.proofs.Idling.{unlaunched_emptied, stuck_emptied, begun_ready, begun_hull, begun_emptied}
+use Rattle.implication.specs.Idling.{Idling, StandsBy}
+use Rattle.implication.proofs.Idling.{as_many, stands_on, unlaunched_emptied, stuck_emptied, idle_ready, cut_begun_hull, cut_begun_emptied, begun_ready, begun_hull, begun_emptied, begun_stands}
 use Rattle.implication.proofs.idle.IdleLabels.begin.Goals as goal
 
 pub returns-then-eq-clause-emptied : goal.returns-then-eq-clause-emptied
@@ -75,3 +80,69 @@ returns-clause-emptied g c =
           c.start_lines.new.board c.start_lines.ensures conditions.kind conditions.steps c.requires.no_steps line.0 is.1,
     ))
     c.settle.result c.settle.ensures.emptied
+
+pub returns-clause-stands : goal.returns-clause-stands
+returns-clause-stands g c =
+    let a = g.A.Algebra.algebra in let net = c.args.net.now in let rules = c.args.rules.now in
+    let launched = c.launching_states-launched.result in
+    let reached = c.lines.result.now in
+    let of = subst (AreReached net (is_inside c.args.board.now.inside) c.args.begun.source.0) (sym c.lines.ensures.lines)
+    c.reach.ensures.reached in
+    subst (λ (lines : List LineId). StandsBy a net rules (record { labels = c.self.inside.labels.items; reached = lines }) c.settle.new.self)
+    c.lines.ensures.lines
+    (subst (λ (i : Idling). StandsBy a net rules (record { labels = i.labels; reached = reached }) c.settle.new.self) (sym c.self.view_is)
+    (begun_stands g.A.Algebra.algebra g.met.A.Algebra.laws c.args.net.now c.stuck_source.ensures.circuit c.args.rules.now c.args.self.now
+    c.args.board.now c.requires.idle c.args.begun.source c.requires.source c.args.begun.direction launched
+    c.launching_states-launched.ensures.within c.launching_states-launched.ensures.means c.in_default.ensures.none reached of c.start_lines.new.board c.start_lines.ensures c.settle.new.self
+    c.settle.ensures.follows c.settle.ensures.inside))
+
+-- the label has all states of the set, with which it has so many in common
+all_common : (answer : Bool) (left common launched label : StateSet) → answer ≡ eqb common.0 launched.0 → answer ≡ true
+    → common.0 ≡ bit_and left.0 launched.0 → left ≡ label → both_sets label launched ≡ launched
+all_common answer left common launched label is same cut had =
+    ap (λ (n : _). let s : StateSet = record { 0 = n } in s)
+    (ap (λ (s : StateSet). bit_and s.0 launched.0) (sym had) ∙ sym cut ∙ eqb-true common.0 launched.0 (sym is ∙ same))
+
+pub narrow_on_cut-requires-clause-ready : goal.narrow_on_cut-requires-clause-ready
+narrow_on_cut-requires-clause-ready g c =
+    let launched = c.launching_states-launched.result in
+    idle_ready g.A.Algebra.algebra g.met.A.Algebra.laws c.args.net.now c.stuck_source.ensures.circuit c.args.rules.now c.args.self.now
+    c.args.board.now c.requires.idle c.args.begun.source c.requires.source c.args.begun.direction launched
+    c.launching_states-launched.ensures.within c.launching_states-launched.ensures.means c.in_default.ensures.none
+    (all_common c.eq-2.result c.get.result c.intersect-common.result launched _ c.eq-2.ensures c.if-eq-2.true c.intersect-common.ensures
+    c.get.ensures.set)
+    c.args.conditions.now.kind c.args.conditions.now.steps c.requires.no_steps
+
+pub returns-then-eq-2-clause-hull : goal.returns-then-eq-2-clause-hull
+returns-then-eq-2-clause-hull g c =
+    let launched = c.launching_states-launched.result in
+    cut_begun_hull g.A.Algebra.algebra g.met.A.Algebra.laws c.args.net.now c.stuck_source.ensures.circuit c.args.rules.now c.args.self.now
+    c.args.board.now c.requires.idle c.args.begun.source c.requires.source c.args.begun.direction launched
+    c.launching_states-launched.ensures.within c.launching_states-launched.ensures.means c.in_default.ensures.none
+    (all_common c.eq-2.result c.get.result c.intersect-common.result launched _ c.eq-2.ensures c.if-eq-2.true c.intersect-common.ensures
+    c.get.ensures.set)
+    c.args.conditions.now.kind c.args.conditions.now.steps c.requires.no_steps c.narrow_on_cut.new.board c.narrow_on_cut.result
+    c.narrow_on_cut.ensures.narrowed
+
+pub returns-then-eq-2-clause-emptied : goal.returns-then-eq-2-clause-emptied
+returns-then-eq-2-clause-emptied g c =
+    let launched = c.launching_states-launched.result in
+    cut_begun_emptied g.A.Algebra.algebra g.met.A.Algebra.laws c.args.net.now c.stuck_source.ensures.circuit c.args.rules.now c.args.self.now
+    c.args.board.now c.requires.idle c.args.begun.source c.requires.source c.args.begun.direction launched
+    c.launching_states-launched.ensures.within c.launching_states-launched.ensures.means c.in_default.ensures.none
+    (all_common c.eq-2.result c.get.result c.intersect-common.result launched _ c.eq-2.ensures c.if-eq-2.true c.intersect-common.ensures
+    c.get.ensures.set)
+    c.args.conditions.now.kind c.args.conditions.now.steps c.requires.no_steps c.narrow_on_cut.new.board c.narrow_on_cut.result
+    c.narrow_on_cut.ensures.narrowed
+
+pub returns-then-eq-2-clause-stands : goal.returns-then-eq-2-clause-stands
+returns-then-eq-2-clause-stands g c =
+    stands_on g.A.Algebra.algebra c.args.net.now c.args.rules.now c.args.self.now c.args.board.now c.narrow_on_cut.new.board
+    c.requires.idle.stands c.narrow_on_cut.ensures.follows c.narrow_on_cut.ensures.inside
+
+pub returns-then-eq-2-clause-board : goal.returns-then-eq-2-clause-board
+returns-then-eq-2-clause-board g c = record {
+  inside = c.narrow_on_cut.ensures.inside;
+  lines = as_many c.args.board.now c.narrow_on_cut.new.board c.narrow_on_cut.ensures.follows;
+  at_rest = c.narrow_on_cut.ensures.at_rest;
+}

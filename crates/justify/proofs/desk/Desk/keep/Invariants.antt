@@ -7,5 +7,5 @@ abbrev pub invariant-loop-line : goal.invariant-loop-line
 invariant-loop-line l = record {
   four : AreFourStates l.states.items;
   states : l.states.items ≡ l.initial.states.items;
-  wanted : length l.wanted.items ≡ length l.initial.wanted.items;
+  liked : length l.liked.items ≡ length l.initial.liked.items;
 }

@@ -5,4 +5,5 @@ use Rattle.justify.proofs.justifier.Justifier.propose.Goals as goal
 
 pub decide-found-requires-clause-cone : goal.decide-found-requires-clause-cone
 decide-found-requires-clause-cone c =
-    cone_in c.args.net.now (end_of c.args.net.now c.args.path.now) c.args.cone.now c.requires.cone_for c.requires.cone_at
+    let net = c.args.sight.now.net.now in
+    cone_in net (end_of net c.args.path.now) c.args.cone.now c.requires.cone_for c.requires.cone_at

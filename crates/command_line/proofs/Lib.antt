@@ -1,0 +1,9 @@
+pub mod Items
+pub mod Rows
+pub mod Walks
+pub mod Matches
+pub mod Beginnings
+pub mod Numbers
+pub mod WordKinds
+pub mod Accepting
+pub mod Asking

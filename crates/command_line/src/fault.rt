@@ -1,0 +1,23 @@
+// What the reading of words answers in place of a command.
+ghost use Rattle.std.specs.Prelude.{◌≡◌};
+ghost use Rattle.command_line.specs.declared.fault.WordsFault.TheVariants as faults;
+
+use crate::WordsRefusal;
+use std::alloc::AllocFailed;
+
+/// Why words gave no command.
+#[derive(Clone, Copy, Debug)]
+pub enum WordsFault {
+    /// The words are no lawful command.
+    Refused(WordsRefusal),
+    /// Memory ran out.
+    NoMemory,
+}
+
+impl<T: Drop> From<AllocFailed<T>> for WordsFault {
+    ghost from_gives = { λ _ fault. fault ≡ faults.NoMemory };
+
+    fn from(_: AllocFailed<T>) -> WordsFault {
+        WordsFault::NoMemory
+    }
+}

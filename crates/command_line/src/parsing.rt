@@ -1,0 +1,64 @@
+// The values of words that the rules accept, as clap reads them. Nothing else speaks of clap.
+ghost use Rattle.std.specs.Prelude.{◌≡◌, IfOk, IfErr};
+ghost use Rattle.clap.specs.Words.{app_of, found_of, kind_of, rows_of};
+ghost use Rattle.command_line.specs.Commands.{bytes_of_words};
+ghost use Rattle.command_line.specs.ClapWords.{HasRows, gen_app};
+ghost use Rattle.command_line.specs.Taken.{HasTexts};
+ghost use Rattle.command_line.specs.Words.{Given, GivesWords, gen_form};
+
+use clap::error::ErrorKind;
+use clap::{Arg, ArgAction, ArgMatches, Command, Error};
+use std::alloc::Global;
+
+/// The values of the words of a command, as clap has them.
+#[derive(Drop)]
+pub(crate) struct Parsed<'a> {
+    /// The positional words, in order.
+    pub(crate) positional: Vec<&'a str>,
+    /// The value of `--paths`.
+    pub(crate) paths: Option<&'a str>,
+    /// The value of `--budget`.
+    pub(crate) budget: Option<&'a str>,
+}
+
+// The values of the words of `gen`, its own in front. Of words that the rules accept, clap has the values that the rules give; it
+// refuses them only for want of memory.
+pub(crate) fn parsed_words<'a>(alloc: Global, words: &'a [&'a str]) -> Result<Parsed<'a>, Error>
+    ensures parsed { (given : Given) → GivesWords gen_form (bytes_of_words words.entry.now) given
+        → IfOk result (HasTexts given) }
+    ensures memory { (given : Given) → GivesWords gen_form (bytes_of_words words.entry.now) given
+        → IfErr result (λ error. kind_of error ≡ ErrorKind.OutOfMemory) }
+{
+    let parser = gen_parser(alloc)?;
+    let matches = parser.try_get_matches_from(words)?;
+    values_of(alloc, &matches)
+}
+
+// What clap is told of the words of `gen`: one argument takes all positional words, and both options have a value.
+fn gen_parser<'a>(alloc: Global) -> Result<Command<'a>, Error>
+    ensures parser { IfOk result (λ command. app_of command ≡ gen_app) }
+    ensures memory { IfErr result (λ error. kind_of error ≡ ErrorKind.OutOfMemory) }
+{
+    let positional = Arg::new(alloc, "positional").action(ArgAction::Append);
+    let paths = Arg::new(alloc, "paths").long("paths");
+    let budget = Arg::new(alloc, "budget").long("budget");
+    Ok(
+        Command::new(alloc, "gen")
+            .arg(positional)?
+            .arg(paths)?
+            .arg(budget)?,
+    )
+}
+
+// The values that were found.
+fn values_of<'a>(alloc: Global, matches: &ArgMatches<'a>) -> Result<Parsed<'a>, Error>
+    ensures values { IfOk result (HasRows (rows_of (found_of matches.now))) }
+    ensures memory { IfErr result (λ error. kind_of error ≡ ErrorKind.OutOfMemory) }
+{
+    let positional = matches.get_strs("positional").unwrap_or(&[]);
+    Ok(Parsed {
+        positional: Vec::from_slice(alloc, positional)?,
+        paths: matches.get_str("paths"),
+        budget: matches.get_str("budget"),
+    })
+}

@@ -1,0 +1,21 @@
+-- The next pin's word counts in each lane.
+use Rattle.std.proofs.Common.{not, get_or, ap, sym, ◌∙◌}
+use Rattle.std.specs.Bool.{beq}
+use Rattle.pd_base.specs.declared.ids.LineId.{LineId}
+use Rattle.logic_values.specs.Lanes.{lane_bit}
+use Rattle.logic_values.proofs.PinTests.{parity-take_more}
+use Rattle.logic_values.proofs.LaneBits.{lane_of-xor, lane_of-none}
+use Rattle.logic_values.proofs.lanes.parities.Goals as goal
+
+pub loop-pin-init : goal.loop-pin-init
+loop-pin-init c lane within = lane_of-none lane
+
+pub loop-pin-preserved : goal.loop-pin-preserved
+loop-pin-preserved c lane within =
+    let words = c.args.words.now in
+    let bit = λ (pin : LineId). lane_bit words lane pin.0 in
+    let pins = c.args.pins.now in
+    let place = c.loop-pin.pin-index in
+    lane_of-xor c.loop-pin.odd (get_or words (get_or pins place (record { 0 = 0 })).0 0) lane
+    ∙ ap (λ before. not (beq before (bit (get_or pins place (record { 0 = 0 }))))) (c.loop-pin.invariant lane within)
+    ∙ sym (parity-take_more bit pins place (record { 0 = 0 }) c.loop-pin-test.true)

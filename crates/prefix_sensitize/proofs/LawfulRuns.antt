@@ -1,0 +1,164 @@
+-- The listed paths with what is written of them can be spelled by the three files.
+use Rattle.std.proofs.Common.{◌≡◌, ℕ, ◌+◌, ◌<◌, ◌≤◌, Bool, true, false, List, [], ◌∷◌, ◌++◌, length, map, get_or, refl, sym, ap, subst, arith}
+use Rattle.std.specs.List.{All}
+use Rattle.std.proofs.lemmas.List.{get_or-map, length-map}
+use Rattle.std.proofs.lemmas.List.Elements.{All-append, All-cons, All-map, All-nil, All-weaker}
+use Rattle.std.proofs.lemmas.Option.{slice_get-get_or}
+use Rattle.pd_base.specs.declared.limits.TheConstants.{MOST_PATHS}
+use Rattle.pd_base.specs.Route.{Route}
+use Rattle.pd_base.specs.Target.{Target}
+use Rattle.pd_base.specs.declared.test.Test.{Test}
+use Rattle.pd_base.specs.declared.rules.Rules.{Rules}
+use Rattle.netlist.specs.Circuit.{Circuit, observed_lines}
+use Rattle.netlist.specs.Lawful.{IsCircuit}
+use Rattle.netlist.specs.Paths.{IsPath}
+use Rattle.netlist.specs.Values.{value}
+use Rattle.netlist.specs.Waves.{Delays}
+use Rattle.state_laws.specs.declared.half.Half.{Half}
+use Rattle.path_laws.proofs.StepCounts.{prefix_has_few_steps}
+use Rattle.runs.specs.declared.run.ListedPath.{ListedPath}
+use Rattle.runs.specs.declared.run.Proof.{Proof}
+use Rattle.runs.specs.declared.run.Run.{Run}
+use Rattle.runs.specs.declared.tree.Node.{Node}
+use Rattle.runs.specs.declared.tree.Node.TheVariants.{Closed, Waiting, Value, Steadiness}
+use Rattle.runs.specs.Lawful.{AreNumbered, IsLawfulProof, IsLawfulRun, IsLawfulTest, IsOnSource, none_named}
+use Rattle.runs.specs.Trees.{Cases, preorder}
+use Rattle.runs.specs.Trees.Cases.{closed, waiting, by_value, by_steadiness}
+use Rattle.runs.specs.Verdicts.{verdicts_of}
+use Rattle.runs.proofs.Nameable.{path_is_nameable}
+use Rattle.tree_laws.specs.Refutations.{RefutesBelow, below}
+use Rattle.tree_laws.specs.Spent.{IsSpentBelow}
+use Rattle.good_runs.specs.Faults.{IsNumber, routes_of}
+use Rattle.good_runs.proofs.Numbers.{all_at_number, number_of_place, number_within}
+use Rattle.prefix_sensitize.specs.Answers.{IsNumberedTest, Written}
+use Rattle.prefix_sensitize.specs.Expected.{expecting}
+use Rattle.prefix_sensitize.specs.Listed.{ArePathsAnswered, IsRunWith}
+use Rattle.prefix_sensitize.specs.Outcomes.{IsFoundProof}
+use Rattle.prefix_sensitize.specs.Searches.{AreSearches, Searches}
+use Rattle.prefix_sensitize.proofs.GoodRuns.{is_found_proof, routes_are}
+
+module _ (c : Circuit) where
+  -- a split and its halves are on sources
+  split_on_sources : (split : Node) (first second : Cases) → IsOnSource c split → All (IsOnSource c) (preorder first)
+      → All (IsOnSource c) (preorder second) → All (IsOnSource c) (split ∷ (preorder first ++ preorder second))
+  split_on_sources split first second on left right =
+      All-cons (IsOnSource c) split (preorder first ++ preorder second) on
+      (All-append (IsOnSource c) (preorder first) (preorder second) left right)
+
+  -- the splits of a refutation are on sources
+  refutes_on_sources : (rules : Rules) (target : Target) (halves : List Half) (cases : Cases)
+      → RefutesBelow c rules target halves cases → All (IsOnSource c) (preorder cases)
+  refutes_on_sources rules target halves closed refutes = All-cons (IsOnSource c) Closed [] tt (All-nil (IsOnSource c))
+  refutes_on_sources rules target halves waiting refutes = absurd refutes
+  refutes_on_sources rules target halves (by_value source first second) refutes =
+      split_on_sources (Value source) first second refutes.0
+      (refutes_on_sources rules target (below halves false source false) first refutes.1)
+      (refutes_on_sources rules target (below halves false source true) second refutes.2)
+  refutes_on_sources rules target halves (by_steadiness source first second) refutes =
+      split_on_sources (Steadiness source) first second refutes.0
+      (refutes_on_sources rules target (below halves true source false) first refutes.1)
+      (refutes_on_sources rules target (below halves true source true) second refutes.2)
+
+  -- and so are those of a spent tree
+  spent_on_sources : (rules : Rules) (target : Target) (halves : List Half) (cases : Cases)
+      → IsSpentBelow c rules target halves cases → All (IsOnSource c) (preorder cases)
+  spent_on_sources rules target halves closed spends = All-cons (IsOnSource c) Closed [] tt (All-nil (IsOnSource c))
+  spent_on_sources rules target halves waiting spends = All-cons (IsOnSource c) Waiting [] tt (All-nil (IsOnSource c))
+  spent_on_sources rules target halves (by_value source first second) spends =
+      split_on_sources (Value source) first second spends.0.in_support.is_source
+      (spent_on_sources rules target (below halves false source false) first spends.1)
+      (spent_on_sources rules target (below halves false source true) second spends.2)
+  spent_on_sources rules target halves (by_steadiness source first second) spends =
+      split_on_sources (Steadiness source) first second spends.0.in_support.is_source
+      (spent_on_sources rules target (below halves true source false) first spends.1)
+      (spent_on_sources rules target (below halves true source true) second spends.2)
+
+  module _ (circuit : IsCircuit c) (routes : List Route) (are_paths : All (IsPath c) routes) (few : length routes ≤ MOST_PATHS)
+      (rules : Rules) (budget : ℕ) where
+    -- a proof that names a listed path, and no more steps than it has
+    names_listed : (proof : Proof) (listed : Route) → IsNumber routes proof.path listed → proof.steps ≤ length listed.steps
+        → IsLawfulProof proof
+    names_listed proof listed numbered within =
+        let some = numbered.positive in
+        let last = number_within routes proof.path listed numbered in
+        let is = all_at_number (IsPath c) routes proof.path listed are_paths numbered in
+        let steps = prefix_has_few_steps c circuit listed is.prefix in
+        record {
+          path = record { positive = some; within = omega arith };
+          steps = omega arith;
+        }
+
+    -- each proof that was found is lawful
+    pub found_is_lawful : (proof : Proof) → IsFoundProof c rules budget routes proof → IsLawfulProof proof × All (IsOnSource c) proof.tree
+    found_is_lawful proof found = by proof.spent refl
+      where
+        by : (spends : Bool) → proof.spent ≡ spends → IsLawfulProof proof × All (IsOnSource c) proof.tree
+        by true is =
+            let good = found.spent is in
+            let whole = good.whole in (
+              names_listed proof good.listed good.is_listed (omega arith),
+              subst (All (IsOnSource c)) (sym good.is_spent.tree) (spent_on_sources rules _ [] good.is_spent.cases good.is_spent.spent),
+            )
+        by false is =
+            let good = (found.refutes is).0 in (
+              names_listed proof good.listed good.is_listed good.has_steps,
+              subst (All (IsOnSource c)) (sym good.refutation.tree)
+                  (refutes_on_sources rules _ [] good.refutation.cases good.refutation.refutes),
+            )
+
+  -- a test that was written is lawful with the bits that it expects
+  test_is_lawful : (test : Test) → IsNumberedTest c test → IsLawfulTest c (expecting c test)
+  test_is_lawful test is = record {
+    path = is.path;
+    first = is.first;
+    second = is.second;
+    expected = length-map (observed_lines c) (λ line. value c test.pair.second line.0);
+    some_source = is.some_source;
+    some_observed = is.some_observed;
+  }
+
+module _ (c : Circuit) (circuit : IsCircuit c) (delays : Delays) (searches : Searches) (are : AreSearches c searches)
+    (listed : List ListedPath) (written : Written) (all : ArePathsAnswered c delays searches searches.routes listed written) (run : Run)
+    (is : IsRunWith c searches listed written run) where
+  -- what holds of all routes of paths holds of these paths
+  All-from_map : (P : Route → Type 0) (entries : List ListedPath) → All P (map (λ (l : ListedPath). l.path) entries)
+      → All (λ (l : ListedPath). P l.path) entries
+  All-from_map P entries holds place d within =
+      let same = length-map entries (λ (l : ListedPath). l.path) in
+      let inside : place < length (map (λ (l : ListedPath). l.path) entries) = omega arith in
+      subst P (get_or-map (λ (l : ListedPath). l.path) entries place d d.path within) (holds place d.path inside)
+
+  route_is_path : All (IsPath c) (routes_of run)
+  route_is_path =
+      subst (All (IsPath c)) (sym (routes_are c delays searches are listed written all run is)) are.are_paths
+
+  few_routes : length (routes_of run) ≤ MOST_PATHS
+  few_routes =
+      let same = ap length (routes_are c delays searches are listed written all run is) in let few = are.few in omega arith
+
+  -- both laws of proofs
+  abbrev Both : Proof → Type 0
+  Both proof = IsLawfulProof proof × All (IsOnSource c) proof.tree
+
+  proofs_are_lawful : All Both run.proofs
+  proofs_are_lawful place d within =
+      found_is_lawful c circuit (routes_of run) route_is_path few_routes run.rules searches.budget (get_or run.proofs place d)
+      (is_found_proof c delays searches are listed written all run is (place + 1) (get_or run.proofs place d)
+      (number_of_place run.proofs place (get_or run.proofs place d) (slice_get-get_or run.proofs place d within)))
+
+  -- the run can be spelled
+  pub run_is_lawful : IsLawfulRun c run
+  run_is_lawful = record {
+    tests = subst (All (IsLawfulTest c)) (sym is.tests)
+        (All-map (IsLawfulTest c) (expecting c) written.tests
+        (λ place d within. test_is_lawful c (get_or written.tests place d) (all.are_written.tests place d within)));
+    report = record {
+      nameable = λ place d within.
+          path_is_nameable c (get_or run.paths place d).path (All-from_map (IsPath c) run.paths route_is_path place d within);
+      numbered = subst (λ (entries : List ListedPath). AreNumbered none_named (verdicts_of entries)) (sym is.paths) all.numbered;
+    };
+    proofs = record {
+      lawful = All-weaker Both IsLawfulProof (λ proof has. has.0) run.proofs proofs_are_lawful;
+      on_sources = All-weaker Both (λ (proof : Proof). All (IsOnSource c) proof.tree) (λ proof has. has.1) run.proofs proofs_are_lawful;
+    };
+  }

@@ -1,0 +1,51 @@
+-- How far along a path a search has come, from what it ended with.
+use Rattle.std.proofs.Common.{◌≡◌, ◌⊎◌, inl, inr, ℕ, ◌+◌, ◌<◌, ◌≤◌, List, length, subst, arith}
+use Rattle.pd_base.specs.declared.rules.Rules.{Rules}
+use Rattle.pd_base.specs.Route.{Route}
+use Rattle.netlist.specs.Circuit.{Circuit}
+use Rattle.runs.specs.declared.tree.Node.{Node}
+use Rattle.prefix_sensitize.specs.declared.descent.Ended.{Ended}
+use Rattle.prefix_sensitize.specs.declared.descent.Ended.TheVariants.{Refuted}
+use Rattle.prefix_sensitize.specs.declared.outcome.Aim.{Aim}
+use Rattle.prefix_sensitize.specs.Entering.{IsEnded, ReachesPins, RefutesPrefix}
+use Rattle.prefix_sensitize.specs.Entering.ReachesPins.{whole, closed}
+
+-- all pins that were kept were tried, and no more than the path has; a refuted prefix ends at the last one that was tried, which is not
+-- shared, or is the path; where a pin was left again, there is such a prefix; and where none is, all pins were tried
+pub record HasReached (path : Route) (ended : Ended) (shared kept tried : ℕ) : Type 0 where
+  pub few : kept ≤ tried
+  pub within : tried ≤ length path.steps
+  pub at_refuted : (count : ℕ) (tree : List Node) → ended ≡ Refuted count tree → count ≡ tried
+  pub which : (shared < tried) ⊎ (tried ≡ length path.steps)
+  pub left : kept < tried → (tree : List Node) × (ended ≡ Refuted tried tree)
+  pub last : tried ≤ kept + 1
+  pub whole : ((count : ℕ) (tree : List Node) → ¬ (ended ≡ Refuted count tree)) → tried ≡ length path.steps
+
+pub reached : (c : Circuit) (rules : Rules) (aim : Aim) (path : Route) (ended : Ended) (shared kept tried : ℕ) → shared ≤ kept
+    → IsEnded c rules aim path ended → ReachesPins path ended kept tried → HasReached path ended shared kept tried
+reached c rules aim path ended shared kept tried stays is_ended (whole all tries refuted) = record {
+  few = omega (arith, all, tries);
+  within = omega (arith, tries);
+  at_refuted = λ count tree is. (let its = refuted count tree is in omega (arith, its, tries));
+  which = inr tries;
+  left = λ fewer. absurd (omega (arith, all, tries, fewer));
+  last = omega (arith, all, tries);
+  whole = λ none. tries;
+}
+reached c rules aim path ended shared kept tried stays is_ended (closed tree is tries) =
+    let P : Ended → Type 0 = λ e. IsEnded c rules aim path e in
+    let refutes : RefutesPrefix c rules aim path (kept + 1) tree = subst P is is_ended in
+    let has = refutes.has_steps in
+    record {
+      few = omega (arith, tries);
+      within = omega (arith, tries, has);
+      at_refuted = λ count other also. (let its : count ≡ kept + 1 = cc in omega (arith, its, tries));
+      which = inl (omega (arith, stays, tries));
+      left =
+          λ fewer.
+          (let E : ℕ → Type 0 = λ n. ended ≡ Refuted n tree in
+          let same : kept + 1 ≡ tried = omega (arith, tries) in
+          (tree, subst E same is));
+      last = omega (arith, tries);
+      whole = λ none. absurd (none (kept + 1) tree is);
+    }

@@ -1,0 +1,37 @@
+-- The pin is on the line that was reached. A conflict at it closes the start of the path up to it.
+use Rattle.std.proofs.Common.{get_or}
+use Rattle.pd_base.specs.declared.ids.PinRef.{PinRef}
+use Rattle.implication.specs.Scopes.{standing}
+use Rattle.prefix_sensitize.proofs.AlongPaths.{free_along, left_again, pin_on, pin_read, told_on, tried_closes}
+use Rattle.prefix_sensitize.proofs.descent.Descent.enter.Goals as goal
+
+abbrev no_pin : PinRef
+no_pin = record { gate = record { 0 = 0 }; pin = 0 }
+
+pub enter-requires-clause-pin : goal.enter-requires-clause-pin
+enter-requires-clause-pin g c =
+    let path = c.args.path.now in
+    pin_on (standing c.args.scope.now) c.args.self.now path c.args.count (get_or c.steps.result.now c.args.count no_pin)
+    c.requires.along c.requires.at c.requires.more
+    (pin_read c.steps.result.now path.steps c.args.count no_pin c.steps.ensures c.requires.more)
+
+pub enter-requires-clause-told : goal.enter-requires-clause-told
+enter-requires-clause-told g c =
+    let path = c.args.path.now in
+    told_on (standing c.args.scope.now) c.args.self.now path c.args.count (get_or c.steps.result.now c.args.count no_pin)
+    c.requires.along c.requires.at c.requires.more
+    (pin_read c.steps.result.now path.steps c.args.count no_pin c.steps.ensures c.requires.more)
+
+pub returns-in-Err-clause-tried : goal.returns-in-Err-clause-tried
+returns-in-Err-clause-tried g c =
+    let path = c.args.path.now in
+    let before = standing c.args.scope.now in
+    let pin = get_or c.steps.result.now c.args.count no_pin in
+    let is = pin_read c.steps.result.now path.steps c.args.count no_pin c.steps.ensures c.requires.more in
+    let closes = c.in-Err.ensures.err (free_along before path c.requires.along c.requires.at.free) in (
+      left_again before c.args.self.now path c.args.count pin c.requires.along c.requires.at c.requires.more is
+          (standing c.enter.new.self) c.in-Err.field-0.0 closes (standing c.back_to.new.self) c.mark-mark.result.at c.mark-mark.ensures
+          c.back_to.ensures.back,
+      tried_closes before c.args.self.now path c.args.count pin c.requires.along c.requires.at c.requires.more is
+          (standing c.enter.new.self) c.in-Err.field-0.0 closes c.in-Err.ensures.emptied,
+    )

@@ -1,0 +1,94 @@
+-- A conflict at a pin refutes the prefix up to it, and otherwise the search on the scope is one of the whole path.
+use Rattle.std.proofs.Common.{◌≡◌, ℕ, ◌+◌, ◌<◌, ◌≤◌, length, sym, ap, subst, arith}
+use Rattle.netlist.specs.Paths.{prefix_of}
+use Rattle.implication.specs.Scopes.{standing}
+use Rattle.prefix_sensitize.specs.declared.descent.Ended.{Ended}
+use Rattle.prefix_sensitize.specs.Entering.{HasMovedOn, IsEnded}
+use Rattle.prefix_sensitize.proofs.Descents.{closed_ends, counts_pins, moved_on, moved_to_end, same_twice, search_ends, still_closes}
+use Rattle.prefix_sensitize.proofs.descent.Descent.search.Goals as goal
+
+pub returns-then-kept-steps-clause-ended : goal.returns-then-kept-steps-clause-ended
+returns-then-kept-steps-clause-ended g c =
+    let path = c.args.path.now in
+    let old = standing c.args.scope.now in
+    let back = standing c.go_back-shared.new.scope in
+    let last = standing c.go_on.new.scope in
+    let kept = c.in_ok-kept.kept in
+    let long = ap length c.steps.ensures in
+    let within : kept < length path.steps = omega (arith, long, c.if-kept-steps.true) in
+    closed_ends old path c.args.aim c.args.self.now c.requires.gone last
+    (same_twice old back last c.go_back-shared.ensures.same c.go_on.ensures.same) c.go_on.new.self kept c.in_ok-kept.ensures.at
+    c.in_ok-tree.tree within
+    (still_closes old back (prefix_of (kept + 1) path) c.go_back-shared.ensures.same (c.in_ok-kept.ensures.closes within))
+    c.in_ok-tree.ensures
+
+pub returns-then-kept-steps-clause-moved : goal.returns-then-kept-steps-clause-moved
+returns-then-kept-steps-clause-moved g c =
+    let path = c.args.path.now in
+    let old = standing c.args.scope.now in
+    let back = standing c.go_back-shared.new.scope in
+    let last = standing c.go_on.new.scope in
+    let kept = c.in_ok-kept.kept in
+    let long = ap length c.steps.ensures in
+    let within : kept < length path.steps = omega (arith, long, c.if-kept-steps.true) in
+    moved_on old path c.args.aim c.args.self.now c.requires.gone last
+    (same_twice old back last c.go_back-shared.ensures.same c.go_on.ensures.same) c.go_on.new.self kept c.in_ok-kept.ensures.at
+    c.go_back-shared.result c.args.steps.now c.go_on.new.steps c.go_back-shared.ensures.shared c.in_ok-kept.ensures.farther
+    c.in_ok-kept.ensures.counted c.in_ok-tree.tree within
+
+pub returns-clause-ended : goal.returns-clause-ended
+returns-clause-ended g c =
+    let path = c.args.path.now in
+    let old = standing c.args.scope.now in
+    let back = standing c.go_back-shared.new.scope in
+    let last = standing c.go_on.new.scope in
+    let kept = c.in_ok-kept.kept in
+    let long = ap length c.steps.ensures in
+    let all : length path.steps ≤ kept = omega (arith, long, c.if-kept-steps.false) in
+    let P : Ended → Type 0 = λ e. IsEnded old.net old.rules c.args.aim path e in
+    subst P (sym c.ended_by.ensures)
+    (search_ends old path c.args.aim c.args.self.now c.requires.gone last
+    (same_twice old back last c.go_back-shared.ensures.same c.go_on.ensures.same) c.go_on.new.self kept c.in_ok-kept.ensures.at
+    all c.in_ok-found.found c.in_ok-found.ensures.found)
+
+pub returns-clause-moved : goal.returns-clause-moved
+returns-clause-moved g c =
+    let path = c.args.path.now in
+    let old = standing c.args.scope.now in
+    let back = standing c.go_back-shared.new.scope in
+    let last = standing c.go_on.new.scope in
+    let kept = c.in_ok-kept.kept in
+    let long = ap length c.steps.ensures in
+    let all : length path.steps ≤ kept = omega (arith, long, c.if-kept-steps.false) in
+    let P : Ended → Type 0 =
+    λ e. (more : ℕ) × (c.go_on.new.steps ≡ c.args.steps.now + more) × HasMovedOn c.args.self.now c.go_on.new.self path e more in
+    subst P (sym c.ended_by.ensures)
+    (moved_to_end old path c.args.aim c.args.self.now c.requires.gone last
+    (same_twice old back last c.go_back-shared.ensures.same c.go_on.ensures.same) c.go_on.new.self kept c.in_ok-kept.ensures.at
+    c.go_back-shared.result c.args.steps.now c.go_on.new.steps c.go_back-shared.ensures.shared c.in_ok-kept.ensures.farther
+    c.in_ok-kept.ensures.counted c.in_ok-found.found all)
+
+pub returns-in_err-kept-clause-counted : goal.returns-in_err-kept-clause-counted
+returns-in_err-kept-clause-counted g c =
+    counts_pins c.args.self.now c.args.path.now c.go_back-shared.result c.go_back-shared.ensures.shared c.args.steps.now c.go_on.new.steps
+    c.go_on.ensures.more c.go_on.ensures.few
+
+pub returns-in_err-tree-clause-counted : goal.returns-in_err-tree-clause-counted
+returns-in_err-tree-clause-counted g c =
+    counts_pins c.args.self.now c.args.path.now c.go_back-shared.result c.go_back-shared.ensures.shared c.args.steps.now c.go_on.new.steps
+    c.go_on.ensures.more c.go_on.ensures.few
+
+pub returns-then-kept-steps-clause-counted : goal.returns-then-kept-steps-clause-counted
+returns-then-kept-steps-clause-counted g c =
+    counts_pins c.args.self.now c.args.path.now c.go_back-shared.result c.go_back-shared.ensures.shared c.args.steps.now c.go_on.new.steps
+    c.go_on.ensures.more c.go_on.ensures.few
+
+pub returns-in_err-found-clause-counted : goal.returns-in_err-found-clause-counted
+returns-in_err-found-clause-counted g c =
+    counts_pins c.args.self.now c.args.path.now c.go_back-shared.result c.go_back-shared.ensures.shared c.args.steps.now c.go_on.new.steps
+    c.go_on.ensures.more c.go_on.ensures.few
+
+pub returns-clause-counted : goal.returns-clause-counted
+returns-clause-counted g c =
+    counts_pins c.args.self.now c.args.path.now c.go_back-shared.result c.go_back-shared.ensures.shared c.args.steps.now c.go_on.new.steps
+    c.go_on.ensures.more c.go_on.ensures.few

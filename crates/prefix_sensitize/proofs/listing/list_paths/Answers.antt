@@ -1,0 +1,62 @@
+-- Each turn lists one path more, by the outcomes of its row.
+use Rattle.std.proofs.Common.{◌≡◌, ℕ, ◌+◌, ◌∷◌, ◌++◌, List, [], length, refl, sym, ap, subst, ◌∙◌, append_assoc, arith}
+use Rattle.std.specs.Vec.Iter.{into_iter_items}
+use Rattle.std.proofs.lemmas.List.{length_push}
+use Rattle.pd_base.specs.Route.{Route}
+use Rattle.pd_base.specs.declared.fault.Direction.TheVariants.{Rise, Fall}
+use Rattle.delay_annotation.specs.Annotation.{delays_of}
+use Rattle.prefix_sensitize.specs.Answers.{written_by}
+use Rattle.prefix_sensitize.specs.Searches.{AreSearchedFrom}
+use Rattle.prefix_sensitize.proofs.ListedPaths.{is_listed, is_next, one_more}
+use Rattle.prefix_sensitize.proofs.Rows.{others_left, taken_are}
+use Rattle.prefix_sensitize.proofs.listing.list_paths.Goals as goal
+
+pub list_path-requires : goal.list_path-requires
+list_path-requires g c =
+    let net = c.args.net.now in
+    let delays = delays_of net c.args.delays.now in
+    let are = c.requires.1.1.0 in
+    let turn = c.loop-path.invariant in
+    let row : c.len-row.result ≡ length c.loop-path.listed.items = omega (arith, c.len-row.ensures) in
+    let next : c.len-row.result + 1 ≡ length c.loop-path.listed.items + 1 = omega (arith, row) in
+    let listed = is_listed net delays g.searches are c.loop-path.yielded _ turn.rest c.loop-path.listed.items
+    (written_by c.loop-path.writer) turn.listed c.in-Some.path _ c.in-Some.ensures.steps.0 (c.len-row.result + 1) next in
+    let Rises : ℕ → Type 0 = λ from. AreSearchedFrom net g.searches.routes g.searches.proofs Rise from c.loop-path.rises in
+    let Falls : ℕ → Type 0 = λ from. AreSearchedFrom net g.searches.routes g.searches.proofs Fall from c.loop-path.falls in (
+      c.requires.0,
+      (
+        is_next net delays g.searches are c.loop-path.yielded _ turn.rest c.loop-path.listed.items (written_by c.loop-path.writer)
+            turn.listed c.in-Some.path _ c.in-Some.ensures.steps.0 (c.len-row.result + 1) next c.loop-path.writer turn.writer refl,
+        (
+          taken_are net g.searches.routes g.searches.proofs Rise c.len-row.result c.loop-path.rises (subst Rises (sym row) turn.rises)
+              (c.len-row.result + 1) c.in-Some.path listed refl c.take-rise.result c.take-rise.ensures.taken,
+          taken_are net g.searches.routes g.searches.proofs Fall c.len-row.result c.loop-path.falls (subst Falls (sym row) turn.falls)
+              (c.len-row.result + 1) c.in-Some.path listed refl c.take-fall.result c.take-fall.ensures.taken,
+        ),
+      ),
+    )
+
+pub loop-path-preserved : goal.loop-path-preserved
+loop-path-preserved g c =
+    let net = c.args.net.now in
+    let turn = c.loop-path.invariant in
+    let row : c.len-row.result ≡ length c.loop-path.listed.items = omega (arith, c.len-row.ensures) in
+    let more : length c.push.new.self.items ≡ c.len-row.result + 1 =
+    ap length c.in_ok-push.ensures.items ∙ length_push c.loop-path.listed.items c.in_ok-entry.entry ∙ ap (λ (n : ℕ). n + 1) (sym row) in
+    let Rises : ℕ → Type 0 = λ from. AreSearchedFrom net g.searches.routes g.searches.proofs Rise from c.loop-path.rises in
+    let Falls : ℕ → Type 0 = λ from. AreSearchedFrom net g.searches.routes g.searches.proofs Fall from c.loop-path.falls in
+    record {
+      listed = one_more net (delays_of net c.args.delays.now) g.searches c.requires.1.1.0 c.loop-path.yielded _ turn.rest
+          c.loop-path.listed.items (written_by c.loop-path.writer) turn.listed c.in-Some.path _ c.in-Some.ensures.steps.0
+          (c.len-row.result + 1) (omega (arith, row)) (written_by c.list_path.new.writer) c.in_ok-entry.entry c.push.new.self.items
+          c.in_ok-push.ensures.items c.in_ok-entry.ensures.listed;
+      writer = c.in_ok-entry.ensures.writer;
+      rises = others_left net g.searches.routes g.searches.proofs Rise c.len-row.result c.loop-path.rises
+          (subst Rises (sym row) turn.rises) c.take-rise.new.self c.take-rise.ensures.robust c.take-rise.ensures.nonrobust
+          (length c.push.new.self.items) more;
+      falls = others_left net g.searches.routes g.searches.proofs Fall c.len-row.result c.loop-path.falls
+          (subst Falls (sym row) turn.falls) c.take-fall.new.self c.take-fall.ensures.robust c.take-fall.ensures.nonrobust
+          (length c.push.new.self.items) more;
+      rest = append_assoc c.loop-path.yielded (c.in-Some.path ∷ []) (into_iter_items c.next.new.self)
+          ∙ ap (λ (rest : List Route). c.loop-path.yielded ++ rest) (sym c.in-Some.ensures.steps.0) ∙ turn.rest;
+    }

@@ -1,0 +1,203 @@
+-- The path at this place is passed by or visited.
+use Rattle.std.proofs.Common.{ℕ, ◌<◌, ◌≤◌, false, true≢false, length, get_or, sym, ap, subst, ◌∙◌, arith}
+use Rattle.std.proofs.lemmas.Option.{get_or_from_slice_get, slice_get_within}
+use Rattle.std.proofs.lemmas.Result.{IfOk-weaker}
+use Rattle.pd_base.specs.Route.{Route}
+use Rattle.implication.specs.Scopes.{standing}
+use Rattle.prefix_sensitize.specs.Coming.{HasComeAlong}
+use Rattle.prefix_sensitize.specs.Outcomes.{AddsProofs}
+use Rattle.prefix_sensitize.specs.PathOrder.{StandsInOrder}
+use Rattle.prefix_sensitize.specs.Settling.{HasItsSteps, Settles}
+use Rattle.prefix_sensitize.proofs.Along.{counted_on, gone_to, its_steps, room_for, visited_along}
+use Rattle.prefix_sensitize.proofs.Passing.{all_counted, come_past}
+use Rattle.prefix_sensitize.proofs.PathOrder.{stands_once, stands_there}
+use Rattle.prefix_sensitize.proofs.walking.visit.Goals as goal
+
+pub returns-then-not-course-row-clause-come : goal.returns-then-not-course-row-clause-come
+returns-then-not-course-row-clause-come g c =
+    let course = c.args.course.now in
+    let place = c.args.place in
+    let old = standing c.args.scope.now in
+    let come = c.requires.1.1.1.1.1.1.0 in
+    let at = c.requires.1.1.1.1.1.1.1 in
+    record {
+      source = come.source;
+      gone = come.gone;
+      come =
+          come_past old.net old.rules course c.requires.1.1.1.0.order g.begin place c.args.outcomes.now c.args.proofs.now.items c.args.steps.now
+          at.row at.route at.stands
+          (λ need.
+          let same = get_or_from_slice_get course.order.now place at.row 0 at.stands.is_placed in
+          true≢false (sym need ∙ ap (λ (n : ℕ). get_or course.needed.now n false) (sym same) ∙ c.if-not-course-row.true))
+          (record { source = come.source; steps = c.args.descent.now }) come.come;
+    }
+
+pub returns-then-not-course-row-clause-within : goal.returns-then-not-course-row-clause-within
+returns-then-not-course-row-clause-within g c =
+    let at = c.requires.1.1.1.1.1.1.1 in
+    let within = slice_get_within c.args.course.now.order.now c.args.place at.row at.stands.is_placed in
+    omega (arith, within)
+
+pub search-requires-clause-gone : goal.search-requires-clause-gone
+search-requires-clause-gone g c =
+    let course = c.args.course.now in
+    let place = c.args.place in
+    let at = c.requires.1.1.1.1.1.1.1 in
+    let within = slice_get_within course.order.now place at.row at.stands.is_placed in
+    let row = get_or course.order.now place 0 in
+    let path = get_or course.paths.now row c.index-course-row.result in
+    gone_to (standing c.args.scope.now) course c.requires.1.1.1.0 g.begin place row path
+    (stands_there course.paths.now course.order.now c.requires.1.1.1.0.order.inside place 0 c.index-course-row.result within) c.args.descent.now
+    c.args.outcomes.now c.args.proofs.now.items c.args.steps.now c.requires.1.1.1.1.1.1.0 at
+
+pub search-requires-clause-room : goal.search-requires-clause-room
+search-requires-clause-room g c =
+    let course = c.args.course.now in
+    let place = c.args.place in
+    let at = c.requires.1.1.1.1.1.1.1 in
+    let within = slice_get_within course.order.now place at.row at.stands.is_placed in
+    let row = get_or course.order.now place 0 in
+    let path = get_or course.paths.now row c.index-course-row.result in
+    room_for (standing c.args.scope.now) course c.requires.1.1.1.0 g.begin place row path
+    (stands_there course.paths.now course.order.now c.requires.1.1.1.0.order.inside place 0 c.index-course-row.result within) c.args.descent.now
+    c.args.outcomes.now c.args.proofs.now.items c.args.steps.now c.requires.1.1.1.1.1.1.0 c.requires.1.1.1.1.1.0
+
+pub settle-requires-clause-place : goal.settle-requires-clause-place
+settle-requires-clause-place g c =
+    let at = c.requires.1.1.1.1.1.1.1 in
+    slice_get_within c.args.course.now.order.now c.args.place at.row at.stands.is_placed
+
+pub settle-requires-clause-steps : goal.settle-requires-clause-steps
+settle-requires-clause-steps g c row route stands =
+    let course = c.args.course.now in
+    let place = c.args.place in
+    let at = c.requires.1.1.1.1.1.1.1 in
+    let old = standing c.args.scope.now in
+    let within = slice_get_within course.order.now place at.row at.stands.is_placed in
+    let path = get_or course.paths.now (get_or course.order.now place 0) c.index-course-row.result in
+    let here = stands_there course.paths.now course.order.now c.requires.1.1.1.0.order.inside place 0 c.index-course-row.result within in
+    let P : Route → Type 0 = λ r. HasItsSteps r c.in_ok-ended.ended in
+    subst P (stands_once course.paths.now course.order.now place (get_or course.order.now place 0) row path route here stands).1
+    (its_steps old.net old.rules course.aim path c.in_ok-ended.ended c.in_ok-ended.ensures.ended)
+
+pub returns-clause-come : goal.returns-clause-come
+returns-clause-come g c =
+    let course = c.args.course.now in
+    let place = c.args.place in
+    let at = c.requires.1.1.1.1.1.1.1 in
+    let old = standing c.args.scope.now in
+    let within = slice_get_within course.order.now place at.row at.stands.is_placed in
+    let row = get_or course.order.now place 0 in
+    let path = get_or course.paths.now row c.index-course-row.result in
+    let here = stands_there course.paths.now course.order.now c.requires.1.1.1.0.order.inside place 0 c.index-course-row.result within in
+    IfOk-weaker c.settle.result
+    (λ end. (row : ℕ) (route : Route) → StandsInOrder course.paths.now course.order.now place row route
+    → Settles course place row route c.in_ok-ended.ended end c.args.outcomes.now c.settle.new.outcomes c.args.proofs.now.items
+    c.settle.new.proofs.items)
+    (λ end. HasComeAlong (standing c.search.new.scope) c.args.course.now g.begin end c.search.new.self c.settle.new.outcomes c.settle.new.proofs.items
+    c.search.new.steps)
+    (λ end settles.
+    (visited_along old course c.requires.1.1.1.0 g.begin place row path here c.args.descent.now c.args.outcomes.now c.args.proofs.now.items
+    c.args.steps.now c.requires.1.1.1.1.1.1.0 at (standing c.search.new.scope) c.in_ok-ended.ensures.same c.search.new.self c.in_ok-ended.ended
+    c.in_ok-ended.ensures.ended c.in_ok-ended.ensures.gone c.search.new.steps c.in_ok-ended.ensures.moved end c.settle.new.outcomes
+    c.settle.new.proofs.items (settles row path here)).0)
+    c.settle.ensures
+
+pub returns-clause-on : goal.returns-clause-on
+returns-clause-on g c =
+    let course = c.args.course.now in
+    let place = c.args.place in
+    let at = c.requires.1.1.1.1.1.1.1 in
+    let old = standing c.args.scope.now in
+    let within = slice_get_within course.order.now place at.row at.stands.is_placed in
+    let row = get_or course.order.now place 0 in
+    let path = get_or course.paths.now row c.index-course-row.result in
+    let here = stands_there course.paths.now course.order.now c.requires.1.1.1.0.order.inside place 0 c.index-course-row.result within in
+    IfOk-weaker c.settle.result
+    (λ end. (row : ℕ) (route : Route) → StandsInOrder course.paths.now course.order.now place row route
+    → Settles course place row route c.in_ok-ended.ended end c.args.outcomes.now c.settle.new.outcomes c.args.proofs.now.items
+    c.settle.new.proofs.items)
+    (λ end. c.args.place < end)
+    (λ end settles.
+    (visited_along old course c.requires.1.1.1.0 g.begin place row path here c.args.descent.now c.args.outcomes.now c.args.proofs.now.items
+    c.args.steps.now c.requires.1.1.1.1.1.1.0 at (standing c.search.new.scope) c.in_ok-ended.ensures.same c.search.new.self c.in_ok-ended.ended
+    c.in_ok-ended.ensures.ended c.in_ok-ended.ensures.gone c.search.new.steps c.in_ok-ended.ensures.moved end c.settle.new.outcomes
+    c.settle.new.proofs.items (settles row path here)).1)
+    c.settle.ensures
+
+pub returns-clause-within : goal.returns-clause-within
+returns-clause-within g c =
+    let course = c.args.course.now in
+    let place = c.args.place in
+    let at = c.requires.1.1.1.1.1.1.1 in
+    let old = standing c.args.scope.now in
+    let within = slice_get_within course.order.now place at.row at.stands.is_placed in
+    let row = get_or course.order.now place 0 in
+    let path = get_or course.paths.now row c.index-course-row.result in
+    let here = stands_there course.paths.now course.order.now c.requires.1.1.1.0.order.inside place 0 c.index-course-row.result within in
+    IfOk-weaker c.settle.result
+    (λ end. (row : ℕ) (route : Route) → StandsInOrder course.paths.now course.order.now place row route
+    → Settles course place row route c.in_ok-ended.ended end c.args.outcomes.now c.settle.new.outcomes c.args.proofs.now.items
+    c.settle.new.proofs.items)
+    (λ end. end ≤ length c.args.course.now.order.now)
+    (λ end settles.
+    (visited_along old course c.requires.1.1.1.0 g.begin place row path here c.args.descent.now c.args.outcomes.now c.args.proofs.now.items
+    c.args.steps.now c.requires.1.1.1.1.1.1.0 at (standing c.search.new.scope) c.in_ok-ended.ensures.same c.search.new.self c.in_ok-ended.ended
+    c.in_ok-ended.ensures.ended c.in_ok-ended.ensures.gone c.search.new.steps c.in_ok-ended.ensures.moved end c.settle.new.outcomes
+    c.settle.new.proofs.items (settles row path here)).2)
+    c.settle.ensures
+
+pub returns-clause-adds : goal.returns-clause-adds
+returns-clause-adds g c =
+    let course = c.args.course.now in
+    let place = c.args.place in
+    let at = c.requires.1.1.1.1.1.1.1 in
+    let old = standing c.args.scope.now in
+    let within = slice_get_within course.order.now place at.row at.stands.is_placed in
+    let row = get_or course.order.now place 0 in
+    let path = get_or course.paths.now row c.index-course-row.result in
+    let here = stands_there course.paths.now course.order.now c.requires.1.1.1.0.order.inside place 0 c.index-course-row.result within in
+    IfOk-weaker c.settle.result
+    (λ end. (row : ℕ) (route : Route) → StandsInOrder course.paths.now course.order.now place row route
+    → Settles course place row route c.in_ok-ended.ended end c.args.outcomes.now c.settle.new.outcomes c.args.proofs.now.items
+    c.settle.new.proofs.items)
+    (λ end. AddsProofs c.args.course.now.aim c.args.proofs.now.items c.settle.new.proofs.items)
+    (λ end settles.
+    (visited_along old course c.requires.1.1.1.0 g.begin place row path here c.args.descent.now c.args.outcomes.now c.args.proofs.now.items
+    c.args.steps.now c.requires.1.1.1.1.1.1.0 at (standing c.search.new.scope) c.in_ok-ended.ensures.same c.search.new.self c.in_ok-ended.ended
+    c.in_ok-ended.ensures.ended c.in_ok-ended.ensures.gone c.search.new.steps c.in_ok-ended.ensures.moved end c.settle.new.outcomes
+    c.settle.new.proofs.items (settles row path here)).3)
+    c.settle.ensures
+
+pub returns-then-not-course-row-clause-counted : goal.returns-then-not-course-row-clause-counted
+returns-then-not-course-row-clause-counted g c =
+    let old = standing c.args.scope.now in
+    let come = c.requires.1.1.1.1.1.1.0 in
+    all_counted old.net old.rules c.args.course.now g.begin c.args.place c.args.outcomes.now c.args.proofs.now.items c.args.steps.now
+    come.come.come
+
+pub returns-in_err-ended-clause-counted : goal.returns-in_err-ended-clause-counted
+returns-in_err-ended-clause-counted g c =
+    let course = c.args.course.now in
+    let place = c.args.place in
+    let at = c.requires.1.1.1.1.1.1.1 in
+    let within = slice_get_within course.order.now place at.row at.stands.is_placed in
+    let row = get_or course.order.now place 0 in
+    counted_on (standing c.args.scope.now) course c.requires.1.1.1.0 g.begin place row
+    (get_or course.paths.now row c.index-course-row.result)
+    (stands_there course.paths.now course.order.now c.requires.1.1.1.0.order.inside place 0 c.index-course-row.result within)
+    c.args.descent.now c.args.outcomes.now c.args.proofs.now.items c.args.steps.now c.requires.1.1.1.1.1.1.0 c.search.new.steps
+    c.search.ensures.counted
+
+pub returns-clause-counted : goal.returns-clause-counted
+returns-clause-counted g c =
+    let course = c.args.course.now in
+    let place = c.args.place in
+    let at = c.requires.1.1.1.1.1.1.1 in
+    let within = slice_get_within course.order.now place at.row at.stands.is_placed in
+    let row = get_or course.order.now place 0 in
+    counted_on (standing c.args.scope.now) course c.requires.1.1.1.0 g.begin place row
+    (get_or course.paths.now row c.index-course-row.result)
+    (stands_there course.paths.now course.order.now c.requires.1.1.1.0.order.inside place 0 c.index-course-row.result within)
+    c.args.descent.now c.args.outcomes.now c.args.proofs.now.items c.args.steps.now c.requires.1.1.1.1.1.1.0 c.search.new.steps
+    c.search.ensures.counted

@@ -1,0 +1,119 @@
+-- One path after another is visited, as long as they begin at the source.
+use Rattle.std.proofs.Common.{◌≡◌, ⊎_elim, ℕ, ◌<◌, ◌≤◌, true≢false, List, [], refl, sym, subst, ◌∙◌, arith}
+use Rattle.std.proofs.lemmas.Bool.{cases_lt}
+use Rattle.std.proofs.lemmas.Option.{slice_get_within}
+use Rattle.pd_base.specs.declared.ids.PinRef.{PinRef}
+use Rattle.netlist.specs.Circuit.{Circuit}
+use Rattle.implication.specs.Scopes.{standing}
+use Rattle.justify.specs.Desks.{IsDeskFor}
+use Rattle.prefix_sensitize.specs.Coming.{HasComeAlong}
+use Rattle.prefix_sensitize.specs.Courses.{BeginsAt}
+use Rattle.prefix_sensitize.proofs.Along.{begun_at, come_behind, same_course}
+use Rattle.prefix_sensitize.proofs.Descents.{same_twice}
+use Rattle.prefix_sensitize.proofs.Passing.{adds_none, adds_on, all_counted, come_from}
+use Rattle.prefix_sensitize.proofs.walking.walk_from.Goals as goal
+
+pub paths-init : goal.paths-init
+paths-init g c =
+    let course = c.args.course.now in
+    let place = c.args.place in
+    let old = standing c.args.scope.now in
+    let is_course = c.requires.1.1.1.1.0 in
+    let at = c.requires.1.1.1.1.1.1.0 in
+    let within = slice_get_within course.order.now place at.row at.stands.is_placed in
+    let P : List PinRef → Type 0 =
+    λ pins. HasComeAlong old course g.begin place pins c.args.outcomes.now c.args.proofs.now.items c.args.steps.now in
+    record {
+      scope = record { engine = refl; origin = refl };
+      same = record { net = refl; rules = refl; ends = refl; beginning = refl };
+      desk = c.requires.1.1.1.1.1.0;
+      come =
+          subst P (sym c.new-descent.ensures)
+          (record {
+            source = c.args.source;
+            gone = c.requires.1.1.1.0;
+            come =
+                come_from old.net old.rules course is_course.order g.begin place c.args.outcomes.now c.args.proofs.now.items
+                c.args.steps.now c.args.source c.requires.1.1.1.1.1.1.1.1;
+          });
+      adds = adds_none course.aim c.args.proofs.now.items;
+      behind = omega arith;
+      within = omega (arith, within);
+    }
+
+pub visit-requires : goal.visit-requires
+visit-requires g c κs lives =
+    let course = c.args.course.now in
+    let old = standing c.args.scope.now in
+    let new = standing c.paths.scope in
+    let same = c.paths.invariant.same in
+    let P : Circuit → Type 0 = λ n. IsDeskFor n c.paths.desk in (
+      lives.0,
+      (
+        lives.1,
+        (
+          c.paths.invariant.scope.origin ∙ c.requires.1.1.0,
+          (
+            same_course old new same course c.requires.1.1.1.1.0,
+            (
+              subst P (sym same.net) c.paths.invariant.desk,
+              (
+                c.requires.1.1.1.1.1.1.1.0,
+                (
+                  c.paths.invariant.come,
+                  begun_at old new same course c.args.source [] c.requires.1.1.1.0 c.paths.at
+                      (c.begins_at.ensures.0 c.paths-test.true),
+                ),
+              ),
+            ),
+          ),
+        ),
+      ),
+    )
+
+pub paths-preserved : goal.paths-preserved
+paths-preserved g c =
+    let before = c.paths.invariant in
+    let after = c.in_ok-at.ensures in
+    let P : Circuit → Type 0 = λ n. IsDeskFor n c.visit.new.desk in
+    let low = before.behind in
+    let on = after.on in
+    record {
+      scope = record { engine = after.scope.engine ∙ before.scope.engine; origin = after.scope.origin ∙ before.scope.origin };
+      same = same_twice (standing c.args.scope.now) (standing c.paths.scope) (standing c.visit.new.scope) before.same after.same;
+      desk = subst P before.same.net after.desk;
+      come = after.come;
+      adds =
+          adds_on c.args.course.now.aim c.args.proofs.now.items c.paths.proofs.items c.visit.new.proofs.items before.adds after.adds;
+      behind = omega (arith, low, on);
+      within = after.within;
+    }
+
+pub paths-smaller : goal.paths-smaller
+paths-smaller g c =
+    let on = c.in_ok-at.ensures.on in
+    let within = c.in_ok-at.ensures.within in
+    omega (arith, on, within)
+
+pub returns-clause-come : goal.returns-clause-come
+returns-clause-come g c =
+    come_behind (standing c.args.scope.now) (standing c.paths.scope) c.paths.invariant.same c.args.course.now c.requires.1.1.1.1.0
+    c.args.source [] c.requires.1.1.1.0 g.begin c.paths.at c.paths.descent c.paths.outcomes c.paths.proofs.items c.paths.steps
+    c.paths.invariant.come
+    (λ at. true≢false (sym (c.begins_at.ensures.1 at) ∙ c.paths-test.false))
+
+pub returns-clause-on : goal.returns-clause-on
+returns-clause-on g c =
+    ⊎_elim (λ (less : c.args.place < c.paths.at). less)
+    (λ (not : c.paths.at ≤ c.args.place).
+    let low = c.paths.invariant.behind in
+    let same : c.args.place ≡ c.paths.at = omega (arith, not, low) in
+    let P : ℕ → Type 0 = λ n. BeginsAt c.args.course.now n c.args.source in
+    absurd (true≢false (sym (c.begins_at.ensures.1 (subst P same c.requires.1.1.1.1.1.1.0)) ∙ c.paths-test.false)))
+    (cases_lt c.args.place c.paths.at)
+
+pub returns-clause-counted : goal.returns-clause-counted
+returns-clause-counted g c =
+    let new = standing c.paths.scope in
+    let come = c.paths.invariant.come in
+    all_counted new.net new.rules c.args.course.now g.begin c.paths.at c.paths.outcomes c.paths.proofs.items c.paths.steps come.come.come

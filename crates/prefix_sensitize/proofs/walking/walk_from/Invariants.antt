@@ -1,0 +1,25 @@
+use Rattle.std.proofs.Common.{◌-◌, ◌≤◌, length}
+use Rattle.implication.specs.Scopes.{IsSameScope, standing}
+use Rattle.justify.specs.Desks.{IsDeskFor}
+use Rattle.prefix_sensitize.specs.Coming.{HasComeAlong}
+use Rattle.prefix_sensitize.specs.Entering.{IsSameBeginning}
+use Rattle.prefix_sensitize.specs.Outcomes.{AddsProofs}
+use Rattle.prefix_sensitize.proofs.walking.walk_from.Given as goal
+
+abbrev pub ghost-visit : goal.ghost-visit
+ghost-visit g a = g.begin
+
+-- the scope stands where the walk has come to
+abbrev pub invariant-paths : goal.invariant-paths
+invariant-paths g l = record {
+  scope : IsSameScope l.fn.scope l.scope;
+  same : IsSameBeginning (standing l.fn.scope) (standing l.scope);
+  desk : IsDeskFor (standing l.fn.scope).net l.desk;
+  come : HasComeAlong (standing l.scope) l.course g.begin l.at l.descent l.outcomes l.proofs.items l.steps;
+  adds : AddsProofs l.course.aim l.fn.proofs.items l.proofs.items;
+  behind : l.place ≤ l.at;
+  within : l.at ≤ length l.course.order.now;
+}
+
+abbrev pub decreases-paths : goal.decreases-paths
+decreases-paths g l = length l.course.order.now - l.at

@@ -1,0 +1,96 @@
+-- A scope is opened at the source of the path at this place, and left behind the last path from it.
+use Rattle.std.proofs.Common.{ℕ, ◌+◌, true≢false, List, [], get_or, Option, sym, subst, subst₂, ◌∙◌, refl}
+use Rattle.std.proofs.lemmas.Result.{IfOk-weaker}
+use Rattle.pd_base.specs.declared.ids.LineId.{LineId}
+use Rattle.pd_base.specs.declared.rules.Rules.{Rules}
+use Rattle.pd_base.specs.Route.{Route}
+use Rattle.netlist.specs.Circuit.{Circuit}
+use Rattle.implication.specs.Scopes.{standing}
+use Rattle.justify.specs.Desks.{IsDeskFor}
+use Rattle.prefix_sensitize.specs.Coming.{HasComeApart}
+use Rattle.prefix_sensitize.specs.Courses.{IsCourse}
+use Rattle.prefix_sensitize.proofs.Passing.{all_counted, come_alone, come_from, come_past}
+use Rattle.prefix_sensitize.proofs.PathOrder.{stands_there}
+use Rattle.prefix_sensitize.proofs.walking.walk_source.Goals as goal
+
+pub returns-then-not-course-row-clause-come : goal.returns-then-not-course-row-clause-come
+returns-then-not-course-row-clause-come g c =
+    let course = c.args.course.now in
+    let place = c.args.place in
+    let old = c.args.engine.now in
+    let is_order = c.requires.1.1.1.0.order in
+    let source : LineId = record { 0 = 0 } in
+    let none : Route = record { source = source; steps = [] } in
+    let row = get_or course.order.now place 0 in
+    come_alone old.net old.rules course is_order g.begin (place + 1) c.args.outcomes.now c.args.proofs.now.items c.args.steps.now source
+    (come_past old.net old.rules course is_order g.begin place c.args.outcomes.now c.args.proofs.now.items c.args.steps.now row
+    (get_or course.paths.now row none) (stands_there course.paths.now course.order.now is_order.inside place 0 none c.requires.1.1.1.1.1.0)
+    (λ need. true≢false (sym need ∙ c.if-not-course-row.true)) (record { source = source; steps = [] })
+    (come_from old.net old.rules course is_order g.begin place c.args.outcomes.now c.args.proofs.now.items c.args.steps.now source
+    c.requires.1.1.1.1.1.1.1))
+
+pub walk_from-requires : goal.walk_from-requires
+walk_from-requires g c κs lives =
+    let course = c.args.course.now in
+    let place = c.args.place in
+    let begun = c.begin-scope.ensures.begun in
+    let row = get_or course.order.now place 0 in
+    let C : Circuit → Option (List LineId) → Type 0 = λ n ends. IsCourse n ends course in
+    let D : Circuit → Type 0 = λ n. IsDeskFor n c.args.desk.now in
+    let H : Circuit → Rules → Type 0 =
+    λ n rules. HasComeApart n rules course g.begin place c.args.outcomes.now c.args.proofs.now.items c.args.steps.now in (
+      lives.0,
+      (
+        lives.1,
+        (
+          c.begin-scope.ensures.origin,
+          (
+            record { beginning = begun.beginning; entered = begun.nothing; free = c.begin-scope.ensures.four_states refl },
+            (
+              subst₂ C (sym begun.net) (sym begun.ends) c.requires.1.1.1.0,
+              (
+                subst D (sym begun.net) c.requires.1.1.1.1.0,
+                (
+                  record {
+                    row = row;
+                    route = get_or course.paths.now row c.index-course-row.result;
+                    stands =
+                        stands_there course.paths.now course.order.now c.requires.1.1.1.0.order.inside place 0 c.index-course-row.result
+                        c.requires.1.1.1.1.1.0;
+                    source = sym c.source-source.ensures;
+                  },
+                  (c.requires.1.1.1.1.1.1.0, subst₂ H (sym begun.net) (sym begun.rules) c.requires.1.1.1.1.1.1.1),
+                ),
+              ),
+            ),
+          ),
+        ),
+      ),
+    )
+
+pub returns-clause-desk : goal.returns-clause-desk
+returns-clause-desk g c =
+    let D : Circuit → Type 0 = λ n. IsDeskFor n c.walk_from.new.desk in
+    subst D c.begin-scope.ensures.begun.net c.walk_from.ensures.desk
+
+pub returns-clause-come : goal.returns-clause-come
+returns-clause-come g c =
+    let course = c.args.course.now in
+    let old = c.args.engine.now in
+    let new = standing c.begin-scope.result in
+    let begun = c.begin-scope.ensures.begun in
+    IfOk-weaker c.walk_from.result
+    (λ (end : ℕ). HasComeApart new.net new.rules course g.begin end c.walk_from.new.outcomes c.walk_from.new.proofs.items c.walk_from.new.steps)
+    (λ (end : ℕ). HasComeApart old.net old.rules course g.begin end c.walk_from.new.outcomes c.walk_from.new.proofs.items c.walk_from.new.steps)
+    (λ end come.
+    let H : Circuit → Rules → Type 0 =
+    λ n rules. HasComeApart n rules course g.begin end c.walk_from.new.outcomes c.walk_from.new.proofs.items c.walk_from.new.steps in
+    subst₂ H begun.net begun.rules come)
+    c.walk_from.ensures.come
+
+pub returns-then-not-course-row-clause-counted : goal.returns-then-not-course-row-clause-counted
+returns-then-not-course-row-clause-counted g c =
+    let old = c.args.engine.now in
+    let come = c.requires.1.1.1.1.1.1.1 in
+    all_counted old.net old.rules c.args.course.now g.begin c.args.place c.args.outcomes.now c.args.proofs.now.items c.args.steps.now
+    come.come

@@ -1,0 +1,88 @@
+-- How far a scope has gone along paths from its source, and what a search in it ends with (this project's own).
+use Rattle.std.specs.Prelude.{◌≡◌, ℕ, ◌+◌, ◌<◌, ◌≤◌, [], ◌∷◌, List, Some, None, length, map, take}
+use Rattle.pd_base.specs.Route.{Route}
+use Rattle.pd_base.specs.declared.ids.PinRef.{PinRef}
+use Rattle.pd_base.specs.declared.rules.Rules.{Rules}
+use Rattle.netlist.specs.Circuit.{Circuit}
+use Rattle.netlist.specs.Paths.{prefix_of}
+use Rattle.runs.specs.declared.tree.Node.{Node}
+use Rattle.runs.specs.declared.tree.Node.TheVariants.{Closed}
+use Rattle.runs.specs.Trees.{split_count}
+use Rattle.tree_laws.specs.Refutations.{IsRefutation}
+use Rattle.tree_laws.specs.Spent.{IsSpent}
+use Rattle.implication.specs.declared.assumption.Assumption.TheVariants.{Entered}
+use Rattle.implication.specs.Standing.{Standing}
+use Rattle.justify.specs.declared.answer.Found.{Found}
+use Rattle.justify.specs.declared.answer.Found.TheVariants as found
+use Rattle.good_runs.specs.Shortest.{ClosesAtStart}
+use Rattle.prefix_sensitize.specs.declared.outcome.Aim.{Aim}
+use Rattle.prefix_sensitize.specs.declared.descent.Ended.{Ended}
+use Rattle.prefix_sensitize.specs.declared.descent.Ended.TheVariants.{Test, Spent, Refuted}
+use Rattle.prefix_sensitize.specs.Outcomes.{IsTestPair, target_for}
+use Rattle.prefix_sensitize.specs.PathOrder.{ShareSteps}
+
+-- the scope was begun for the aim at the source of the path, and these pins were entered since; no conflict stands
+pub record HasGone (standing : Standing) (path : Route) (aim : Aim) (pins : List PinRef) : Type 0 where
+  pub beginning : standing.beginning ≡ Some (record { source = path.source; direction = aim.dir; kind = aim.kind })
+  pub entered : standing.assumptions ≡ map Entered pins
+  pub free : standing.conflict ≡ None
+
+-- all is the same but what was entered, and how often a conflict came
+pub record IsSameBeginning (old new : Standing) : Type 0 where
+  pub net : new.net ≡ old.net
+  pub rules : new.rules ≡ old.rules
+  pub ends : new.ends ≡ old.ends
+  pub beginning : new.beginning ≡ old.beginning
+
+-- no scope is open any more on the engine; its circuit, its rules and what it tells are the same
+pub record IsIdleAgain (old new : Standing) : Type 0 where
+  pub net : new.net ≡ old.net
+  pub rules : new.rules ≡ old.rules
+  pub ends : new.ends ≡ old.ends
+  pub idle : new.beginning ≡ None
+
+-- the tree refutes the aim on the prefix of so many steps, within the budget; and where the start closes there it is one closed leaf, and
+-- the start of no shorter prefix closes
+pub record RefutesPrefix (c : Circuit) (rules : Rules) (aim : Aim) (path : Route) (steps : ℕ) (tree : List Node) : Type 0 where
+  pub has_steps : steps ≤ length path.steps
+  pub refutes : IsRefutation c rules (target_for aim (prefix_of steps path)) tree
+  pub within_budget : split_count tree ≤ aim.budget
+  pub shortest : ClosesAtStart c rules (target_for aim (prefix_of steps path))
+      → (tree ≡ Closed ∷ []) × ((fewer : ℕ) → fewer < steps → ¬ ClosesAtStart c rules (target_for aim (prefix_of fewer path)))
+
+-- what was found on a scope that has entered a path of so many steps, as the end of the search for a test of the path
+abbrev pub ended_by : Found → ℕ → Ended
+ended_by (found.Test pair) steps = Test pair
+ended_by (found.Spent tree) steps = Spent tree
+ended_by (found.Refuted tree) steps = Refuted steps tree
+
+-- what the end of a search for a test of a path tells
+abbrev pub IsEnded : Circuit → Rules → Aim → Route → Ended → Type 0
+IsEnded c rules aim path (Test pair) = IsTestPair c (target_for aim path) pair
+IsEnded c rules aim path (Spent tree) = IsSpent c rules (target_for aim path) aim.budget tree
+IsEnded c rules aim path (Refuted steps tree) = RefutesPrefix c rules aim path steps tree
+
+-- how many pins of the path were tried in all: all of them, so that a refutation is one of the whole path, or up to the one at which a
+-- conflict came, which refutes the prefix up to it
+pub data ReachesPins (path : Route) (ended : Ended) (kept tried : ℕ) : Type 0 where
+  whole : kept ≡ length path.steps → tried ≡ length path.steps
+      → ((steps : ℕ) (tree : List Node) → ended ≡ Refuted steps tree → steps ≡ length path.steps) → ReachesPins path ended kept tried
+  closed : (tree : List Node) → ended ≡ Refuted (kept + 1) tree → tried ≡ kept + 1 → ReachesPins path ended kept tried
+
+-- no more steps were counted than the path has pins behind those that it shares with these
+pub record CountsPins (pins : List PinRef) (path : Route) (old new : ℕ) : Type 0 where
+  pub shared : ℕ
+  pub is_shared : ShareSteps pins path.steps shared
+  pub more : ℕ
+  pub counts : new ≡ old + more
+  pub within : shared + more ≤ length path.steps
+
+-- From pins that were entered on, those of the path were: what they share with it stayed, and so many more were entered, one of which may
+-- have been left again.
+pub record HasMovedOn (old new : List PinRef) (path : Route) (ended : Ended) (more : ℕ) : Type 0 where
+  pub shared : ℕ
+  pub is_shared : ShareSteps old path.steps shared
+  pub kept : ℕ
+  pub stays : shared ≤ kept
+  pub stand : new ≡ take kept path.steps
+  pub reaches : ReachesPins path ended kept (shared + more)

@@ -1,0 +1,23 @@
+-- The bits that tests expect (this project's own).
+use Rattle.std.specs.Prelude.{◌≡◌, ℕ, ◌-◌, ◌<◌, ◌≤◌, List, map, slice_get, Some}
+use Rattle.pd_base.specs.declared.test.Test.{Test}
+use Rattle.netlist.specs.Circuit.{Circuit}
+use Rattle.netlist.specs.Values.{observed_values}
+use Rattle.logic_values.specs.Lanes.{IsInLane}
+
+-- the test, expecting what the observed lines have under its second vector
+abbrev pub expecting : Circuit → Test → Test
+expecting c test = record test { expected = observed_values c test.pair.second }
+
+-- of the tests those between two places got the bits that they expect
+pub record AreFilled (c : Circuit) (begin end : ℕ) (old new : List Test) : Type 0 where
+  pub inside : (place : ℕ) (test : Test) → begin ≤ place → place < end → slice_get old place ≡ Some test
+      → slice_get new place ≡ Some (expecting c test)
+  pub before : (place : ℕ) → place < begin → slice_get new place ≡ slice_get old place
+  pub behind : (place : ℕ) → end ≤ place → slice_get new place ≡ slice_get old place
+
+-- the second vector of each test between two places stands in the lane of its place among them
+abbrev pub AreInLanes : ℕ → ℕ → List Test → List ℕ → Type 0
+AreInLanes begin end tests words =
+    (place : ℕ) (test : Test) → begin ≤ place → place < end → slice_get tests place ≡ Some test
+    → IsInLane words (place - begin) test.pair.second

@@ -1,0 +1,27 @@
+// What a walk goes by: the listed paths in an order, and what is searched for on them.
+ghost use Rattle.std.specs.Prelude.{◌<◌, ◌↔◌, All, IsTrue, length};
+ghost use Rattle.prefix_sensitize.specs.Courses.{BeginsAt};
+
+use crate::outcome::Aim;
+use pd_base::{LineId, Path};
+
+/// The listed paths in the order of a walk, those of them for which an outcome is asked, and what is searched for.
+#[derive(Clone, Copy, Debug)]
+pub(crate) struct Course<'a> {
+    /// The listed paths.
+    pub(crate) paths: &'a [Path],
+    /// Their rows, in the order of the walk.
+    pub(crate) order: &'a [usize],
+    /// For each row, whether an outcome is asked for.
+    pub(crate) needed: &'a [bool],
+    /// What is searched for.
+    pub(crate) aim: Aim,
+}
+
+/// Whether a path stands at this place, and begins at this source.
+pub(crate) fn begins_at(course: &Course, place: usize, source: LineId) -> bool
+    requires { All (λ row. row < length course.now.paths.now) course.now.order.now }
+    ensures { IsTrue result ↔ BeginsAt course.now place source }
+{
+    place < course.order.len() && course.paths[course.order[place]].source() == source
+}

@@ -1,0 +1,245 @@
+// Along a path: the pins that a scope has entered since it began, and the search for a test of a path. It goes back to where these pins
+// are the path's own, enters the others one by one, and then searches. The walk over the paths is in walking.rt.
+ghost use Rattle.std.specs.Prelude.{◌≡◌, ◌+◌, ◌<◌, ◌≤◌, ◌^◌, ◌∷◌, ◌++◌, [], ℕ, Some, None, true, min, length, map, take, IfOk, OnOk};
+ghost use Rattle.netlist.specs.Paths.{IsPath, end_of, prefix_of};
+ghost use Rattle.implication.specs.declared.assumption.Assumption.TheVariants.{Entered};
+ghost use Rattle.implication.specs.declared.assumption.Origin.TheVariants.{Begun};
+ghost use Rattle.implication.specs.Moves.{back_at};
+ghost use Rattle.implication.specs.Scopes.{IsSameScope, standing};
+ghost use Rattle.implication.specs.Standing.{IsTold};
+ghost use Rattle.justify.specs.Desks.{IsDeskFor};
+ghost use Rattle.prefix_sensitize.specs.AlongPaths.{ClosesFrom, IsAtPin, LeadsAlong, TriesPin};
+ghost use Rattle.prefix_sensitize.specs.Entering.{CountsPins, HasGone, HasMovedOn, IsEnded, IsSameBeginning, ended_by};
+ghost use Rattle.prefix_sensitize.specs.PathOrder.{ShareSteps};
+ghost use Rattle.prefix_sensitize.specs.Walks.{IsBudget};
+
+use crate::outcome::Aim;
+use crate::sharing::shared_steps;
+use implication::{Scope, ScopeMark, Setting};
+use justify::{Desk, Found, search_at};
+use pd_base::{OutOfMemory, Pair, Path, PinRef, Steps};
+use runs::{Node, Tree};
+use state_sets::FourStates;
+use std::alloc::Global;
+use std::marker::Model;
+
+/// What a search for a test of a path ends with.
+#[derive(Debug, Drop)]
+pub(crate) enum Ended {
+    /// A pair that is a test.
+    Test(Pair),
+    /// A tree that spent the budget.
+    Spent(Tree),
+    /// A refutation of the prefix of so many steps.
+    Refuted { steps: usize, tree: Tree },
+}
+
+/// The pins that a scope has entered since its beginning, each with the mark before it. Contracts see the list of pins.
+#[derive(Debug, Drop)]
+pub(crate) struct Descent {
+    pins: Vec<PinRef>,
+    marks: Vec<ScopeMark>,
+}
+
+impl Model for Descent {
+    ghost use Rattle.std.specs.Prelude.{List};
+    ghost use Rattle.pd_base.specs.declared.ids.PinRef.{PinRef};
+    ghost use Rattle.prefix_sensitize.specs.Marks.{AreMarksOf};
+
+    ghost Value = { List PinRef };
+
+    ghost view = { λ d. d.pins.items };
+
+    ghost invariant = { λ d. AreMarksOf d.pins.items d.marks.items };
+}
+
+impl Descent {
+    /// No pin is entered.
+    pub(crate) fn new(alloc: Global) -> Descent
+        ensures { result ≡ [] }
+    {
+        Descent {
+            pins: Vec::new(alloc),
+            marks: Vec::new(alloc),
+        }
+    }
+
+    /// Goes on to a path from where the scope stands, which began at the path's source, and searches for a test of it. The pins that are
+    /// shared with the path stay entered, and each other one of the path counts one step. A conflict at a pin ends the search: the pin is
+    /// left again, and one closed leaf refutes the prefix up to it. Otherwise the search is one of the whole path.
+    ///
+    /// Afterwards the scope stands at the last pin that was entered and not left. `OutOfMemory` comes where a growth was refused; where
+    /// the scope stands is not promised then, but that no more steps were counted.
+    pub(crate) fn search<S: Setting, L>(
+        &mut self,
+        alloc: Global,
+        scope: &mut Scope<FourStates, S>,
+        desk: &mut Desk,
+        path: &Path,
+        aim: Aim,
+        steps: &mut Steps<L>,
+    ) -> Result<Ended, OutOfMemory>
+        requires begun { scope.old.origin ≡ Begun }
+        requires path { IsPath (standing scope.old).net path.now }
+        requires told { IsTold (standing scope.old) (end_of (standing scope.old).net path.now) }
+        requires desk { IsDeskFor (standing scope.old).net desk.old }
+        requires budget { IsBudget aim.budget }
+        requires gone { HasGone (standing scope.old) path.now aim self.old }
+        requires room { steps.old + length path.now.steps < 2 ^ 64 }
+        ensures desk { IsDeskFor (standing scope.old).net desk.new }
+        ensures scope { IsSameScope scope.old scope.new }
+        ensures same { IsSameBeginning (standing scope.old) (standing scope.new) }
+        ensures ended { IfOk result (IsEnded (standing scope.old).net (standing scope.old).rules aim path.now) }
+        ensures gone { IfOk result (λ _. HasGone (standing scope.new) path.now aim self.new) }
+        ensures counted { CountsPins self.old path.now steps.old steps.new }
+        ensures moved { IfOk result (λ ended. (more : ℕ) × (steps.new ≡ steps.old + more) × HasMovedOn self.old self.new path.now ended more) }
+    {
+        let shared = self.go_back(scope, path);
+        let kept = self.go_on(scope, path, shared, steps)?;
+        if kept < path.steps().len() {
+            let tree = closed_leaf(alloc)?;
+            return Ok(Ended::Refuted {
+                steps: kept + 1,
+                tree,
+            });
+        }
+        let found = search_at(alloc, scope, desk, path, aim.dir, aim.kind, aim.budget)?;
+        Ok(ended_by(found, kept))
+    }
+
+    // Goes back to where the entered pins are the first ones of a path, and tells how many these are.
+    fn go_back<S: Setting>(&mut self, scope: &mut Scope<FourStates, S>, path: &Path) -> usize
+        requires begun { scope.old.origin ≡ Begun }
+        requires entered { (standing scope.old).assumptions ≡ map Entered self.old }
+        requires free { (standing scope.old).conflict ≡ None }
+        ensures scope { IsSameScope scope.old scope.new }
+        ensures same { IsSameBeginning (standing scope.old) (standing scope.new) }
+        ensures shared { ShareSteps self.old path.now.steps result }
+        ensures at { IsAtPin (standing scope.new) self.new path.now result }
+    {
+        let shared = shared_steps(self.pins(), path.steps());
+        self.back_to(scope, shared);
+        // no conflict stands, so each line has some state
+        if scope.conflict().is_some() {
+            unreachable!()
+        }
+        shared
+    }
+
+    // Goes back to where only the first pins, so many, were entered. Where no more are, nothing changes.
+    fn back_to<S: Setting>(&mut self, scope: &mut Scope<FourStates, S>, count: usize)
+        requires begun { scope.old.origin ≡ Begun }
+        requires entered { (standing scope.old).assumptions ≡ map Entered self.old }
+        ensures scope { IsSameScope scope.old scope.new }
+        ensures pins { self.new ≡ take count self.old }
+        ensures back { standing scope.new ≡ back_at (standing scope.old) count }
+    {
+        if count < self.marks.len() {
+            scope.back_to(self.marks[count]);
+            self.marks.truncate(count);
+            self.pins.truncate(count);
+        }
+    }
+
+    // Enters the pins of a path behind the first ones, so many, which are entered. Tells how many are entered then: where these are not
+    // all, a conflict came up at the next one, which was left again.
+    fn go_on<S: Setting, L>(
+        &mut self,
+        scope: &mut Scope<FourStates, S>,
+        path: &Path,
+        from: usize,
+        steps: &mut Steps<L>,
+    ) -> Result<usize, OutOfMemory>
+        requires along { LeadsAlong (standing scope.old) path.now }
+        requires at { IsAtPin (standing scope.old) self.old path.now from }
+        requires room { steps.old + length path.now.steps < 2 ^ 64 }
+        ensures scope { IsSameScope scope.old scope.new }
+        ensures same { IsSameBeginning (standing scope.old) (standing scope.new) }
+        ensures farther { IfOk result (λ kept. from ≤ kept) }
+        ensures at { IfOk result (IsAtPin (standing scope.new) self.new path.now) }
+        ensures closes { IfOk result (λ kept. kept < length path.now.steps → ClosesFrom (standing scope.old) (prefix_of (kept + 1) path.now)) }
+        ensures counted { IfOk result (λ kept. from + steps.new ≡ steps.old + min (kept + 1) (length path.now.steps)) }
+        ensures more { steps.old ≤ steps.new }
+        ensures few { from + steps.new ≤ steps.old + length path.now.steps }
+    {
+        for count in from..path.steps().len() {
+            if !self.enter(scope, path, count, steps)? {
+                return Ok(count);
+            }
+        }
+        Ok(path.steps().len())
+    }
+
+    // Enters the pin of a path that is behind the first ones, so many, which are entered. Where a conflict comes up at it, it is left
+    // again, and the answer is false.
+    fn enter<S: Setting, L>(
+        &mut self,
+        scope: &mut Scope<FourStates, S>,
+        path: &Path,
+        count: usize,
+        steps: &mut Steps<L>,
+    ) -> Result<bool, OutOfMemory>
+        requires along { LeadsAlong (standing scope.old) path.now }
+        requires at { IsAtPin (standing scope.old) self.old path.now count }
+        requires more { count < length path.now.steps }
+        requires room { steps.old < u64.MAX }
+        ensures scope { IsSameScope scope.old scope.new }
+        ensures same { IsSameBeginning (standing scope.old) (standing scope.new) }
+        ensures tried { IfOk result (TriesPin (standing scope.old) (standing scope.new) path.now count self.new) }
+        ensures counted { steps.new ≡ steps.old + 1 }
+    {
+        let pin = path.steps()[count];
+        let mark = scope.mark();
+        match scope.enter(pin, steps) {
+            Ok(()) => {
+                self.note(pin, mark)?;
+                Ok(true)
+            }
+            Err(_) => {
+                scope.back_to(mark);
+                Ok(false)
+            }
+        }
+    }
+
+    // The pins that are entered.
+    fn pins(&self) -> &[PinRef]
+        ensures { result.now ≡ self.now }
+    {
+        self.pins.as_slice()
+    }
+
+    // Notes a pin that was entered, and the mark before it.
+    fn note(&mut self, pin: PinRef, mark: ScopeMark) -> Result<(), OutOfMemory>
+        requires { mark.at ≡ length self.old }
+        ensures { OnOk result (self.new ≡ self.old ++ pin ∷ []) }
+    {
+        self.pins.reserve(1)?;
+        self.marks.reserve(1)?;
+        self.pins.push_reserved(pin);
+        self.marks.push_reserved(mark);
+        Ok(())
+    }
+}
+
+// The tree that is one closed leaf.
+fn closed_leaf(alloc: Global) -> Result<Tree, OutOfMemory>
+    ensures { IfOk result (λ tree. tree ≡ Node.Closed ∷ []) }
+{
+    let nodes = vec![in alloc; Node::Closed]?;
+    match Tree::from_nodes(nodes) {
+        Some(tree) => Ok(tree),
+        None => unreachable!(),
+    }
+}
+
+// What a search on a scope that has entered a path of so many steps found, as the end of the search for a test of the path.
+fn ended_by(found: Found, steps: usize) -> Ended
+    ensures { result ≡ ended_by found steps }
+{
+    match found {
+        Found::Test(pair) => Ended::Test(pair),
+        Found::Spent(tree) => Ended::Spent(tree),
+        Found::Refuted(tree) => Ended::Refuted { steps, tree },
+    }
+}

@@ -1,0 +1,87 @@
+// What the end of a search settles: the outcomes of paths, and a proof more.
+ghost use Rattle.std.specs.Prelude.{◌≡◌, ℕ, ◌+◌, ◌<◌, ◌≤◌, ◌^◌, All, IfOk, length};
+ghost use Rattle.pd_base.specs.Route.{Route};
+ghost use Rattle.netlist.specs.declared.limits.TheConstants.{MOST_LEVELS};
+ghost use Rattle.prefix_sensitize.specs.PathOrder.{IsOrder, StandsInOrder};
+ghost use Rattle.prefix_sensitize.specs.Settling.{AddsProof, HasItsSteps, Settles, found_proof};
+
+use crate::course::Course;
+use crate::descent::Ended;
+use crate::outcome::{Aim, Outcome};
+use crate::stretch::stretch_from;
+use pd_base::OutOfMemory;
+use runs::{Proof, Tree};
+
+// Takes down the end of a search for the path at this place. The answer is the place up to which paths are settled then.
+pub(crate) fn settle(
+    course: &Course,
+    place: usize,
+    ended: Ended,
+    outcomes: &mut [Outcome],
+    proofs: &mut Vec<Proof>,
+) -> Result<usize, OutOfMemory>
+    requires order { IsOrder course.now.paths.now course.now.order.now }
+    requires few { length course.now.paths.now < 2 ^ 32 }
+    requires short { All (λ route. length route.steps ≤ MOST_LEVELS) course.now.paths.now }
+    requires place { place < length course.now.order.now }
+    requires one_each { length outcomes.old ≡ length course.now.paths.now }
+    requires steps { (row : ℕ) (route : Route) → StandsInOrder course.now.paths.now course.now.order.now place row route → HasItsSteps route ended }
+    ensures { IfOk result (λ end. (row : ℕ) (route : Route) → StandsInOrder course.now.paths.now course.now.order.now place row route
+        → Settles course.now place row route ended end outcomes.old outcomes.new proofs.old.items proofs.new.items) }
+{
+    let row = course.order[place];
+    match ended {
+        Ended::Test(pair) => {
+            outcomes[row] = Outcome::Tested(pair);
+            Ok(place + 1)
+        }
+        Ended::Spent(tree) => {
+            let steps = course.paths[row].steps().len();
+            let proof = found_proof(course.aim, true, row, steps, tree);
+            add_proof(course.order, place, place + 1, proof, outcomes, proofs)
+        }
+        Ended::Refuted { steps, tree } => {
+            let stretch = stretch_from(course.paths, course.order, place, steps);
+            let proof = found_proof(course.aim, false, stretch.least, steps, tree);
+            add_proof(course.order, place, stretch.end, proof, outcomes, proofs)
+        }
+    }
+}
+
+// The proof by this tree, for an aim and so many steps of the path in this row.
+fn found_proof(aim: Aim, spent: bool, row: usize, steps: usize, tree: Tree) -> Proof
+    requires row { row + 1 < 2 ^ 32 }
+    requires steps { steps < 2 ^ 32 }
+    ensures { result ≡ found_proof aim spent row steps tree }
+{
+    Proof {
+        spent,
+        kind: aim.kind,
+        dir: aim.dir,
+        path: row as u32 + 1,
+        steps: steps as u32,
+        tree,
+    }
+}
+
+// Adds a proof, which becomes the outcome of the rows on the places from one up to another, which is the answer.
+fn add_proof(
+    order: &[usize],
+    place: usize,
+    end: usize,
+    proof: Proof,
+    outcomes: &mut [Outcome],
+    proofs: &mut Vec<Proof>,
+) -> Result<usize, OutOfMemory>
+    requires rows { All (λ row. row < length outcomes.old) order.now }
+    requires places { place ≤ end }
+    requires end { end ≤ length order.now }
+    ensures { IfOk result (λ to. (to ≡ end) × AddsProof order.now place end proof outcomes.old outcomes.new proofs.old.items proofs.new.items) }
+{
+    let index = proofs.len();
+    proofs.push(proof)?;
+    for at in place..end {
+        outcomes[order[at]] = Outcome::Proved(index);
+    }
+    Ok(end)
+}

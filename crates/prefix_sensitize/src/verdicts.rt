@@ -1,0 +1,209 @@
+// Gives the verdicts: each fault gets its test, or the numbers of the proofs that it needs, fault by fault in the order of the report.
+ghost use Rattle.std.specs.Prelude.{◌≡◌, ◌+◌, ◌-◌, ◌<◌, ◌^◌, ◌↔◌, [], length, IfOk, IsTrue, All};
+ghost use Rattle.pd_base.specs.Target.{target_of};
+ghost use Rattle.netlist.specs.Circuit.{line_count, source_count};
+ghost use Rattle.netlist.specs.Conditions.{Meets};
+ghost use Rattle.netlist.specs.Lawful.{IsCircuit};
+ghost use Rattle.netlist.specs.Paths.{IsPrefix};
+ghost use Rattle.good_runs.specs.Faults.{HasProof};
+ghost use Rattle.prefix_sensitize.specs.Outcomes.{IsOutcome};
+ghost use Rattle.prefix_sensitize.specs.Searches.{AreFaultOutcomes, AreSearches, Searches};
+ghost use Rattle.prefix_sensitize.specs.Numbering.{AreCited, HaveOneNumber};
+ghost use Rattle.prefix_sensitize.specs.Answers.{AddsTest, IsAnswered, IsAsked, IsWriterFor, written_by};
+
+use crate::numbering::{Numbering, cited_proofs};
+use crate::outcome::Outcome;
+use crate::searched::FaultOutcomes;
+use netlist::Netlist;
+use path_model::{Scratch, meets};
+use pd_base::{Direction, Items, Kind, OutOfMemory, Pair, Path, Test};
+use runs::{Proof, Verdict};
+use std::alloc::Global;
+
+/// What is written of a run so far, and the proofs that were found.
+#[derive(Drop)]
+pub(crate) struct Writer {
+    alloc: Global,
+    scratch: Scratch,
+    /// The proofs, in the order of finding.
+    pub(crate) found: Vec<Proof>,
+    /// The numbers of those that were cited.
+    pub(crate) numbering: Numbering,
+    /// The tests, in the order of their numbers. They expect no bits yet.
+    pub(crate) tests: Vec<Test>,
+}
+
+impl Writer {
+    /// Nothing is written yet.
+    pub(crate) fn new(
+        alloc: Global,
+        net: &Netlist,
+        found: Vec<Proof>,
+    ) -> Result<Writer, OutOfMemory>
+        ensures nothing { IfOk result (λ writer. written_by writer ≡ record { tests = []; cited = [] }) }
+        ensures room { IfOk result (λ writer. writer.scratch ≡ line_count net.now) }
+        ensures found { IfOk result (λ writer. writer.found ≡ found) }
+        ensures numbers { IfOk result (λ writer. writer.numbering.found ≡ length found.items) }
+        ensures circuit { IfOk result (λ _. IsCircuit net.now) }
+    {
+        // a netlist is a circuit
+        let _ = net.sources();
+        Ok(Writer {
+            alloc,
+            scratch: Scratch::new(alloc, net)?,
+            numbering: Numbering::new(alloc, found.len())?,
+            found,
+            tests: Vec::new(alloc),
+        })
+    }
+
+    /// The verdict on the fault of the listed path of this number and this direction. A fault is robust where a search gave a robust
+    /// test, or a nonrobust one that is robust after all; nonrobust where one gave a test that is nonrobust only; untestable where the
+    /// nonrobust conditions are refuted; and aborted where the budget was spent.
+    pub(crate) fn answer(
+        &mut self,
+        net: &Netlist,
+        number: u32,
+        path: &Path,
+        dir: Direction,
+        outcomes: FaultOutcomes,
+    ) -> Result<Verdict, OutOfMemory>
+        ghost searches: { Searches }
+        requires asked { IsAsked net.now searches number path.now self.old }
+        requires outcomes { AreFaultOutcomes net.now searches.routes searches.proofs (number - 1) dir path.now outcomes }
+        ensures answered { IfOk result (λ verdict. IsAnswered net.now searches number dir path.now (written_by self.old) (written_by self.new) verdict) }
+        ensures writer { IfOk result (λ _. IsWriterFor net.now searches self.new) }
+    {
+        let FaultOutcomes { robust, nonrobust } = outcomes;
+        match robust {
+            Outcome::Unsearched => unreachable!(),
+            Outcome::Tested(pair) => {
+                let test = add_test(self.alloc, &mut self.tests, number, dir, Kind::Robust, pair)?;
+                Ok(Verdict::Robust { test })
+            }
+            Outcome::Proved(proof) => { self.not_robust(net, number, path, dir, proof, nonrobust) }
+        }
+    }
+
+    // The verdict where the proof of this index shows that no robust test was found.
+    fn not_robust(
+        &mut self,
+        net: &Netlist,
+        number: u32,
+        path: &Path,
+        dir: Direction,
+        proof: usize,
+        nonrobust: Outcome,
+    ) -> Result<Verdict, OutOfMemory>
+        ghost searches: { Searches }
+        requires asked { IsAsked net.now searches number path.now self.old }
+        requires robust { HasProof searches.routes searches.proofs number (target_of path.now dir Kind.Robust) (proof + 1) }
+        requires nonrobust { IsOutcome net.now searches.routes searches.proofs (number - 1) (target_of path.now dir Kind.Nonrobust) nonrobust }
+        ensures answered { IfOk result (λ verdict. IsAnswered net.now searches number dir path.now (written_by self.old) (written_by self.new) verdict) }
+        ensures writer { IfOk result (λ _. IsWriterFor net.now searches self.new) }
+    {
+        // a netlist is a circuit
+        let _ = net.sources();
+        match nonrobust {
+            Outcome::Unsearched => unreachable!(),
+            Outcome::Tested(pair) => {
+                let refuted = !self.found[proof].spent;
+                if is_robust(net, path, dir, refuted, &pair, &mut self.scratch) {
+                    let test = add_test(
+                        self.alloc,
+                        &mut self.tests,
+                        number,
+                        dir,
+                        Kind::Robust,
+                        pair,
+                    )?;
+                    Ok(Verdict::Robust { test })
+                } else {
+                    let proof = self.numbering.cite(proof)?;
+                    let test = add_test(
+                        self.alloc,
+                        &mut self.tests,
+                        number,
+                        dir,
+                        Kind::Nonrobust,
+                        pair,
+                    )?;
+                    Ok(Verdict::Nonrobust { test, proof })
+                }
+            }
+            Outcome::Proved(index) => {
+                if self.found[index].spent {
+                    let robust = self.numbering.cite(proof)?;
+                    let nonrobust = self.numbering.cite(index)?;
+                    Ok(Verdict::Aborted { robust, nonrobust })
+                } else {
+                    let proof = self.numbering.cite(index)?;
+                    Ok(Verdict::Untestable { proof })
+                }
+            }
+        }
+    }
+
+    /// The tests, and the cited proofs, each in the order of their numbers.
+    pub(crate) fn into_parts(self) -> Result<(Vec<Test>, Vec<Proof>), OutOfMemory>
+        requires found { All (λ index. index < length self.found.items) self.numbering.cited }
+        requires once { HaveOneNumber self.numbering.cited }
+        ensures tests { IfOk result (λ parts. parts.0 ≡ self.tests) }
+        ensures proofs { IfOk result (λ parts. AreCited self.numbering.cited self.found.items parts.1.items) }
+    {
+        let Writer {
+            alloc,
+            scratch: _,
+            found,
+            numbering,
+            tests,
+        } = self;
+        let proofs = cited_proofs(alloc, numbering.cited(), found)?;
+        Ok((tests, proofs))
+    }
+}
+
+// Whether the pair that a nonrobust search gave is a robust test. Where the robust conditions are refuted none is, and the pair need
+// not be judged.
+fn is_robust(
+    net: &Netlist,
+    path: &Path,
+    dir: Direction,
+    refuted: bool,
+    pair: &Pair,
+    scratch: &mut Scratch,
+) -> bool
+    requires prefix { IsPrefix net.now path.now }
+    requires refuted { IsTrue refuted → ¬ Meets net.now (target_of path.now dir Kind.Robust) pair.now }
+    requires bits { length pair.now.first ≡ source_count net.now }
+    requires scratch { scratch.old ≡ line_count net.now }
+    ensures robust { IsTrue result ↔ Meets net.now (target_of path.now dir Kind.Robust) pair.now }
+    ensures scratch { scratch.new ≡ scratch.old }
+{
+    if refuted {
+        return false;
+    }
+    meets(net, path, dir, Kind::Robust, pair, scratch)
+}
+
+// Adds a test under the next number. It expects no bits yet.
+fn add_test(
+    alloc: Global,
+    tests: &mut Vec<Test>,
+    path: u32,
+    dir: Direction,
+    kind: Kind,
+    pair: Pair,
+) -> Result<u32, OutOfMemory>
+    requires { length tests.old.items + 1 < 2 ^ 32 }
+    ensures { IfOk result (λ number. AddsTest tests.old.items tests.new.items path dir kind pair number) }
+{
+    tests.push(Test {
+        path,
+        dir,
+        kind,
+        pair,
+        expected: Items::new(Vec::new(alloc)),
+    })?;
+    Ok(tests.len() as u32)
+}

@@ -1,0 +1,242 @@
+// The walk for one aim over the listed paths in their order: one scope a source, in which the search goes along one path after another.
+ghost use Rattle.std.specs.Prelude.{◌≡◌, ℕ, ◌+◌, ◌*◌, ◌<◌, ◌≤◌, ◌^◌, ◌∷◌, [], Some, None, length, replicate, IfOk, OnOk};
+ghost use Rattle.netlist.specs.declared.limits.TheConstants.{MOST_LEVELS};
+ghost use Rattle.implication.specs.declared.assumption.Origin.TheVariants.{Begun};
+ghost use Rattle.implication.specs.Scopes.{IsSameScope, standing};
+ghost use Rattle.justify.specs.Desks.{IsDeskFor};
+ghost use Rattle.prefix_sensitize.specs.Coming.{HasComeAlong, HasComeApart};
+ghost use Rattle.prefix_sensitize.specs.Courses.{BeginsAt, IsBegunAt, IsCourse};
+ghost use Rattle.prefix_sensitize.specs.Entering.{HasGone, IsIdleAgain, IsSameBeginning};
+ghost use Rattle.prefix_sensitize.specs.Outcomes.{AddsProofs, AreFoundProofs, AreOutcomes, NoneIsAbout};
+ghost use Rattle.prefix_sensitize.specs.PathOrder.{IsOrder};
+ghost use Rattle.prefix_sensitize.specs.Walks.{AreExcused, AreSearchablePaths, AreToldPaths, CountsPrefixes, IsBudget};
+
+use crate::course::{Course, begins_at};
+use crate::descent::Descent;
+use crate::outcome::{Aim, Outcome};
+use crate::path_tree::PathTree;
+use crate::settling::settle;
+use implication::{Engine, Scope, Setting};
+use justify::Desk;
+use pd_base::{LineId, OutOfMemory, Path, Steps};
+use runs::Proof;
+use state_sets::FourStates;
+use std::alloc::Global;
+
+/// Searches for tests of the listed paths, as far as outcomes are needed, and gives for each path its outcome. Each prefix is entered at
+/// most once, and counts one step. A refutation that comes up at a prefix settles all paths that have it: none of them is searched, and
+/// the one proof that is added to the list names the first listed path that has the prefix. No scope is open, and no proof is about this
+/// aim yet; where no outcome is needed there is a test.
+///
+/// Afterwards no scope is open, the desk serves as before, and each proof is one that was found for these paths. `OutOfMemory` comes where
+/// a growth was refused; promised is then only how far the count of steps rose: no prefix was counted twice.
+pub(crate) fn walk<S: Setting, L>(
+    alloc: Global,
+    engine: &mut Engine<FourStates, S>,
+    desk: &mut Desk,
+    paths: &[Path],
+    tree: &PathTree,
+    needed: &[bool],
+    aim: Aim,
+    proofs: &mut Vec<Proof>,
+    steps: &mut Steps<L>,
+) -> Result<Vec<Outcome>, OutOfMemory>
+    requires idle { engine.old.beginning ≡ None }
+    requires listed { AreSearchablePaths engine.old.net paths.now }
+    requires told { AreToldPaths engine.old paths.now }
+    requires desk { IsDeskFor engine.old.net desk.old }
+    requires tree { IsOrder paths.now tree.now.order }
+    requires needed { length needed.now ≡ length paths.now }
+    requires excused { AreExcused engine.old.net aim paths.now needed.now }
+    requires budget { IsBudget aim.budget }
+    requires found { AreFoundProofs engine.old.net engine.old.rules aim.budget paths.now proofs.old.items }
+    requires fresh { NoneIsAbout aim proofs.old.items }
+    requires room { steps.old + length paths.now * MOST_LEVELS < 2 ^ 64 }
+    ensures desk { OnOk result (IsDeskFor engine.old.net desk.new) }
+    ensures rest { OnOk result (IsIdleAgain engine.old engine.new) }
+    ensures outcomes { IfOk result (λ outcomes. AreOutcomes engine.old.net paths.now proofs.new.items needed.now aim outcomes.items) }
+    ensures found { OnOk result (AreFoundProofs engine.old.net engine.old.rules aim.budget paths.now proofs.new.items) }
+    ensures adds { OnOk result (AddsProofs aim proofs.old.items proofs.new.items) }
+    ensures steps { CountsPrefixes paths.now steps.old steps.new }
+{
+    // the netlist knows itself as a circuit
+    let _ = engine.net().lines();
+    let mut outcomes = unsearched(alloc, paths.len())?;
+    let course = Course {
+        paths,
+        order: tree.order(),
+        needed,
+        aim,
+    };
+    walk_course(
+        alloc,
+        engine,
+        desk,
+        &course,
+        outcomes.as_mut_slice(),
+        proofs,
+        steps,
+    )?;
+    Ok(outcomes)
+}
+
+// No outcome yet for each of so many paths.
+fn unsearched(alloc: Global, count: usize) -> Result<Vec<Outcome>, OutOfMemory>
+    ensures { IfOk result (λ outcomes. outcomes.items ≡ replicate count Outcome.Unsearched) }
+{
+    let mut outcomes = Vec::with_capacity(alloc, count)?;
+    for _ in 0..count {
+        outcomes.push(Outcome::Unsearched)?;
+    }
+    Ok(outcomes)
+}
+
+// Goes from source to source. The count of steps stood at `begin` when the walk began.
+fn walk_course<S: Setting, L>(
+    alloc: Global,
+    engine: &mut Engine<FourStates, S>,
+    desk: &mut Desk,
+    course: &Course,
+    outcomes: &mut [Outcome],
+    proofs: &mut Vec<Proof>,
+    steps: &mut Steps<L>,
+) -> Result<(), OutOfMemory>
+    ghost begin: { ℕ }
+    requires idle { engine.old.beginning ≡ None }
+    requires course { IsCourse engine.old.net engine.old.ends course.now }
+    requires desk { IsDeskFor engine.old.net desk.old }
+    requires room { begin + length course.now.paths.now * MOST_LEVELS < 2 ^ 64 }
+    requires come { HasComeApart engine.old.net engine.old.rules course.now begin 0 outcomes.old proofs.old.items steps.old }
+    ensures desk { OnOk result (IsDeskFor engine.old.net desk.new) }
+    ensures rest { OnOk result (IsIdleAgain engine.old engine.new) }
+    ensures come { OnOk result (HasComeApart engine.old.net engine.old.rules course.now begin (length course.now.order.now) outcomes.new proofs.new.items steps.new) }
+    ensures adds { OnOk result (AddsProofs course.now.aim proofs.old.items proofs.new.items) }
+    ensures counted { CountsPrefixes course.now.paths.now begin steps.new }
+{
+    let mut place = 0;
+    while place < course.order.len() {
+        place = walk_source(alloc, engine, desk, course, place, outcomes, proofs, steps)?;
+    }
+    Ok(())
+}
+
+// Opens a scope at the source of the path at this place, if the path needs an outcome, and goes along the paths from it. The answer is the
+// place that is come to.
+fn walk_source<S: Setting, L>(
+    alloc: Global,
+    engine: &mut Engine<FourStates, S>,
+    desk: &mut Desk,
+    course: &Course,
+    place: usize,
+    outcomes: &mut [Outcome],
+    proofs: &mut Vec<Proof>,
+    steps: &mut Steps<L>,
+) -> Result<usize, OutOfMemory>
+    ghost begin: { ℕ }
+    requires idle { engine.old.beginning ≡ None }
+    requires course { IsCourse engine.old.net engine.old.ends course.now }
+    requires desk { IsDeskFor engine.old.net desk.old }
+    requires place { place < length course.now.order.now }
+    requires room { begin + length course.now.paths.now * MOST_LEVELS < 2 ^ 64 }
+    requires come { HasComeApart engine.old.net engine.old.rules course.now begin place outcomes.old proofs.old.items steps.old }
+    ensures desk { IsDeskFor engine.old.net desk.new }
+    ensures rest { IsIdleAgain engine.old engine.new }
+    ensures come { IfOk result (λ end. HasComeApart engine.old.net engine.old.rules course.now begin end outcomes.new proofs.new.items steps.new) }
+    ensures on { IfOk result (λ end. place < end) }
+    ensures within { IfOk result (λ end. end ≤ length course.now.order.now) }
+    ensures adds { OnOk result (AddsProofs course.now.aim proofs.old.items proofs.new.items) }
+    ensures counted { CountsPrefixes course.now.paths.now begin steps.new }
+{
+    let row = course.order[place];
+    if !course.needed[row] {
+        return Ok(place + 1);
+    }
+    let source = course.paths[row].source();
+    let mut scope = Scope::begin(engine, source, course.aim.dir, course.aim.kind);
+    walk_from(
+        alloc, &mut scope, desk, course, source, place, outcomes, proofs, steps,
+    )
+}
+
+// Goes along the paths from a source, at which a scope has begun. The answer is the place behind the last of them.
+fn walk_from<S: Setting, L>(
+    alloc: Global,
+    scope: &mut Scope<FourStates, S>,
+    desk: &mut Desk,
+    course: &Course,
+    source: LineId,
+    place: usize,
+    outcomes: &mut [Outcome],
+    proofs: &mut Vec<Proof>,
+    steps: &mut Steps<L>,
+) -> Result<usize, OutOfMemory>
+    ghost begin: { ℕ }
+    requires begun { scope.old.origin ≡ Begun }
+    requires gone { HasGone (standing scope.old) (record { source = source; steps = [] }) course.now.aim [] }
+    requires course { IsCourse (standing scope.old).net (standing scope.old).ends course.now }
+    requires desk { IsDeskFor (standing scope.old).net desk.old }
+    requires place { BeginsAt course.now place source }
+    requires room { begin + length course.now.paths.now * MOST_LEVELS < 2 ^ 64 }
+    requires come { HasComeApart (standing scope.old).net (standing scope.old).rules course.now begin place outcomes.old proofs.old.items steps.old }
+    ensures desk { IsDeskFor (standing scope.old).net desk.new }
+    ensures scope { IsSameScope scope.old scope.new }
+    ensures same { IsSameBeginning (standing scope.old) (standing scope.new) }
+    ensures come { IfOk result (λ end. HasComeApart (standing scope.old).net (standing scope.old).rules course.now begin end outcomes.new proofs.new.items steps.new) }
+    ensures on { IfOk result (λ end. place < end) }
+    ensures within { IfOk result (λ end. end ≤ length course.now.order.now) }
+    ensures adds { OnOk result (AddsProofs course.now.aim proofs.old.items proofs.new.items) }
+    ensures counted { CountsPrefixes course.now.paths.now begin steps.new }
+{
+    let mut descent = Descent::new(alloc);
+    let mut at = place;
+    'paths: while begins_at(course, at, source) {
+        at = visit(
+            alloc,
+            scope,
+            desk,
+            &mut descent,
+            course,
+            at,
+            outcomes,
+            proofs,
+            steps,
+        )?;
+    }
+    Ok(at)
+}
+
+// Searches for a test of the path at this place, if it needs an outcome. The answer is the place up to which paths are settled then.
+fn visit<S: Setting, L>(
+    alloc: Global,
+    scope: &mut Scope<FourStates, S>,
+    desk: &mut Desk,
+    descent: &mut Descent,
+    course: &Course,
+    place: usize,
+    outcomes: &mut [Outcome],
+    proofs: &mut Vec<Proof>,
+    steps: &mut Steps<L>,
+) -> Result<usize, OutOfMemory>
+    ghost begin: { ℕ }
+    requires begun { scope.old.origin ≡ Begun }
+    requires course { IsCourse (standing scope.old).net (standing scope.old).ends course.now }
+    requires desk { IsDeskFor (standing scope.old).net desk.old }
+    requires room { begin + length course.now.paths.now * MOST_LEVELS < 2 ^ 64 }
+    requires come { HasComeAlong (standing scope.old) course.now begin place descent.old outcomes.old proofs.old.items steps.old }
+    requires place { IsBegunAt (standing scope.old) course.now place }
+    ensures desk { IsDeskFor (standing scope.old).net desk.new }
+    ensures scope { IsSameScope scope.old scope.new }
+    ensures same { IsSameBeginning (standing scope.old) (standing scope.new) }
+    ensures come { IfOk result (λ end. HasComeAlong (standing scope.new) course.now begin end descent.new outcomes.new proofs.new.items steps.new) }
+    ensures on { IfOk result (λ end. place < end) }
+    ensures within { IfOk result (λ end. end ≤ length course.now.order.now) }
+    ensures adds { OnOk result (AddsProofs course.now.aim proofs.old.items proofs.new.items) }
+    ensures counted { CountsPrefixes course.now.paths.now begin steps.new }
+{
+    let row = course.order[place];
+    if !course.needed[row] {
+        return Ok(place + 1);
+    }
+    let ended = descent.search(alloc, scope, desk, &course.paths[row], course.aim, steps)?;
+    settle(course, place, ended, outcomes, proofs)
+}

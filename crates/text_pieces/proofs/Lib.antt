@@ -1,0 +1,10 @@
+pub mod Spelled
+pub mod Cuts
+pub mod Starts
+pub mod Ends
+pub mod Decimals
+pub mod Listing
+pub mod Vectors
+pub mod PieceTexts
+pub mod ReadLines
+pub mod Headings

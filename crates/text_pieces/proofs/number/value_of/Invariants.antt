@@ -1,0 +1,10 @@
+use Rattle.std.proofs.Common.{◌≡◌, take}
+use Rattle.std.specs.Str.Parse.{AllDigits, digits_value}
+use Rattle.text_pieces.proofs.number.value_of.Given as goal
+
+-- the bytes so far are digits, and spell `number`
+abbrev pub invariant-loop-byte : goal.invariant-loop-byte
+invariant-loop-byte l = record {
+  digits : AllDigits 10 (take l.byte-index l.word);
+  value : l.number ≡ digits_value 10 (take l.byte-index l.word);
+}

@@ -1,0 +1,81 @@
+// A line of the report, cut into fields: what it tells of a path, and what of a verdict. Which verdict that is, report_verdicts.rt tells,
+// and which path report_paths.rt.
+ghost use Rattle.std.specs.Prelude.{◌≡◌, [], ◌∷◌, ⊤, option_map, MatchOption};
+ghost use Rattle.text_pieces.specs.Tokens.{comma};
+ghost use Rattle.text_pieces.specs.Cuts.{pieces, pieces_left};
+ghost use Rattle.text_pieces.specs.Reads.{Reads};
+ghost use Rattle.verdict_report.specs.ReportReading.{fields_lent, fields_with, four_fields, verdict_lent};
+
+use pd_base::Direction;
+use text_pieces::{cut, direction_word, is_number};
+
+/// The fields that tell of a path.
+#[derive(Clone, Copy)]
+pub(crate) struct PathFields<'a> {
+    pub(crate) length: &'a [u8],
+    pub(crate) source: &'a [u8],
+    pub(crate) steps: &'a [u8],
+}
+
+/// The fields of a verdict.
+#[derive(Clone, Copy)]
+pub(crate) struct VerdictFields<'a> {
+    pub(crate) word: &'a [u8],
+    pub(crate) test: &'a [u8],
+    pub(crate) robust_proof: &'a [u8],
+    pub(crate) nonrobust_proof: &'a [u8],
+}
+
+/// The fields that tell of the path of this number in its line for a transition, and what is left behind them.
+pub(crate) fn read_path_fields(
+    number: u32,
+    direction: Direction,
+    line: &[u8],
+) -> Option<(PathFields<'_>, Option<&[u8]>)>
+    ensures { Reads (fields_with number direction) (λ read. ⊤) (pieces comma line.now) (option_map fields_lent result) }
+{
+    let (field, left) = next_field(Some(line))?;
+    if !is_number(field, number) {
+        return None;
+    }
+    let (field, left) = next_field(left)?;
+    if field != direction_word(direction) {
+        return None;
+    }
+    let (length, left) = next_field(left)?;
+    let (source, left) = next_field(left)?;
+    let (steps, left) = next_field(left)?;
+    let fields = PathFields {
+        length,
+        source,
+        steps,
+    };
+    Some((fields, left))
+}
+
+/// The fields of a verdict, where four are left.
+pub(crate) fn read_verdict_fields<'a>(left: Option<&'a [u8]>) -> Option<VerdictFields<'a>>
+    ensures { Reads four_fields (λ read. ⊤) (pieces_left comma left.entry) (option_map verdict_lent result) }
+{
+    let (word, left) = next_field(left)?;
+    let (test, left) = next_field(left)?;
+    let (robust_proof, left) = next_field(left)?;
+    let (nonrobust_proof, left) = next_field(left)?;
+    match next_field(left) {
+        None => Some(VerdictFields {
+            word,
+            test,
+            robust_proof,
+            nonrobust_proof,
+        }),
+        Some(_) => None,
+    }
+}
+
+// The first field of what is left of a line, and what is left behind it. None where nothing is left.
+fn next_field<'a>(left: Option<&'a [u8]>) -> Option<(&'a [u8], Option<&'a [u8]>)>
+    ensures { MatchOption result (pieces_left comma left.entry ≡ [])
+        (λ next. pieces_left comma left.entry ≡ next.0.now ∷ pieces_left comma next.1) }
+{
+    Some(cut(b',', left?))
+}

@@ -1,5 +1,0 @@
--- The searches are the same in the calls.
-use Rattle.verdict_runs.proofs.run.list_path.Given as goal
-
-abbrev pub ghost-answer : goal.ghost-answer
-ghost-answer g a = g.searches

@@ -1,5 +1,0 @@
-pub mod Answers
-pub mod Book
-pub mod Findings
-pub mod Listed
-pub mod Made
