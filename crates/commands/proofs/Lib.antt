@@ -6,5 +6,6 @@ pub mod GenStages
 pub mod GenTexts
 pub mod Headline
 pub mod Judged
+pub mod OneRun
 pub mod Products
 pub mod WordsLaws

@@ -46,6 +46,42 @@ all_differ lines place all up_to first second line at_first at_second =
     (cases_lt first second))
     (cases_eq first second)
 
+-- each of the first lines has a greater number than those before it
+abbrev pub AscendUpTo : List LineId → ℕ → Type 0
+AscendUpTo lines place = (low high : ℕ) (first second : LineId) → low < high → high < place → slice_get lines low ≡ Some first
+    → slice_get lines high ≡ Some second → first.0 < second.0
+
+-- one place more
+pub ascend_more : (lines : List LineId) (place : ℕ) (last this : LineId) → 1 ≤ place → slice_get lines (place - 1) ≡ Some last
+    → slice_get lines place ≡ Some this → last.0 < this.0 → AscendUpTo lines place → AscendUpTo lines (place + 1)
+ascend_more lines place last this some at_last at_this less before low high first second order below at_low at_high = ⊎_elim
+    (λ (here : high ≡ place).
+    let e : this.0 ≡ second.0 =
+    ap (λ (l : LineId). l.0) (same_Some this second (sym at_this ∙ ap (slice_get lines) (sym here) ∙ at_high)) in
+    ⊎_elim
+    (λ (next : low ≡ place - 1).
+    let f : last.0 ≡ first.0 =
+    ap (λ (l : LineId). l.0) (same_Some last first (sym at_last ∙ ap (slice_get lines) (sym next) ∙ at_low)) in
+    omega (arith, e, f, less))
+    (λ (away : low ≢ place - 1).
+    let f = before low (place - 1) first last (omega arith) (omega arith) at_low at_last in omega (arith, e, f, less))
+    (cases_eq low (place - 1)))
+    (λ (away : high ≢ place). before low high first second order (omega arith) at_low at_high)
+    (cases_eq high place)
+
+-- lines that ascend differ
+pub ascend_differ : (lines : List LineId) (place : ℕ) → length lines ≤ place → AscendUpTo lines place → AllDiffer lines
+ascend_differ lines place all ascend first second line at_first at_second =
+    let within = slice_get_within lines first line at_first in let within_second = slice_get_within lines second line at_second in
+    ⊎_elim
+    (λ (same : first ≡ second). same)
+    (λ (away : first ≢ second). ⊎_elim
+    (λ (before : first < second). absurd (let l = ascend first second line line before (omega arith) at_first at_second in omega (arith, l)))
+    (λ (behind : second ≤ first).
+    absurd (let l = ascend second first line line (omega arith) (omega arith) at_second at_first in omega (arith, l)))
+    (cases_lt first second))
+    (cases_eq first second)
+
 -- one line more in front, which is none of the rest
 differ_cons : (first : LineId) (rest : List LineId) → ((place : ℕ) → ¬ (slice_get rest place ≡ Some first)) → AllDiffer rest
     → AllDiffer (first ∷ rest)

@@ -18,7 +18,8 @@ use netlist::Netlist;
 use pd_base::{GateId, LineId};
 use state_sets::{Algebra, StateSet};
 
-// The most pins of a gate that are compared. A gate with more is narrowed again where its narrowing changed a line.
+// The most pins of a gate that are compared each with all others. A gate with more, whose lines do not ascend, is narrowed again where its
+// narrowing changed a line.
 const MOST_COMPARED: usize = 8;
 
 impl<A: Algebra> Board<A> {
@@ -153,15 +154,15 @@ fn passed_by(net: &Netlist, gate: GateId) -> Option<GateId>
     }
 }
 
-// Whether no two of these lines are the same. Of more than a few lines it is not looked for, and the answer is no. Most gates have two
-// pins or three, and these are compared without a loop.
+// Whether no two of these lines are the same. Of more than a few lines that do not ascend it is not looked for, and the answer is no. Most
+// gates have two pins or three, and these are compared without a loop.
 fn are_found_to_differ(lines: &[LineId]) -> bool
     ensures { IsTrue result → AllDiffer lines.now }
 {
     match lines.len() {
         2 => do_two_differ(lines[0], lines[1]),
         3 => do_three_differ(lines[0], lines[1], lines[2]),
-        count => count <= MOST_COMPARED && does_each_differ(lines),
+        count => do_ascend(lines) || (count <= MOST_COMPARED && does_each_differ(lines)),
     }
 }
 
@@ -177,6 +178,18 @@ fn do_three_differ(first: LineId, second: LineId, third: LineId) -> bool
     ensures second { IsTrue result → second ≢ third }
 {
     first != second && first != third && second != third
+}
+
+// Whether each of these lines has a greater number than the one before it.
+fn do_ascend(lines: &[LineId]) -> bool
+    ensures { IsTrue result → AllDiffer lines.now }
+{
+    for place in 1..lines.len() {
+        if lines[place].0 <= lines[place - 1].0 {
+            return false;
+        }
+    }
+    true
 }
 
 // Whether each of these lines is another one than all behind it.

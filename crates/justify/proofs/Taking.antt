@@ -1,91 +1,102 @@
--- States that are written at sources one after another, and the pair that is read off states.
-use Rattle.std.proofs.Common.{◌≡◌, ◌≢◌, ℕ, ◌+◌, ◌<◌, ◌≤◌, ◌&&◌, ◌↔◌, ⊎_elim, Bool, true, false, List, [], ◌∷◌, ◌++◌, take, take_all, length, get_or, set, get_or-set_same, get_or-set_other, sym, ap, subst, ◌∙◌, arith}
+-- States and bits that are written at sources one after another, and the pair that is read off states.
+use Rattle.std.proofs.Common.{◌≡◌, ◌≢◌, ℕ, ◌+◌, ◌<◌, ◌≤◌, ◌↔◌, ⊎_elim, Bool, false, List, [], ◌∷◌, ◌++◌, take, take_all, length, get_or, set, replicate, get_or-set_same, get_or-set_other, refl, sym, ap, subst, ◌∙◌, arith}
 use Rattle.std.specs.List.{Contains}
-use Rattle.std.proofs.lemmas.Bool.{cases_lt, cases_eq, cases_Bool}
-use Rattle.std.proofs.lemmas.List.{take_more, get_or_push, get_or_append_left}
-use Rattle.std.proofs.lemmas.List.Elements.{Contains-push_cases}
+use Rattle.std.proofs.lemmas.Bool.{cases_eq}
+use Rattle.std.proofs.lemmas.List.{take_more, length-set, length-replicate, get_or-replicate}
+use Rattle.std.proofs.lemmas.List.Elements.{Contains-append_left, Contains-push, Contains-push_cases}
 use Rattle.pd_base.specs.Pair.{Vectors}
 use Rattle.pd_base.specs.declared.ids.LineId.{LineId}
 use Rattle.netlist.specs.Circuit.{Circuit, source_count}
 use Rattle.netlist.specs.Pins.{IsInFanIn}
-use Rattle.netlist.specs.Values.{bit_of}
 use Rattle.state_sets.specs.declared.state.State.{State}
 use Rattle.state_sets.specs.FourStates.{four_states, four_last}
 use Rattle.state_laws.proofs.SourceStates.{state_read_off}
-use Rattle.justify.specs.FoundLines.{HasMark}
 use Rattle.justify.specs.ConeStates.{state_in, IsReadFrom}
 use Rattle.justify.specs.LeastStates.{first_bit}
+use Rattle.justify.specs.Taken.{HasBitsAt}
 use Rattle.justify.proofs.Spreading.{no_line}
 
-module _ (f : ℕ → State) where
-  -- each of these sources is in the state that is due there
-  abbrev pub AreDue : List LineId → List State → Type 0
-  AreDue sources states = (source : ℕ) → Contains sources (record { 0 = source }) → state_in states source ≡ f source
+-- no state
+abbrev pub no_state : State
+no_state = record { 0 = 0 }
 
-  pub due_none : (states : List State) → AreDue [] states
-  due_none states source among = absurd (omega (arith, among.1))
+module _ {A : Type 0} (nothing : A) (f : ℕ → A) where
+  -- each of these sources has what is due there
+  abbrev pub AreDue : List LineId → List A → Type 0
+  AreDue sources has = (source : ℕ) → Contains sources (record { 0 = source }) → get_or has source nothing ≡ f source
+
+  pub due_none : (has : List A) → AreDue [] has
+  due_none has source among = absurd (omega (arith, among.1))
 
   -- one source more
-  pub due_more : (sources : List LineId) (place : ℕ) (states : List State) → place < length sources
-      → (get_or sources place no_line).0 < length states → AreDue (take place sources) states
-      → AreDue (take (place + 1) sources) (set states (get_or sources place no_line).0 (f (get_or sources place no_line).0))
-  due_more sources place states inside within due source among =
+  pub due_more : (sources : List LineId) (place : ℕ) (has : List A) → place < length sources
+      → (get_or sources place no_line).0 < length has → AreDue (take place sources) has
+      → AreDue (take (place + 1) sources) (set has (get_or sources place no_line).0 (f (get_or sources place no_line).0))
+  due_more sources place has inside within due source among =
       let next = get_or sources place no_line in
-      let nothing : State = record { 0 = 0 } in
-      let here : source ≡ next.0 → state_in (set states next.0 (f next.0)) source ≡ f source =
-      λ is. ap (state_in (set states next.0 (f next.0))) is ∙ get_or-set_same states next.0 (f next.0) nothing within ∙ ap f (sym is) in
+      let here : source ≡ next.0 → get_or (set has next.0 (f next.0)) source nothing ≡ f source =
+      λ is. ap (λ n. get_or (set has next.0 (f next.0)) n nothing) is ∙ get_or-set_same has next.0 (f next.0) nothing within ∙ ap f (sym is) in
       ⊎_elim here
       (λ (away : source ≢ next.0). ⊎_elim
       (λ (before : Contains (take place sources) (record { 0 = source })).
-      get_or-set_other states next.0 source (f next.0) nothing away ∙ due source before)
+      get_or-set_other has next.0 source (f next.0) nothing away ∙ due source before)
       (λ (this : next ≡ record { 0 = source }). absurd (away (ap (λ (l : LineId). l.0) (sym this))))
       (Contains-push_cases (take place sources) next (record { 0 = source })
       (subst (λ ls. Contains ls (record { 0 = source })) (take_more sources place no_line inside) among)))
       (cases_eq source next.0)
 
-  pub due_all : (sources : List LineId) (place : ℕ) (states : List State) → length sources ≤ place → AreDue (take place sources) states
-      → AreDue sources states
-  due_all sources place states past due = subst (λ ls. AreDue ls states) (take_all place sources past) due
+  pub due_all : (sources : List LineId) (place : ℕ) (has : List A) → length sources ≤ place → AreDue (take place sources) has
+      → AreDue sources has
+  due_all sources place has past due = subst (λ ls. AreDue ls has) (take_all place sources past) due
 
--- one more bit
-pub bits_more : (xs ys : List Bool) (bit : Bool) (n : ℕ) (f : ℕ → Bool) → ys ≡ xs ++ bit ∷ [] → length xs ≡ n
-    → ((k : ℕ) → k < n → get_or xs k false ≡ f k) → bit ≡ f n → (k : ℕ) → k < n + 1 → get_or ys k false ≡ f k
-bits_more xs ys bit n f is long before here k below =
-    ap (λ (zs : List Bool). get_or zs k false) is
-    ∙ ⊎_elim
-    (λ (less : k < n). get_or_append_left xs (bit ∷ []) false k (omega arith) ∙ before k less)
-    (λ (past : n ≤ k).
-    let same : k ≡ n = omega arith in
-    get_or_push xs bit false k (long ∙ sym same) ∙ here ∙ ap f (sym same))
-    (cases_lt k n)
-
--- the bits of a source where it is marked are those of its state, and else 0
-abbrev pub first_of : List State → List Bool → ℕ → Bool
-first_of states marks source = get_or marks source false && first_bit (state_in states source)
-
-abbrev pub second_of : List State → List Bool → ℕ → Bool
-second_of states marks source = get_or marks source false && four_last (state_in states source)
-
--- so the pair with these bits is read from the states
-pub read_is : (c : Circuit) (states : List State) (marks : List Bool) (pair : Vectors)
-    → length pair.first ≡ source_count c → length pair.second ≡ source_count c
-    → ((source : ℕ) → source < source_count c → (state_in states source).0 < four_states.count)
-    → ((source : ℕ) → source < source_count c → bit_of pair.first source ≡ first_of states marks source)
-    → ((source : ℕ) → source < source_count c → bit_of pair.second source ≡ second_of states marks source)
-    → (end : ℕ) → ((line : ℕ) → HasMark marks line ↔ IsInFanIn c end line) → IsReadFrom c end states pair
-read_is c states marks pair first_fits second_fits below first second end exactly = record {
-  first_fits = first_fits;
-  second_fits = second_fits;
-  has = λ source within further.
-      let marked = (exactly source).1 further in
-      let state = state_in states source in
-      state_read_off c pair source within state (below source within)
-      (first source within ∙ ap (λ (m : Bool). m && first_bit state) marked)
-      (second source within ∙ ap (λ (m : Bool). m && four_last state) marked);
-  first_zero = λ source within outside. first source within ∙ ap (λ (m : Bool). m && first_bit (state_in states source)) (unmarked source outside);
-  second_zero = λ source within outside. second source within ∙ ap (λ (m : Bool). m && four_last (state_in states source)) (unmarked source outside);
+-- The bits that are due at the sources before a place are written, and no others.
+pub bits_none : (due : ℕ → Bool) (sources : List LineId) (bits : List Bool) → HasBitsAt due (take 0 sources) bits bits
+bits_none due sources bits = record {
+  places = refl;
+  here = due_none false due bits;
+  elsewhere = λ source outside. refl;
 }
-  where
-    unmarked : (source : ℕ) → (IsInFanIn c end source → ⊥) → get_or marks source false ≡ false
-    unmarked source outside = ⊎_elim (λ (is : get_or marks source false ≡ true). absurd (outside ((exactly source).0 is)))
-        (λ (isnt : get_or marks source false ≡ false). isnt) (cases_Bool (get_or marks source false))
+
+-- one source more
+pub bits_more : (due : ℕ → Bool) (sources : List LineId) (place : ℕ) (old now : List Bool) → place < length sources
+    → (get_or sources place no_line).0 < length old → HasBitsAt due (take place sources) old now
+    → HasBitsAt due (take (place + 1) sources) old (set now (get_or sources place no_line).0 (due (get_or sources place no_line).0))
+bits_more due sources place old now inside within are =
+    let next = get_or sources place no_line in
+    let front = take place sources in
+    let whole = take_more sources place no_line inside in
+    record {
+      places = length-set now next.0 (due next.0) ∙ are.places;
+      here = due_more false due sources place now inside (omega (arith, within, are.places)) are.here;
+      elsewhere = λ source outside.
+          let Has : List LineId → Type 0 = λ ls. Contains ls (record { 0 = source }) in
+          get_or-set_other now next.0 source (due next.0) false
+          (λ (same : source ≡ next.0).
+          let P : ℕ → Type 0 = λ n. Contains (front ++ next ∷ []) (record { 0 = n }) in
+          outside (subst Has (sym whole) (subst P (sym same) (Contains-push front next))))
+          ∙ are.elsewhere source
+          (λ before. outside (subst Has (sym whole) (Contains-append_left front (next ∷ []) (record { 0 = source }) before)));
+    }
+
+pub bits_all : (due : ℕ → Bool) (sources : List LineId) (place : ℕ) (old now : List Bool) → length sources ≤ place
+    → HasBitsAt due (take place sources) old now → HasBitsAt due sources old now
+bits_all due sources place old now past are = subst (λ ls. HasBitsAt due ls old now) (take_all place sources past) are
+
+-- the pair with the bits of the states at these sources, and none elsewhere, is read from the states where they are those of a cone
+pub read_is : (c : Circuit) (states : List State) (sources : List LineId) (pair : Vectors)
+    → ((source : ℕ) → source < source_count c → (state_in states source).0 < four_states.count)
+    → HasBitsAt (λ source. first_bit (state_in states source)) sources (replicate (source_count c) false) pair.first
+    → HasBitsAt (λ source. four_last (state_in states source)) sources (replicate (source_count c) false) pair.second
+    → (end : ℕ) → ((source : ℕ) → Contains sources (record { 0 = source }) ↔ ((source < source_count c) × IsInFanIn c end source))
+    → IsReadFrom c end states pair
+read_is c states sources pair below first second end exactly = record {
+  first_fits = first.places ∙ length-replicate (source_count c) false;
+  second_fits = second.places ∙ length-replicate (source_count c) false;
+  has = λ source within further.
+      let there = (exactly source).1 (within, further) in
+      state_read_off c pair source within (state_in states source) (below source within) (first.here source there) (second.here source there);
+  first_zero = λ source within outside.
+      first.elsewhere source (λ there. outside ((exactly source).0 there).1) ∙ get_or-replicate (source_count c) source false false within;
+  second_zero = λ source within outside.
+      second.elsewhere source (λ there. outside ((exactly source).0 there).1) ∙ get_or-replicate (source_count c) source false false within;
+}

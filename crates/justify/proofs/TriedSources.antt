@@ -151,19 +151,25 @@ pub side_within : (c : Circuit) → IsCircuit c → (path : Route) → IsPrefix 
 side_within c circuit path is None further = tt
 side_within c circuit path is (Some other) further = in_cone_within c circuit path is other.0 further
 
--- what is read where the marks are those of the cone
-pub read_at : (n c : Circuit) → n ≡ c → (target : Target) (marks : List Bool) (kept : KeptCone)
-    → ((line : ℕ) → HasMark marks line ↔ Contains kept.found.lines (record { 0 = line })) → IsConeAt c (end_of c target.path) kept
-    → (read states : List State) → read ≡ states → (pair : Vectors)
-    → ((end : ℕ) → ((line : ℕ) → HasMark marks line ↔ IsInFanIn n end line) → IsReadFrom n end read pair)
+-- what is read at the sources of the cone
+pub read_at : (n c : Circuit) → n ≡ c → (target : Target) (sources kept : List LineId) → sources ≡ kept
+    → AreConeSources c (end_of c target.path) kept → (read states : List State) → read ≡ states → (pair : Vectors)
+    → ((end : ℕ) → ((source : ℕ) → Contains sources (record { 0 = source }) ↔ ((source < source_count n) × IsInFanIn n end source))
+    → IsReadFrom n end read pair)
     → IsReadFrom c (end_of c target.path) states pair
-read_at n c same target marks kept exactly cone read states same_states pair reads =
-    let P : Circuit → Type 0 = λ m. IsConeAt m (end_of m target.path) kept → IsReadFrom m (end_of m target.path) states pair in
+read_at n c same target sources kept same_sources cone read states same_states pair reads =
+    let P : Circuit → Type 0 = λ m. AreConeSources m (end_of m target.path) kept → IsReadFrom m (end_of m target.path) states pair in
     let Q : List State → Type 0 = λ xs. IsReadFrom n (end_of n target.path) xs pair in
-    subst P same (λ at. subst Q same_states (reads (end_of n target.path) (λ line. (
-      λ marked. (at.lines line).0 ((exactly line).0 marked),
-      λ further. (exactly line).1 ((at.lines line).1 further),
-    )))) cone
+    let R : List LineId → Type 0 = λ xs. AreConeSources n (end_of n target.path) xs in
+    subst P same (λ at. subst Q same_states (reads (end_of n target.path) (subst R (sym same_sources) at).exactly)) cone
+
+-- the sources of the cone are sources
+pub sources_within : (n c : Circuit) → n ≡ c → (path : Route) (sources kept : List LineId) → sources ≡ kept
+    → AreConeSources c (end_of c path) kept → All (λ source. source.0 < source_count n) sources
+sources_within n c same path sources kept same_sources cone =
+    let P : Circuit → Type 0 = λ m. All (λ source. source.0 < source_count m) sources in
+    let Q : List LineId → Type 0 = λ xs. All (λ source. source.0 < source_count c) xs in
+    subst P (sym same) (subst Q (sym same_sources) (λ k d inside. (cone_in_support c path kept cone k d inside).is_source))
 
 -- a pair that is judged a test is one
 pub judged_fits : (n c : Circuit) → n ≡ c → (target : Target) (states : List State) (pair : Vectors)

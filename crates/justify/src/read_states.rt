@@ -1,12 +1,11 @@
 // From labels to states of sources, and from states to a pair of vectors.
-ghost use Rattle.std.specs.Prelude.{◌≡◌, ◌<◌, ◌&&◌, ◌↔◌, ℕ, length, All, IfOk};
+ghost use Rattle.std.specs.Prelude.{◌≡◌, ◌<◌, ◌↔◌, ℕ, length, All, IfOk, Contains};
 ghost use Rattle.netlist.specs.Circuit.{source_count, line_count};
 ghost use Rattle.netlist.specs.Pins.{IsInFanIn};
 ghost use Rattle.state_sets.specs.FourStates.{four_last};
-ghost use Rattle.justify.specs.FoundLines.{HasMark};
-ghost use Rattle.justify.specs.ConeStates.{AreFourStates, IsReadFrom};
+ghost use Rattle.justify.specs.ConeStates.{state_in, AreFourStates, IsReadFrom};
 ghost use Rattle.justify.specs.LeastStates.{first_bit};
-ghost use Rattle.justify.specs.Taken.{preferred_of, AreLeast, ArePreferred};
+ghost use Rattle.justify.specs.Taken.{preferred_of, AreLeast, ArePreferred, HasBitsAt};
 
 use crate::least_states::{bit_after, bit_before, least};
 use netlist::Netlist;
@@ -59,41 +58,39 @@ fn preferred(set: StateSet, liked: StateSet) -> StateSet
     if both == StateSet::EMPTY { set } else { both }
 }
 
-/// The pair that has these states at the marked sources, and is 0 at the others. The one error is that memory ran out.
+/// The pair that has these states at these sources, and is 0 at the others. The one error is that memory ran out.
 pub fn read_test(
     alloc: Global,
     net: &Netlist,
-    marks: &[bool],
+    sources: &[LineId],
     states: &[State],
 ) -> Result<Pair, OutOfMemory>
-    requires marks { length marks.now ≡ line_count net.now }
+    requires sources { All (λ source. source.0 < source_count net.now) sources.now }
     requires places { length states.now ≡ line_count net.now }
     requires states { AreFourStates states.now }
-    ensures { IfOk result (λ pair. (end : ℕ) → ((line : ℕ) → HasMark marks.now line ↔ IsInFanIn net.now end line)
+    ensures { IfOk result (λ pair. (end : ℕ)
+        → ((source : ℕ) → Contains sources.now (record { 0 = source }) ↔ ((source < source_count net.now) × IsInFanIn net.now end source))
         → IsReadFrom net.now end states.now pair) }
 {
-    let sources = net.sources() as usize;
-    let mut first = Vec::with_capacity(alloc, sources)?;
-    let mut second = Vec::with_capacity(alloc, sources)?;
-    for source in 0..sources {
-        first.push(read_first(states[source], marks[source]))?;
-        second.push(read_second(states[source], marks[source]))?;
-    }
+    let count = net.sources() as usize;
+    let mut first = vec![in alloc; false; count]?;
+    let mut second = vec![in alloc; false; count]?;
+    write_bits(sources, states, first.as_mut_slice(), second.as_mut_slice());
     Ok(Pair::new(first, second))
 }
 
-// The bit of a source in the first vector.
-fn read_first(state: State, marked: bool) -> bool
-    requires { state.0 < 4 }
-    ensures { result ≡ (marked && first_bit state) }
+// Writes the bits of these sources into the two vectors, which stay as they are at the others.
+fn write_bits(sources: &[LineId], states: &[State], first: &mut [bool], second: &mut [bool])
+    requires places { All (λ source. source.0 < length states.now) sources.now }
+    requires first { All (λ source. source.0 < length first.old) sources.now }
+    requires second { All (λ source. source.0 < length second.old) sources.now }
+    requires states { AreFourStates states.now }
+    ensures first { HasBitsAt (λ source. first_bit (state_in states.now source)) sources.now first.old first.new }
+    ensures second { HasBitsAt (λ source. four_last (state_in states.now source)) sources.now second.old second.new }
 {
-    marked && bit_before(state)
-}
-
-// The bit of a source in the second vector.
-fn read_second(state: State, marked: bool) -> bool
-    requires { state.0 < 4 }
-    ensures { result ≡ (marked && four_last state) }
-{
-    marked && bit_after(state)
+    for source in sources {
+        let at = source.0 as usize;
+        first[at] = bit_before(states[at]);
+        second[at] = bit_after(states[at]);
+    }
 }

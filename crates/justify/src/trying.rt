@@ -118,7 +118,7 @@ fn try_all<S: Setting>(
     let pair = read_test(
         alloc,
         scope.net(),
-        desk.cone.marks(),
+        desk.cone.sources(),
         desk.states.as_slice(),
     )?;
     Ok(Some(pair))
@@ -155,7 +155,7 @@ pub(crate) fn judge_states<S: Setting>(
     );
     match judgement {
         Judgement::IsTest => {
-            let pair = read_test(alloc, net, desk.cone.marks(), desk.states.as_slice())?;
+            let pair = read_test(alloc, net, desk.cone.sources(), desk.states.as_slice())?;
             desk.keep();
             Ok(Some(pair))
         }

@@ -9,19 +9,40 @@ use pd_base::{LineId, OutOfMemory, Test, push_decimal};
 use std::alloc::Global;
 use text_pieces::{direction_word, kind_word, push_spaced, push_spaced_digits, push_spaced_number};
 
+// The most bytes of a test's line beside its bits, and no fewer than those of the headings beside names: a number of 20 digits, a path's
+// number, two words, spaces and LF.
+const MOST_HEAD_BYTES: usize = 64;
+
 /// The text of the tests file: its heading, the names of the sources and of the observed lines, and a line for each
 /// test, numbered from 1. It fails only where memory runs out.
 pub fn tests_text(alloc: Global, net: &Netlist, tests: &[Test]) -> Result<Vec<u8>, OutOfMemory>
     requires { AreLawfulTests net.now tests.now }
     ensures { IfOk result (λ text. text.items ≡ tests_text net.now tests.now) }
 {
-    let mut text = Vec::from_slice(alloc, b"pdfgen tests 1\n")?;
+    let mut text = Vec::with_capacity(alloc, room_for(net, tests))?;
+    text.extend_from_slice(b"pdfgen tests 1\n")?;
     push_sources(&mut text, net)?;
     push_observed(&mut text, net)?;
     for (index, test) in tests.iter().enumerate() {
         push_test_line(&mut text, index as u64 + 1, test)?;
     }
     Ok(text)
+}
+
+// No fewer bytes than the tests file has. So its text is made in one place, whose end is never touched where it stays empty.
+fn room_for(net: &Netlist, tests: &[Test]) -> usize {
+    let sources = net.sources() as usize;
+    let observed = net.observed().len();
+    let names = sources.saturating_add(observed);
+    let name_bytes = (net.longest_name() as usize).saturating_add(1);
+    let test_bytes = sources
+        .saturating_mul(2)
+        .saturating_add(observed)
+        .saturating_add(MOST_HEAD_BYTES);
+    names
+        .saturating_mul(name_bytes)
+        .saturating_add(tests.len().saturating_mul(test_bytes))
+        .saturating_add(MOST_HEAD_BYTES)
 }
 
 /// Appends the line that names the sources. If memory runs out, a part of it may have been written; so too below.

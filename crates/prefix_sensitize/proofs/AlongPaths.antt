@@ -1,9 +1,9 @@
 -- The pins of a path are entered one by one. Where a conflict comes up at one, the start of the path up to it closes; and where none has
 -- come up, the start of no prefix that was entered does.
-use Rattle.std.proofs.Common.{◌≡◌, ℕ, zero, suc, ◌+◌, ◌<◌, ◌≤◌, Bool, true, false, if◌then◌else◌, List, [], ◌∷◌, ◌++◌, length, map, take, drop, get_or, Some, None, Option, refl, sym, ap, subst, subst₂, ◌∙◌, arith}
+use Rattle.std.proofs.Common.{◌≡◌, ℕ, zero, suc, ◌+◌, ◌<◌, ◌≤◌, Bool, true, false, if◌then◌else◌, List, [], ◌∷◌, ◌++◌, length, map, take, get_or, Some, None, Option, refl, sym, ap, subst, subst₂, ◌∙◌, arith}
 use Rattle.std.specs.Prelude.{nat_lt, IsSome}
 use Rattle.std.proofs.lemmas.Bool.{lt-ltb}
-use Rattle.std.proofs.lemmas.List.{length_push, take_more, take-take, take-append-drop, get_or_default}
+use Rattle.std.proofs.lemmas.List.{length_push, take_more, get_or_default}
 use Rattle.std.proofs.Math.Seq.{take-append_seam}
 use Rattle.std.proofs.lemmas.List.Elements.{All-map}
 use Rattle.pd_base.specs.declared.ids.LineId.{LineId}
@@ -13,7 +13,7 @@ use Rattle.pd_base.specs.Target.{Target, target_of}
 use Rattle.pd_base.specs.declared.rules.Rules.{Rules}
 use Rattle.netlist.specs.Circuit.{Circuit, line_count, gate_line}
 use Rattle.netlist.specs.Pins.{IsPinOn}
-use Rattle.netlist.specs.Paths.{Connects, IsPrefixOf, line_after, prefix_of}
+use Rattle.netlist.specs.Paths.{Connects, line_after, prefix_of}
 use Rattle.state_sets.specs.declared.state.State.{State}
 use Rattle.state_sets.specs.FourStates.{four_states}
 use Rattle.state_sets.specs.Starts.{MayStart}
@@ -30,6 +30,7 @@ use Rattle.good_runs.specs.Shortest.{ClosesAtStart}
 use Rattle.prefix_sensitize.specs.AlongPaths.{ClosesFrom, IsAtPin, LeadsAlong}
 use Rattle.prefix_sensitize.specs.Entering.{IsSameBeginning}
 use Rattle.prefix_sensitize.specs.PathOrder.{ShareSteps}
+use Rattle.prefix_sensitize.proofs.RoutePrefixes.{shorter_prefix}
 use Rattle.prefix_sensitize.proofs.Told.{gate_told}
 
 -- the pins of entries that are all pins
@@ -57,15 +58,6 @@ step_on c line [] place d connects within = absurd (omega arith)
 step_on c line (step ∷ steps) zero d connects within = connects.0
 step_on c line (step ∷ steps) (suc place) d connects within =
     step_on c (gate_line c step.gate.0) steps place d connects.1 (omega arith)
-
--- a prefix of fewer steps is one of the prefix of more
-prefix_of_longer : (fewer count : ℕ) (path : Route) → fewer ≤ count → IsPrefixOf (prefix_of fewer path) (prefix_of count path)
-prefix_of_longer fewer count path less = record {
-  source = refl;
-  rest = drop fewer (take count path.steps);
-  steps = ap (λ (front : List PinRef). front ++ drop fewer (take count path.steps)) (sym (take-take fewer count path.steps less))
-      ∙ take-append-drop fewer (take count path.steps);
-}
 
 module _ (c : Circuit) (rules : Rules) (begun : Beginning) (path : Route) (source : begun.source ≡ path.source) (count : ℕ) where
   -- the entries of the first pins, and the target of the prefix that they make
@@ -125,7 +117,7 @@ module _ (c : Circuit) (rules : Rules) (begun : Beginning) (path : Route) (sourc
       → ¬ ClosesAtStart c rules (target_of (prefix_of fewer path) begun.direction begun.kind)
   open_before not fewer less closes =
       not (closes_under
-      (prefix_closes c rules (prefix_of fewer path) (prefix_of count path) (prefix_of_longer fewer count path less) begun.direction
+      (prefix_closes c rules (prefix_of fewer path) (prefix_of count path) (shorter_prefix fewer count path less) begun.direction
       begun.kind [] closes))
 
 -- where the first pins of a path empty a line, the start of their prefix closes

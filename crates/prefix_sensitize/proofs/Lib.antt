@@ -31,4 +31,4 @@ mod Renumbering
 mod Rows
 mod BothKinds
 mod FirstPaths
-mod Ready
+mod Counting

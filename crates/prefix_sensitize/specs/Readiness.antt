@@ -36,12 +36,6 @@ pub record AddsProofsFor (direction : Direction) (old new : List Proof) : Type 0
   pub adds : new ≡ old ++ more
   pub aimed : All (λ proof. proof.dir ≡ direction) more
 
--- however many prefixes the paths have, the count rose by no more than so many times that number
-abbrev pub CountsWithin : List Route → ℕ → ℕ → ℕ → Type 0
-CountsWithin routes times old new = (prefixes : ℕ) → HasPrefixes routes prefixes → new ≤ old + times * prefixes
-
 -- the count rose by no more than so many times the number of the paths' prefixes
-pub record CountsAtMost (routes : List Route) (times old new : ℕ) : Type 0 where
-  pub prefixes : ℕ
-  pub has : HasPrefixes routes prefixes
-  pub most : new ≤ old + times * prefixes
+abbrev pub CountsAtMost : List Route → ℕ → ℕ → ℕ → Type 0
+CountsAtMost routes times old new = (prefixes : ℕ) → HasPrefixes routes prefixes → new ≤ old + times * prefixes

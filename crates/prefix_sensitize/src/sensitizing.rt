@@ -11,7 +11,7 @@ ghost use Rattle.justify.specs.Desks.{IsDeskFor};
 ghost use Rattle.prefix_sensitize.specs.Entering.{IsIdleAgain};
 ghost use Rattle.prefix_sensitize.specs.Listed.{AreSearchedAll};
 ghost use Rattle.prefix_sensitize.specs.Outcomes.{AddsProofs, AreFoundProofs, AreOutcomes, NoneIsAbout};
-ghost use Rattle.prefix_sensitize.specs.Readiness.{AddsProofsFor, CountsAtMost, CountsWithin, IsReadyFor, NoneIsFor};
+ghost use Rattle.prefix_sensitize.specs.Readiness.{AddsProofsFor, CountsAtMost, IsReadyFor, NoneIsFor};
 ghost use Rattle.prefix_sensitize.specs.Searches.{AreSearchedFrom, is_test, searches_of};
 ghost use Rattle.prefix_sensitize.specs.Walks.{AreExcused, AreSearchablePaths, AreToldPaths, IsBudget};
 
@@ -36,8 +36,8 @@ use std::alloc::Global;
 /// it can.
 ///
 /// `steps` stands at no more than 2^63, and counts the pins that are entered: at most four times as many as the paths have different
-/// prefixes of at least one step, once for each transition and kind of test. The one error is that memory ran out; `steps` has counted
-/// no more then.
+/// prefixes of at least one step, once for each transition and kind of test, whatever the answer is. The one error is that memory ran
+/// out.
 pub fn sensitize_all<L>(
     alloc: Global,
     net: &Netlist,
@@ -57,8 +57,7 @@ pub fn sensitize_all<L>(
     ensures lawful { IfOk result (λ run. IsLawfulRun net.now run) }
     ensures rules { IfOk result (λ run. run.rules ≡ rules) }
     ensures shortest { IfOk result (λ run. IsShortestRun net.now run) }
-    ensures steps { OnOk result (CountsAtMost paths.items 4 steps.old steps.new) }
-    ensures counted { CountsWithin paths.items 4 steps.old steps.new }
+    ensures steps { CountsAtMost paths.items 4 steps.old steps.new }
 {
     // a netlist has few levels, and so its paths have few steps
     let _ = net.sources();
@@ -79,8 +78,7 @@ fn search_paths<L>(
     requires budget { IsBudget budget }
     requires steps { steps.old ≤ 2 ^ 63 }
     ensures searched { IfOk result (λ searched. AreSearchedAll net.now (searches_of rules.now budget paths.now searched) searched) }
-    ensures steps { OnOk result (CountsAtMost paths.now 4 steps.old steps.new) }
-    ensures counted { CountsWithin paths.now 4 steps.old steps.new }
+    ensures steps { CountsAtMost paths.now 4 steps.old steps.new }
 {
     // a netlist is a circuit
     let _ = net.sources();
@@ -106,8 +104,7 @@ fn search_on<S: Setting, L>(
     requires budget { IsBudget budget }
     requires steps { steps.old ≤ 2 ^ 63 }
     ensures searched { IfOk result (λ searched. AreSearchedAll engine.old.net (searches_of engine.old.rules budget paths.now searched) searched) }
-    ensures steps { OnOk result (CountsAtMost paths.now 4 steps.old steps.new) }
-    ensures counted { CountsWithin paths.now 4 steps.old steps.new }
+    ensures steps { CountsAtMost paths.now 4 steps.old steps.new }
 {
     let mut desk = Desk::new(alloc, net)?;
     search_in_order(alloc, engine, &mut desk, paths, budget, steps)
@@ -129,8 +126,7 @@ fn search_in_order<S: Setting, L>(
     requires budget { IsBudget budget }
     requires steps { steps.old ≤ 2 ^ 63 }
     ensures searched { IfOk result (λ searched. AreSearchedAll engine.old.net (searches_of engine.old.rules budget paths.now searched) searched) }
-    ensures steps { OnOk result (CountsAtMost paths.now 4 steps.old steps.new) }
-    ensures counted { CountsWithin paths.now 4 steps.old steps.new }
+    ensures steps { CountsAtMost paths.now 4 steps.old steps.new }
 {
     let tree = PathTree::new(alloc, paths)?;
     search_all(alloc, engine, desk, paths, &tree, budget, steps)

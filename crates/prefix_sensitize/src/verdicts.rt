@@ -6,7 +6,7 @@ ghost use Rattle.netlist.specs.Conditions.{Meets};
 ghost use Rattle.netlist.specs.Lawful.{IsCircuit};
 ghost use Rattle.netlist.specs.Paths.{IsPrefix};
 ghost use Rattle.good_runs.specs.Faults.{HasProof};
-ghost use Rattle.prefix_sensitize.specs.Outcomes.{IsOutcome};
+ghost use Rattle.prefix_sensitize.specs.Outcomes.{IsOutcome, IsTestPair};
 ghost use Rattle.prefix_sensitize.specs.Searches.{AreFaultOutcomes, AreSearches, Searches};
 ghost use Rattle.prefix_sensitize.specs.Numbering.{AreCited, HaveOneNumber};
 ghost use Rattle.prefix_sensitize.specs.Answers.{AddsTest, IsAnswered, IsAsked, IsWriterFor, written_by};
@@ -102,35 +102,9 @@ impl Writer {
         ensures answered { IfOk result (λ verdict. IsAnswered net.now searches number dir path.now (written_by self.old) (written_by self.new) verdict) }
         ensures writer { IfOk result (λ _. IsWriterFor net.now searches self.new) }
     {
-        // a netlist is a circuit
-        let _ = net.sources();
         match nonrobust {
             Outcome::Unsearched => unreachable!(),
-            Outcome::Tested(pair) => {
-                let refuted = !self.found[proof].spent;
-                if is_robust(net, path, dir, refuted, &pair, &mut self.scratch) {
-                    let test = add_test(
-                        self.alloc,
-                        &mut self.tests,
-                        number,
-                        dir,
-                        Kind::Robust,
-                        pair,
-                    )?;
-                    Ok(Verdict::Robust { test })
-                } else {
-                    let proof = self.numbering.cite(proof)?;
-                    let test = add_test(
-                        self.alloc,
-                        &mut self.tests,
-                        number,
-                        dir,
-                        Kind::Nonrobust,
-                        pair,
-                    )?;
-                    Ok(Verdict::Nonrobust { test, proof })
-                }
-            }
+            Outcome::Tested(pair) => self.by_pair(net, number, path, dir, proof, pair),
             Outcome::Proved(index) => {
                 if self.found[index].spent {
                     let robust = self.numbering.cite(proof)?;
@@ -142,6 +116,42 @@ impl Writer {
                 }
             }
         }
+    }
+
+    // The verdict by the pair that the nonrobust search gave, where the proof of this index shows that the robust one gave none.
+    fn by_pair(
+        &mut self,
+        net: &Netlist,
+        number: u32,
+        path: &Path,
+        dir: Direction,
+        proof: usize,
+        pair: Pair,
+    ) -> Result<Verdict, OutOfMemory>
+        ghost searches: { Searches }
+        requires asked { IsAsked net.now searches number path.now self.old }
+        requires robust { HasProof searches.routes searches.proofs number (target_of path.now dir Kind.Robust) (proof + 1) }
+        requires nonrobust { IsTestPair net.now (target_of path.now dir Kind.Nonrobust) pair }
+        ensures answered { IfOk result (λ verdict. IsAnswered net.now searches number dir path.now (written_by self.old) (written_by self.new) verdict) }
+        ensures writer { IfOk result (λ _. IsWriterFor net.now searches self.new) }
+    {
+        // a netlist is a circuit
+        let _ = net.sources();
+        let refuted = !self.found[proof].spent;
+        if is_robust(net, path, dir, refuted, &pair, &mut self.scratch) {
+            let test = add_test(self.alloc, &mut self.tests, number, dir, Kind::Robust, pair)?;
+            return Ok(Verdict::Robust { test });
+        }
+        let proof = self.numbering.cite(proof)?;
+        let test = add_test(
+            self.alloc,
+            &mut self.tests,
+            number,
+            dir,
+            Kind::Nonrobust,
+            pair,
+        )?;
+        Ok(Verdict::Nonrobust { test, proof })
     }
 
     /// The tests, and the cited proofs, each in the order of their numbers.

@@ -1,9 +1,11 @@
 //! Plays rows and prints what came of each: what a netlist's text says, values, delays, paths and tests, waves, hulls and trees of
-//! cases; and whole calls over files and streams in memory. The rows are this crate's stdin; what they have to print, its stdout,
-//! was worked out by hand. Stands on row_answers and commands, and is no part of the product.
+//! cases; what is read of the files of a run; and whole calls over files and streams in memory. The rows are this crate's stdin; what
+//! they have to print, its stdout, was worked out by hand. Stands on row_answers, pattern_writer, verdict_report and commands, and is
+//! no part of the product.
 #![tactic(auto)]
 
 mod chain;
+mod claims;
 mod questions;
 mod row;
 mod subject;

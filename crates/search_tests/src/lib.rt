@@ -1,8 +1,8 @@
 //! Callers that the product has not, each proved from contracts alone: of `meets` and `steady`, whose contracts say in a reader's
 //! words what an answer tells of waves; of scopes, nested by recursion, left by marks in a loop, and left by `?`; labels by sweeps over
-//! all gates, beside those that the worklist ends with; and searches for tests of single paths, each with the answer that was worked
-//! out by hand. Stands on path_model, undo_trail, narrowing, hulls, implication, justify, refutation_check and row_answers, and is no
-//! part of the product.
+//! all gates, beside those that the worklist ends with; searches for tests of single paths, each with the answer that was worked out by
+//! hand; and all searches for the paths of a small netlist, with how many pins are entered for them. Stands on path_model, undo_trail,
+//! narrowing, hulls, implication, justify, prefix_sensitize, refutation_check and row_answers, and is no part of the product.
 #![tactic(auto)]
 
 #[cfg(test)]
@@ -23,6 +23,8 @@ mod playing;
 mod rows;
 #[cfg(test)]
 mod same_labels;
+#[cfg(test)]
+mod shared_prefixes;
 mod steady_lines;
 #[cfg(test)]
 mod sweeping;

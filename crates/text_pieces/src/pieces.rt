@@ -46,9 +46,10 @@ pub fn push_spaced_number(out: &mut Vec<u8>, n: u64) -> Result<(), OutOfMemory>
 pub fn push_spaced_digits(out: &mut Vec<u8>, bits: &[bool]) -> Result<(), OutOfMemory>
     ensures { OnOk result (out.new.items ≡ out.old.items ++ after_space (digits bits.now)) }
 {
-    out.push(b' ')?;
+    out.reserve(bits.len() + 1)?;
+    out.push_reserved(b' ');
     for bit in bits {
-        out.push(if *bit { b'1' } else { b'0' })?;
+        out.push_reserved(if *bit { b'1' } else { b'0' });
     }
     Ok(())
 }

@@ -1,5 +1,5 @@
 -- A report is read where its first line and then the lines of its paths are.
-use Rattle.std.proofs.Common.{◌≡◌, ◌<◌, ◌+◌, ◌^◌, ℕ, List, [], ◌∷◌, ◌++◌, Option, Some, None, IfSome, Result, Ok, Err, option_map, All, refl, sym, ap, ap₂, subst, ◌∙◌, flat_map, arith}
+use Rattle.std.proofs.Common.{◌≡◌, ◌<◌, ◌+◌, ◌^◌, ℕ, List, [], ◌∷◌, ◌++◌, Option, Some, None, IfSome, Result, Ok, Err, option_map, All, refl, sym, ap, subst, ◌∙◌, flat_map}
 use Rattle.std.specs.Global.{Vec}
 use Rattle.std.specs.List.{AllByRecursion}
 use Rattle.std.proofs.lemmas.List.Elements.{All-from_recursion, recursion_from_All}
@@ -13,7 +13,7 @@ use Rattle.text_pieces.specs.LineFiles.{headed, lines_text, state_after, AreLine
 use Rattle.text_pieces.specs.Reads.{Reads}
 use Rattle.text_pieces.proofs.Headings.{bad_behind, headed_once, heading_missing}
 use Rattle.text_pieces.specs.Tokens.{line}
-use Rattle.verdict_report.specs.ReportForm.{fall_line, lines_told, report_form, report_heading, report_headings, report_start, rise_line, HasSmallNumbers, IsSpelledReport, ReportLine, ReportState}
+use Rattle.verdict_report.specs.ReportForm.{fall_line, lines_told, report_form, report_heading, report_headings, report_start, rise_line, HasSmallNumbers, IsSpelledReport}
 use Rattle.verdict_report.specs.ReportReading.{PathLinesAnswer, ReportAnswer}
 use Rattle.verdict_report.specs.ReportText.{fault_fields, report_rows, report_text, row_line}
 use Rattle.verdict_report.specs.declared.fault.TextFault.{TextFault}

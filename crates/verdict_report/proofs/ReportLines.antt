@@ -1,8 +1,7 @@
 -- The line of the report is made of its fields, and its fields of the line.
-use Rattle.std.proofs.Common.{◌≡◌, ◌⊎◌, inl, inr, ◌<◌, ◌≤◌, ◌+◌, ◌*◌, ℕ, false, List, [], ◌∷◌, ◌++◌, Option, Some, None, IfSome, length, codes, decimal, refl, sym, ap, ap₂, subst, ◌∙◌, append_assoc, arith}
+use Rattle.std.proofs.Common.{◌≡◌, inl, inr, ◌+◌, ◌*◌, ℕ, List, [], ◌∷◌, ◌++◌, Option, Some, None, length, codes, decimal, refl, sym, ap, ◌∙◌, arith}
 use Rattle.std.specs.List.{AllByRecursion}
 use Rattle.std.proofs.lemmas.Option.{none-some, same_Some}
-use Rattle.pd_base.specs.Route.{Route}
 use Rattle.pd_base.specs.declared.fault.Direction.{Direction}
 use Rattle.pd_base.specs.declared.fault.Direction.TheVariants.{Rise, Fall}
 use Rattle.netlist.specs.Circuit.{Circuit}
@@ -13,14 +12,14 @@ use Rattle.runs.specs.declared.run.Verdict.{Verdict}
 use Rattle.runs.specs.declared.run.Verdict.TheVariants.{Robust, Nonrobust, Untestable, Aborted}
 use Rattle.runs.specs.Lawful.{Named, named_with}
 use Rattle.text_pieces.specs.Tokens.{comma, line_feed}
-use Rattle.text_pieces.specs.LineFiles.{lines_text, state_after}
+use Rattle.text_pieces.specs.LineFiles.{state_after}
 use Rattle.text_pieces.specs.Cuts.{pieces}
 use Rattle.text_pieces.specs.Reads.{Reads}
 use Rattle.text_pieces.proofs.PieceTexts.{are_pieces, decimal_is_piece, direction_is_piece, joined_line, literal_is_piece, IsPiece}
 use Rattle.text_pieces.proofs.Cuts.{joined_reads}
 use Rattle.text_pieces.proofs.ReadLines.{AreOneLine, ReadsItem}
 use Rattle.text_pieces.proofs.Spelled.{none_spelled, one_spelled}
-use Rattle.verdict_report.specs.ReportForm.{due_direction, fall_line, line_fields, lines_told, report_form, rise_line, AgreesWith, IsNextLine, IsNextVerdict, IsTellable, ReportLine, ReportState}
+use Rattle.verdict_report.specs.ReportForm.{due_direction, fall_line, line_fields, lines_told, report_form, rise_line, IsNextLine, IsNextVerdict, IsTellable, ReportLine, ReportState}
 use Rattle.verdict_report.specs.ReportReading.{fields_with}
 use Rattle.verdict_report.specs.ReportText.{nothing, steps_text, verdict_fields}
 use Rattle.verdict_report.proofs.ReportNames.{name_lacks}

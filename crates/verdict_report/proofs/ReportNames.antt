@@ -1,9 +1,9 @@
 -- The names of a circuit: each is that of one line, and no comma, space or LF is in it.
-use Rattle.std.proofs.Common.{◌≡◌, ◌≢◌, ◌⊎◌, inl, inr, ⊎_elim, ◌<◌, ◌≤◌, ℕ, false, List, length, get_or, All, Contains, ne_eqb, sym, ap, subst, ◌∙◌, ◌==◌, arith}
+use Rattle.std.proofs.Common.{◌≡◌, ◌≢◌, ◌⊎◌, ⊎_elim, ◌<◌, ◌≤◌, ℕ, false, length, get_or, Contains, ne_eqb, sym, ap, subst, ◌∙◌, ◌==◌, arith}
 use Rattle.std.proofs.lemmas.Bool.{cases_order}
 use Rattle.std.proofs.lemmas.List.Elements.{Contains-get_or, recursion_from_All}
 use Rattle.pd_base.specs.declared.ids.GateId.{GateId}
-use Rattle.netlist.specs.Circuit.{Circuit, gate_at, gate_count, gate_line, line_count, line_names, source_count}
+use Rattle.netlist.specs.Circuit.{Circuit, gate_count, gate_line, line_count, line_names}
 use Rattle.netlist.specs.Lawful.{IsCircuit}
 use Rattle.netlist.specs.Names.{name_at, IsNameByte}
 use Rattle.netlist.proofs.CircuitLines.{line_names-length, name_of_gate}

@@ -1,16 +1,15 @@
 -- The line for the rising transition is read where its fields, its verdict and its path are.
-use Rattle.std.proofs.Common.{◌≡◌, ℕ, List, [], ◌∷◌, Some, None, decimal, refl, sym, ap, ◌∙◌}
+use Rattle.std.proofs.Common.{◌≡◌, ℕ, List, Some, None, ap, ◌∙◌}
 use Rattle.std.proofs.lemmas.Option.{none-some, same_Some}
 use Rattle.pd_base.specs.declared.fault.Direction.TheVariants.{Rise}
 use Rattle.netlist.specs.Circuit.{Circuit}
-use Rattle.netlist.specs.Names.{name_at}
 use Rattle.runs.specs.declared.run.Verdict.{Verdict}
 use Rattle.runs.specs.Lawful.{Named}
 use Rattle.text_pieces.specs.Reads.{Reads}
 use Rattle.text_pieces.proofs.Spelled.{none_spelled, one_spelled}
 use Rattle.verdict_report.specs.ReportForm.{line_fields, IsNextVerdict, IsTellable, ReportLine}
 use Rattle.verdict_report.specs.ReportReading.{fields_with, measured_texts}
-use Rattle.verdict_report.specs.ReportText.{steps_text, verdict_fields}
+use Rattle.verdict_report.specs.ReportText.{verdict_fields}
 use Rattle.verdict_report.specs.declared.report_paths.MeasuredPath.{MeasuredPath}
 
 module _ (c : Circuit) (number : ℕ) (named : Named) (fields : List (List ℕ)) where

@@ -1,5 +1,5 @@
 -- The text of a step is parted at its last colon, and the field of steps into the texts of steps.
-use Rattle.std.proofs.Common.{◌≡◌, ◌≢◌, ◌⊎◌, inl, inr, ◌<◌, ◌≤◌, ◌+◌, ◌%◌, ◌/◌, ◌==◌, ℕ, zero, suc, true, false, List, [], ◌∷◌, ◌++◌, Option, Some, None, IfSome, All, length, get_or, map, codes, decimal, refl, sym, ap, ap₂, subst, ◌∙◌, append_assoc, arith}
+use Rattle.std.proofs.Common.{◌≡◌, ◌≢◌, ◌⊎◌, inl, ◌<◌, ◌≤◌, ◌+◌, ◌%◌, ◌/◌, ◌==◌, ℕ, zero, suc, true, false, List, [], ◌∷◌, ◌++◌, Option, Some, None, IfSome, All, length, get_or, map, codes, decimal, refl, sym, ap, ap₂, subst, ◌∙◌, append_assoc, arith}
 use Rattle.std.specs.Prelude.{if◌then◌else◌}
 use Rattle.std.specs.Fmt.{digit_glyph, digits, digits_onto}
 use Rattle.std.specs.List.{AllByRecursion, join_with_byte}
@@ -11,13 +11,12 @@ use Rattle.std.proofs.lemmas.List.{length-append}
 use Rattle.std.proofs.lemmas.Option.{none-some, same_Some}
 use Rattle.pd_base.specs.declared.ids.GateId.{GateId}
 use Rattle.pd_base.specs.declared.ids.PinRef.{PinRef}
-use Rattle.netlist.specs.Circuit.{Circuit, gate_at, gate_count, gate_line, line_count, pins_at}
+use Rattle.netlist.specs.Circuit.{Circuit, gate_count, gate_line, pins_at}
 use Rattle.netlist.specs.Lawful.{IsCircuit}
-use Rattle.netlist.specs.Names.{name_at}
 use Rattle.netlist.specs.Pins.{IsPin}
 use Rattle.netlist.proofs.CircuitLines.{name_of_gate}
 use Rattle.text_pieces.specs.Tokens.{space}
-use Rattle.text_pieces.specs.Cuts.{ArePieces, Lacks, pieces}
+use Rattle.text_pieces.specs.Cuts.{Lacks, pieces}
 use Rattle.text_pieces.specs.Reads.{Reads}
 use Rattle.text_pieces.proofs.Decimals.{decimal_lacks}
 use Rattle.text_pieces.proofs.Cuts.{joined_lacks, lacks-append, pieces_of_joined}

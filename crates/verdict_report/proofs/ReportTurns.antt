@@ -1,5 +1,5 @@
 -- Path by path: two lines more were read, or one of them is the first that lacks its form.
-use Rattle.std.proofs.Common.{◌≡◌, ◌≢◌, ◌+◌, ◌*◌, ℕ, List, [], ◌∷◌, ◌++◌, Some, None, Option, length, decimal, refl, sym, ap, ap₂, subst, ◌∙◌, length-append, arith}
+use Rattle.std.proofs.Common.{◌≡◌, ◌≢◌, ◌+◌, ◌*◌, ℕ, List, [], ◌∷◌, ◌++◌, Some, None, Option, length, decimal, sym, ap, ap₂, subst, ◌∙◌, length-append, arith}
 use Rattle.std.proofs.lemmas.Option.{none-some}
 use Rattle.pd_base.specs.declared.fault.Direction.TheVariants.{Rise}
 use Rattle.netlist.specs.Circuit.{Circuit}

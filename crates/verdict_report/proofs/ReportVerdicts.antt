@@ -1,5 +1,5 @@
 -- What no reading of the parts of a text finds, no reading of the whole does.
-use Rattle.std.proofs.Common.{◌≡◌, List, ℕ, [], ◌∷◌, Option, Some, None, IfSome, codes, decimal}
+use Rattle.std.proofs.Common.{◌≡◌, List, ℕ, Option, Some, None, IfSome, codes, decimal}
 use Rattle.std.proofs.lemmas.Option.{none-some}
 use Rattle.runs.specs.declared.run.Verdict.{Verdict}
 use Rattle.runs.specs.declared.run.Verdict.TheVariants.{Robust, Nonrobust, Untestable, Aborted}

@@ -1,34 +1,34 @@
--- The bits of one source more, and after the last one the pair.
-use Rattle.std.proofs.Common.{false, get_or, List, length, sym, ap, ◌∙◌, arith}
-use Rattle.std.specs.Prelude.{Bool}
-use Rattle.justify.proofs.Taking.{bits_more, first_of, second_of, read_is}
+-- Both vectors have the bits of the sources, and nothing else.
+use Rattle.std.proofs.Common.{ℕ, List, Bool, false, replicate, length, sym, ap, ◌∙◌, subst, arith}
+use Rattle.std.proofs.lemmas.List.{with_items_is}
+use Rattle.netlist.specs.Circuit.{source_count}
+use Rattle.state_sets.specs.FourStates.{four_last}
+use Rattle.justify.specs.ConeStates.{state_in}
+use Rattle.justify.specs.LeastStates.{first_bit}
+use Rattle.justify.specs.Taken.{HasBitsAt}
+use Rattle.justify.proofs.Taking.{read_is}
 use Rattle.justify.proofs.read_states.read_test.Goals as goal
-
-pub loop-source-preserved : goal.loop-source-preserved
-loop-source-preserved c =
-    let one = c.in_ok-push.ensures.len in let two = c.in_ok-push-2.ensures.len in
-    let before = c.loop-source.invariant in
-    record {
-      first_each = omega (arith, one, before.first_each);
-      second_each = omega (arith, two, before.second_each);
-      first_bits = bits_more c.loop-source.first.items c.push.new.self.items c.read_first.result c.loop-source.source
-          (first_of c.args.states.now c.args.marks.now) c.in_ok-push.ensures.items (sym c.loop-source.first.ok.0 ∙ before.first_each)
-          before.first_bits c.read_first.ensures;
-      second_bits = bits_more c.loop-source.second.items c.push-in-loop-source.new.self.items c.read_second.result c.loop-source.source
-          (second_of c.args.states.now c.args.marks.now) c.in_ok-push-2.ensures.items (sym c.loop-source.second.ok.0 ∙ before.second_each)
-          before.second_bits c.read_second.ensures;
-    }
 
 pub returns : goal.returns
 returns c = λ end exactly.
-    let before = c.loop-source.invariant in
-    let count = c.sources-sources.ensures.count in
-    read_is c.args.net.now c.args.states.now c.args.marks.now c.new.result
-    (omega (arith, ap length c.new.ensures.first, c.loop-source.first.ok.0, before.first_each, c.loop-source-test.false, c.loop-source.auto.source-end, count))
-    (omega (arith, ap length c.new.ensures.second, c.loop-source.second.ok.0, before.second_each, c.loop-source-test.false, c.loop-source.auto.source-end, count))
+    let net = c.args.net.now in
+    let states = c.args.states.now in
+    let sources = c.args.sources.now in
+    let before : ℕ → Bool = λ source. first_bit (state_in states source) in
+    let after : ℕ → Bool = λ source. four_last (state_in states source) in
+    let first = c.in_ok-first.first in
+    let second = c.in_ok-second.second in
+    let zeros = λ (n : ℕ). replicate n false in
+    let first_start = c.as_mut_slice.ensures.value ∙ c.in_ok-first.ensures.items_if_clones_equal (λ y same. same) ∙ ap zeros c.sources-count.ensures.count in
+    let second_start = c.as_mut_slice-2.ensures.value ∙ c.in_ok-second.ensures.items_if_clones_equal (λ y same. same) ∙ ap zeros c.sources-count.ensures.count in
+    let first_end = c.new.ensures.first
+    ∙ with_items_is first c.write_bits.new.first (c.write_bits.ensures.first.places ∙ ap length c.as_mut_slice.ensures.value ∙ sym first.ok.0) in
+    let second_end = c.new.ensures.second
+    ∙ with_items_is second c.write_bits.new.second (c.write_bits.ensures.second.places ∙ ap length c.as_mut_slice-2.ensures.value ∙ sym second.ok.0) in
+    read_is net states sources c.new.result
     (λ source within. c.requires.states source (record { 0 = 0 }) (omega (arith, c.requires.places, within)))
-    (λ source within. ap (λ (bits : List Bool). get_or bits source false) c.new.ensures.first
-    ∙ before.first_bits source (omega (arith, within, count, c.loop-source-test.false)))
-    (λ source within. ap (λ (bits : List Bool). get_or bits source false) c.new.ensures.second
-    ∙ before.second_bits source (omega (arith, within, count, c.loop-source-test.false)))
+    (subst (HasBitsAt before sources (zeros (source_count net))) (sym first_end)
+    (subst (λ (start : List Bool). HasBitsAt before sources start c.write_bits.new.first) first_start c.write_bits.ensures.first))
+    (subst (HasBitsAt after sources (zeros (source_count net))) (sym second_end)
+    (subst (λ (start : List Bool). HasBitsAt after sources start c.write_bits.new.second) second_start c.write_bits.ensures.second))
     end exactly

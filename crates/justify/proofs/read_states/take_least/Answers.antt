@@ -7,7 +7,7 @@ use Rattle.state_sets.specs.FourStates.{four_states}
 use Rattle.state_sets.specs.Labellings.{label_at}
 use Rattle.justify.specs.LeastStates.{least_of}
 use Rattle.justify.proofs.Spreading.{no_line}
-use Rattle.justify.proofs.Taking.{AreDue, due_more, due_all}
+use Rattle.justify.proofs.Taking.{no_state, AreDue, due_more, due_all}
 use Rattle.justify.proofs.read_states.take_least.Goals as goal
 
 pub loop-source-preserved : goal.loop-source-preserved
@@ -22,12 +22,12 @@ loop-source-preserved c =
     record {
       places = length-set states at state ∙ before.places;
       four = All-set (λ (s : State). s.0 < four_states.count) states at state c.least.ensures.in_range before.four;
-      due = subst (λ (s : State). AreDue due (take (place + 1) sources) (set states at s)) (sym c.least.ensures.least)
-          (due_more due sources place states c.loop-source-test.true
+      due = subst (λ (s : State). AreDue no_state due (take (place + 1) sources) (set states at s)) (sym c.least.ensures.least)
+          (due_more no_state due sources place states c.loop-source-test.true
           (omega (arith, before.places, c.requires.places place no_line c.loop-source-test.true)) before.due);
     }
 
 pub returns-clause-taken : goal.returns-clause-taken
 returns-clause-taken c =
-    due_all (λ source. least_of (label_at c.args.labels.now source)) c.args.sources.now c.loop-source.source-index c.loop-source.states
+    due_all no_state (λ source. least_of (label_at c.args.labels.now source)) c.args.sources.now c.loop-source.source-index c.loop-source.states
     c.loop-source-test.false c.loop-source.invariant.due

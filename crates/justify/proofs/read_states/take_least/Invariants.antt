@@ -2,7 +2,7 @@ use Rattle.std.proofs.Common.{◌≡◌, take, length}
 use Rattle.state_sets.specs.Labellings.{label_at}
 use Rattle.justify.specs.ConeStates.{AreFourStates}
 use Rattle.justify.specs.LeastStates.{least_of}
-use Rattle.justify.proofs.Taking.{AreDue}
+use Rattle.justify.proofs.Taking.{no_state, AreDue}
 use Rattle.justify.proofs.read_states.take_least.Given as goal
 
 -- the sources before this one are in the states that are due
@@ -10,5 +10,5 @@ abbrev pub invariant-loop-source : goal.invariant-loop-source
 invariant-loop-source l = record {
   places : length l.states ≡ length l.initial.states;
   four : AreFourStates l.states;
-  due : AreDue (λ source. least_of (label_at l.labels source)) (take l.source-index l.sources) l.states;
+  due : AreDue no_state (λ source. least_of (label_at l.labels source)) (take l.source-index l.sources) l.states;
 }

@@ -6,7 +6,7 @@ use Rattle.state_sets.specs.declared.state.State.{State}
 use Rattle.implication.specs.Scopes.{standing}
 use Rattle.justify.specs.ConeStates.{state_in}
 use Rattle.justify.specs.Tasks.{task_target}
-use Rattle.justify.proofs.TriedSources.{in_cone_within, side_within, desk_again, kept_desk, read_at, judged_fits}
+use Rattle.justify.proofs.TriedSources.{in_cone_within, side_within, desk_again, kept_desk, read_at, sources_within, judged_fits}
 use Rattle.justify.proofs.trying.judge_states.Goals as goal
 
 pub set_failure-requires-clause-line : goal.set_failure-requires-clause-line
@@ -20,6 +20,11 @@ set_failure-requires-clause-side g c =
     let P : Circuit → Type 0 = λ n. IsPrefix n c.args.task.now.path.now in
     side_within c.net-net.result.now c.sources.ensures.circuit c.args.task.now.path.now (subst P (sym c.net-net.ensures) c.requires.prefix)
     c.in-FailsAt.side c.in-FailsAt.ensures.within.1
+
+pub read_test-requires-clause-sources : goal.read_test-requires-clause-sources
+read_test-requires-clause-sources g c =
+    sources_within c.net-net.result.now (standing c.args.scope.now).net c.net-net.ensures c.args.task.now.path.now c.sources-in-IsTest.result.now
+    c.args.desk.now.cone.sources c.sources-in-IsTest.ensures c.requires.desk.cone.sources
 
 pub returns-in_ok-pair-in-IsTest-clause-desk : goal.returns-in_ok-pair-in-IsTest-clause-desk
 returns-in_ok-pair-in-IsTest-clause-desk g c =
@@ -46,7 +51,8 @@ returns-in_ok-pair-in-IsTest-clause-test g c =
     let long = c.judge-judgement.ensures.places ∙ ap length c.as_mut_slice.ensures.value ∙ sym c.args.desk.now.states.ok.0 in
     let net = (standing c.args.scope.now).net in let target = task_target c.args.task.now in
     judged_fits c.net-net.result.now net c.net-net.ensures target c.judge-judgement.new.states c.in_ok-pair-in-IsTest.pair
-    (read_at c.net-net.result.now net c.net-net.ensures target c.marks.result.now c.args.desk.now.cone c.marks.ensures.exactly c.requires.desk.cone
+    (read_at c.net-net.result.now net c.net-net.ensures target c.sources-in-IsTest.result.now c.args.desk.now.cone.sources c.sources-in-IsTest.ensures
+    c.requires.desk.cone.sources
     c.as_slice.result.now c.judge-judgement.new.states
     (c.as_slice.ensures.value ∙ with_items_is c.args.desk.now.states c.judge-judgement.new.states long)
     c.in_ok-pair-in-IsTest.pair c.in_ok-pair-in-IsTest.ensures)

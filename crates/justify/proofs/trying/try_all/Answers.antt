@@ -10,7 +10,7 @@ use Rattle.justify.specs.KeptCones.{AreConeSources}
 use Rattle.justify.specs.Tasks.{task_target}
 use Rattle.justify.specs.Trying.{CanTry, HasLeast, GivesTest}
 use Rattle.justify.proofs.SplitChoices.{read_in_support}
-use Rattle.justify.proofs.TriedSources.{support_within, all_tried, read_at, tried_fits}
+use Rattle.justify.proofs.TriedSources.{support_within, all_tried, read_at, sources_within, tried_fits}
 use Rattle.justify.proofs.trying.try_all.Goals as goal
 
 pub collect-requires-clause-sources : goal.collect-requires-clause-sources
@@ -32,6 +32,11 @@ closes-requires-clause-tried g c =
     (read_in_support now.net c.args.task.now.path.now c.args.desk.now.cone.sources c.sources.result.now c.requires.desk.cone.sources c.sources.ensures)
     (subst Q same c.requires.least) (subst R same c.requires.desk.made.four) (ap length c.as_slice.ensures.value ∙ c.requires.desk.made.states))
 
+pub read_test-requires-clause-sources : goal.read_test-requires-clause-sources
+read_test-requires-clause-sources g c =
+    sources_within c.net.result.now (standing c.args.scope.now).net (c.net.ensures ∙ c.closes.ensures.restored.net) c.args.task.now.path.now
+    c.sources-2.result.now c.args.desk.now.cone.sources c.sources-2.ensures c.requires.desk.cone.sources
+
 pub returns-clause-answer : goal.returns-clause-answer
 returns-clause-answer g c =
     let net = (standing c.args.scope.now).net in let target = task_target c.args.task.now in
@@ -39,7 +44,7 @@ returns-clause-answer g c =
     let Q : List Tried → Type 0 = λ xs. GivesTest net target xs in
     tried_fits net target c.sources.result.now c.as_slice.result.now c.collect.new.tried.items c.in_ok-pair.pair
     (subst P (sym c.sources.ensures) c.requires.desk.cone.sources) c.in_ok-collect.ensures
-    (read_at c.net.result.now net (c.net.ensures ∙ c.closes.ensures.restored.net) target c.marks.result.now c.args.desk.now.cone
-    c.marks.ensures.exactly c.requires.desk.cone c.as_slice-3.result.now c.as_slice.result.now
+    (read_at c.net.result.now net (c.net.ensures ∙ c.closes.ensures.restored.net) target c.sources-2.result.now
+    c.args.desk.now.cone.sources c.sources-2.ensures c.requires.desk.cone.sources c.as_slice-3.result.now c.as_slice.result.now
     (c.as_slice-3.ensures.value ∙ sym c.as_slice.ensures.value) c.in_ok-pair.pair c.in_ok-pair.ensures)
     (subst Q c.as_slice-2.ensures.value c.if-closes.ensures.ends)

@@ -1,5 +1,5 @@
 -- No prefix was counted twice.
-use Rattle.prefix_sensitize.proofs.Ready.{counted}
+use Rattle.prefix_sensitize.proofs.Counting.{counted}
 use Rattle.prefix_sensitize.proofs.sensitizing.search_for.Goals as goal
 
 pub returns-clause-steps : goal.returns-clause-steps

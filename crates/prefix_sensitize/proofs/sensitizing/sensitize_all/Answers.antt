@@ -1,12 +1,12 @@
 -- The first paths can be searched, and the run is good for them.
 use Rattle.std.proofs.Common.{ℕ, List, sym, subst}
 use Rattle.std.proofs.lemmas.Result.{IfOk-weaker}
+use Rattle.pd_base.specs.Route.{Route}
 use Rattle.delay_annotation.specs.Annotation.{delays_of}
 use Rattle.netlist.specs.Order.{AreFirst}
 use Rattle.good_runs.specs.GoodRun.{IsGoodRun}
 use Rattle.runs.specs.declared.run.Run.{Run}
-use Rattle.pd_base.specs.Route.{Route}
-use Rattle.prefix_sensitize.specs.Prefixes.{HasPrefixes}
+use Rattle.prefix_sensitize.specs.Readiness.{CountsAtMost}
 use Rattle.prefix_sensitize.specs.Walks.{AreSearchablePaths}
 use Rattle.prefix_sensitize.proofs.FirstPaths.{first_are_searchable}
 use Rattle.prefix_sensitize.proofs.sensitizing.sensitize_all.Goals as goal
@@ -30,12 +30,12 @@ returns-clause-good g c =
     (good c.args.count c.requires.first))
     c.run_of.ensures.good
 
-pub returns-in_err-searched-clause-counted : goal.returns-in_err-searched-clause-counted
-returns-in_err-searched-clause-counted g c prefixes has =
-    let P : List Route → Type 0 = λ routes. HasPrefixes routes prefixes in
-    c.search_paths.ensures.counted prefixes (subst P (sym c.as_slice.ensures.value) has)
+pub returns-in_err-searched-clause-steps : goal.returns-in_err-searched-clause-steps
+returns-in_err-searched-clause-steps g c =
+    subst (λ (routes : List Route). CountsAtMost routes 4 c.args.steps.now c.search_paths.new.steps) c.as_slice.ensures.value
+    c.search_paths.ensures.steps
 
-pub returns-clause-counted : goal.returns-clause-counted
-returns-clause-counted g c prefixes has =
-    let P : List Route → Type 0 = λ routes. HasPrefixes routes prefixes in
-    c.search_paths.ensures.counted prefixes (subst P (sym c.as_slice.ensures.value) has)
+pub returns-clause-steps : goal.returns-clause-steps
+returns-clause-steps g c =
+    subst (λ (routes : List Route). CountsAtMost routes 4 c.args.steps.now c.search_paths.new.steps) c.as_slice.ensures.value
+    c.search_paths.ensures.steps

@@ -1,5 +1,4 @@
 -- Without the fields of a path the line tells nothing.
-use Rattle.std.proofs.Common.{List, ℕ}
 use Rattle.pd_base.specs.declared.fault.Direction.TheVariants.{Fall}
 use Rattle.text_pieces.specs.Tokens.{comma}
 use Rattle.text_pieces.specs.Cuts.{pieces}

@@ -1,5 +1,4 @@
 -- A line without the fields of a path, or whose fields are those of no path, tells nothing; with its path and its verdict it tells both.
-use Rattle.std.proofs.Common.{Some}
 use Rattle.pd_base.specs.declared.fault.Direction.TheVariants.{Rise}
 use Rattle.text_pieces.specs.Tokens.{comma}
 use Rattle.text_pieces.specs.Cuts.{pieces, pieces_left}

@@ -1,5 +1,5 @@
 -- A name is that of one line, and so of one gate at most.
-use Rattle.std.proofs.Common.{◌≡◌, ◌<◌, ℕ, Contains, sym, ap, subst, ◌∙◌, arith}
+use Rattle.std.proofs.Common.{◌≡◌, ◌<◌, Contains, sym, ap, subst, ◌∙◌, arith}
 use Rattle.pd_base.specs.declared.ids.GateId.{GateId}
 use Rattle.netlist.specs.Circuit.{gate_count, gate_line, line_names}
 use Rattle.netlist.specs.Names.{name_at}

@@ -1,9 +1,8 @@
 -- Each line goes on, or is the first that lacks its form.
-use Rattle.std.proofs.Common.{◌≡◌, ◌≢◌, ◌++◌, ◌∷◌, [], List, None, Some, refl, sym, ap, subst, ◌∙◌, arith}
-use Rattle.runs.specs.declared.run.ListedPath.{ListedPath}
+use Rattle.std.proofs.Common.{◌≡◌, refl, subst, arith}
 use Rattle.text_pieces.proofs.ReadLines.{all_read, none_left, none_read, some_left, IsReadSoFar}
-use Rattle.verdict_report.specs.ReportForm.{fall_line, lines_told, report_form, report_start, rise_line, ReportLine}
-use Rattle.verdict_report.specs.ReportReading.{measured_texts, named_by, path_lent, rise_told}
+use Rattle.verdict_report.specs.ReportForm.{fall_line, lines_told, report_form, report_start, rise_line}
+use Rattle.verdict_report.specs.ReportReading.{named_by, path_lent, rise_told}
 use Rattle.verdict_report.proofs.ReportLines.{between}
 use Rattle.verdict_report.proofs.ReportTurns.{no_fall_there, no_line_there, no_rise_there, no_second_there, one_path}
 use Rattle.verdict_report.proofs.report_reading.read_path_lines.Goals as goal

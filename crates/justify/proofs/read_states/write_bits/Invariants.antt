@@ -1,0 +1,13 @@
+use Rattle.std.proofs.Common.{take}
+use Rattle.state_sets.specs.FourStates.{four_last}
+use Rattle.justify.specs.ConeStates.{state_in}
+use Rattle.justify.specs.LeastStates.{first_bit}
+use Rattle.justify.specs.Taken.{HasBitsAt}
+use Rattle.justify.proofs.read_states.write_bits.Given as goal
+
+-- the bits of the sources before this one are written
+abbrev pub invariant-loop-source : goal.invariant-loop-source
+invariant-loop-source l = record {
+  first : HasBitsAt (λ source. first_bit (state_in l.states source)) (take l.source-index l.sources) l.initial.first l.first;
+  second : HasBitsAt (λ source. four_last (state_in l.states source)) (take l.source-index l.sources) l.initial.second l.second;
+}
