@@ -8,3 +8,10 @@ pub mod Cutting
 pub mod Gathering
 pub mod LawfulCircuits
 pub mod Writing
+pub mod CanonicalText
+pub mod CircuitAgain
+mod LawfulBytes
+mod NamedLines
+mod Projections
+pub mod StatementLines
+mod StatementTexts

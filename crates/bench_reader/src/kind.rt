@@ -6,7 +6,7 @@ ghost use Rattle.bench_reader.specs.Kinds.{kind_word_of, may_have, spelling};
 use netlist::{GateKind, MOST_FAN_IN};
 
 /// A word for a kind. `INV` is another word for `NOT`, and `BUF` for `BUFF`.
-#[derive(Clone, Copy, Debug, PartialEq, Eq)]
+#[derive(Clone, Copy)]
 pub enum KindWord {
     /// `AND`
     And,

@@ -1,6 +1,6 @@
 //! Netlists in `.bench` form, read from bytes, line by line, and written in one canonical text. Stands on netlist and on
-//! net_builder, which makes a netlist of the statements. The layers above use `read_bench` and `bench_text`; text_laws shows that
-//! the canonical text has the circuit again.
+//! net_builder, which makes a netlist of the statements. The layers above use `read_bench` and `bench_text`; proofs/CanonicalText.antt
+//! shows that the canonical text has the circuit again.
 #![tactic(auto)]
 
 mod byte;

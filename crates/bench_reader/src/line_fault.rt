@@ -4,7 +4,7 @@ ghost use Rattle.std.specs.Prelude.{◌≡◌};
 use std::alloc::AllocFailed;
 
 /// The first of these that is true of a line is why it is refused. `NoMemory` stands beside them.
-#[derive(Clone, Copy, Debug, PartialEq, Eq)]
+#[derive(Clone, Copy)]
 pub enum LineFault {
     /// Outside a comment stands a byte that is neither white space nor one of the printable bytes that may stand there.
     BadByte,

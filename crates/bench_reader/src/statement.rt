@@ -12,7 +12,7 @@ use crate::token::Token;
 use netlist::GateKind;
 
 /// What a line says. The arguments of a gate stand in a list beside it.
-#[derive(Clone, Copy, Debug)]
+#[derive(Clone, Copy)]
 pub enum Statement<'a> {
     /// Defines a source of this name.
     Input(&'a [u8]),

@@ -12,7 +12,7 @@ use crate::line_fault::LineFault;
 use netlist::MOST_NAME_BYTES;
 
 /// A token of a line: a name, or a mark.
-#[derive(Clone, Copy, Debug)]
+#[derive(Clone, Copy)]
 pub enum Token<'a> {
     /// A name or a word.
     Name(&'a [u8]),

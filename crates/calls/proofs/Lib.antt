@@ -1,3 +1,9 @@
-pub mod Pieces
+pub mod Acceptance
+pub mod Calls
+pub mod Failures
 pub mod Inputs
 pub mod Outputs
+pub mod Pieces
+pub mod Refusals
+pub mod Splits
+pub mod Stages

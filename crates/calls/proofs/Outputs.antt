@@ -1,8 +1,5 @@
 -- Files that are written in their order, and then out.
-use Rattle.std.proofs.Common.{◌≡◌, ℕ, ◌+◌, ◌<◌, List, [], ◌∷◌, ◌++◌, length, get_or, take, drop, Option, None, Result, Ok, Err, refl, sym, ap, subst, ◌∙◌, add-one}
-use Rattle.std.proofs.Math.Seq.{drop-cons}
-use Rattle.std.proofs.lemmas.List.{take_more, take-append-drop, map-append}
-use Rattle.std.specs.Prelude.{⊤, IfErr}
+use Rattle.std.proofs.Common.{◌≡◌, ℕ, List, [], ◌∷◌, ◌++◌, Option, None, Result, Ok, Err, IfErr, OnOk, refl, sym, ap, subst, ◌∙◌}
 use Rattle.pd_io.specs.Counts.{Rose}
 use Rattle.pd_io.specs.Folder.{Contents, Folder, put}
 use Rattle.pd_io.specs.Telling.{Tells}
@@ -10,8 +7,6 @@ use Rattle.pd_io.specs.Whole.{HoldsPart}
 use Rattle.pd_io.specs.Seen.{FilesSeen, Seen}
 use Rattle.pd_io.proofs.Tellings.{tells_chain, tells_same}
 use Rattle.calls.specs.declared.ending.Ending.{Ending}
-use Rattle.calls.specs.declared.texts.DueFile.{DueFile}
-use Rattle.calls.specs.Texts.{due_of, dues_of}
 use Rattle.calls.specs.Work.{Due, Products}
 use Rattle.calls.specs.Writing.{put_all, folder_with_all, writer_after, AreWhole, StandsInFile, Writes, in_file, on_out}
 use Rattle.calls.specs.Outputs.{FailsToWrite, AreUnwritten, Prints}
@@ -102,34 +97,28 @@ printed products ending old new files (outputs.no_memory is part same) =
     subst (λ (e : Ending). Writes products e old new) (sym is)
     (on_out (record { files = files; out = part }) same)
 
--- one more of the files that are due
-pub dues_before : (files : List DueFile) (index : ℕ) (file : DueFile) → index < length files
-    → file ≡ get_or files index file → dues_of (take (index + 1) files) ≡ dues_of (take index files) ++ due_of file ∷ []
-dues_before files index file within is =
-    ap dues_of (take_more files index file within) ∙ map-append due_of (take index files) (get_or files index file ∷ [])
-    ∙ ap (λ (f : DueFile). dues_of (take index files) ++ due_of f ∷ []) (sym is)
-
--- the files that are due, split at one of them
-pub dues_split : (files : List DueFile) (index : ℕ) (file : DueFile) → index < length files
-    → file ≡ get_or files index file
-    → dues_of files ≡ dues_of (take index files) ++ due_of file ∷ dues_of (drop (index + 1) files)
-dues_split files index file within is =
-    ap dues_of (sym (take-append-drop index files)) ∙ map-append due_of (take index files) (drop index files)
-    ∙ ap (λ (rest : List DueFile). dues_of (take index files) ++ dues_of rest)
-    (drop-cons files index file within ∙ ap (λ (n : ℕ). get_or files index file ∷ drop n files) (sym (add-one index))) ∙ ap (λ (f : DueFile). dues_of (take index files) ++ due_of f ∷ dues_of (drop (index + 1) files)) (sym is)
-
--- a file was not written behind whole ones, if this result is one that says so
-pub fails_at : (result : Result ⊤ Ending) (files : List DueFile) (index : ℕ) (file : DueFile) (old between new : FilesSeen)
-    → index < length files → file ≡ get_or files index file → AreWhole (dues_of (take index files)) old between
-    → IfErr result (λ ending. FailsToWrite (due_of file) ending between new)
-    → IfErr result (λ ending. AreUnwritten (dues_of files) ending old new)
-fails_at (Ok done) files index file old between new within is whole fails = tt
-fails_at (Err ending) files index file old between new within is whole fails = record {
-  before = dues_of (take index files);
-  due = due_of file;
-  later = dues_of (drop (index + 1) files);
-  place = dues_split files index file within is;
+-- a file was not written behind whole ones
+pub fails_behind : (before : List Due) (due : Due) (later : List Due) (ending : Ending) (old between new : FilesSeen)
+    → AreWhole before old between → FailsToWrite due ending between new → AreUnwritten (before ++ due ∷ later) ending old new
+fails_behind before due later ending old between new whole fails = record {
+  before = before;
+  due = due;
+  later = later;
+  place = refl;
   between = between;
   whole = whole;
   fails = fails;
 }
+
+-- the last file was written behind whole ones, if this result is one that says so
+pub last_whole : {T : Type 0} (result : Result T Ending) (before : List Due) (due : Due) (old between new : FilesSeen)
+    → AreWhole before old between → OnOk result (AreWhole (due ∷ []) between new) → OnOk result (AreWhole (before ++ due ∷ []) old new)
+last_whole (Ok done) before due old between new whole last = one_more_whole before due old between new whole last
+last_whole (Err ending) before due old between new whole last = tt
+
+-- or it was not
+pub last_fails : {T : Type 0} (result : Result T Ending) (before : List Due) (due : Due) (old between new : FilesSeen)
+    → AreWhole before old between → IfErr result (λ ending. FailsToWrite due ending between new)
+    → IfErr result (λ ending. AreUnwritten (before ++ due ∷ []) ending old new)
+last_fails (Ok done) before due old between new whole fails = tt
+last_fails (Err ending) before due old between new whole fails = fails_behind before due [] ending old between new whole fails

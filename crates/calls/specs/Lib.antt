@@ -7,6 +7,5 @@ pub mod Passing
 pub mod Preparing
 pub mod Refused
 pub mod Stopping
-pub mod Texts
 pub mod Work
 pub mod Writing

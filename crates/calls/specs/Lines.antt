@@ -4,7 +4,7 @@ use Rattle.std.specs.List.{concat}
 use denote.Ref.{Bor}
 use Rattle.command_line.specs.Options.{option_word}
 use Rattle.command_line.specs.declared.refusal.WordsRefusal.{WordsRefusal}
-use Rattle.command_line.specs.declared.refusal.WordsRefusal.TheVariants.{Command, Repeat, Value, OptionAt, EmptyAt, Count, SameAt, Product}
+use Rattle.command_line.specs.declared.refusal.WordsRefusal.TheVariants.{Command, Repeat, Value, OptionAt, EmptyAt, Count, SameAt, Product, Stages}
 use Rattle.calls.specs.declared.role.Role.{Role}
 use Rattle.calls.specs.declared.role.Role.TheVariants.{Net, Delays, Tests, Report, Proofs}
 use Rattle.calls.specs.declared.netlist_refusal.NetlistRefusal.{NetlistRefusal}
@@ -37,6 +37,7 @@ words_reason (EmptyAt place) = codes "empty at " ++ decimal place
 words_reason Count = codes "count"
 words_reason (SameAt first second) = codes "same at " ++ decimal first ++ after_space (decimal second)
 words_reason (Product product) = codes "product " ++ decimal product
+words_reason Stages = codes "value N"
 
 -- a place, and what is wrong there
 abbrev pub reason_at_line : ℕ → List ℕ → List ℕ

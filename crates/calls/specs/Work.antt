@@ -42,6 +42,10 @@ pub record Due : Type 0 where
   pub name : List ℕ
   pub text : List ℕ
 
+-- such a file
+abbrev pub due_file : Role → List ℕ → List ℕ → Due
+due_file role name text = record { role = role; name = name; text = text }
+
 -- what a command gives in the end: files, in the order in which they are written, and then a text on out
 pub record Products : Type 0 where
   pub files : List Due

@@ -1,7 +1,7 @@
 //! What every command of the program does alike: its inputs read and its products written, how it ends, as a status and a line on
 //! err (specs/Lines.antt), and what is promised of a whole call (specs/Calls.antt). Stands on command_line, whose refusals it tells,
-//! on pd_base, pd_io, text_pieces and itoa. A command gives a `Work` in its specs, and uses `read_input` and `write_products`;
-//! the program's call uses `tell`.
+//! on pd_base, pd_io, text_pieces and itoa. A command gives a `Work` in its specs, and uses `read_input`, `write_file` and
+//! `print`; the program's call uses `tell`.
 #![tactic(auto)]
 
 mod delays_refusal;
@@ -14,7 +14,6 @@ mod refusal;
 mod role;
 mod status;
 mod telling;
-mod texts;
 mod writing;
 
 pub use delays_refusal::DelaysRefusal;
@@ -25,5 +24,4 @@ pub use refusal::Refusal;
 pub use role::Role;
 pub use status::Status;
 pub use telling::tell;
-pub use texts::{DueFile, Texts};
-pub use writing::write_products;
+pub use writing::{print, write_file};

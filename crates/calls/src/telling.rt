@@ -117,6 +117,7 @@ fn write_words_refusal<E: Sink>(reason: WordsRefusal, err: &mut E) -> Result<(),
         WordsRefusal::Product(product) => {
             write_reason(err, b"product ", first.format(product).as_bytes())
         }
+        WordsRefusal::Stages => write_reason(err, b"value N", b""),
     }
 }
 

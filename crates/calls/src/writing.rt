@@ -1,54 +1,37 @@
-// Writing the products of a command: the files in their order, then out, up to the first failed call.
+// Writing one product of a command: a file, whose text is made piece by piece, or the text for out.
 ghost use Rattle.std.specs.Prelude.{[], ◌∷◌, OnOk, IfErr};
-ghost use Rattle.pd_io.specs.Seen.{files_seen, seen, sink_seen};
-ghost use Rattle.calls.specs.Outputs.{AreUnwritten, FailsToWrite, Prints};
-ghost use Rattle.calls.specs.Texts.{due_of, dues_of, products_of};
-ghost use Rattle.calls.specs.Writing.{AreWhole, Writes};
+ghost use Rattle.pd_io.specs.Seen.{files_seen, sink_seen};
+ghost use Rattle.calls.specs.Outputs.{FailsToWrite, Prints};
+ghost use Rattle.calls.specs.Work.{due_file};
+ghost use Rattle.calls.specs.Writing.{AreWhole};
 
-use crate::{DueFile, Ending, Texts};
-use pd_io::{FileFault, Files, Sink, WriteFault, write_all, write_whole};
+use crate::{Ending, Role};
+use pd_io::{FileFault, Files, Pieces, Sink, WriteFault, write_all, write_pieces};
+use std::alloc::Global;
 
-/// Writes the files in their order, and then the text on out. `Done` where all is written; else the ending says which
-/// output was being written.
-pub fn write_products<F: Files, O: Sink>(texts: &Texts, files: &mut F, out: &mut O) -> Ending
-    ensures { Writes (products_of texts.now) result
-        (seen F.Files O.Sink files.old out.old) (seen F.Files O.Sink files.new out.new) }
-{
-    match write_files(texts.files.as_slice(), files) {
-        Ok(()) => print(texts.out.as_slice(), out),
-        Err(ending) => ending,
-    }
-}
-
-// Writes the files in their order, up to the first that is not written.
-fn write_files<F: Files>(due: &[DueFile], files: &mut F) -> Result<(), Ending>
-    ensures whole { OnOk result (AreWhole (dues_of due.now)
+/// Writes the file of this role under its name. Otherwise the ending says that a write of it failed, or that memory ran out.
+pub fn write_file<F: Files, P: Pieces>(
+    alloc: Global,
+    role: Role,
+    name: &str,
+    pieces: &P,
+    files: &mut F,
+) -> Result<(), Ending>
+    requires { P.can_spell pieces.now }
+    ensures whole { OnOk result (AreWhole (due_file role name.now (P.text pieces.now) ∷ [])
         (files_seen F.Files files.old) (files_seen F.Files files.new)) }
-    ensures unwritten { IfErr result (λ ending. AreUnwritten (dues_of due.now) ending
+    ensures unwritten { IfErr result (λ ending. FailsToWrite (due_file role name.now (P.text pieces.now)) ending
         (files_seen F.Files files.old) (files_seen F.Files files.new)) }
 {
-    for file in due {
-        write_file(file, files)?;
-    }
-    Ok(())
-}
-
-// Writes one file.
-fn write_file<F: Files>(file: &DueFile, files: &mut F) -> Result<(), Ending>
-    ensures whole { OnOk result (AreWhole (due_of file.now ∷ [])
-        (files_seen F.Files files.old) (files_seen F.Files files.new)) }
-    ensures unwritten { IfErr result (λ ending. FailsToWrite (due_of file.now) ending
-        (files_seen F.Files files.old) (files_seen F.Files files.new)) }
-{
-    match write_whole(files, file.name, file.text.as_slice()) {
+    match write_pieces(alloc, files, name, pieces) {
         Ok(()) => Ok(()),
-        Err(WriteFault::Failed) => Err(Ending::WriteFault(file.role)),
+        Err(WriteFault::Failed) => Err(Ending::WriteFault(role)),
         Err(WriteFault::NoMemory) => Err(Ending::NoMemory),
     }
 }
 
-// Prints the text on out.
-fn print<O: Sink>(text: &[u8], out: &mut O) -> Ending
+/// Prints the text on out. `Done` where out took all of it.
+pub fn print<O: Sink>(text: &[u8], out: &mut O) -> Ending
     ensures { Prints text.now result (sink_seen O.Sink out.old) (sink_seen O.Sink out.new) }
 {
     match write_all(out, text) {

@@ -6,7 +6,7 @@ use Rattle.std.proofs.lemmas.Bool.{cases_Bool, eqb-true, eqb-false}
 use Rattle.std.proofs.lemmas.List.{map-append}
 use Rattle.command_line.specs.Kinds.{Kind, alone, valued, hyphened, empty, plain, other_kind, option_kind, valued_or, without_front, word_kind}
 use Rattle.command_line.specs.Options.{beginning, is_value, option_word}
-use Rattle.command_line.specs.Words.{Given, GivesWords, PlacedWord, due_taken, end_reason, first_place, gen_form, kind_taken, none_given, texts_of_words, then_taken, unless_refused, value_given, value_taken, with_value, word_taken, words_taken}
+use Rattle.command_line.specs.Words.{Given, GivesWords, PlacedWord, due_taken, end_reason, first_place, kind_taken, none_given, texts_of_words, then_taken, unless_refused, value_given, value_taken, with_value, word_taken, words_taken}
 use Rattle.command_line.specs.declared.form.CommandForm.{CommandForm}
 use Rattle.command_line.specs.declared.number_option.NumberOption.{NumberOption}
 use Rattle.command_line.specs.declared.number_option.NumberOption.TheVariants.{Paths, Budget}
@@ -245,10 +245,10 @@ values_hold form words place given end is =
     (λ at text list g more read rest have. rest (still form at text g more read have)) words place given is
 
 -- so all words that are accepted are a command and the words of items
-pub words_are : (words : List (List ℕ)) (given : Given) → GivesWords gen_form words given
+pub words_are : (form : CommandForm) (words : List (List ℕ)) (given : Given) → GivesWords form words given
     → (command : List ℕ) × (items : List Item) × (words ≡ command ∷ words_of items) × MayFollow no_texts items
     × (texts_of given ≡ all_texts no_texts items)
-words_are [] given gives = absurd gives
-words_are (command ∷ later) given gives =
-    let are = are_items gen_form later first_place none_given given gives in
+words_are form [] given gives = absurd gives
+words_are form (command ∷ later) given gives =
+    let are = are_items form later first_place none_given given gives in
     (command, are.0, ap (λ (words : List (List ℕ)). command ∷ words) are.1, are.2, are.3)

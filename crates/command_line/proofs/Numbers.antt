@@ -15,68 +15,71 @@ numerals : IsNumeralModel (λ text. all_ascii_digits text ≡ true) (digits_valu
 numerals = numerals_by_value _ tells_all_ascii_digits
 
 -- the parts of the test
-pub record IsSpelled (text : List ℕ) : Type 0 where
+pub record IsSpelled (most : ℕ) (text : List ℕ) : Type 0 where
   pub digits : all_ascii_digits text ≡ true
   pub some_digit : 1 ≤ length text
-  pub few_digits : length text ≤ MOST_DIGITS
+  pub few_digits : length text ≤ most
 
-pub is_spelled : (text : List ℕ) → is_number text ≡ true → IsSpelled text
-is_spelled text is =
-    let digits = and_parts (all_ascii_digits text) (leb 1 (length text) && leb (length text) MOST_DIGITS) is in
-    let lengths = and_parts (leb 1 (length text)) (leb (length text) MOST_DIGITS) digits.1 in
+pub is_spelled : (most : ℕ) (text : List ℕ) → is_number most text ≡ true → IsSpelled most text
+is_spelled most text is =
+    let digits = and_parts (all_ascii_digits text) (leb 1 (length text) && leb (length text) most) is in
+    let lengths = and_parts (leb 1 (length text)) (leb (length text) most) digits.1 in
     record {
       digits = digits.0;
       some_digit = leb-true 1 (length text) lengths.0;
-      few_digits = leb-true (length text) MOST_DIGITS lengths.1;
+      few_digits = leb-true (length text) most lengths.1;
     }
 
-spelled_is : (text : List ℕ) → IsSpelled text → is_number text ≡ true
-spelled_is text is =
-    and_from (all_ascii_digits text) (leb 1 (length text) && leb (length text) MOST_DIGITS) is.digits
-    (and_from (leb 1 (length text)) (leb (length text) MOST_DIGITS) (le-leb 1 (length text) is.some_digit)
-    (le-leb (length text) MOST_DIGITS is.few_digits))
+spelled_is : (most : ℕ) (text : List ℕ) → IsSpelled most text → is_number most text ≡ true
+spelled_is most text is =
+    and_from (all_ascii_digits text) (leb 1 (length text) && leb (length text) most) is.digits
+    (and_from (leb 1 (length text)) (leb (length text) most) (le-leb 1 (length text) is.some_digit)
+    (le-leb (length text) most is.few_digits))
 
 -- so few digits fit in 32 bits
-small : (text : List ℕ) → IsSpelled text → digits_value 10 text < 2 ^ 32
-small text is = let few = digits_value_short numerals text 7 is.digits is.few_digits in omega (arith, few)
+small : (most : ℕ) (text : List ℕ) → most ≤ 9 → IsSpelled most text → digits_value 10 text < 2 ^ 32
+small most text fits is =
+    let short : length text ≤ 9 = let few = is.few_digits in omega arith in
+    let few = digits_value_short numerals text 9 is.digits short in
+    omega (arith, few)
 
 -- what std reads of a text without a plus sign that is no longer than a number may be
-pub read : {E : Type 0} (text : List ℕ) (result : Result ℕ E) → ParsesUnsigned 32 10 text result → get_or text 0 0 ≢ 43
-    → length text ≤ MOST_DIGITS → result_ok result ≡ number_spelled text
-read {E} text result parses no_plus few = by_result result (parse_plain numerals 32 text result parses no_plus)
+pub read : {E : Type 0} (most : ℕ) (text : List ℕ) (result : Result ℕ E) → most ≤ 9 → ParsesUnsigned 32 10 text result
+    → get_or text 0 0 ≢ 43 → length text ≤ most → result_ok result ≡ number_spelled most text
+read {E} most text result fits parses no_plus few = by_result result (parse_plain numerals 32 text result parses no_plus)
   where
     by_result : (answer : Result ℕ E)
         → OkIff answer ((all_ascii_digits text ≡ true) × (0 < length text) × (digits_value 10 text < 2 ^ 32)) (digits_value 10 text)
-        → result_ok answer ≡ number_spelled text
+        → result_ok answer ≡ number_spelled most text
     by_result (Ok value) known =
         let some : 1 ≤ length text = let above = known.0.1 in omega arith in
-        let is = spelled_is text (record { digits = known.0.0; some_digit = some; few_digits = few }) in
+        let is = spelled_is most text (record { digits = known.0.0; some_digit = some; few_digits = few }) in
         rw is (ap Some known.1)
     by_result (Err error) known =
-        elim (cases_Bool (is_number text)) [
+        elim (cases_Bool (is_number most text)) [
           | inl is ↦
-              let spelled = is_spelled text is in
+              let spelled = is_spelled most text is in
               let some : 0 < length text = let above = spelled.some_digit in omega arith in
-              absurd (known (spelled.digits, some, small text spelled))
+              absurd (known (spelled.digits, some, small most text fits spelled))
           | inr other ↦ rw other refl
         ]
 
 -- a text that begins with a plus sign spells no number
-pub plus_first : (text : List ℕ) → get_or text 0 0 ≡ 43 → number_spelled text ≡ None
-plus_first [] is = absurd (omega arith)
-plus_first (first ∷ later) is = rw is refl
+pub plus_first : (most : ℕ) (text : List ℕ) → get_or text 0 0 ≡ 43 → number_spelled most text ≡ None
+plus_first most [] is = absurd (omega arith)
+plus_first most (first ∷ later) is = rw is refl
 
 -- a value of an option: it spells a number from 1 to the greatest
 pub record IsValueOf (option : NumberOption) (text : List ℕ) : Type 0 where
   pub number : ℕ
-  pub spelled : number_spelled text ≡ Some number
+  pub spelled : number_spelled MOST_DIGITS text ≡ Some number
   pub least : 1 ≤ number
   pub greatest : number ≤ greatest_value option
 
 pub value_is : (option : NumberOption) (text : List ℕ) → is_value option text ≡ true → IsValueOf option text
-value_is option text is = by_number (number_spelled text) refl is
+value_is option text is = by_number (number_spelled MOST_DIGITS text) refl is
   where
-    by_number : (found : Option ℕ) → number_spelled text ≡ found → is_within (greatest_value option) found ≡ true
+    by_number : (found : Option ℕ) → number_spelled MOST_DIGITS text ≡ found → is_within (greatest_value option) found ≡ true
         → IsValueOf option text
     by_number None spelled within = absurd cc
     by_number (Some number) spelled within =
@@ -93,14 +96,14 @@ pub value_first : (option : NumberOption) (text : List ℕ) → is_value option 
     → (first : ℕ) × (later : List ℕ) × (text ≡ first ∷ later) × (first ≢ 45)
 value_first option text is = by_text text (spells text (value_is option text is).spelled)
   where
-    spells : (t : List ℕ) → number_spelled t ≡ Some (value_is option text is).number → is_number t ≡ true
+    spells : (t : List ℕ) → number_spelled MOST_DIGITS t ≡ Some (value_is option text is).number → is_number MOST_DIGITS t ≡ true
     spells t spelled =
-        elim (cases_Bool (is_number t)) [
+        elim (cases_Bool (is_number MOST_DIGITS t)) [
           | inl good ↦ good
           | inr other ↦ let bad = rw other at spelled in absurd cc
         ]
 
-    by_text : (t : List ℕ) → is_number t ≡ true → (first : ℕ) × (later : List ℕ) × (t ≡ first ∷ later) × (first ≢ 45)
+    by_text : (t : List ℕ) → is_number MOST_DIGITS t ≡ true → (first : ℕ) × (later : List ℕ) × (t ≡ first ∷ later) × (first ≢ 45)
     by_text [] good = absurd cc
     by_text (first ∷ later) good = (first, later, refl, λ same. let bad = rw same at good in absurd cc)
 

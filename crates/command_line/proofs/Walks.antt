@@ -1,14 +1,14 @@
--- clap's walk over the words of `gen`, between two words: any rows so far, and any argument that is pending.
+-- clap's walk over the words of a command, between two words: any rows so far, and any argument that is pending.
 use Rattle.std.proofs.Common.{◌≡◌, ◌&&◌, Bool, true, false, List, Option, None, refl}
 use Rattle.clap.specs.Words.{Row, Rule, Text, Shape, built}
 use Rattle.clap.specs.Walk.{Walk, Waiting}
-use Rattle.command_line.specs.ClapWords.{gen_app}
+use Rattle.command_line.specs.ClapWords.{words_app}
 
-abbrev pub gen_shape : Shape
-gen_shape = (built gen_app).top
+abbrev pub words_shape : Shape
+words_shape = (built words_app).top
 
-abbrev pub gen_rules : List Rule
-gen_rules = gen_shape.rules
+abbrev pub words_rules : List Rule
+words_rules = words_shape.rules
 
 -- between two words
 abbrev pub at : List Row → Option (Text × List Text) → Waiting → Walk

@@ -1,5 +1,5 @@
--- What clap is told of the words of `gen`, and what it has of them, in clap's own words; no other crate sees them (this project's
--- own).
+-- What clap is told of the words of a command, and what it has of them, in clap's own words; no other crate sees them (this project's
+-- own). The options stand there for each command: of a command without them the rules accept no word that names one.
 use Rattle.std.specs.Prelude.{◌≡◌, List, [], Some, option_map, unwrap_or, codes}
 use Rattle.clap.specs.declared.builder.action.ArgAction.TheVariants.{Append}
 use Rattle.clap.specs.Words.{App, Row, Rule, Text, all_of, first_of, new_app, new_rule, with_rule}
@@ -15,8 +15,8 @@ abbrev pub option_rule : Text → Rule
 option_rule name = record (new_rule name) { long = Some name }
 
 -- the command with its arguments
-abbrev pub gen_app : App
-gen_app = with_rule (with_rule (with_rule (new_app (codes "gen")) word_rule) (option_rule (codes "paths"))) (option_rule (codes "budget"))
+abbrev pub words_app : App
+words_app = with_rule (with_rule (with_rule (new_app (codes "pdfgen")) word_rule) (option_rule (codes "paths"))) (option_rule (codes "budget"))
 
 -- the values that stand in the rows of a parse
 pub record HasRows (rows : List Row) (parsed : Parsed) : Type 0 where

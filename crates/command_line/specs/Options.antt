@@ -1,4 +1,4 @@
--- The options of commands: the word of each, and the numbers that it may have as its value (this project's own).
+-- Numbers among words; the options of commands: the word of each, and the numbers that it may have as its value (this project's own).
 use Rattle.std.specs.Prelude.{ℕ, ◌&&◌, Bool, false, leb, List, length, Option, None, Some, option_and_then, unwrap_or, codes, if◌then◌else◌}
 use Rattle.std.specs.Str.{all_ascii_digits}
 use Rattle.std.specs.Str.Parse.{digits_value}
@@ -22,23 +22,23 @@ abbrev pub greatest_value : NumberOption → ℕ
 greatest_value Paths = MOST_PATHS
 greatest_value Budget = MOST_BUDGET
 
--- one to seven decimal digits
-abbrev pub is_number : List ℕ → Bool
-is_number text = all_ascii_digits text && (leb 1 (length text) && leb (length text) MOST_DIGITS)
+-- one to so many decimal digits
+abbrev pub is_number : ℕ → List ℕ → Bool
+is_number most text = all_ascii_digits text && (leb 1 (length text) && leb (length text) most)
 
 -- the number that they spell
-abbrev pub number_spelled : List ℕ → Option ℕ
-number_spelled text = if is_number text then Some (digits_value 10 text) else None
+abbrev pub number_spelled : ℕ → List ℕ → Option ℕ
+number_spelled most text = if is_number most text then Some (digits_value 10 text) else None
 
 -- the number that a text spells, or the default where there is none
 abbrev pub number_or : ℕ → Option (List ℕ) → ℕ
-number_or default text = unwrap_or (option_and_then number_spelled text) default
+number_or default text = unwrap_or (option_and_then (number_spelled MOST_DIGITS) text) default
 
--- a number that is a value of an option with this greatest one
+-- a number from 1 to the greatest
 abbrev pub is_within : ℕ → Option ℕ → Bool
 is_within greatest None = false
 is_within greatest (Some value) = leb 1 value && leb value greatest
 
 -- a text that an option may have as its value
 abbrev pub is_value : NumberOption → List ℕ → Bool
-is_value option text = is_within (greatest_value option) (number_spelled text)
+is_value option text = is_within (greatest_value option) (number_spelled MOST_DIGITS text)

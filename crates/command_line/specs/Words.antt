@@ -1,16 +1,19 @@
 -- What the words of the command line ask for. The words behind a command's own are read from the left, and the first that may not
 -- stand where it does decides (this project's own). Options and their values stand in Options.antt, the kinds of words in Kinds.antt.
-use Rattle.std.specs.Prelude.{◌≡◌, ◌==◌, ℕ, ◌+◌, ◌*◌, ◌≤◌, true, leb, List, [], ◌∷◌, ◌++◌, length, map, Option, None, Some, is_some, option_map, Result, Ok, Err, slice_index_or, codes, nat_eq, if◌then◌else◌}
+use Rattle.std.specs.Prelude.{◌≡◌, ◌==◌, ℕ, ◌+◌, ◌*◌, ◌≤◌, true, false, leb, List, [], ◌∷◌, ◌++◌, length, map, Option, None, Some, is_some, unwrap_or, option_map, Result, Ok, Err, slice_index_or, codes, nat_eq, if◌then◌else◌}
 use Rattle.std.specs.Cmp.Lexicographic.{pointwise}
 use Rattle.pd_base.specs.declared.limits.TheConstants.{MOST_BUDGET, MOST_PATHS}
 use Rattle.command_line.specs.Kinds.{Kind, alone, valued, hyphened, empty, plain, word_kind}
-use Rattle.command_line.specs.Options.{is_value, number_or}
+use Rattle.command_line.specs.Options.{is_value, is_within, number_or, number_spelled}
+use Rattle.command_line.specs.declared.command_name.CommandName.{CommandName}
+use Rattle.command_line.specs.declared.command_name.CommandName.TheVariants.{Gen, Make}
 use Rattle.command_line.specs.declared.form.CommandForm.{CommandForm}
 use Rattle.command_line.specs.declared.number_option.NumberOption.{NumberOption}
 use Rattle.command_line.specs.declared.number_option.NumberOption.TheVariants.{Paths, Budget}
 use Rattle.command_line.specs.declared.reading.TheConstants.{DEFAULT_BUDGET, DEFAULT_PATHS, MOST_PRODUCT}
 use Rattle.command_line.specs.declared.refusal.WordsRefusal.{WordsRefusal}
-use Rattle.command_line.specs.declared.refusal.WordsRefusal.TheVariants.{Command as NoCommand, Repeat, Value, OptionAt, EmptyAt, Count, SameAt, Product}
+use Rattle.command_line.specs.declared.refusal.WordsRefusal.TheVariants.{Command as NoCommand, Repeat, Value, OptionAt, EmptyAt, Count, SameAt, Product, Stages}
+use Rattle.command_line.specs.declared.stages.TheConstants.{MOST_STAGES, MOST_STAGES_DIGITS}
 
 -- a call of `gen`: its files, how many paths are asked for, and the budget of splits for each search
 pub record GenCall : Type 0 where
@@ -30,13 +33,24 @@ pub record HasGenNumbers (call : GenCall) : Type 0 where
   pub small_budget : call.budget ≤ MOST_BUDGET
   pub product : call.paths * call.budget ≤ MOST_PRODUCT
 
+-- a call of `make`: how many stages the ladder is to have
+pub record MakeCall : Type 0 where
+  pub stages : ℕ
+
+-- the number of a call of `make` is within its limits
+pub record HasMakeNumbers (call : MakeCall) : Type 0 where
+  pub some_stages : 1 ≤ call.stages
+  pub few_stages : call.stages ≤ MOST_STAGES
+
 -- what is asked for, by command
 pub data Call : Type 0 where
   gen : GenCall → Call
+  make : MakeCall → Call
 
 -- the numbers of a call are within their limits
 abbrev pub HasLawfulNumbers : Call → Type 0
 HasLawfulNumbers (gen call) = HasGenNumbers call
+HasLawfulNumbers (make call) = HasMakeNumbers call
 
 -- a positional word, and its place; the command stands at place 1
 pub record PlacedWord : Type 0 where
@@ -153,9 +167,17 @@ first_same (name ∷ names) = reason_or (option_map (λ later. SameAt name.place
 abbrev pub product_reason : ℕ → Option WordsRefusal
 product_reason product = if leb product MOST_PRODUCT then None else Some (Product product)
 
--- the words of `gen`: the names of five files, and the options
-abbrev pub gen_form : CommandForm
-gen_form = record { has_options = true; positional = 5 }
+-- the command whose word this is
+abbrev pub command_named : List ℕ → Option CommandName
+command_named word =
+    if pointwise nat_eq word (codes "gen") then Some Gen
+    else if pointwise nat_eq word (codes "make") then Some Make
+    else None
+
+-- what a command takes behind its own word: `gen` the names of five files and the options, `make` the number of stages
+abbrev pub command_form : CommandName → CommandForm
+command_form Gen = record { has_options = true; positional = 5 }
+command_form Make = record { has_options = false; positional = 1 }
 
 -- how many paths are asked for
 abbrev pub paths_asked : Given → ℕ
@@ -169,6 +191,23 @@ budget_asked given = number_or DEFAULT_BUDGET given.budget
 abbrev pub gen_reason : Given → Option WordsRefusal
 gen_reason given = reason_or (first_same given.positional) (product_reason (paths_asked given * budget_asked given))
 
+-- the number of stages that a text spells
+abbrev pub stages_spelled : List ℕ → Option ℕ
+stages_spelled text = number_spelled MOST_STAGES_DIGITS text
+
+-- why a text is no number of stages, if it is none
+abbrev pub stages_reason : List ℕ → Option WordsRefusal
+stages_reason text = if is_within MOST_STAGES (stages_spelled text) then None else Some Stages
+
+-- the texts of positional words
+abbrev pub texts_of_words : List PlacedWord → List (List ℕ)
+texts_of_words words = map (λ word. word.text) words
+
+-- why words that may stand where they do are no call of the command
+abbrev pub call_reason : CommandName → Given → Option WordsRefusal
+call_reason Gen given = gen_reason given
+call_reason Make given = stages_reason (slice_index_or (texts_of_words given.positional) 0 [])
+
 -- the call of `gen` with these five names, for so many paths and with this budget
 abbrev pub gen_call : List (List ℕ) → ℕ → ℕ → GenCall
 gen_call names paths budget = record {
@@ -181,29 +220,39 @@ gen_call names paths budget = record {
   budget = budget;
 }
 
--- the texts of positional words
-abbrev pub texts_of_words : List PlacedWord → List (List ℕ)
-texts_of_words words = map (λ word. word.text) words
+-- the call of `make` with this number of stages
+abbrev pub make_call : List ℕ → MakeCall
+make_call text = record { stages = unwrap_or (stages_spelled text) 0 }
 
--- the call of `gen` that these words give
-abbrev pub gen_given : Given → GenCall
-gen_given given = gen_call (texts_of_words given.positional) (paths_asked given) (budget_asked given)
+-- the call of a command with these positional words and these values of the options
+abbrev pub call_with : CommandName → List (List ℕ) → Option (List ℕ) → Option (List ℕ) → Call
+call_with Gen names paths budget = gen (gen_call names (number_or DEFAULT_PATHS paths) (number_or DEFAULT_BUDGET budget))
+call_with Make texts paths budget = make (make_call (slice_index_or texts 0 []))
 
--- what words behind `gen` ask for that gave this
-abbrev pub gen_asked : Given → Result Call WordsRefusal
-gen_asked given = unless_refused (gen_reason given) (gen (gen_given given))
+-- the call that these words give
+abbrev pub call_given : CommandName → Given → Call
+call_given name given = call_with name (texts_of_words given.positional) given.paths given.budget
 
--- what the words behind `gen` ask for, or why they are refused
-abbrev pub gen_outcome : List (List ℕ) → Result Call WordsRefusal
-gen_outcome words = then_taken (words_taken gen_form first_place none_given words) gen_asked
+-- what words behind a command's own ask for that gave this
+abbrev pub call_asked : CommandName → Given → Result Call WordsRefusal
+call_asked name given = unless_refused (call_reason name given) (call_given name given)
 
--- the words behind `gen` are accepted, and give this
-pub record AreAccepted (words : List (List ℕ)) : Type 0 where
+-- what the words behind a command's own ask for, or why they are refused
+abbrev pub words_outcome : CommandName → List (List ℕ) → Result Call WordsRefusal
+words_outcome name words = then_taken (words_taken (command_form name) first_place none_given words) (call_asked name)
+
+-- the words behind a command's own are accepted, and give this
+pub record AreAccepted (name : CommandName) (words : List (List ℕ)) : Type 0 where
   pub given : Given
-  pub taken : words_taken gen_form first_place none_given words ≡ Ok given
-  pub no_reason : gen_reason given ≡ None
+  pub taken : words_taken (command_form name) first_place none_given words ≡ Ok given
+  pub no_reason : call_reason name given ≡ None
+
+-- what the words behind the first ask for, where that is a command's own, or why they are refused
+abbrev pub call_behind : Option CommandName → List (List ℕ) → Result Call WordsRefusal
+call_behind None words = Err NoCommand
+call_behind (Some name) words = words_outcome name words
 
 -- what the words ask for, or why they are refused
 abbrev pub asked_call : List (List ℕ) → Result Call WordsRefusal
 asked_call [] = Err NoCommand
-asked_call (first ∷ words) = if pointwise nat_eq first (codes "gen") then gen_outcome words else Err NoCommand
+asked_call (first ∷ words) = call_behind (command_named first) words

@@ -5,6 +5,8 @@
 pub enum Command<'a> {
     /// Lists the first paths of a netlist, and writes their tests, the report on them and the proofs.
     Gen(GenCommand<'a>),
+    /// Does the work of `Gen` on a ladder, and writes no file.
+    Make(MakeCommand),
 }
 
 /// A call of `gen`.
@@ -24,4 +26,11 @@ pub struct GenCommand<'a> {
     pub paths: u32,
     /// How many splits each search may make.
     pub budget: u32,
+}
+
+/// A call of `make`.
+#[derive(Clone, Copy, Debug)]
+pub struct MakeCommand {
+    /// How many stages the ladder is to have.
+    pub stages: u32,
 }

@@ -4,6 +4,7 @@
 #![tactic(auto)]
 
 mod command;
+mod command_name;
 mod fault;
 mod form;
 mod kind;
@@ -13,10 +14,11 @@ mod parsing;
 mod reading;
 mod refusal;
 mod same;
+mod stages;
 mod taken;
 mod taking;
 
-pub use command::{Command, GenCommand};
+pub use command::{Command, GenCommand, MakeCommand};
 pub use fault::WordsFault;
 pub use number_option::NumberOption;
 pub use reading::read_words;

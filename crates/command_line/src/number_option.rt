@@ -2,7 +2,7 @@
 ghost use Rattle.std.specs.Prelude.{◌≡◌};
 ghost use Rattle.command_line.specs.Options.{beginning, greatest_value, is_value, option_word};
 
-use crate::number::number;
+use crate::number::{MOST_DIGITS, number};
 use pd_base::{MOST_BUDGET, MOST_PATHS};
 
 /// An option whose value is a number.
@@ -49,7 +49,7 @@ impl NumberOption {
     pub(crate) fn has_value(self, text: &str) -> bool
         ensures { result ≡ is_value self text.now }
     {
-        match number(text) {
+        match number(text, MOST_DIGITS) {
             Some(value) => value >= 1 && value <= self.greatest(),
             None => false,
         }

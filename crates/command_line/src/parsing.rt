@@ -2,9 +2,10 @@
 ghost use Rattle.std.specs.Prelude.{◌≡◌, IfOk, IfErr};
 ghost use Rattle.clap.specs.Words.{app_of, found_of, kind_of, rows_of};
 ghost use Rattle.command_line.specs.Commands.{bytes_of_words};
-ghost use Rattle.command_line.specs.ClapWords.{HasRows, gen_app};
+ghost use Rattle.command_line.specs.ClapWords.{HasRows, words_app};
 ghost use Rattle.command_line.specs.Taken.{HasTexts};
-ghost use Rattle.command_line.specs.Words.{Given, GivesWords, gen_form};
+ghost use Rattle.command_line.specs.Words.{Given, GivesWords};
+ghost use Rattle.command_line.specs.declared.form.CommandForm.{CommandForm};
 
 use clap::error::ErrorKind;
 use clap::{Arg, ArgAction, ArgMatches, Command, Error};
@@ -21,29 +22,29 @@ pub(crate) struct Parsed<'a> {
     pub(crate) budget: Option<&'a str>,
 }
 
-// The values of the words of `gen`, its own in front. Of words that the rules accept, clap has the values that the rules give; it
+// The values of the words of a command, its own in front. Of words that the rules accept, clap has the values that the rules give; it
 // refuses them only for want of memory.
 pub(crate) fn parsed_words<'a>(alloc: Global, words: &'a [&'a str]) -> Result<Parsed<'a>, Error>
-    ensures parsed { (given : Given) → GivesWords gen_form (bytes_of_words words.entry.now) given
+    ensures parsed { (form : CommandForm) (given : Given) → GivesWords form (bytes_of_words words.entry.now) given
         → IfOk result (HasTexts given) }
-    ensures memory { (given : Given) → GivesWords gen_form (bytes_of_words words.entry.now) given
+    ensures memory { (form : CommandForm) (given : Given) → GivesWords form (bytes_of_words words.entry.now) given
         → IfErr result (λ error. kind_of error ≡ ErrorKind.OutOfMemory) }
 {
-    let parser = gen_parser(alloc)?;
+    let parser = words_parser(alloc)?;
     let matches = parser.try_get_matches_from(words)?;
     values_of(alloc, &matches)
 }
 
-// What clap is told of the words of `gen`: one argument takes all positional words, and both options have a value.
-fn gen_parser<'a>(alloc: Global) -> Result<Command<'a>, Error>
-    ensures parser { IfOk result (λ command. app_of command ≡ gen_app) }
+// What clap is told of the words: one argument takes all positional words, and both options have a value.
+fn words_parser<'a>(alloc: Global) -> Result<Command<'a>, Error>
+    ensures parser { IfOk result (λ command. app_of command ≡ words_app) }
     ensures memory { IfErr result (λ error. kind_of error ≡ ErrorKind.OutOfMemory) }
 {
     let positional = Arg::new(alloc, "positional").action(ArgAction::Append);
     let paths = Arg::new(alloc, "paths").long("paths");
     let budget = Arg::new(alloc, "budget").long("budget");
     Ok(
-        Command::new(alloc, "gen")
+        Command::new(alloc, "pdfgen")
             .arg(positional)?
             .arg(paths)?
             .arg(budget)?,

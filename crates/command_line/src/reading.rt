@@ -1,17 +1,18 @@
 // From the words of the command line to the command that they ask for.
-ghost use Rattle.std.specs.Prelude.{◌≡◌, ◌*◌, ℕ, List, ◌∷◌, Ok, length, option_map, IfOk, IfErr, OnOk};
-ghost use Rattle.command_line.specs.Commands.{bytes_of_words, call_of, gen_call_of};
+ghost use Rattle.std.specs.Prelude.{◌≡◌, ◌*◌, ℕ, List, [], ◌∷◌, Ok, length, slice_index_or, option_map, IfOk, IfErr, OnOk};
+ghost use Rattle.command_line.specs.Commands.{bytes_of_words, call_of, gen_call_of, make_call_of};
 ghost use Rattle.command_line.specs.Options.{number_or};
 ghost use Rattle.command_line.specs.Taken.{IsFaultOf, given_of};
-ghost use Rattle.command_line.specs.Words.{AreAccepted, HasLawfulNumbers, asked_call, gen_call, gen_form, gen_outcome, gen_reason, product_reason};
+ghost use Rattle.command_line.specs.Words.{AreAccepted, HasLawfulNumbers, asked_call, call_reason, call_with, command_form, gen_call, gen_reason, make_call, product_reason, words_outcome};
 
-use crate::form::CommandForm;
-use crate::number::number;
+use crate::command_name::{CommandName, command_named};
+use crate::number::{MOST_DIGITS, number};
 use crate::parsing::{Parsed, parsed_words};
 use crate::same::same_among;
+use crate::stages::{stages_reason, stages_spelled};
 use crate::taken::Taken;
 use crate::taking::taken_words;
-use crate::{Command, GenCommand, WordsFault, WordsRefusal};
+use crate::{Command, GenCommand, MakeCommand, WordsFault, WordsRefusal};
 use std::alloc::Global;
 
 /// How many paths are asked for where no word says otherwise.
@@ -23,55 +24,73 @@ pub const DEFAULT_BUDGET: u32 = 1_000;
 /// The most that the number of paths times the budget may be.
 pub const MOST_PRODUCT: u64 = 4_000_000;
 
-/// The words of `gen`: the names of five files, and the two options.
-const GEN_FORM: CommandForm = CommandForm {
-    has_options: true,
-    positional: 5,
-};
-
 /// The command that the words ask for, or the first reason why they are refused, or want of memory. The words are those behind the
-/// program's own name: `gen NET DELAYS TESTS REPORT PROOFS [--paths N] [--budget N]`, the options in any place behind `gen`.
+/// program's own name: `gen NET DELAYS TESTS REPORT PROOFS [--paths N] [--budget N]`, the options in any place behind `gen`, or
+/// `make N`.
 pub fn read_words<'a>(alloc: Global, words: &'a [&'a str]) -> Result<Command<'a>, WordsFault>
     ensures asked { IfOk result (λ command. asked_call (bytes_of_words words.entry.now) ≡ Ok (call_of command)) }
     ensures fault { IfErr result (IsFaultOf (asked_call (bytes_of_words words.entry.now))) }
     ensures numbers { IfOk result (λ command. HasLawfulNumbers (call_of command)) }
 {
-    let [command, later @ ..] = words else {
+    let [first, later @ ..] = words else {
         return Err(WordsFault::Refused(WordsRefusal::Command));
     };
-    if *command != "gen" {
-        return Err(WordsFault::Refused(WordsRefusal::Command));
+    match command_named(first) {
+        Some(name) => read_command(alloc, name, words, later),
+        None => Err(WordsFault::Refused(WordsRefusal::Command)),
     }
-    read_gen(alloc, words, later)
 }
 
-// The call of `gen` that these words ask for, of which these stand behind its own.
-fn read_gen<'a>(
+// The call of this command that these words ask for, of which these stand behind its own.
+fn read_command<'a>(
     alloc: Global,
+    name: CommandName,
     words: &'a [&'a str],
     later: &[&'a str],
 ) -> Result<Command<'a>, WordsFault>
     requires { (command : List ℕ) × (bytes_of_words words.now ≡ command ∷ bytes_of_words later.now) }
-    ensures asked { IfOk result (λ command. gen_outcome (bytes_of_words later.now) ≡ Ok (call_of command)) }
-    ensures fault { IfErr result (IsFaultOf (gen_outcome (bytes_of_words later.now))) }
+    ensures asked { IfOk result (λ command. words_outcome name (bytes_of_words later.now) ≡ Ok (call_of command)) }
+    ensures fault { IfErr result (IsFaultOf (words_outcome name (bytes_of_words later.now))) }
     ensures numbers { IfOk result (λ command. HasLawfulNumbers (call_of command)) }
 {
-    judge_gen(alloc, later)?;
+    judge_words(alloc, name, later)?;
     match parsed_words(alloc, words) {
-        Ok(parsed) => Ok(Command::Gen(gen_command(&parsed))),
+        Ok(parsed) => Ok(command_with(name, &parsed)),
         Err(_) => Err(WordsFault::NoMemory),
     }
 }
 
-// Refuses the words behind `gen` that are no call of it.
-fn judge_gen(alloc: Global, words: &[&str]) -> Result<(), WordsFault>
-    ensures accepts { OnOk result (AreAccepted (bytes_of_words words.now)) }
-    ensures fault { IfErr result (IsFaultOf (gen_outcome (bytes_of_words words.now))) }
+// Refuses the words behind a command's own that are no call of it.
+fn judge_words(alloc: Global, name: CommandName, words: &[&str]) -> Result<(), WordsFault>
+    ensures accepts { OnOk result (AreAccepted name (bytes_of_words words.now)) }
+    ensures fault { IfErr result (IsFaultOf (words_outcome name (bytes_of_words words.now))) }
 {
-    let taken = taken_words(alloc, GEN_FORM, words)?;
-    match gen_reason(&taken) {
+    let taken = taken_words(alloc, name.form(), words)?;
+    match call_reason(name, &taken) {
         Some(reason) => Err(WordsFault::Refused(reason)),
         None => Ok(()),
+    }
+}
+
+// Why words that may stand where they do are no call of the command.
+fn call_reason(name: CommandName, taken: &Taken) -> Option<WordsRefusal>
+    ensures { result ≡ call_reason name (given_of taken.now) }
+{
+    match name {
+        CommandName::Gen => gen_reason(taken),
+        CommandName::Make => stages_reason(taken.first()),
+    }
+}
+
+// The command with these words.
+fn command_with<'a>(name: CommandName, parsed: &Parsed<'a>) -> Command<'a>
+    requires { length parsed.now.positional.items ≡ (command_form name).positional }
+    ensures { call_of result ≡ call_with name (bytes_of_words parsed.now.positional.items)
+        (option_map (λ text. text.now) parsed.now.paths) (option_map (λ text. text.now) parsed.now.budget) }
+{
+    match name {
+        CommandName::Gen => Command::Gen(gen_command(parsed)),
+        CommandName::Make => Command::Make(make_command(parsed)),
     }
 }
 
@@ -88,7 +107,8 @@ fn gen_reason(taken: &Taken) -> Option<WordsRefusal>
 fn number_or(text: Option<&str>, default: u32) -> u32
     ensures { result ≡ number_or default (option_map (λ text. text.now) text.entry) }
 {
-    text.and_then(number).unwrap_or(default)
+    text.and_then(|text| number(text, MOST_DIGITS))
+        .unwrap_or(default)
 }
 
 // Why a call for so many paths and this budget is refused, if it is.
@@ -105,7 +125,7 @@ fn product_reason(paths: u32, budget: u32) -> Option<WordsRefusal>
 
 // The call of `gen` with these words, each name in the place of its role.
 fn gen_command<'a>(parsed: &Parsed<'a>) -> GenCommand<'a>
-    requires { length parsed.now.positional.items ≡ gen_form.positional }
+    requires { length parsed.now.positional.items ≡ 5 }
     ensures { gen_call_of result ≡ gen_call (bytes_of_words parsed.now.positional.items)
         (number_or DEFAULT_PATHS (option_map (λ text. text.now) parsed.now.paths))
         (number_or DEFAULT_BUDGET (option_map (λ text. text.now) parsed.now.budget)) }
@@ -119,5 +139,15 @@ fn gen_command<'a>(parsed: &Parsed<'a>) -> GenCommand<'a>
         proofs: names[4],
         paths: number_or(parsed.paths, DEFAULT_PATHS),
         budget: number_or(parsed.budget, DEFAULT_BUDGET),
+    }
+}
+
+// The call of `make` with these words.
+fn make_command(parsed: &Parsed) -> MakeCommand
+    requires { length parsed.now.positional.items ≡ 1 }
+    ensures { make_call_of result ≡ make_call (slice_index_or (bytes_of_words parsed.now.positional.items) 0 []) }
+{
+    MakeCommand {
+        stages: stages_spelled(parsed.positional[0]).unwrap_or(0),
     }
 }

@@ -20,4 +20,6 @@ pub enum WordsRefusal {
     SameAt(usize, usize),
     /// The number of paths times the budget, this product, is over its limit.
     Product(u64),
+    /// The number of stages is none that `make` takes.
+    Stages,
 }

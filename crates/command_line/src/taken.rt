@@ -1,7 +1,7 @@
 // What the words of a command gave so far, read from the left, and how one word more is taken.
-ghost use Rattle.std.specs.Prelude.{◌≡◌, option_map};
+ghost use Rattle.std.specs.Prelude.{◌≡◌, [], option_map, slice_index_or};
 ghost use Rattle.command_line.specs.Taken.{TakesAs, given_of};
-ghost use Rattle.command_line.specs.Words.{missing_reason, none_given, option_due, option_taken, positional_taken, value_given, value_taken, word_taken};
+ghost use Rattle.command_line.specs.Words.{missing_reason, none_given, option_due, option_taken, positional_taken, texts_of_words, value_given, value_taken, word_taken};
 
 use crate::form::CommandForm;
 use crate::kind::{WordKind, word_kind};
@@ -59,6 +59,16 @@ impl<'a> Taken<'a> {
             WordKind::Hyphened => Err(WordsFault::Refused(WordsRefusal::OptionAt(place))),
             WordKind::Empty => Err(WordsFault::Refused(WordsRefusal::EmptyAt(place))),
             WordKind::Plain => self.take_positional(form, place, word),
+        }
+    }
+
+    // The first positional word, without bytes where there is none.
+    pub(crate) fn first(&self) -> &'a str
+        ensures { result.now ≡ slice_index_or (texts_of_words (given_of self.now).positional) 0 [] }
+    {
+        match self.positional.as_slice() {
+            [word, ..] => word.text,
+            [] => "",
         }
     }
 

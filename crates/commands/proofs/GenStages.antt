@@ -1,5 +1,5 @@
 -- The stages of `gen`, one after the other, up to its products.
-use Rattle.std.proofs.Common.{ℕ, ◌<◌, ◌≤◌, List, [], ◌∷◌, ◌++◌, length, Some, Result, Ok, Err, IfErr, IfOk, refl, sym, subst}
+use Rattle.std.proofs.Common.{ℕ, ◌<◌, ◌≤◌, List, [], ◌∷◌, ◌++◌, length, Some, refl, sym, subst}
 use Rattle.std.specs.Prelude.{Vec}
 use Rattle.std.specs.declared.alloc.Global.{Global}
 use Rattle.pd_io.specs.Seen.{FilesSeen}
@@ -17,10 +17,8 @@ use Rattle.calls.specs.Work.{Stage, Read, Require, WithinLimit, SpellsCircuit, S
 use Rattle.calls.specs.Passing.{HasBytes, HasPassed}
 use Rattle.calls.specs.Stopping.{Stops}
 use Rattle.calls.specs.Inputs.{ReadsInput}
-use Rattle.calls.specs.Preparing.{IsPrepared, Prepares}
-use Rattle.calls.specs.Texts.{products_of}
-use Rattle.calls.specs.declared.texts.Texts.{Texts}
-use Rattle.call_laws.proofs.Stages.{begun, then_read, then_required, stops_refused, stops_for_memory, stops_unread}
+use Rattle.calls.specs.Preparing.{IsPrepared}
+use Rattle.calls.proofs.Stages.{begun, then_read, then_required, stops_refused, stops_for_memory, stops_unread}
 use Rattle.commands.specs.declared.judging.TheConstants.{INPUT_LIMIT}
 use Rattle.commands.specs.declared.sizes.TheConstants.{MOST_PATH_TEXT, MOST_TEST_TEXT}
 use Rattle.commands.specs.InputJudging.{FailsWithin, FailsNet, FailsDelays, FailsToGiveDelays, FailsToGiveNet, GivesDelays, GivesNet}
@@ -202,8 +200,8 @@ module _ (call : GenCall) where
         no_delays call net.text old mid net.read c net.holds text new read ending fails
 
     module _ (given : Delays) (delays : GivesDelays call.delays c given mid new) where
-      -- the texts are not made
-      texts_fail : (ending : Ending) → FailsShort call.paths c ending → Stops (gen_work call) ending old new
+      -- no run is made
+      pub texts_fail : (ending : Ending) → FailsShort call.paths c ending → Stops (gen_work call) ending old new
       texts_fail ending (found.long_paths refused) =
           long_paths call net.text old mid net.read c net.holds delays.text new delays.read given delays.holds ending refused
       texts_fail ending (found.long_tests short_paths refused) =
@@ -212,10 +210,8 @@ module _ (call : GenCall) where
           subst (λ (e : Ending). Stops (gen_work call) e old new) (sym is)
           (no_texts call net.text old mid net.read c net.holds delays.text new delays.read given delays.holds short_paths short_tests)
 
-      -- the texts are made, or not
-      pub prepared : (result : Result Texts Ending) → IfOk result (λ texts. GivesShort call c given (products_of texts))
-          → IfErr result (FailsShort call.paths c) → Prepares (gen_work call) result old new
-      prepared (Ok texts) made fails =
+      -- a run was made, of which these are the products
+      pub prepared : (products : Products) → GivesShort call c given products → IsPrepared (gen_work call) products old new
+      prepared products made =
           has_texts call net.text old mid net.read c net.holds delays.text new delays.read given delays.holds made.path_text
-          made.test_text (products_of texts) made.products_of_run
-      prepared (Err ending) made fails = texts_fail ending fails
+          made.test_text products made.products_of_run

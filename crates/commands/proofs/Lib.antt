@@ -6,6 +6,8 @@ pub mod GenStages
 pub mod GenTexts
 pub mod Headline
 pub mod Judged
+pub mod MakeLaws
 pub mod OneRun
+pub mod Performing
 pub mod Products
 pub mod WordsLaws

@@ -7,7 +7,7 @@ use Rattle.command_line.specs.Words.{asked_call}
 use Rattle.calls.specs.declared.status.Status.{Status}
 use Rattle.calls.specs.Work.{Work}
 use Rattle.calls.specs.Calls.{Ends}
-use Rattle.call_laws.proofs.Refusals.{AnswersWords, refused_words_answered}
+use Rattle.calls.proofs.Refusals.{AnswersWords, refused_words_answered}
 use Rattle.commands.specs.Commands.{asked_work, work_of}
 
 -- words that are refused are answered by status 2 with their reason on err, or by want of memory

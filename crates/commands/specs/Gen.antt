@@ -12,6 +12,7 @@ use Rattle.good_runs.specs.Shortest.{IsShortestRun}
 use Rattle.bench_reader.specs.Circuits.{HasCircuit}
 use Rattle.delay_annotation.specs.DelayFile.{HasDelays}
 use Rattle.pattern_writer.specs.TestsText.{tests_text}
+use Rattle.verdict_report.specs.PlainTexts.{HasPlainNames}
 use Rattle.verdict_report.specs.ReportText.{report_text}
 use Rattle.verdict_report.specs.ProofsText.{proofs_text}
 use Rattle.verdict_report.specs.Summary.{summary_text}
@@ -21,7 +22,9 @@ use Rattle.calls.specs.declared.role.Role.{Role}
 use Rattle.calls.specs.declared.role.Role.TheVariants as role
 use Rattle.calls.specs.declared.refusal.Refusal.{Refusal}
 use Rattle.calls.specs.declared.refusal.Refusal.TheVariants as refused
-use Rattle.calls.specs.Work.{Work, Stage, Read, Require, WithinLimit, SpellsCircuit, SpellsDelays, ShortPathText, ShortTestText, Due, Products}
+use Rattle.calls.specs.Work.{Work, Stage, Read, Require, WithinLimit, SpellsCircuit, SpellsDelays, ShortPathText, ShortTestText, Due, due_file, Products}
+use Rattle.commands.specs.declared.preparing.Generated.{Generated}
+use Rattle.commands.specs.declared.preparing.ToldRun.{ToldRun}
 use Rattle.commands.specs.declared.judging.TheConstants.{INPUT_LIMIT}
 use Rattle.commands.specs.declared.sizes.TheConstants.{MOST_PATH_TEXT, MOST_TEST_TEXT}
 use Rattle.commands.specs.Reasons.{HasNoCircuitFor, HasNoDelaysFor}
@@ -73,19 +76,23 @@ RefusesGen paths (net ∷ []) refusal = RefusesNet net refusal
 RefusesGen paths (net ∷ delays ∷ []) refusal = RefusesBoth paths net delays refusal
 RefusesGen paths inputs refusal = ⊥
 
--- the files of a call, with these texts, in the order in which they are written
-abbrev pub gen_files : GenCall → List ℕ → List ℕ → List ℕ → List Due
-gen_files call tests report proofs =
-    record { role = role.Tests; name = call.tests; text = tests }
-    ∷ record { role = role.Report; name = call.report; text = report }
-    ∷ record { role = role.Proofs; name = call.proofs; text = proofs } ∷ []
+-- the files that are written for a circuit and a run
+abbrev pub tests_due : GenCall → Circuit → Run → Due
+tests_due call c run = due_file role.Tests call.tests (tests_text c run.tests)
+
+abbrev pub report_due : GenCall → Circuit → Run → Due
+report_due call c run = due_file role.Report call.report (report_text c run.paths)
+
+abbrev pub proofs_due : GenCall → Run → Due
+proofs_due call run = due_file role.Proofs call.proofs (proofs_text run.rules run.proofs)
+
+-- these, in the order in which they are written
+abbrev pub run_files : GenCall → Circuit → Run → List Due
+run_files call c run = tests_due call c run ∷ report_due call c run ∷ proofs_due call run ∷ []
 
 -- the files that are written for a circuit and a run, and the line on out
 abbrev pub gen_products : GenCall → Circuit → Run → Products
-gen_products call c run = record {
-  files = gen_files call (tests_text c run.tests) (report_text c run.paths) (proofs_text run.rules run.proofs);
-  out = summary_text run;
-}
+gen_products call c run = record { files = run_files call c run; out = summary_text run }
 
 -- the products are the texts of one good run under rules One, for the paths and the budget that are asked for, which the files can
 -- spell: its tests are numbered in the order of the report, and each proof where it is first named; its verdicts keep their promises,
@@ -122,3 +129,16 @@ GivesGen call inputs products = ⊥
 -- the command with its names and numbers
 abbrev pub gen_work : GenCall → Work
 gen_work call = record { stages = gen_stages call; Refuses = RefusesGen call.paths; Gives = GivesGen call }
+
+-- a run that the three files can spell, of a circuit whose names call for no quotes
+pub record CanBeWritten (c : Circuit) (run : Run) : Type 0 where
+  pub lawful : IsLawfulRun c run
+  pub names : HasPlainNames c
+
+-- the products that are written for a circuit and a run with its summary
+abbrev pub told_products : GenCall → Circuit → ToldRun → Products
+told_products call c told = record { files = run_files call c told.run; out = told.summary.items }
+
+-- those that are written for what a call made
+abbrev pub generated_products : GenCall → Generated → Products
+generated_products call generated = told_products call generated.net generated.told

@@ -2,6 +2,7 @@ pub mod InputJudging
 pub mod Reasons
 pub mod Gen
 pub mod Headline
+pub mod Make
 pub mod Judging
 pub mod Sizes
 pub mod Commands

@@ -1,12 +1,12 @@
 // A whole call of the program, over any files and sinks.
 ghost use Rattle.std.specs.Prelude.{◌≡◌};
-ghost use Rattle.pd_io.specs.Seen.{outside, seen};
+ghost use Rattle.pd_io.specs.Seen.{outside};
 ghost use Rattle.command_line.specs.Commands.{bytes_of_words};
-ghost use Rattle.calls.specs.Calls.{Ends, HasAcceptedInputs, IsDone, IsDoneOrNoMemory, NoneFailed, Performs};
+ghost use Rattle.calls.specs.Calls.{Ends, HasAcceptedInputs, IsDone, IsDoneOrNoMemory, NoneFailed};
 ghost use Rattle.commands.specs.Commands.{asked_work};
 
-use crate::dispatch::prepare;
-use calls::{Ending, Status, tell, write_products};
+use crate::dispatch::perform;
+use calls::{Status, tell};
 use pd_io::{Files, Sink};
 use std::alloc::Global;
 
@@ -20,6 +20,9 @@ use std::alloc::Global;
 ///
 /// Inputs of more than 33,554,432 bytes are refused, and so are a netlist that has no circuit, a delay file that gives its pins
 /// no delays, and a circuit whose texts might grow too long.
+///
+/// `make N` does the same work on a ladder of N stages, with a delay of 1 at each pin, and prints one line that counts the verdicts of a
+/// good run (`make_work` in specs/Make.antt). No words but refused ones, failed writes on out and want of memory keep it from status 0.
 ///
 /// Only the files of the command are read or written. Where the status isn't 0, a line on err says why.
 pub fn run<F: Files, O: Sink, E: Sink>(
@@ -47,15 +50,4 @@ pub fn run<F: Files, O: Sink, E: Sink>(
 {
     let ending = perform(alloc, words, files, out);
     tell(&ending, err)
-}
-
-// Does the work of the command, and tells how it ended.
-fn perform<F: Files, O: Sink>(alloc: Global, words: &[&str], files: &mut F, out: &mut O) -> Ending
-    ensures { Performs (asked_work (bytes_of_words words.now)) result
-        (seen F.Files O.Sink files.old out.old) (seen F.Files O.Sink files.new out.new) }
-{
-    match prepare(alloc, words, files) {
-        Ok(texts) => write_products(&texts, files, out),
-        Err(ending) => ending,
-    }
 }

@@ -1,27 +1,57 @@
-// From the words to the products of the command that they ask for.
-ghost use Rattle.pd_io.specs.Seen.{files_seen};
-ghost use Rattle.command_line.specs.Commands.{bytes_of_words};
-ghost use Rattle.calls.specs.Preparing.{Prepares};
-ghost use Rattle.commands.specs.Commands.{asked_work};
+// From the words to the work of the command that they ask for.
+ghost use Rattle.std.specs.Prelude.{◌≡◌, Ok};
+ghost use Rattle.pd_io.specs.Seen.{seen};
+ghost use Rattle.command_line.specs.Commands.{bytes_of_words, call_of};
+ghost use Rattle.command_line.specs.Words.{HasLawfulNumbers};
+ghost use Rattle.calls.specs.Calls.{Performs};
+ghost use Rattle.commands.specs.Commands.{asked_work, work_of, words_ending};
 
-use crate::preparing::prepare_gen;
-use calls::{Ending, Refusal, Texts};
+use crate::generating::generate;
+use crate::making::make;
+use calls::{Ending, Refusal};
 use command_line::{Command, WordsFault, read_words};
-use pd_io::Files;
+use pd_io::{Files, Sink};
 use std::alloc::Global;
 
-/// Goes through the stages of the command that the words ask for, up to its products. Nothing is written.
-pub(crate) fn prepare<'a, F: Files>(
+/// Does the work of the command that the words ask for, and tells how it ended.
+pub(crate) fn perform<F: Files, O: Sink>(
     alloc: Global,
-    words: &'a [&'a str],
+    words: &[&str],
     files: &mut F,
-) -> Result<Texts<'a>, Ending>
-    ensures { Prepares (asked_work (bytes_of_words words.entry.now)) result
-        (files_seen F.Files files.old) (files_seen F.Files files.new) }
+    out: &mut O,
+) -> Ending
+    ensures { Performs (asked_work (bytes_of_words words.now)) result
+        (seen F.Files O.Sink files.old out.old) (seen F.Files O.Sink files.new out.new) }
 {
     match read_words(alloc, words) {
-        Ok(Command::Gen(command)) => prepare_gen(alloc, &command, files),
-        Err(WordsFault::Refused(reason)) => Err(Ending::Refused(Refusal::Words(reason))),
-        Err(WordsFault::NoMemory) => Err(Ending::NoMemory),
+        Ok(command) => perform_command(alloc, &command, files, out),
+        Err(fault) => words_ending(fault),
+    }
+}
+
+// Does the work of a command.
+fn perform_command<F: Files, O: Sink>(
+    alloc: Global,
+    command: &Command,
+    files: &mut F,
+    out: &mut O,
+) -> Ending
+    requires { HasLawfulNumbers (call_of command.now) }
+    ensures { Performs (work_of (Ok (call_of command.now))) result
+        (seen F.Files O.Sink files.old out.old) (seen F.Files O.Sink files.new out.new) }
+{
+    match command {
+        Command::Gen(command) => generate(alloc, command, files, out),
+        Command::Make(command) => make(alloc, command, out),
+    }
+}
+
+// How a call ends whose words give no command.
+fn words_ending(fault: WordsFault) -> Ending
+    ensures { result ≡ words_ending fault }
+{
+    match fault {
+        WordsFault::Refused(reason) => Ending::Refused(Refusal::Words(reason)),
+        WordsFault::NoMemory => Ending::NoMemory,
     }
 }

@@ -1,168 +1,136 @@
-// The stages of `gen` in their order, up to the texts that are to be written.
-ghost use Rattle.std.specs.Prelude.{◌≡◌, [], ◌∷◌, ◌++◌, IfErr, IfOk, OnOk};
+// The stages of `gen` in their order, up to the run whose texts are to be written.
+ghost use Rattle.std.specs.Prelude.{◌≡◌, ◌≤◌, IfErr, IfOk};
+ghost use Rattle.pd_base.specs.declared.limits.TheConstants.{MOST_PATHS};
 ghost use Rattle.pd_base.specs.declared.rules.Rules.TheVariants.{One};
 ghost use Rattle.pd_io.specs.Seen.{files_seen};
 ghost use Rattle.command_line.specs.Commands.{gen_call_of};
 ghost use Rattle.command_line.specs.Words.{HasGenNumbers};
 ghost use Rattle.calls.specs.Preparing.{Prepares};
-ghost use Rattle.calls.specs.Texts.{dues_of, products_of};
 ghost use Rattle.delay_annotation.specs.Annotation.{Fits, delays_of};
 ghost use Rattle.commands.specs.Judging.{FailsShort};
-ghost use Rattle.commands.specs.Gen.{GivesProductsOf, GivesShort, gen_files, gen_products, gen_work};
-ghost use Rattle.pattern_writer.specs.TestsText.{tests_text};
-ghost use Rattle.verdict_report.specs.PlainTexts.{HasPlainNames};
-ghost use Rattle.verdict_report.specs.ProofsText.{proofs_text};
-ghost use Rattle.verdict_report.specs.ReportText.{report_text};
+ghost use Rattle.commands.specs.Gen.{CanBeWritten, GivesProductsOf, GivesShort, gen_work, generated_products, told_products};
 ghost use Rattle.good_runs.specs.GoodRun.{IsGoodRun};
 ghost use Rattle.good_runs.specs.Shortest.{IsShortestRun};
+ghost use Rattle.prefix_sensitize.specs.Walks.{IsBudget};
 ghost use Rattle.netlist.specs.Lawful.{IsCircuit};
 ghost use Rattle.runs.specs.Lawful.{IsLawfulRun};
 
 use crate::judging::{delays_from, netlist_from};
 use crate::sizes::{sizes_of, try_path_text, try_test_text};
-use calls::{DueFile, Ending, Role, Texts};
+use calls::Ending;
 use command_line::GenCommand;
 use delay_annotation::Delays;
 use netlist::Netlist;
 use path_lister::first_paths;
-use pattern_writer::tests_text;
 use pd_base::{OutOfMemory, Rules, Steps};
 use pd_io::Files;
 use prefix_sensitize::sensitize_all;
 use runs::Run;
 use std::alloc::Global;
-use verdict_report::{proofs_text, report_text, summary_text};
+use verdict_report::summary_text;
+
+/// A run, and the line of counts that tells of it.
+#[derive(Drop)]
+pub(crate) struct ToldRun {
+    /// The run.
+    pub(crate) run: Run,
+    /// Its summary.
+    pub(crate) summary: Vec<u8>,
+}
+
+/// What `gen` made of its inputs: all that its products spell.
+#[derive(Drop)]
+pub(crate) struct Generated {
+    /// The netlist.
+    pub(crate) net: Netlist,
+    /// A good run of it.
+    pub(crate) told: ToldRun,
+}
 
 /// Reads NET, which has to have a circuit, and DELAYS, which has to give delays to its pins; requires that the texts can't grow
-/// too long; and makes the texts of the three files and of the summary on out, which are those of a good run. Nothing is written.
-pub(crate) fn prepare_gen<'a, F: Files>(
+/// too long; and makes a good run and its summary. Nothing is written.
+pub(crate) fn prepare_gen<F: Files>(
     alloc: Global,
-    command: &GenCommand<'a>,
+    command: &GenCommand,
     files: &mut F,
-) -> Result<Texts<'a>, Ending>
+) -> Result<Generated, Ending>
     requires { HasGenNumbers (gen_call_of command.now) }
-    ensures { Prepares (gen_work (gen_call_of command.now)) result
+    ensures prepares { Prepares (generated_products (gen_call_of command.now)) (gen_work (gen_call_of command.now)) result
         (files_seen F.Files files.old) (files_seen F.Files files.new) }
+    ensures writable { IfOk result (λ generated. CanBeWritten generated.net generated.told.run) }
 {
     let net = netlist_from(alloc, files, command.net)?;
     let delays = delays_from(alloc, files, &net, command.delays)?;
-    short_texts(alloc, command, &net, &delays)
+    let told = short_run(alloc, command, &net, &delays)?;
+    Ok(Generated { net, told })
 }
 
-// The texts of a good run, if they can't grow too long.
-fn short_texts<'a>(
+// A good run, if its texts can't grow too long.
+fn short_run(
     alloc: Global,
-    command: &GenCommand<'a>,
+    command: &GenCommand,
     net: &Netlist,
     delays: &Delays,
-) -> Result<Texts<'a>, Ending>
+) -> Result<ToldRun, Ending>
     requires circuit { IsCircuit net.now }
     requires fits { Fits net.now delays.now }
     requires numbers { HasGenNumbers (gen_call_of command.now) }
-    ensures gives { IfOk result
-        (λ texts. GivesShort (gen_call_of command.now) net.now (delays_of net.now delays.now) (products_of texts)) }
+    ensures gives { IfOk result (λ told. GivesShort (gen_call_of command.now) net.now (delays_of net.now delays.now)
+        (told_products (gen_call_of command.now) net.now told)) }
+    ensures lawful { IfOk result (λ told. IsLawfulRun net.now told.run) }
     ensures fails { IfErr result (FailsShort command.now.paths net.now) }
 {
     let sizes = sizes_of(net, command.paths);
     try_path_text(sizes)?;
     try_test_text(sizes)?;
-    Ok(texts_of(alloc, command, net, delays)?)
+    Ok(told_run(alloc, command, net, delays)?)
 }
 
-// The texts of a good run for the paths and the budget that are asked for.
-fn texts_of<'a>(
+// A good run for the paths and the budget that are asked for, with its summary.
+fn told_run(
     alloc: Global,
-    command: &GenCommand<'a>,
+    command: &GenCommand,
     net: &Netlist,
     delays: &Delays,
-) -> Result<Texts<'a>, OutOfMemory>
+) -> Result<ToldRun, OutOfMemory>
     requires circuit { IsCircuit net.now }
     requires fits { Fits net.now delays.now }
     requires numbers { HasGenNumbers (gen_call_of command.now) }
-    ensures { IfOk result
-        (λ texts. GivesProductsOf (gen_call_of command.now) net.now (delays_of net.now delays.now) (products_of texts)) }
+    ensures gives { IfOk result (λ told. GivesProductsOf (gen_call_of command.now) net.now (delays_of net.now delays.now)
+        (told_products (gen_call_of command.now) net.now told)) }
+    ensures lawful { IfOk result (λ told. IsLawfulRun net.now told.run) }
 {
-    let run = run_of(alloc, net, delays, command)?;
-    texts_of_run(alloc, command, net, &run)
+    let run = run_of(alloc, net, delays, command.paths, command.budget)?;
+    let summary = summary_text(alloc, &run)?;
+    Ok(ToldRun { run, summary })
 }
 
-// A good run for the paths and the budget that are asked for.
-fn run_of(
+/// A good run for so many paths and this budget, under rules One.
+pub(crate) fn run_of(
     alloc: Global,
     net: &Netlist,
     delays: &Delays,
-    command: &GenCommand,
+    paths: u32,
+    budget: u32,
 ) -> Result<Run, OutOfMemory>
     requires fits { Fits net.now delays.now }
-    requires numbers { HasGenNumbers (gen_call_of command.now) }
-    ensures good { IfOk result
-        (λ run. IsGoodRun net.now (delays_of net.now delays.now) command.now.paths command.now.budget run) }
+    requires paths { paths ≤ MOST_PATHS }
+    requires budget { IsBudget budget }
+    ensures good { IfOk result (λ run. IsGoodRun net.now (delays_of net.now delays.now) paths budget run) }
     ensures rules { IfOk result (λ run. run.rules ≡ One) }
     ensures lawful { IfOk result (λ run. IsLawfulRun net.now run) }
     ensures shortest { IfOk result (λ run. IsShortestRun net.now run) }
 {
-    let paths = first_paths(alloc, net, delays, command.paths)?;
+    let first = first_paths(alloc, net, delays, paths)?;
     let mut steps = Steps::start(());
     sensitize_all(
         alloc,
         net,
         delays,
+        first,
         paths,
-        command.paths,
-        command.budget,
+        budget,
         Rules::One,
         &mut steps,
     )
-}
-
-// The texts of a run.
-fn texts_of_run<'a>(
-    alloc: Global,
-    command: &GenCommand<'a>,
-    net: &Netlist,
-    run: &Run,
-) -> Result<Texts<'a>, OutOfMemory>
-    requires lawful { IsLawfulRun net.now run.now }
-    requires names { HasPlainNames net.now }
-    ensures { IfOk result (λ texts. products_of texts ≡ gen_products (gen_call_of command.now) net.now run.now) }
-{
-    let out = summary_text(alloc, run)?;
-    let files = files_of(alloc, command, net, run)?;
-    Ok(Texts { files, out })
-}
-
-// The files that are due, in the order in which they are written.
-fn files_of<'a>(
-    alloc: Global,
-    command: &GenCommand<'a>,
-    net: &Netlist,
-    run: &Run,
-) -> Result<Vec<DueFile<'a>>, OutOfMemory>
-    requires lawful { IsLawfulRun net.now run.now }
-    requires names { HasPlainNames net.now }
-    ensures { IfOk result (λ files. dues_of files.items
-        ≡ gen_files (gen_call_of command.now) (tests_text net.now run.now.tests) (report_text net.now run.now.paths)
-        (proofs_text run.now.rules run.now.proofs)) }
-{
-    let mut files = Vec::new(alloc);
-    let tests = tests_text(alloc, net, run.tests.as_slice())?;
-    push_due(&mut files, Role::Tests, command.tests, tests)?;
-    let report = report_text(alloc, net, run)?;
-    push_due(&mut files, Role::Report, command.report, report)?;
-    let proofs = proofs_text(alloc, run)?;
-    push_due(&mut files, Role::Proofs, command.proofs, proofs)?;
-    Ok(files)
-}
-
-// One more file is due.
-fn push_due<'a>(
-    files: &mut Vec<DueFile<'a>>,
-    role: Role,
-    name: &'a str,
-    text: Vec<u8>,
-) -> Result<(), OutOfMemory>
-    ensures { OnOk result (dues_of files.new.items
-        ≡ dues_of files.old.items ++ record { role = role; name = name.now; text = text.items } ∷ []) }
-{
-    Ok(files.push(DueFile { role, name, text })?)
 }

@@ -1,13 +1,16 @@
 -- The rows of a file while csv reads them, and what was taken of them when a row is refused or the file ends.
-use Rattle.std.proofs.Common.{Bor, ◌≡◌, ◌≢◌, inl, inr, ℕ, ◌+◌, ◌≤◌, length-append, true, false, List, [], ◌∷◌, ◌++◌, length, Some, None, refl, sym, ap, ◌∙◌, arith}
-use Rattle.csv.specs.Reading.{ReadRecord, Reached, Ready, default_config, names_headers, reader_config, reader_headers, reader_state, reader_trim, source_of, strip_bom}
+use Rattle.std.proofs.Common.{Bor, ◌≡◌, ◌≢◌, inl, inr, ℕ, ◌+◌, ◌≤◌, length-append, true, false, List, [], ◌∷◌, ◌++◌, length, ◌<◌, Some, None, refl, sym, ap, ◌∙◌, arith}
+use Rattle.std.specs.Prelude.{Result, Ok, Err, MatchResult}
+use Rattle.csv.specs.Reading.{ReadRecord, Reached, Ready, default_config, names_headers, reader_config, reader_headers, reader_state, reader_trim, source_of, strip_bom, RowStep}
+use Rattle.csv.specs.Records.{Row as Record, fields_of}
+use Rattle.csv.specs.declared.error.Error.{Error}
 use Rattle.csv.specs.declared.reader.Reader.{Reader}
 use Rattle.csv.specs.declared.reader.Trim.TheVariants as trim
 use Rattle.csv.specs.declared.parser.State.TheVariants as st
 use Rattle.csv.proofs.ReadFacts.{rows-end, rows-more}
 use Rattle.netlist.specs.Circuit.{Circuit}
 use Rattle.delay_annotation.specs.DelayFile.{AreAllRows, AreFirstRows, RefusesDelays, Row}
-use Rattle.delay_annotation.specs.DelayFile.RefusesDelays.{no_row, row_refused}
+use Rattle.delay_annotation.specs.DelayFile.RefusesDelays.{no_memory, no_row, row_refused}
 use Rattle.delay_annotation.specs.LastRows.{HasRoomForRows}
 use Rattle.delay_annotation.specs.Taking.{AreTaken, IsFileTaken, RefusesTaken, TakesRow}
 use Rattle.delay_annotation.specs.declared.fault.DelayFault.{DelayFault}
@@ -121,3 +124,19 @@ module _ (c : Circuit) (bytes : List ℕ) (a b : BytesReader) (number : ℕ) (ke
     some = omega (arith, has.count, some);
     taken = has.taken;
   }
+
+  -- what csv read is one row more, where it is taken
+  pub read_taken : (left : ℕ) (read : Result Record Error) (new : LastRows)
+      → RowStep (λ (s : Bor (List ℕ)). Some s.now) a b left (Some read) → HasRoomForRows c new
+      → MatchResult read (λ row. TakesRow c (number + 1) (fields_of row) kept new) (λ _. ⊥)
+      → (0 < left) × HasTaken c bytes b (number + 1) new
+  read_taken left (Ok row) new step places takes = (step.2, taken_more (fields_of row) new step.0 step.1 places takes)
+  read_taken left (Err fault) new step places takes = absurd takes
+
+  -- and the file is refused, where it is not
+  pub read_refused : (left : ℕ) (read : Result Record Error) (why : DelayFault)
+      → RowStep (λ (s : Bor (List ℕ)). Some s.now) a b left (Some read)
+      → MatchResult read (λ row. RefusesTaken c (number + 1) (fields_of row) kept why) (λ _. why ≡ fault.NoMemory)
+      → RefusesDelays c bytes why
+  read_refused left (Ok row) why step refuses = taken_refused (fields_of row) why step.0 step.1 refuses
+  read_refused left (Err error) why step refuses = no_memory refuses

@@ -12,7 +12,7 @@ use pd_base::{OutOfMemory, PinRef};
 use std::alloc::Global;
 
 /// A row as it is kept: its number, from 1, and its delay. The number is 0 where there was no row.
-#[derive(Clone, Copy, Debug, PartialEq, Eq)]
+#[derive(Clone, Copy)]
 pub(crate) struct KeptRow {
     pub row: u32,
     pub delay: u32,
@@ -25,7 +25,7 @@ const NO_ROW_YET: KeptRow = KeptRow {
 };
 
 /// The last row of each form: of `*,*`, of `GATE,*` by gate, of `*,PIN` by the pin's number, of `GATE,PIN` by pin.
-#[derive(Debug, Drop)]
+#[derive(Drop)]
 pub(crate) struct LastRows {
     pub all: KeptRow,
     pub gates: Vec<KeptRow>,

@@ -1,7 +1,8 @@
 // From the bytes of a delay file to the delays.
-ghost use Rattle.std.specs.Prelude.{◌≤◌, length, IfErr, IfOk};
+ghost use Rattle.std.specs.Prelude.{◌≤◌, [], length, IfErr, IfOk};
 ghost use Rattle.delay_annotation.specs.Annotation.{delays_of, Fits};
 ghost use Rattle.delay_annotation.specs.DelayFile.{HasDelays, RefusesDelays};
+ghost use Rattle.delay_annotation.specs.LastRows.{HasRoomForRows, KeepsLast};
 
 use crate::last::LastRows;
 use crate::rows::take_rows;
@@ -23,9 +24,23 @@ pub fn read_delays(alloc: Global, net: &Netlist, bytes: &[u8]) -> Result<Delays,
     ensures refused { IfErr result (RefusesDelays net.now bytes.now) }
 {
     let mut kept = LastRows::new(alloc, net)?;
-    match take_rows(alloc, net, bytes, &mut kept) {
-        Ok(Ok(())) => Ok(settle(alloc, net, &kept)?),
-        Ok(Err(fault)) => Err(fault),
-        Err(_) => Err(DelayFault::NoMemory),
-    }
+    settled_rows(alloc, net, bytes, &mut kept)
+}
+
+// The delays by the rows of a file, of which none was taken yet.
+fn settled_rows(
+    alloc: Global,
+    net: &Netlist,
+    bytes: &[u8],
+    kept: &mut LastRows,
+) -> Result<Delays, DelayFault>
+    requires short { length bytes.now ≤ MOST_BYTES }
+    requires places { HasRoomForRows net.now kept.old }
+    requires none { KeepsLast net.now kept.old [] }
+    ensures fits { IfOk result (λ delays. Fits net.now delays) }
+    ensures delays { IfOk result (λ delays. HasDelays net.now bytes.now (delays_of net.now delays)) }
+    ensures refused { IfErr result (RefusesDelays net.now bytes.now) }
+{
+    take_rows(alloc, net, bytes, kept)?;
+    Ok(settle(alloc, net, kept)?)
 }

@@ -1,5 +1,5 @@
 // The rows of a delay file, in turn: the titles, then rows that are kept by their form.
-ghost use Rattle.std.specs.Prelude.{◌≡◌, ◌≢◌, ◌≤◌, [], ◌∷◌, length, IfErr, IfOk, MatchOption, MatchResult, OnOk};
+ghost use Rattle.std.specs.Prelude.{◌≡◌, ◌≢◌, ◌≤◌, [], ◌∷◌, length, IfErr, MatchOption, MatchResult, OnOk};
 ghost use Rattle.csv.specs.Records.{fields_of};
 ghost use Rattle.delay_annotation.specs.Rows.{AreTitles, IsSetting, RefusesRow};
 ghost use Rattle.delay_annotation.specs.LastRows.{HasRoomForRows, KeepsLast};
@@ -14,19 +14,18 @@ use csv::{ByteRecord, Error, ReaderBuilder};
 use netlist::Netlist;
 use std::alloc::Global;
 
-// Takes all rows of a file. Each error of csv is want of memory, since bytes in memory are always read, rows may have any
-// number of fields, and fields any bytes.
+// Takes all rows of a file, which may have any number of fields, and fields any bytes.
 pub(crate) fn take_rows(
     alloc: Global,
     net: &Netlist,
     bytes: &[u8],
     kept: &mut LastRows,
-) -> Result<Result<(), DelayFault>, Error>
+) -> Result<(), DelayFault>
     requires short { length bytes.now ≤ MOST_BYTES }
     requires places { HasRoomForRows net.now kept.old }
     requires none { KeepsLast net.now kept.old [] }
     ensures places { HasRoomForRows net.now kept.new }
-    ensures takes { IfOk result (Takes net.now bytes.now kept.new) }
+    ensures takes { Takes net.now bytes.now kept.new result }
 {
     let reader = ReaderBuilder::new()
         .has_headers(false)
@@ -34,16 +33,32 @@ pub(crate) fn take_rows(
         .from_reader(alloc, bytes);
     let mut number = 0;
     for row in reader.into_byte_records() {
-        let row = row?;
         number += 1;
-        if let Err(fault) = take_row(net, number, &row, kept) {
-            return Ok(Err(fault));
-        }
+        take_read(net, number, row, kept)?;
     }
     if number == 0 {
-        return Ok(Err(DelayFault::Header));
+        return Err(DelayFault::Header);
     }
-    Ok(Ok(()))
+    Ok(())
+}
+
+// Takes what csv read as the row of this number. Each error of csv is want of memory, since bytes in memory are always read.
+fn take_read(
+    net: &Netlist,
+    number: u32,
+    read: Result<ByteRecord, Error>,
+    kept: &mut LastRows,
+) -> Result<(), DelayFault>
+    requires { HasRoomForRows net.now kept.old }
+    ensures places { HasRoomForRows net.now kept.new }
+    ensures ok { OnOk result (MatchResult read (λ row. TakesRow net.now number (fields_of row) kept.old kept.new) (λ _. ⊥)) }
+    ensures err { IfErr result (λ why. MatchResult read
+        (λ row. RefusesTaken net.now number (fields_of row) kept.old why) (λ _. why ≡ DelayFault.NoMemory)) }
+{
+    match read {
+        Ok(row) => take_row(net, number, &row, kept),
+        Err(_) => Err(DelayFault::NoMemory),
+    }
 }
 
 // Takes the row of this number, counted from 1.

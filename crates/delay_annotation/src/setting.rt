@@ -2,7 +2,7 @@
 use pd_base::{GateId, PinRef};
 
 /// The gates that a row's first field means.
-#[derive(Clone, Copy, Debug, PartialEq, Eq)]
+#[derive(Clone, Copy)]
 pub(crate) enum Gates {
     /// All gates.
     All,
@@ -11,7 +11,7 @@ pub(crate) enum Gates {
 }
 
 /// The pins that a row is about.
-#[derive(Clone, Copy, Debug, PartialEq, Eq)]
+#[derive(Clone, Copy)]
 pub(crate) enum Pins {
     /// All pins of all gates.
     All,
@@ -24,7 +24,7 @@ pub(crate) enum Pins {
 }
 
 /// A row of a delay file: these pins have this delay, in delay units.
-#[derive(Clone, Copy, Debug, PartialEq, Eq)]
+#[derive(Clone, Copy)]
 pub(crate) struct Setting {
     /// The pins.
     pub pins: Pins,
@@ -33,7 +33,7 @@ pub(crate) struct Setting {
 }
 
 /// Why a row behind the titles is refused: the first of these that is true of it.
-#[derive(Clone, Copy, Debug, PartialEq, Eq)]
+#[derive(Clone, Copy)]
 pub(crate) enum RowFault {
     /// It has not three fields.
     Fields,

@@ -24,7 +24,7 @@ use std::cmp::Ordering;
 use std::collections::BinaryHeap;
 
 /// The next change at a pin. Of two that are compared the sooner one is the greater.
-#[derive(Clone, Copy, Debug)]
+#[derive(Clone, Copy)]
 pub(crate) struct PinChange {
     /// When it comes at the pin.
     pub time: i64,
@@ -77,7 +77,7 @@ impl PartialOrd for PinChange {
 }
 
 /// What the pins of a gate are yet to see.
-#[derive(Debug, Drop)]
+#[derive(Drop)]
 pub(crate) struct PinWaves {
     /// How many pins are 1 until the soonest change.
     pub ones: usize,

@@ -13,8 +13,8 @@ use Rattle.state_sets.specs.States.{AreWithin, both_sets, no_states}
 use Rattle.state_sets.specs.Labellings.{label_at}
 use Rattle.state_sets.specs.Narrowing.{gate_lines}
 use Rattle.state_sets.specs.Hulls.{HasNoEmptySet}
-use Rattle.narrowing.specs.Sets.{set_at}
-use Rattle.narrowing.proofs.Cuts.{pins_none, pins_more}
+use Rattle.hulls.specs.Sets.{set_at}
+use Rattle.hulls.proofs.Cuts.{pins_none, pins_more}
 use Rattle.hulls.specs.Awaiting.{is_inside}
 use Rattle.hulls.specs.Boards.{OnBoard, Follows}
 use Rattle.hulls.specs.Settling.{IsMoved, IsCutTo, IsSameAt, Wakes, HasLess, IsShrunk, ArePinsCut}
@@ -160,7 +160,7 @@ module _ (c : Circuit) (passed : Option GateId) where
           → line.0 < length mid.labels → ArePinsCut count c passed gate kept k old mid → IsCutTo count c passed line.0 (set_at kept k) mid new
           → ArePinsCut count c passed gate kept (k + 1) old new
       cut_more k line old mid new inside reads within before cut = record {
-        labels = subst (Rattle.narrowing.specs.Changes.HasPinsKept count (pins_at c gate) kept (k + 1) old.labels) (sym cut.labels)
+        labels = subst (Rattle.hulls.specs.Changes.HasPinsKept count (pins_at c gate) kept (k + 1) old.labels) (sym cut.labels)
             (pins_more count (pins_at c gate) kept old.labels mid.labels k inside before.labels line reads within
             (both_sets (label_at mid.labels line.0) (set_at kept k)) refl);
         shrunk = shrunk_on old mid new before.shrunk (cut_shrunk line.0 (set_at kept k) mid new cut);

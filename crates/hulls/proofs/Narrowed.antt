@@ -28,12 +28,12 @@ use Rattle.state_laws.specs.Cones.{IsNarrowingIn}
 use Rattle.state_laws.specs.Sweeps.{KeepsRests}
 use Rattle.state_laws.proofs.Idempotent.{HasOwnLines, narrowing_idempotent}
 use Rattle.state_laws.proofs.Sweeps.{keeps_one, keeps_on}
-use Rattle.narrowing.specs.Sets.{Means, set_at}
-use Rattle.narrowing.proofs.Whole.{gate_narrowed}
+use Rattle.hulls.specs.Sets.{Means, set_at}
+use Rattle.hulls.proofs.Whole.{gate_narrowed}
 use Rattle.hulls.specs.Awaiting.{is_inside}
 use Rattle.hulls.specs.Boards.{OnBoard}
 use Rattle.hulls.specs.Falling.{states_left}
-use Rattle.hulls.specs.Settling.{AllDiffer, IsPassed, IsSameAt, Wakes, HasLess, IsShrunk, ArePinsCut, AreAllPinsCut, IsPinEmptied, IsCutTo, RestsAt, IsAwake, IsAwakeBut, IsNarrowed, IsTurn, IsConflict, work_left}
+use Rattle.hulls.specs.Settling.{AllDiffer, IsPassed, IsSameAt, Wakes, HasLess, IsShrunk, ArePinsCut, AreAllPinsCut, IsPinEmptied, IsCutTo, RestsAt, IsAwake, IsAwakeBut, IsNarrowed, IsTurn, IsConflict}
 use Rattle.hulls.proofs.Changing.{cut_shrunk, shrunk_on, some_left, follows_on}
 use Rattle.hulls.proofs.Flags.{behind}
 
@@ -204,6 +204,10 @@ module _ (a : StateAlgebra) (c : Circuit) (kind : Kind) (steps : List PinRef) wh
         some = some_left c passed a.count (gate_line c gate) given mid new own pins.some left;
         falls = shrunk.falls;
       }
+
+-- what falls while a board settles: the states of all lines, and then the gates that wait
+abbrev pub work_left : ℕ → OnBoard → ℕ
+work_left count board = states_left count board.labels * (length board.inside + 1) + length board.waiting
 
 -- a turn of the loop: a gate is taken, and what narrowing it does is less
 module _ (count : ℕ) (old mid new : OnBoard) (gate : GateId) (first : old.waiting ≡ gate ∷ mid.waiting)

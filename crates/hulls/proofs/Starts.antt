@@ -17,9 +17,9 @@ use Rattle.state_sets.specs.Starts.{MayStart, IsLaunching, IsOtherStart, IsInHal
 use Rattle.state_laws.specs.declared.half.Half.{Half}
 use Rattle.state_laws.specs.Nodes.{IsCut}
 use Rattle.state_laws.proofs.Sets.{has_in_circuit, label_within}
-use Rattle.narrowing.specs.Sets.{Means}
-use Rattle.narrowing.proofs.Sets.{all_have}
-use Rattle.narrowing.proofs.Cuts.{has_after_cut, had_before_cut, kept_by_cut}
+use Rattle.hulls.specs.Sets.{Means}
+use Rattle.hulls.proofs.Sets.{all_have}
+use Rattle.hulls.proofs.Cuts.{has_after_cut, had_before_cut, kept_by_cut}
 
 module _ (a : StateAlgebra) (c : Circuit) (rules : Rules) (source : ℕ) (direction : Direction) (is_source : source < source_count c)
     (labels : List StateSet) (is : IsLabelling a.count c labels)

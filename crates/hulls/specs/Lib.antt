@@ -1,7 +1,15 @@
 pub mod Answers
 pub mod Awaiting
 pub mod Boards
+pub mod Changes
+pub mod Conditions
 pub mod Falling
+pub mod GateViews
+pub mod Joins
+pub mod Limits
+pub mod Marks
 pub mod Pairs
+pub mod Passes
 pub mod Queues
+pub mod Sets
 pub mod Settling

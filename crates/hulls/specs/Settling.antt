@@ -1,5 +1,5 @@
 -- What cuts and narrowings do to a board (this project's own).
-use Rattle.std.specs.Prelude.{◌≡◌, ◌≢◌, ℕ, ◌+◌, ◌*◌, ◌<◌, ◌≤◌, ◌⊎◌, Bool, true, List, length, slice_set, slice_get, Option, Some, IfSome, All, Contains}
+use Rattle.std.specs.Prelude.{◌≡◌, ◌≢◌, ℕ, ◌<◌, ◌≤◌, ◌⊎◌, Bool, true, List, length, slice_set, slice_get, Option, Some, IfSome, All, Contains}
 use Rattle.pd_base.specs.declared.ids.GateId.{GateId}
 use Rattle.pd_base.specs.declared.ids.LineId.{LineId}
 use Rattle.pd_base.specs.declared.ids.PinRef.{PinRef}
@@ -13,7 +13,7 @@ use Rattle.state_sets.specs.Narrowing.{IsNarrowing, gate_lines}
 use Rattle.state_sets.specs.Hulls.{condition_at, HasNoEmptySet}
 use Rattle.state_laws.specs.Cones.{IsNarrowingIn}
 use Rattle.state_laws.specs.Sweeps.{KeepsRests}
-use Rattle.narrowing.specs.Changes.{HasPinsKept}
+use Rattle.hulls.specs.Changes.{HasPinsKept}
 use Rattle.hulls.specs.Awaiting.{is_inside}
 use Rattle.hulls.specs.Boards.{OnBoard, IsBoardOf, Follows}
 use Rattle.hulls.specs.Falling.{states_left}
@@ -133,7 +133,3 @@ pub record IsConflict (a : StateAlgebra) (c : Circuit) (kind : Kind) (steps : Li
   pub narrowed : IsNarrowed a c kind steps old new
   pub in_circuit : line < line_count c
   pub none : label_at new.labels line ≡ no_states
-
--- what falls while a board settles: the states of all lines, and then the gates that wait
-abbrev pub work_left : ℕ → OnBoard → ℕ
-work_left count board = states_left count board.labels * (length board.inside + 1) + length board.waiting

@@ -8,12 +8,11 @@ ghost use Rattle.state_sets.specs.declared.state.State.{State};
 ghost use Rattle.state_sets.specs.Labellings.{IsLabelling};
 ghost use Rattle.state_sets.specs.Hulls.{HasAt};
 ghost use Rattle.state_laws.specs.Nodes.{IsCut};
-ghost use Rattle.narrowing.specs.Conditions.{IsEnteredOn};
+ghost use Rattle.hulls.specs.Conditions.{IsEnteredOn};
 ghost use Rattle.hulls.specs.Answers.{IsAtNode};
 ghost use Rattle.hulls.specs.Pairs.{LosesNoPair, DecidesSingletons};
 
-use crate::{Board, Hull, cut_to_half, launch};
-use narrowing::{Conditions, NarrowScratch, enter_all};
+use crate::{Board, Conditions, Hull, NarrowScratch, cut_to_half, enter_all, launch};
 use netlist::Netlist;
 use pd_base::{Direction, Kind, LineId, OutOfMemory, Path, Rules};
 use state_laws::Half;

@@ -7,13 +7,12 @@ ghost use Rattle.state_sets.specs.Labellings.{label_at};
 ghost use Rattle.state_sets.specs.Hulls.{IsHull, IsEmptied, HasAt, HasNoEmptySet};
 ghost use Rattle.state_laws.specs.Cones.{IsNarrowingIn};
 ghost use Rattle.state_laws.specs.Sweeps.{KeepsRests};
-ghost use Rattle.narrowing.specs.Conditions.{IsEnteredOn};
+ghost use Rattle.hulls.specs.Conditions.{IsEnteredOn};
 ghost use Rattle.hulls.specs.Awaiting.{is_inside};
 ghost use Rattle.hulls.specs.Boards.{IsBoardOf, Follows};
 ghost use Rattle.hulls.specs.Settling.{MaySettle, IsAwakeBut, AllDiffer, IsPassed, AreAllPinsCut, IsPinEmptied, IsTurn, IsConflict};
 
-use crate::Board;
-use narrowing::{Conditions, NarrowScratch, kept_at};
+use crate::{Board, Conditions, NarrowScratch, kept_at};
 use netlist::Netlist;
 use pd_base::{GateId, LineId};
 use state_sets::{Algebra, StateSet};

@@ -7,9 +7,9 @@ ghost use Rattle.state_sets.specs.Labellings.{label_at, IsLabelling};
 ghost use Rattle.state_sets.specs.Hulls.{HasAt};
 ghost use Rattle.state_sets.specs.Starts.{MayStart, IsLaunching, IsOtherStart};
 ghost use Rattle.state_laws.specs.Nodes.{IsCut};
-ghost use Rattle.narrowing.specs.Sets.{Means};
+ghost use Rattle.hulls.specs.Sets.{Means};
 
-use narrowing::half_states;
+use crate::half_states;
 use netlist::{Netlist, final_bit};
 use pd_base::{Direction, LineId, Rules};
 use state_laws::Half;

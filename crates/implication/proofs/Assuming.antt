@@ -1,5 +1,5 @@
 -- That what is assumed or entered makes a list as scopes make it.
-use Rattle.std.proofs.Common.{◌≡◌, ◌≢◌, ℕ, ◌<◌, ◌==◌, nat_eq, true, false, List, length, get_or, [], ◌∷◌, ◌++◌, bit_and, Option, Some, None, if◌then◌else◌, refl, sym, ap, ◌∙◌, subst, arith}
+use Rattle.std.proofs.Common.{◌≡◌, ◌≢◌, ℕ, ◌<◌, ◌≤◌, ◌==◌, nat_eq, true, false, List, length, get_or, [], ◌∷◌, ◌++◌, bit_and, Option, Some, None, Result, Ok, Err, OnOk, IfErr, if◌then◌else◌, refl, sym, ap, ◌∙◌, subst, arith}
 use Rattle.std.proofs.lemmas.Bool.{eqb-false, eqb-true, eq-eqb, ne_eqb}
 use Rattle.std.proofs.lemmas.List.{get_or_default}
 use Rattle.pd_base.specs.declared.ids.LineId.{LineId}
@@ -14,11 +14,26 @@ use Rattle.state_sets.specs.Labellings.{label_at}
 use Rattle.implication.specs.declared.assumption.Beginning.{Beginning}
 use Rattle.implication.specs.declared.assumption.Assumption.{Assumption}
 use Rattle.implication.specs.declared.assumption.Assumption.TheVariants.{Entered, Assumed}
+use Rattle.implication.specs.declared.assumption.Conflict.{Conflict}
 use Rattle.implication.specs.Assumptions.{left_of}
 use Rattle.implication.specs.Standing.{Standing, IsTold, IsToldBy, end_from, end_of_scope}
-use Rattle.implication.specs.Moves.{with_assumed}
+use Rattle.implication.specs.Moves.{with_assumed, grown, closed_at}
+use Rattle.implication.specs.Clients.{ExtendsStanding}
 use Rattle.implication.specs.Kept.{Kept, IsListFrom, StandsFrom, KeepsStanding}
 use Rattle.implication.proofs.Lists.{list_with_pin, list_with_set, told_with_pin, told_with_set}
+use Rattle.implication.proofs.Restoring.{extends_by_one}
+
+-- what stood is extended, whether an entry more is answered by Ok or by a conflict
+pub extends_added : {T : Type 0} (answer : Result T Conflict) (old new : Standing) (entry : Assumption) → old.conflict ≡ None
+    → OnOk answer (new ≡ grown old (old.assumptions ++ entry ∷ []))
+    → IfErr answer (λ conflict. new ≡ closed_at old (old.assumptions ++ entry ∷ []) conflict.0)
+    → old.closings ≤ new.closings → ExtendsStanding old new
+extends_added (Ok value) old new entry free ok err later =
+    extends_by_one old new entry free (ap (λ (s : Standing). s.net) ok) (ap (λ (s : Standing). s.rules) ok)
+    (ap (λ (s : Standing). s.ends) ok) (ap (λ (s : Standing). s.beginning) ok) (ap (λ (s : Standing). s.assumptions) ok) later
+extends_added (Err conflict) old new entry free ok err later =
+    extends_by_one old new entry free (ap (λ (s : Standing). s.net) err) (ap (λ (s : Standing). s.rules) err)
+    (ap (λ (s : Standing). s.ends) err) (ap (λ (s : Standing). s.beginning) err) (ap (λ (s : Standing). s.assumptions) err) later
 
 abbrev set_of : ℕ → StateSet
 set_of n = record { 0 = n }

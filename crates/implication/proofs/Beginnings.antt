@@ -1,16 +1,23 @@
--- What an engine keeps as the outermost scope begins and as it ends.
-use Rattle.std.proofs.Common.{◌≡◌, ℕ, ◌<◌, Bool, List, [], ◌∷◌, length, Option, Some, None, IfSome, IfNone, refl, sym, ap, ◌∙◌, subst, arith}
+-- What an engine keeps as it is made, as the outermost scope begins and as it ends.
+use Rattle.std.proofs.Common.{◌≡◌, ℕ, ◌<◌, ◌≤◌, Bool, List, [], ◌∷◌, length, replicate, Option, Some, None, IfSome, IfNone, refl, sym, ap, ◌∙◌, subst, arith}
+use Rattle.std.proofs.lemmas.List.{get_or-replicate, length-replicate}
 use Rattle.std.proofs.lemmas.List.Elements.{All-nil}
 use Rattle.pd_base.specs.declared.ids.LineId.{LineId}
 use Rattle.pd_base.specs.declared.ids.PinRef.{PinRef}
 use Rattle.pd_base.specs.declared.rules.Rules.{Rules}
-use Rattle.netlist.specs.Circuit.{Circuit, source_count, line_count, gate_line}
+use Rattle.pd_base.specs.declared.fault.Kind.TheVariants.{Robust}
+use Rattle.netlist.specs.Circuit.{Circuit, source_count, gate_count, line_count, gate_line}
+use Rattle.netlist.specs.Lawful.{IsCircuit}
+use Rattle.netlist.specs.Levels.{greatest_level}
+use Rattle.state_sets.specs.declared.state.StateSet.{StateSet}
+use Rattle.state_sets.specs.States.{all_states, no_states}
+use Rattle.state_sets.specs.Labellings.{label_at}
 use Rattle.state_sets.specs.StateAlgebra.{StateAlgebra}
 use Rattle.state_sets.specs.FourStates.{four_states}
 use Rattle.state_sets.specs.Starts.{MayStart}
 use Rattle.state_sets.specs.Hulls.{IsHull, IsEmptied, HasNoEmptySet}
 use Rattle.state_laws.specs.Cones.{IsNarrowingIn}
-use Rattle.narrowing.specs.Conditions.{Entered as Steps}
+use Rattle.hulls.specs.Conditions.{Entered as Steps}
 use Rattle.hulls.specs.Awaiting.{is_inside}
 use Rattle.hulls.specs.Boards.{OnBoard}
 use Rattle.implication.specs.declared.assumption.Beginning.{Beginning}
@@ -19,10 +26,47 @@ use Rattle.implication.specs.declared.before.Before.{Before}
 use Rattle.implication.specs.Assumptions.{entered_pins}
 use Rattle.implication.specs.Standing.{Standing, IsToldBy}
 use Rattle.implication.specs.Idling.{Idling, StandsBy, IsIdleBoard}
-use Rattle.implication.specs.Kept.{Outset, Kept, AreLabelsUnder, AreLeft, StandsOpen, StandsIdle, StandsFrom, AreToldGates, KeepsStanding}
+use Rattle.implication.specs.Kept.{most_assumptions, Outset, Kept, AreLabelsUnder, AreLeft, StandsOpen, StandsIdle, StandsFrom, AreToldGates, KeepsStanding}
 use Rattle.implication.proofs.Lists.{list_empty}
 use Rattle.implication.proofs.Labels.{labels_at_start}
 use Rattle.implication.proofs.Starting.{free_at_start}
+
+-- what an engine keeps as it is made
+pub kept_new : (a : StateAlgebra) (c : Circuit) (rules : Rules) (ends : Option (List LineId)) (list : List Assumption) (kept : Kept)
+    (room befores_room : ℕ) → IsCircuit c → AreToldGates c ends kept.board.inside → IsIdleBoard a c rules kept.idle kept.board
+    → list ≡ [] → kept.befores ≡ [] → kept.left ≡ replicate (source_count c) (all_states a.count)
+    → kept.steps ≡ record { kind = Robust; gates = gate_count c; room = greatest_level c; steps = [] }
+    → most_assumptions a.count c ≤ room → most_assumptions a.count c ≤ befores_room
+    → KeepsStanding a (record {
+      net = c;
+      rules = rules;
+      ends = ends;
+      beginning = None;
+      assumptions = list;
+      conflict = None;
+      closings = 0;
+    }) kept room befores_room
+kept_new a c rules ends list kept room befores_room circuit cone idle nothing none_before all_left stepped enough befores_enough = record {
+  circuit = circuit;
+  board = record { lines = idle.stands.lines; gates = idle.stands.gates };
+  cone = cone;
+  at_rest = idle.at_rest;
+  stands = record {
+    nothing = nothing;
+    free = refl;
+    none_before = none_before;
+    no_step = ap (λ (s : Steps). s.steps) stepped;
+    left = record {
+      one_each = ap length all_left ∙ length-replicate (source_count c) (all_states a.count);
+      each = λ source within. ap (λ (sets : List StateSet). label_at sets source) all_left
+          ∙ get_or-replicate (source_count c) source (all_states a.count) no_states within;
+    };
+    idling = idle;
+  };
+  step_room = record { gates = ap (λ (s : Steps). s.gates) stepped; levels = ap (λ (s : Steps). s.room) stepped };
+  room = enough;
+  befores_room = befores_enough;
+}
 
 module _ (a : StateAlgebra) {standing : Standing} {kept : Kept} {room befores_room : ℕ}
     (keeps : KeepsStanding a standing kept room befores_room) (now : Standing) (is_now : standing ≡ now) (idle : now.beginning ≡ None)

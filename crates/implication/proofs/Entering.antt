@@ -19,7 +19,7 @@ use Rattle.path_laws.proofs.StepCounts.{step_raises, level_and_steps, steps_with
 use Rattle.state_sets.specs.Hulls.{condition_at}
 use Rattle.implication.specs.declared.assumption.Assumption.{Assumption}
 use Rattle.implication.specs.declared.assumption.Assumption.TheVariants.{Entered, Assumed}
-use Rattle.narrowing.specs.Conditions.{Entered as Steps, IsEnteredOn}
+use Rattle.hulls.specs.Conditions.{Entered as Steps, IsEnteredOn}
 use Rattle.implication.specs.Assumptions.{entered_pins}
 use Rattle.implication.specs.Kept.{HasStepRoom, CanStep}
 

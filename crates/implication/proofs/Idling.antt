@@ -27,7 +27,7 @@ use Rattle.state_laws.specs.Forward.{IsForward, AreReached, IsLaunchedFrom}
 use Rattle.state_laws.proofs.Forward.{start_keeps, settled_forward, stands_or_not, launched_hull, launched_emptied, launched_rests, launched_some, cut_hull, cut_emptied}
 use Rattle.state_laws.proofs.Images.{has_some}
 use Rattle.state_laws.proofs.Sets.{none_has, no_state_at, label_within}
-use Rattle.narrowing.proofs.Sets.{all_have, both_have}
+use Rattle.hulls.proofs.Sets.{all_have, both_have}
 use Rattle.undo_trail.specs.Undoing.{undone}
 use Rattle.undo_trail.proofs.Undoing.{undone-append, length-undone}
 use Rattle.hulls.specs.Awaiting.{is_inside}

@@ -18,7 +18,19 @@ use Rattle.netlist.proofs.Evaluation.{all_at_place}
 use Rattle.netlist.proofs.RankOrder.{reads_lower}
 use Rattle.state_laws.specs.Cones.{IsClosedBack}
 use Rattle.hulls.specs.Awaiting.{is_inside}
-use Rattle.implication.specs.Inside.{AreInside, IsBehind, IsReadInside, AreEndsFlagged, AreFirstFlagged, AreFlaggedFrom}
+use Rattle.implication.specs.Inside.{AreInside, IsBehind, IsReadInside, AreEndsFlagged}
+
+-- only gates behind the ends are flagged, and among them those whose lines are among the first ends
+pub record AreFirstFlagged (c : Circuit) (ends : List LineId) (count : ℕ) (inside : List Bool) : Type 0 where
+  pub one_each : length inside ≡ gate_count c
+  pub sound : (gate : ℕ) → is_inside inside gate ≡ true → IsBehind c ends (gate_line c gate)
+  pub flagged : (gate : ℕ) → gate < gate_count c → Contains (take count ends) (record { 0 = gate_line c gate }) → is_inside inside gate ≡ true
+
+-- as are, from this place of the order on, all gates behind the ends
+pub record AreFlaggedFrom (c : Circuit) (ends : List LineId) (order : List GateId) (place : ℕ) (inside : List Bool) : Type 0 where
+  pub flags : AreEndsFlagged c ends inside
+  pub whole : (k : ℕ) → place ≤ k → k < length order → IsBehind c ends (gate_line c (get_or order k (record { 0 = 0 })).0)
+      → is_inside inside (get_or order k (record { 0 = 0 })).0 ≡ true
 
 -- a line is the end in whose fan-in it is, or a pin reads it whose gate's line is in the fan-in
 pub record IsReadInFanIn (c : Circuit) (end line : ℕ) : Type 0 where

@@ -16,7 +16,7 @@ use Rattle.state_sets.specs.StateAlgebra.{StateAlgebra}
 use Rattle.state_sets.specs.Labellings.{label_at}
 use Rattle.state_sets.specs.Hulls.{condition_at}
 use Rattle.state_sets.specs.Hulls.Narrowing.{at_gate}
-use Rattle.narrowing.specs.Conditions.{Entered as Steps, IsEnteredOn}
+use Rattle.hulls.specs.Conditions.{Entered as Steps, IsEnteredOn}
 use Rattle.undo_trail.specs.Undoing.{undone}
 use Rattle.undo_trail.proofs.Undoing.{length-undone}
 use Rattle.hulls.specs.Awaiting.{is_inside}

@@ -16,7 +16,7 @@ use Rattle.state_sets.specs.Hulls.{Narrowing, HasAt, IsHull, IsEmptied, IsRestAm
 use Rattle.state_laws.specs.Cones.{IsNarrowingIn}
 use Rattle.state_laws.proofs.Cones.{widens_by_steps_in}
 use Rattle.state_laws.proofs.Hulls.{Allows, hull_of_same, emptied_if_wider, widens_by_states}
-use Rattle.narrowing.proofs.Cuts.{has_after_cut, had_before_cut, kept_by_cut}
+use Rattle.hulls.proofs.Cuts.{has_after_cut, had_before_cut, kept_by_cut}
 use Rattle.hulls.specs.Awaiting.{is_inside}
 use Rattle.implication.specs.declared.assumption.Assumption.{Assumption}
 use Rattle.implication.specs.declared.assumption.Assumption.TheVariants.{Entered, Assumed}

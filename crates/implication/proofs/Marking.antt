@@ -1,5 +1,5 @@
 -- A line that is marked is among those reached, and these are no more than the marks.
-use Rattle.std.proofs.Common.{◌≡◌, ◌≢◌, ℕ, zero, suc, ◌+◌, ◌<◌, ◌≤◌, ⊎_elim, Bool, true, false, List, [], ◌∷◌, ◌++◌, length, get_or, replicate, sym, ap, ◌∙◌, subst, arith, set, Some}
+use Rattle.std.proofs.Common.{◌≡◌, ◌≢◌, ℕ, zero, suc, ◌+◌, ◌<◌, ◌≤◌, inl, inr, ⊎_elim, Bool, true, false, List, [], ◌∷◌, ◌++◌, length, get_or, replicate, refl, sym, ap, ◌∙◌, subst, arith, set, Some}
 use Rattle.std.specs.List.{All, Contains, sum_by}
 use Rattle.std.proofs.lemmas.Bool.{cases_eq, false≢true}
 use Rattle.std.proofs.lemmas.List.{length-set, length_push, length-replicate, get_or-set_same, get_or-set_other}
@@ -7,7 +7,7 @@ use Rattle.std.proofs.lemmas.List.Elements.{All-push, All-pop, All-nil, Contains
 use Rattle.std.proofs.lemmas.List.Sums.{sum_by-le, sum_by-set}
 use Rattle.pd_base.specs.declared.ids.LineId.{LineId}
 use Rattle.hulls.specs.Awaiting.{one_if}
-use Rattle.implication.specs.Reached.{AreMarkedLines}
+use Rattle.implication.specs.Reached.{Reached, AreMarkedLines, IsLineAdded}
 
 one_if_le : (b : Bool) → one_if b ≤ 1
 one_if_le true = omega arith
@@ -60,6 +60,19 @@ module _ (marks : List Bool) (lines : List LineId) (room : ℕ) (are : AreMarked
           (All-push (λ (l : LineId). l.0 < length marks) lines line are.in_range within);
       enough = let e = length-set marks line.0 true in let i = are.enough in omega arith;
     }
+
+  -- so is one that is marked: it stands there already
+  pub added_already : (line : LineId) → get_or marks line.0 false ≡ true → (old : Reached)
+      → (let seen : Reached = record { lines = lines; count = length marks } in seen) ≡ old → IsLineAdded line old old
+  added_already line up old is =
+      let P : Reached → Type 0 = λ r. IsLineAdded line r r in subst P is (record { count = refl; lines = inl (refl, are.among line.0 up) })
+
+  pub added_behind : (line : LineId) (old : Reached) → (let seen : Reached = record { lines = lines; count = length marks } in seen) ≡ old
+      → (longer : List LineId) → longer ≡ lines ++ line ∷ []
+      → IsLineAdded line old (record { lines = longer; count = length (set marks line.0 true) })
+  added_behind line old is longer behind =
+      let P : Reached → Type 0 = λ r. IsLineAdded line r (record { lines = longer; count = length (set marks line.0 true) }) in
+      subst P is (record { count = length-set marks line.0 true; lines = inr behind })
 
   -- the last line is taken
   module _ (rest : List LineId) (line : LineId) (last : lines ≡ rest ++ line ∷ []) where

@@ -15,11 +15,11 @@ use Rattle.state_sets.specs.Labellings.{label_at, IsLabelling}
 use Rattle.state_sets.specs.Hulls.{HasNoEmptySet, IsHull, IsEmptied, HasAt}
 use Rattle.state_laws.specs.Cones.{IsNarrowingIn}
 use Rattle.state_laws.proofs.Sets.{none_has, no_state_at}
-use Rattle.narrowing.specs.Conditions.{Entered as Steps}
+use Rattle.hulls.specs.Conditions.{Entered as Steps}
 use Rattle.hulls.specs.Awaiting.{is_inside}
 use Rattle.hulls.specs.Boards.{OnBoard, Follows}
 use Rattle.hulls.specs.Settling.{MaySettle, IsCutTo}
-use Rattle.hulls.proofs.Entering.{awake_entered}
+use Rattle.hulls.proofs.Entered.{awake_entered}
 use Rattle.hulls.proofs.Changing.{cut_shrunk, follows_on}
 use Rattle.hulls.proofs.Narrowed.{awake_on}
 use Rattle.implication.specs.declared.assumption.Assumption.TheVariants.{Assumed}

@@ -10,7 +10,20 @@ use Rattle.netlist.specs.Circuit.{Circuit, source_count, line_count, gate_line}
 use Rattle.netlist.specs.Pins.{IsFanout}
 use Rattle.state_laws.specs.Forward.{AreReached}
 use Rattle.hulls.specs.Awaiting.{is_inside}
-use Rattle.implication.specs.Reached.{Reached, IsLineAdded, AreReadersIn, HasMore, HasPinsReached, IsSpread}
+use Rattle.implication.specs.Reached.{Reached, IsLineAdded, AreReadersIn, HasMore}
+
+-- lines of gates were added, and those of the gates inside that these pins are of are there
+pub record HasPinsReached (c : Circuit) (inside : List Bool) (pins : List PinRef) (old new : Reached) : Type 0 where
+  pub more : HasMore c old new
+  pub each : All (λ pin. is_inside inside pin.gate.0 ≡ true → Contains new.lines (record { 0 = gate_line c pin.gate.0 })) pins
+
+-- the gates inside that read one of the first so many lines have their own among the lines reached
+pub record IsSpread (c : Circuit) (inside : List Bool) (source : ℕ) (seen : ℕ) (reached : Reached) : Type 0 where
+  pub count : reached.count ≡ line_count c
+  pub own : Contains reached.lines (record { 0 = source })
+  pub behind : All (λ line. (line.0 ≡ source) ⊎ (source_count c ≤ line.0)) reached.lines
+  pub few : seen ≤ length reached.lines
+  pub readers : (k : ℕ) → k < seen → AreReadersIn c inside (get_or reached.lines k (record { 0 = 0 })) reached.lines
 
 abbrev nowhere : LineId
 nowhere = record { 0 = 0 }

@@ -1,6 +1,5 @@
 -- The gates behind some ends, told by one flag for each gate, and what stands while they are flagged (this project's own).
-use Rattle.std.specs.Prelude.{◌≡◌, ℕ, ◌<◌, ◌≤◌, ◌↔◌, Bool, true, List, Some, length, take, slice_index_or, Contains}
-use Rattle.pd_base.specs.declared.ids.GateId.{GateId}
+use Rattle.std.specs.Prelude.{◌≡◌, ℕ, ◌<◌, ◌↔◌, Bool, true, List, Some, length, Contains}
 use Rattle.pd_base.specs.declared.ids.LineId.{LineId}
 use Rattle.pd_base.specs.declared.ids.PinRef.{PinRef}
 use Rattle.netlist.specs.Circuit.{Circuit, gate_count, gate_line}
@@ -24,20 +23,8 @@ IsBehind c ends line = (end : LineId) × Contains ends end × IsInFanIn c end.0 
 abbrev pub IsReadInside : List PinRef → List Bool → Type 0
 IsReadInside pins inside = (pin : PinRef) × Contains pins pin × (is_inside inside pin.gate.0 ≡ true)
 
--- only gates behind the ends are flagged, and among them those whose lines are among the first ends
-pub record AreFirstFlagged (c : Circuit) (ends : List LineId) (count : ℕ) (inside : List Bool) : Type 0 where
-  pub one_each : length inside ≡ gate_count c
-  pub sound : (gate : ℕ) → is_inside inside gate ≡ true → IsBehind c ends (gate_line c gate)
-  pub flagged : (gate : ℕ) → gate < gate_count c → Contains (take count ends) (record { 0 = gate_line c gate }) → is_inside inside gate ≡ true
-
 -- only gates behind the ends are flagged, and among them those whose lines are ends
 pub record AreEndsFlagged (c : Circuit) (ends : List LineId) (inside : List Bool) : Type 0 where
   pub one_each : length inside ≡ gate_count c
   pub sound : (gate : ℕ) → is_inside inside gate ≡ true → IsBehind c ends (gate_line c gate)
   pub flagged : (gate : ℕ) → gate < gate_count c → Contains ends (record { 0 = gate_line c gate }) → is_inside inside gate ≡ true
-
--- and from this place of the order on all gates behind the ends
-pub record AreFlaggedFrom (c : Circuit) (ends : List LineId) (order : List GateId) (place : ℕ) (inside : List Bool) : Type 0 where
-  pub flags : AreEndsFlagged c ends inside
-  pub whole : (k : ℕ) → place ≤ k → k < length order → IsBehind c ends (gate_line c (slice_index_or order k (record { 0 = 0 })).0)
-      → is_inside inside (slice_index_or order k (record { 0 = 0 })).0 ≡ true

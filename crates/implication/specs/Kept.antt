@@ -17,7 +17,7 @@ use Rattle.state_sets.specs.StateAlgebra.{StateAlgebra}
 use Rattle.state_sets.specs.Labellings.{label_at}
 use Rattle.state_sets.specs.Hulls.{HasAt, HasNoEmptySet, IsHull, IsEmptied, condition_at}
 use Rattle.state_laws.specs.Cones.{IsClosedBack, IsNarrowingIn}
-use Rattle.narrowing.specs.Conditions.{Entered as EnteredSteps}
+use Rattle.hulls.specs.Conditions.{Entered as EnteredSteps}
 use Rattle.undo_trail.specs.Undoing.{undone}
 use Rattle.hulls.specs.Awaiting.{is_inside}
 use Rattle.hulls.specs.Boards.{OnBoard, IsBoardOf}

@@ -1,8 +1,7 @@
 -- Lines that are reached, each marked (this project's own).
 use Rattle.std.specs.Prelude.{◌≡◌, ℕ, ◌<◌, ◌≤◌, ◌⊎◌, ◌++◌, ◌∷◌, [], Bool, true, false, List, length, sum_by, slice_get, slice_index_or, Some, All, Contains}
 use Rattle.pd_base.specs.declared.ids.LineId.{LineId}
-use Rattle.pd_base.specs.declared.ids.PinRef.{PinRef}
-use Rattle.netlist.specs.Circuit.{Circuit, source_count, gate_count, line_count, gate_line, pins_at}
+use Rattle.netlist.specs.Circuit.{Circuit, source_count, gate_count, gate_line, pins_at}
 use Rattle.hulls.specs.Awaiting.{is_inside, one_if}
 
 -- the lines in the order in which they were reached, and how many lines there are
@@ -33,16 +32,3 @@ pub record HasMore (c : Circuit) (old new : Reached) : Type 0 where
   pub more : List LineId
   pub lines : new.lines ≡ old.lines ++ more
   pub gates : All (λ line. source_count c ≤ line.0) more
-
--- and the lines of the gates inside that these pins are of stand there
-pub record HasPinsReached (c : Circuit) (inside : List Bool) (pins : List PinRef) (old new : Reached) : Type 0 where
-  pub more : HasMore c old new
-  pub each : All (λ pin. is_inside inside pin.gate.0 ≡ true → Contains new.lines (record { 0 = gate_line c pin.gate.0 })) pins
-
--- the gates inside that read one of the first so many lines have their own among the lines reached
-pub record IsSpread (c : Circuit) (inside : List Bool) (source : ℕ) (seen : ℕ) (reached : Reached) : Type 0 where
-  pub count : reached.count ≡ line_count c
-  pub own : Contains reached.lines (record { 0 = source })
-  pub behind : All (λ line. (line.0 ≡ source) ⊎ (source_count c ≤ line.0)) reached.lines
-  pub few : seen ≤ length reached.lines
-  pub readers : (k : ℕ) → k < seen → AreReadersIn c inside (slice_index_or reached.lines k (record { 0 = 0 })) reached.lines

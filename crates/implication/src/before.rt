@@ -2,7 +2,7 @@
 use state_sets::StateSet;
 
 /// What an engine goes back to when it takes back an entry.
-#[derive(Clone, Copy, Debug)]
+#[derive(Clone, Copy)]
 pub(crate) struct Before {
     /// How many changes of labels were noted.
     pub(crate) changes: usize,

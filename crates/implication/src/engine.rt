@@ -16,12 +16,9 @@ ghost use Rattle.implication.specs.Kept.{IsListFrom, IsLeftBefore, AreToldGates}
 
 use crate::before::Before;
 use crate::cones::inside_of;
-use crate::idle::IdleLabels;
-use crate::making::{IdleParts, Lists};
+use crate::making::{BoardParts, Lists};
 use crate::narrowing_on::{leave_step, narrow_on, put_back, take_from};
 use crate::{Assumption, Beginning, Conflict, Origin, Setting};
-use hulls::Board;
-use narrowing::{Conditions, NarrowScratch};
 use netlist::Netlist;
 use pd_base::{LineId, OutOfMemory, PinRef, Rules};
 use state_sets::{Algebra, StateSet};
@@ -33,23 +30,17 @@ use undo_trail::Note;
 ///
 /// Contracts see how it stands: the circuit, the rules, the lines whose fan-in is told, with what the outermost scope began, the list
 /// of assumptions, the conflict that stands, and the count of conflicts.
-#[derive(Debug, Drop)]
+// No Debug: it would print the labels of all lines, and all private types within would need it.
+#[derive(Drop)]
 pub struct Engine<A: Algebra, S: Setting> {
     setting: S,
     // None: all lines are told.
     ends: Option<Vec<LineId>>,
     beginning: Option<Beginning>,
-    assumptions: Vec<Assumption>,
-    // What stood before each assumption.
-    befores: Vec<Before>,
+    lists: Lists,
     conflict: Option<LineId>,
     closings: u64,
-    board: Board<A>,
-    idle: IdleLabels,
-    // What is left of each source.
-    left: Vec<StateSet>,
-    conditions: Conditions,
-    scratch: NarrowScratch,
+    parts: BoardParts<A>,
 }
 
 impl<A: Algebra, S: Setting> Model for Engine<A, S> {
@@ -66,7 +57,7 @@ impl<A: Algebra, S: Setting> Model for Engine<A, S> {
       rules = S.rules e.setting;
       ends = option_map (λ v. v.items) e.ends;
       beginning = e.beginning;
-      assumptions = e.assumptions.items;
+      assumptions = e.lists.assumptions.items;
       conflict = e.conflict;
       closings = e.closings;
     } };
@@ -76,11 +67,16 @@ impl<A: Algebra, S: Setting> Model for Engine<A, S> {
       rules = S.rules e.setting;
       ends = option_map (λ v. v.items) e.ends;
       beginning = e.beginning;
-      assumptions = e.assumptions.items;
+      assumptions = e.lists.assumptions.items;
       conflict = e.conflict;
       closings = e.closings;
-    }) (record { board = e.board; idle = e.idle; befores = e.befores.items; left = e.left.items; steps = e.conditions })
-        (vec_capacity e.assumptions) (vec_capacity e.befores) };
+    }) (record {
+      board = e.parts.board;
+      idle = e.parts.idle;
+      befores = e.lists.befores.items;
+      left = e.lists.left.items;
+      steps = e.parts.conditions;
+    }) (vec_capacity e.lists.assumptions) (vec_capacity e.lists.befores) };
 }
 
 impl<A: Algebra, S: Setting> Engine<A, S> {
@@ -139,32 +135,16 @@ impl<A: Algebra, S: Setting> Engine<A, S> {
           closings = 0;
         }) }
     {
-        let parts = IdleParts::new(alloc, setting.netlist(), setting.rules(), inside)?;
         let lists = Lists::new::<A>(alloc, setting.netlist())?;
-        let IdleParts {
-            board,
-            idle,
-            conditions,
-            scratch,
-        } = parts;
-        let Lists {
-            assumptions,
-            befores,
-            left,
-        } = lists;
+        let parts = BoardParts::new(alloc, setting.netlist(), setting.rules(), inside)?;
         Ok(Engine {
             setting,
             ends,
             beginning: None,
-            assumptions,
-            befores,
+            lists,
             conflict: None,
             closings: 0,
-            board,
-            idle,
-            left,
-            conditions,
-            scratch,
+            parts,
         })
     }
 
@@ -192,15 +172,15 @@ impl<A: Algebra, S: Setting> Engine<A, S> {
         ensures emptied { IfSome self.new.conflict (λ line. IsEmptiedIn A.algebra self.new line.0) }
         ensures four_states { A.algebra ≡ four_states → self.new.conflict ≡ None }
     {
-        self.conditions.set_kind(begun.kind);
+        self.parts.conditions.set_kind(begun.kind);
         self.beginning = Some(begun);
-        self.conflict = self.idle.begin(
+        self.conflict = self.parts.idle.begin(
             self.setting.netlist(),
             self.setting.rules(),
             begun,
-            &mut self.board,
-            &self.conditions,
-            &mut self.scratch,
+            &mut self.parts.board,
+            &self.parts.conditions,
+            &mut self.parts.scratch,
         );
     }
 
@@ -212,14 +192,14 @@ impl<A: Algebra, S: Setting> Engine<A, S> {
             → (labels : List StateSet) × IsLabels A.algebra self.now labels
             × TellsLabels A.algebra.count self.now labels result.now }
     {
-        self.board.labels()
+        self.parts.board.labels()
     }
 
     // The changes of labels since the outermost scope began.
     pub(crate) fn changes(&self) -> &[Note<StateSet>]
         ensures { All (λ note. note.index < line_count self.now.net) result.now }
     {
-        self.board.changes()
+        self.parts.board.changes()
     }
 
     // The line of the conflict that stands, if there is one.
@@ -242,7 +222,7 @@ impl<A: Algebra, S: Setting> Engine<A, S> {
             Some(begun) => line_behind(
                 self.setting.netlist(),
                 begun.source,
-                self.conditions.steps(),
+                self.parts.conditions.steps(),
             ),
         }
     }
@@ -251,7 +231,7 @@ impl<A: Algebra, S: Setting> Engine<A, S> {
     pub(crate) fn mark(&self) -> usize
         ensures { result ≡ length self.now.assumptions }
     {
-        self.assumptions.len()
+        self.lists.assumptions.len()
     }
 
     // How many times an assume or enter came upon a conflict.
@@ -279,7 +259,7 @@ impl<A: Algebra, S: Setting> Engine<A, S> {
         if self.beginning.is_none() {
             return Err(Conflict(source));
         }
-        let left = self.left[source.0 as usize];
+        let left = self.lists.left[source.0 as usize];
         let cut = left.intersect(to);
         if cut == left {
             return Ok(());
@@ -321,16 +301,16 @@ impl<A: Algebra, S: Setting> Engine<A, S> {
         ensures emptied { IfErr result (λ conflict. IsEmptiedIn A.algebra self.new conflict.0.0) }
         ensures later { self.old.closings ≤ self.new.closings }
     {
-        let changes = self.board.mark();
-        self.befores.push_reserved(Before { changes, left });
-        self.assumptions.push_reserved(entry);
-        take_from(&mut self.left, entry);
+        let changes = self.parts.board.mark();
+        self.lists.befores.push_reserved(Before { changes, left });
+        self.lists.assumptions.push_reserved(entry);
+        take_from(&mut self.lists.left, entry);
         let emptied = narrow_on(
             self.setting.netlist(),
             entry,
-            &mut self.board,
-            &mut self.conditions,
-            &mut self.scratch,
+            &mut self.parts.board,
+            &mut self.parts.conditions,
+            &mut self.parts.scratch,
         );
         self.conflict = emptied;
         match emptied {
@@ -355,15 +335,15 @@ impl<A: Algebra, S: Setting> Engine<A, S> {
     fn take_back(&mut self)
         ensures { self.new ≡ back_at self.old (length self.old.assumptions - 1) }
     {
-        let Some(before) = self.befores.pop() else {
+        let Some(before) = self.lists.befores.pop() else {
             return;
         };
-        let Some(entry) = self.assumptions.pop() else {
+        let Some(entry) = self.lists.assumptions.pop() else {
             return;
         };
-        self.board.undo_to(before.changes);
-        put_back(&mut self.left, entry, before.left);
-        leave_step(&mut self.conditions, entry);
+        self.parts.board.undo_to(before.changes);
+        put_back(&mut self.lists.left, entry, before.left);
+        leave_step(&mut self.parts.conditions, entry);
         self.conflict = None;
     }
 
@@ -382,7 +362,7 @@ impl<A: Algebra, S: Setting> Engine<A, S> {
         ensures { self.new ≡ idle_again self.old }
     {
         self.back_to(0);
-        self.idle.end(&mut self.board);
+        self.parts.idle.end(&mut self.parts.board);
         self.beginning = None;
         self.conflict = None;
     }

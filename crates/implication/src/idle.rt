@@ -13,7 +13,7 @@ ghost use Rattle.state_sets.specs.Starts.{MayStart};
 ghost use Rattle.state_sets.specs.Hulls.{IsHull, IsEmptied, HasNoEmptySet};
 ghost use Rattle.state_laws.specs.Cones.{IsClosedBack, IsNarrowingIn};
 ghost use Rattle.state_laws.specs.Forward.{IsForward, AreReached};
-ghost use Rattle.narrowing.specs.Conditions.{IsEnteredOn};
+ghost use Rattle.hulls.specs.Conditions.{IsEnteredOn};
 ghost use Rattle.hulls.specs.Awaiting.{is_inside};
 ghost use Rattle.hulls.specs.Boards.{IsBoardOf};
 ghost use Rattle.implication.specs.Idling.{IsIdleSet, StartsNowhere, StandsBy, IsIdleBoard, IsNewBoard, IsLeftAtRest, IsStartWritten};
@@ -22,8 +22,7 @@ use crate::Beginning;
 use crate::narrowing_on::narrow_on_cut;
 use crate::reached::ReachedLines;
 use crate::reaching::reach;
-use hulls::{Board, launching_states, other_states};
-use narrowing::{Conditions, NarrowScratch};
+use hulls::{Board, Conditions, NarrowScratch, launching_states, other_states};
 use netlist::Netlist;
 use pd_base::{LineId, OutOfMemory, Rules};
 use state_sets::{Algebra, StateSet, every_state};
@@ -31,7 +30,7 @@ use std::alloc::Global;
 use std::marker::Model;
 
 // The idle labels of a board, and the lines reached from the source of the scope that is open.
-#[derive(Debug, Drop)]
+#[derive(Drop)]
 pub(crate) struct IdleLabels {
     labels: Vec<StateSet>,
     reached: ReachedLines,

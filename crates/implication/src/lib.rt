@@ -1,5 +1,5 @@
 //! Scopes: assumptions about a pair of vectors, made one after another and taken back exactly, and what lines may still be in.
-//! Stands on pd_base, netlist, path_laws, undo_trail, state_sets, state_laws, narrowing and hulls.
+//! Stands on pd_base, netlist, path_laws, undo_trail, state_sets, state_laws and hulls.
 //! The layers above use the contracts of `Engine` and `Scope`; specs/Clients.antt and proofs/Restoring.antt are made for them.
 #![tactic(auto)]
 

@@ -1,5 +1,5 @@
-// What an engine is made of before a scope is open on it: the idle board with what narrows it, and the lists of what is assumed, each
-// made by itself, so that few values stand at once where memory may run out.
+// What an engine is made of: a board with what narrows it, idle as it is made, and the lists of what is assumed, each made by itself, so
+// that few values stand at once where memory may run out.
 ghost use Rattle.std.specs.Prelude.{◌≡◌, ◌<◌, ◌≤◌, [], ℕ, length, replicate, vec_capacity, IfOk};
 ghost use Rattle.pd_base.specs.declared.fault.Kind.TheVariants.{Robust};
 ghost use Rattle.netlist.specs.Circuit.{source_count, gate_count, line_count};
@@ -14,30 +14,29 @@ ghost use Rattle.implication.specs.Kept.{most_assumptions};
 use crate::Assumption;
 use crate::before::Before;
 use crate::idle::IdleLabels;
-use hulls::Board;
-use narrowing::{Conditions, NarrowScratch};
+use hulls::{Board, Conditions, NarrowScratch};
 use netlist::Netlist;
 use pd_base::{Kind, OutOfMemory, Rules};
 use state_sets::{Algebra, StateSet, count_states, every_state};
 use std::alloc::Global;
 
-// An idle board, and what narrows it.
+// A board, what it gets back when no scope is open, and what narrows it.
 #[derive(Drop)]
-pub(crate) struct IdleParts<A: Algebra> {
+pub(crate) struct BoardParts<A: Algebra> {
     pub(crate) board: Board<A>,
     pub(crate) idle: IdleLabels,
     pub(crate) conditions: Conditions,
     pub(crate) scratch: NarrowScratch,
 }
 
-impl<A: Algebra> IdleParts<A> {
-    // With these gates inside. It fails only where memory runs out.
+impl<A: Algebra> BoardParts<A> {
+    // An idle board, with these gates inside. It fails only where memory runs out.
     pub(crate) fn new(
         alloc: Global,
         net: &Netlist,
         rules: &Rules,
         inside: Vec<bool>,
-    ) -> Result<IdleParts<A>, OutOfMemory>
+    ) -> Result<BoardParts<A>, OutOfMemory>
         requires gates { length inside.items ≡ gate_count net.now }
         requires closed { IsClosedBack net.now (is_inside inside.items) }
         ensures idle { IfOk result (λ parts. IsIdleBoard A.algebra net.now rules.now parts.idle parts.board) }
@@ -49,7 +48,7 @@ impl<A: Algebra> IdleParts<A> {
         let mut scratch = NarrowScratch::new(alloc, net)?;
         let mut board = Board::within(alloc, net, inside)?;
         let idle = IdleLabels::new(alloc, net, rules, &mut board, &conditions, &mut scratch)?;
-        Ok(IdleParts {
+        Ok(BoardParts {
             board,
             idle,
             conditions,
@@ -62,7 +61,9 @@ impl<A: Algebra> IdleParts<A> {
 #[derive(Drop)]
 pub(crate) struct Lists {
     pub(crate) assumptions: Vec<Assumption>,
+    /// What stood before each assumption.
     pub(crate) befores: Vec<Before>,
+    /// What is left of each source.
     pub(crate) left: Vec<StateSet>,
 }
 

@@ -3,7 +3,7 @@
 ghost use Rattle.std.specs.Prelude.{◌≡◌, ◌<◌, ◌∷◌, ◌++◌, [], length, All};
 ghost use Rattle.netlist.specs.Circuit.{source_count};
 ghost use Rattle.netlist.specs.Pins.{IsPin};
-ghost use Rattle.narrowing.specs.Conditions.{IsEnteredOn};
+ghost use Rattle.hulls.specs.Conditions.{IsEnteredOn};
 ghost use Rattle.hulls.specs.Boards.{Follows};
 ghost use Rattle.hulls.specs.Settling.{MaySettle};
 ghost use Rattle.implication.specs.Assumptions.{entered_pins};
@@ -11,8 +11,7 @@ ghost use Rattle.implication.specs.Kept.{IsNarrowedMore, IsSettledFrom, AreCutBy
 ghost use Rattle.implication.specs.declared.assumption.Assumption.TheVariants.{Assumed};
 
 use crate::Assumption;
-use hulls::Board;
-use narrowing::{Conditions, NarrowScratch};
+use hulls::{Board, Conditions, NarrowScratch};
 use netlist::Netlist;
 use pd_base::{LineId, PinRef};
 use state_sets::{Algebra, StateSet};

@@ -8,7 +8,7 @@ use std::alloc::Global;
 use std::marker::Model;
 
 // Lines out of so many, none of which is added twice. Contracts see the list, and how many lines there are.
-#[derive(Debug, Drop)]
+#[derive(Drop)]
 pub(crate) struct ReachedLines {
     lines: Vec<LineId>,
     marks: Vec<bool>,

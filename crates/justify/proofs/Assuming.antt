@@ -11,7 +11,7 @@ use Rattle.state_sets.specs.declared.state.State.{State}
 use Rattle.state_sets.specs.declared.state.StateSet.{StateSet}
 use Rattle.state_sets.specs.States.{Has, all_states, both_sets}
 use Rattle.state_sets.specs.StateAlgebra.{StateAlgebra}
-use Rattle.narrowing.proofs.Sets.{has_both, both_have, all_have}
+use Rattle.hulls.proofs.Sets.{has_both, both_have, all_have}
 use Rattle.implication.specs.declared.assumption.Beginning.{Beginning}
 use Rattle.implication.specs.declared.assumption.Assumption.{Assumption}
 use Rattle.implication.specs.declared.assumption.Assumption.TheVariants.{Entered, Assumed}

@@ -7,7 +7,7 @@ use Rattle.state_sets.specs.States.{Has, no_states}
 use Rattle.state_sets.specs.FourStates.{four_states, four_state, four_steady, four_last}
 use Rattle.state_sets.specs.Starts.{IsInHalf}
 use Rattle.state_laws.proofs.SourceStates.{state_of_parts}
-use Rattle.narrowing.proofs.Sets.{has_both, both_have, has_some, some_not_none, cut_within, ne_tells, ne_told}
+use Rattle.hulls.proofs.Sets.{has_both, both_have, has_some, some_not_none, cut_within, ne_tells, ne_told}
 use Rattle.tree_laws.specs.Spent.{HasInHalf}
 
 -- a set has some state of a half if what it shares with the half is not empty

@@ -5,7 +5,7 @@ use Rattle.std.proofs.lemmas.Bool.Decides.{eqb_tells}
 use Rattle.state_sets.specs.declared.state.StateSet.{StateSet}
 use Rattle.state_sets.specs.States.{no_states}
 use Rattle.state_sets.specs.Starts.{IsLeast}
-use Rattle.narrowing.proofs.Sets.{has_some}
+use Rattle.hulls.proofs.Sets.{has_some}
 use Rattle.justify.specs.LeastStates.{least_of}
 
 -- where one bit is 1 and another is not, they are two

@@ -1,7 +1,9 @@
 mod Finding
 mod Spreading
 mod Numbers
+mod RankedCones
 mod ConeLists
+mod ConeScans
 mod Joining
 mod ConePass
 mod StepStates
@@ -10,6 +12,7 @@ mod Taking
 mod Behind
 pub mod Cones
 mod LeastState
+mod Assumed
 mod Assuming
 mod Resting
 mod Nodes

@@ -11,7 +11,7 @@ use Rattle.state_sets.specs.declared.state.State.{State}
 use Rattle.state_sets.specs.States.{all_states}
 use Rattle.state_sets.specs.FourStates.{four_states}
 use Rattle.state_laws.specs.Nodes.{IsCut}
-use Rattle.narrowing.proofs.Sets.{all_have}
+use Rattle.hulls.proofs.Sets.{all_have}
 use Rattle.tree_laws.proofs.Growing.{grows_from_root}
 use Rattle.implication.specs.declared.assumption.Beginning.{Beginning}
 use Rattle.implication.specs.declared.assumption.Assumption.{Assumption}

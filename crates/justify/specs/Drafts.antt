@@ -4,7 +4,7 @@ use Rattle.pd_base.specs.declared.ids.GateId.{GateId}
 use Rattle.netlist.specs.Circuit.{Circuit, gate_count, line_count, HasGates, HasLines}
 use Rattle.netlist.specs.Lawful.{IsCircuit}
 use Rattle.netlist.specs.Levels.{greatest_level}
-use Rattle.narrowing.specs.Conditions.{Entered}
+use Rattle.hulls.specs.Conditions.{Entered}
 use Rattle.justify.specs.KeptCones.{KeptCone}
 use Rattle.justify.specs.declared.decisions.Decision.{Decision}
 use Rattle.justify.specs.declared.decisions.Next.{Next}

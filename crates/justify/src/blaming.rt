@@ -14,7 +14,7 @@ use std::alloc::Global;
 use std::marker::Model;
 
 /// Sources that are blamed for a failure, with room for those of any.
-#[derive(Debug, Drop)]
+#[derive(Drop)]
 pub struct Blame {
     found: FoundLines,
     sources: Vec<LineId>,

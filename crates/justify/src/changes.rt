@@ -3,14 +3,14 @@ use pd_base::{GateId, LineId};
 use state_sets::StateSet;
 
 // What cut a line: a decision, by its place among them, or narrowing at a gate.
-#[derive(Clone, Copy, Debug, PartialEq, Eq)]
+#[derive(Clone, Copy, PartialEq, Eq)]
 pub(crate) enum Cause {
     Decision(usize),
     Gate(GateId),
 }
 
 // A cut of a line: what stood there before, and why it was cut.
-#[derive(Clone, Copy, Debug)]
+#[derive(Clone, Copy)]
 pub(crate) struct Change {
     pub(crate) line: LineId,
     pub(crate) old: StateSet,

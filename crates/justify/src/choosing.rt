@@ -16,7 +16,7 @@ use pd_base::LineId;
 use state_sets::FourStates;
 
 // A split of the cases at a source, by steadiness or by the last value.
-#[derive(Clone, Copy, Debug, PartialEq, Eq)]
+#[derive(Clone, Copy)]
 pub(crate) struct Split {
     pub(crate) source: LineId,
     pub(crate) steadiness: bool,

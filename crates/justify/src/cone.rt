@@ -1,19 +1,28 @@
 // The cone of a line: the lines in its transitive fan-in, with the sources and the gates among them in order. One cone is kept at a
-// time, and the next one costs those two and not the circuit.
-ghost use Rattle.std.specs.Prelude.{◌≡◌, ◌≢◌, ◌<◌, ◌≤◌, ◌^◌, ◌↔◌, ℕ, map, length, vec_capacity, All, AllPairs, Some, IfOk, IsTrue, Contains};
-ghost use Rattle.netlist.specs.Circuit.{gate_count, line_count};
+// time, and the next one costs those two and not the circuit, but where it is a good part of that. How they are listed stands in
+// cone_lists.rt.
+ghost use Rattle.std.specs.Prelude.{◌≡◌, ◌<◌, ◌↔◌, ℕ, length, Some, IfOk, IsTrue, Contains};
+ghost use Rattle.netlist.specs.Circuit.{line_count};
+ghost use Rattle.netlist.specs.Pins.{IsInFanIn};
 ghost use Rattle.justify.specs.FoundLines.{HasMark};
-ghost use Rattle.justify.specs.KeptCones.{IsConeFor, IsConeAt, AreRanks, IsRankAmong, ranked_gate};
+ghost use Rattle.justify.specs.KeptCones.{IsConeFor, IsConeAt};
 
 use crate::back_search::find_back;
+use crate::cone_lists::{
+    list_gates, list_sources, number_sources, rank_all, rank_gates, scan_gates, scan_sources,
+};
 use crate::found_lines::FoundLines;
 use netlist::Netlist;
 use pd_base::{GateId, LineId, OutOfMemory};
 use std::alloc::Global;
 use std::marker::Model;
 
+// A cone is large where the circuit has fewer than so many gates for each of its lines: one pass over all gates then costs less than a
+// sort.
+const GATES_PER_LINE: usize = 16;
+
 /// The cone of one line at a time, with room for that of any line of the netlist that it was made for.
-#[derive(Debug, Drop)]
+#[derive(Drop)]
 pub struct Cone {
     end: Option<LineId>,
     found: FoundLines,
@@ -44,10 +53,10 @@ impl Cone {
         let order = Vec::from_slice(alloc, net.order())?;
         let mut ranks = vec![in alloc; 0; net.gates() as usize]?;
         rank_all(order.as_slice(), ranks.as_mut_slice());
-        let found = FoundLines::new(alloc, lines)?;
         let sources = Vec::with_capacity(alloc, lines)?;
         let gates = Vec::with_capacity(alloc, lines)?;
         let numbers = Vec::with_capacity(alloc, lines)?;
+        let found = FoundLines::new(alloc, lines)?;
         Ok(Cone {
             end: None,
             found,
@@ -89,7 +98,45 @@ impl Cone {
         ensures made { IsConeFor net.now self.new }
         ensures cone { IsConeAt net.now end.0 self.new }
     {
+        self.end = None;
         find_back(net, end, &mut self.found);
+        if self.is_large() {
+            self.list_by_marks(net, end);
+        } else {
+            self.list_by_places(net, end);
+        }
+    }
+
+    // Whether so many lines were found that one pass over the circuit costs less than a sort.
+    fn is_large(&self) -> bool {
+        self.found.lines().len() > self.order.len() / GATES_PER_LINE
+    }
+
+    // Lists the sources and the gates of the lines that were found, which are the cone of this end: those that have marks.
+    fn list_by_marks(&mut self, net: &Netlist, end: LineId)
+        requires made { IsConeFor net.now self.old }
+        requires found { (line : ℕ) → Contains self.old.found.lines (record { 0 = line }) ↔ IsInFanIn net.now end.0 line }
+        ensures made { IsConeFor net.now self.new }
+        ensures cone { IsConeAt net.now end.0 self.new }
+    {
+        scan_sources(net.sources(), self.found.marks(), &mut self.sources);
+        scan_gates(
+            net.sources(),
+            self.order.as_slice(),
+            self.found.marks(),
+            &mut self.gates,
+        );
+        self.end = Some(end);
+    }
+
+    // The same by their numbers and by their places in rank order, which are sorted.
+    fn list_by_places(&mut self, net: &Netlist, end: LineId)
+        requires made { IsConeFor net.now self.old }
+        requires end { end.0 < line_count net.now }
+        requires found { (line : ℕ) → Contains self.old.found.lines (record { 0 = line }) ↔ IsInFanIn net.now end.0 line }
+        ensures made { IsConeFor net.now self.new }
+        ensures cone { IsConeAt net.now end.0 self.new }
+    {
         number_sources(net.sources(), self.found.lines(), &mut self.numbers);
         list_sources(self.numbers.as_slice(), &mut self.sources);
         rank_gates(
@@ -133,84 +180,5 @@ impl Cone {
         ensures { result.now ≡ self.now.gates }
     {
         self.gates.as_slice()
-    }
-}
-
-// Gives each gate its place in an order of gates.
-fn rank_all(order: &[GateId], ranks: &mut [usize])
-    requires places { All (λ gate. gate.0 < length ranks.old) order.now }
-    requires once { AllPairs (λ a b. a.0 ≢ b.0) order.now }
-    ensures places { length ranks.new ≡ length ranks.old }
-    ensures ranks { AreRanks order.now ranks.new }
-{
-    for (place, gate) in order.iter().enumerate() {
-        ranks[gate.0 as usize] = place;
-    }
-}
-
-// The numbers of the sources among these lines, in rising order.
-fn number_sources(sources: u32, lines: &[LineId], numbers: &mut Vec<usize>)
-    requires room { length lines.now ≤ vec_capacity numbers.old }
-    ensures capacity { vec_capacity numbers.new ≡ vec_capacity numbers.old }
-    ensures few { length numbers.new.items ≤ length lines.now }
-    ensures rising { AllPairs (λ a b. a < b) numbers.new.items }
-    ensures exactly { (source : ℕ) → Contains numbers.new.items source ↔ ((source < sources) × Contains lines.now (record { 0 = source })) }
-{
-    numbers.clear();
-    for line in lines {
-        if line.0 < sources {
-            numbers.push_reserved(line.0 as usize);
-        }
-    }
-    numbers.sort_unstable();
-    // Each line was found once, so no number goes.
-    numbers.dedup();
-}
-
-// The sources with these numbers.
-fn list_sources(numbers: &[usize], sources: &mut Vec<LineId>)
-    requires numbers { All (λ number. number < 2 ^ 32) numbers.now }
-    requires room { length numbers.now ≤ vec_capacity sources.old }
-    ensures capacity { vec_capacity sources.new ≡ vec_capacity sources.old }
-    ensures sources { sources.new.items ≡ map (λ number. record { 0 = number }) numbers.now }
-{
-    sources.clear();
-    for number in numbers {
-        sources.push_reserved(LineId(*number as u32));
-    }
-}
-
-// The places in rank order of the gates among these lines, in rising order.
-fn rank_gates(net: &Netlist, lines: &[LineId], ranks: &[usize], numbers: &mut Vec<usize>)
-    requires lines { All (λ line. line.0 < line_count net.now) lines.now }
-    requires ranks { length ranks.now ≡ gate_count net.now }
-    requires room { length lines.now ≤ vec_capacity numbers.old }
-    ensures capacity { vec_capacity numbers.new ≡ vec_capacity numbers.old }
-    ensures few { length numbers.new.items ≤ length lines.now }
-    ensures rising { AllPairs (λ a b. a < b) numbers.new.items }
-    ensures exactly { (rank : ℕ) → Contains numbers.new.items rank ↔ IsRankAmong net.now lines.now ranks.now rank }
-{
-    numbers.clear();
-    for line in lines {
-        match net.gate_of(*line) {
-            Some(gate) => numbers.push_reserved(ranks[gate.0 as usize]),
-            None => {}
-        }
-    }
-    numbers.sort_unstable();
-    // Each gate has a place of its own, and its line was found once, so no number goes.
-    numbers.dedup();
-}
-
-// The gates at these places of an order.
-fn list_gates(numbers: &[usize], order: &[GateId], gates: &mut Vec<GateId>)
-    requires places { All (λ number. number < length order.now) numbers.now }
-    requires room { length numbers.now ≤ vec_capacity gates.old }
-    ensures capacity { vec_capacity gates.new ≡ vec_capacity gates.old }
-    ensures gates { gates.new.items ≡ map (ranked_gate order.now) numbers.now }
-{
-    gates.clear();
-    for number in numbers {
-        gates.push_reserved(order[*number]);
     }
 }

@@ -20,7 +20,7 @@ use std::marker::Model;
 const MOST_DECISIONS: u32 = 1_048_576;
 
 // How many of the steps, of the changes and of the lines that were open at the beginning are known to be closed.
-#[derive(Clone, Copy, Debug)]
+#[derive(Clone, Copy)]
 pub(crate) struct Cursor {
     steps: usize,
     changes: usize,
@@ -29,7 +29,7 @@ pub(crate) struct Cursor {
 
 // A decision: what was noted before it, its line, and the second part of the line's states, which is left to be tried. Where that is
 // none, the second part is being tried, and rests on older decisions: those that stand in the list of reasons from this place on.
-#[derive(Clone, Copy, Debug)]
+#[derive(Clone, Copy)]
 pub(crate) struct Decision {
     mark: usize,
     cursor: Cursor,
@@ -39,14 +39,14 @@ pub(crate) struct Decision {
 }
 
 // The order in which lines are justified that were open at the beginning: by level.
-#[derive(Clone, Copy, Debug, PartialEq, Eq)]
+#[derive(Clone, Copy)]
 pub(crate) enum Order {
     LowestFirst,
     HighestFirst,
 }
 
 // How a search ended.
-#[derive(Clone, Copy, Debug, PartialEq, Eq)]
+#[derive(Clone, Copy, PartialEq, Eq)]
 pub(crate) enum Ended {
     // Each line is justified.
     Justified,

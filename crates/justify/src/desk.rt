@@ -34,11 +34,12 @@ impl Desk {
     pub fn new(alloc: Global, net: &Netlist) -> Result<Desk, OutOfMemory>
         ensures { IfOk result (IsDeskFor net.now) }
     {
+        // What has most parts is made last, since each refusal drops what was made before.
         let lines = net.lines() as usize;
-        let cone = Cone::new(alloc, net)?;
         let states = vec![in alloc; State(0); lines]?;
-        let blame = Blame::new(alloc, net)?;
         let liked = vec![in alloc; every_state::<FourStates>(); lines]?;
+        let blame = Blame::new(alloc, net)?;
+        let cone = Cone::new(alloc, net)?;
         let justifier = Justifier::new(alloc, net)?;
         Ok(Desk {
             cone,

@@ -7,8 +7,7 @@ ghost use Rattle.justify.specs.Drafts.{IsSizedFor, HasGate};
 
 use crate::changes::{Cause, Change};
 use crate::region::{Region, condition_of, is_inside};
-use hulls::Waiting;
-use narrowing::{NarrowScratch, kept_at};
+use hulls::{NarrowScratch, Waiting, kept_at};
 use netlist::Netlist;
 use pd_base::{GateId, LineId, OutOfMemory};
 use state_sets::{FourStates, StateSet, every_state};
@@ -19,7 +18,7 @@ use std::marker::Model;
 const MOST_NARROWINGS: u32 = 16_777_216;
 
 // What narrowing makes of the labels.
-#[derive(Clone, Copy, Debug, PartialEq, Eq)]
+#[derive(Clone, Copy, PartialEq, Eq)]
 pub(crate) enum Settled {
     // No gate waits, and each line has some state.
     AtRest,

@@ -8,7 +8,7 @@ use std::alloc::Global;
 use std::marker::Model;
 
 /// Lines of a circuit, each once, in the order of finding.
-#[derive(Debug, Drop)]
+#[derive(Drop)]
 pub struct FoundLines {
     marks: Vec<bool>,
     lines: Vec<LineId>,

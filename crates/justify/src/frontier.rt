@@ -12,14 +12,14 @@ use pd_base::LineId;
 use state_sets::{FourStates, StateSet};
 
 /// How many of the path's steps, and of the changes of labels, are known to leave nothing open, at a node and below it.
-#[derive(Clone, Copy, Debug, PartialEq, Eq)]
+#[derive(Clone, Copy)]
 pub struct Frontier {
     pub(crate) steps: usize,
     pub(crate) changes: usize,
 }
 
 /// A source at which a split may close what is open, and the frontier.
-#[derive(Clone, Copy, Debug)]
+#[derive(Clone, Copy)]
 pub(crate) struct Lead {
     pub(crate) source: Option<LineId>,
     pub(crate) frontier: Frontier,

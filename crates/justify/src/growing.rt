@@ -5,15 +5,15 @@ ghost use Rattle.justify.specs.Growths.{root_place, IsSplitAt, IsHalfPlace};
 
 use crate::choosing::Split;
 use crate::frontier::Frontier;
+use hulls::half_states;
 use implication::ScopeMark;
-use narrowing::half_states;
 use pd_base::{LineId, OutOfMemory};
 use runs::Node;
 use state_sets::{FourStates, StateSet, every_state};
 use std::alloc::Global;
 
 /// A place at which a tree is due: the scope goes back to the mark, and a set is assumed of a source.
-#[derive(Clone, Copy, Debug)]
+#[derive(Clone, Copy)]
 pub(crate) struct Place {
     /// What stood where the node above was split.
     pub mark: ScopeMark,
@@ -26,7 +26,7 @@ pub(crate) struct Place {
 }
 
 /// The tree that a search grows.
-#[derive(Debug, Drop)]
+#[derive(Drop)]
 pub(crate) struct Growth {
     /// The nodes so far, in preorder.
     pub nodes: Vec<Node>,

@@ -4,7 +4,7 @@ ghost use Rattle.state_sets.specs.States.{Has, IsWithin};
 ghost use Rattle.state_sets.specs.declared.state.State.{State};
 ghost use Rattle.tree_laws.specs.Spent.{HasInHalf};
 
-use narrowing::half_states;
+use hulls::half_states;
 use state_sets::{FourStates, StateSet};
 
 // A way to split a set, by steadiness or by the last value, so that each half has some state. There is none where the set has less

@@ -16,7 +16,7 @@ use pd_base::{Direction, GateId, Kind, LineId, Path};
 use state_sets::{State, StateSet};
 
 /// What is found of the pairs that have given states at the sources of a cone.
-#[derive(Clone, Copy, Debug, PartialEq, Eq)]
+#[derive(Clone, Copy)]
 pub enum Judgement {
     /// They are tests.
     IsTest,

@@ -3,7 +3,7 @@
 ghost use Rattle.std.specs.Prelude.{◌≡◌, [], length, IfOk};
 ghost use Rattle.netlist.specs.Circuit.{line_count, HasGates, HasLines};
 ghost use Rattle.netlist.specs.Paths.{IsPrefix, end_of};
-ghost use Rattle.narrowing.specs.Conditions.{IsEnteredOn};
+ghost use Rattle.hulls.specs.Conditions.{IsEnteredOn};
 ghost use Rattle.justify.specs.KeptCones.{IsConeFor, IsConeAt};
 ghost use Rattle.justify.specs.Drafts.{IsJustifierOf, IsSizedFor, IsConeIn};
 
@@ -12,7 +12,7 @@ use crate::decisions::{Decisions, Ended, Order};
 use crate::patience::Patience;
 use crate::picking::Sight;
 use crate::region::Region;
-use narrowing::{Conditions, enter_all};
+use hulls::{Conditions, enter_all};
 use netlist::Netlist;
 use pd_base::{Kind, OutOfMemory, Path};
 use state_sets::StateSet;
@@ -23,7 +23,7 @@ use std::marker::Model;
 const MOST_CONFLICTS: u32 = 300;
 
 // How much is tried: as much as pays before any split, or as much as pays where a budget was spent.
-#[derive(Clone, Copy, Debug, PartialEq, Eq)]
+#[derive(Clone, Copy)]
 pub(crate) enum Effort {
     Little,
     Much,

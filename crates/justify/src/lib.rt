@@ -10,6 +10,7 @@ mod blaming;
 mod changes;
 mod choosing;
 mod cone;
+mod cone_lists;
 mod culprits;
 mod decisions;
 mod desk;

@@ -6,7 +6,7 @@ use pd_base::Kind;
 const MOST: u32 = 20;
 
 /// How many conflicts a proposal may take in one order, for each kind of tests.
-#[derive(Clone, Copy, Debug)]
+#[derive(Clone, Copy)]
 pub(crate) struct Patience {
     robust: u32,
     nonrobust: u32,

@@ -17,7 +17,7 @@ pub(crate) const ENDS_AT_1: StateSet = StateSet(0b1010);
 pub(crate) const STEADY: StateSet = StateSet(0b0011);
 
 // A decision: of a line, the states that are tried first.
-#[derive(Clone, Copy, Debug)]
+#[derive(Clone, Copy)]
 pub(crate) struct Cut {
     pub(crate) line: LineId,
     pub(crate) to: StateSet,

@@ -1,9 +1,9 @@
 // In what a proposal is looked for.
 ghost use Rattle.std.specs.Prelude.{◌≡◌, ◌<◌, length, All, IfSome};
 ghost use Rattle.netlist.specs.Circuit.{gate_count, line_count, pins_at};
-ghost use Rattle.narrowing.specs.Conditions.{IsEnteredOn};
+ghost use Rattle.hulls.specs.Conditions.{IsEnteredOn};
 
-use narrowing::Conditions;
+use hulls::Conditions;
 use netlist::Netlist;
 use pd_base::{GateId, LineId};
 use state_sets::{Condition, StateSet};

@@ -56,11 +56,13 @@ pub fn search<S: Setting>(
     ensures restored { IsRestored (standing scope.old) (standing scope.new) }
 {
     let mut desk = Desk::new(alloc, scope.net())?;
-    search_at(alloc, scope, &mut desk, path, dir, kind, budget)
+    let found = search_at(alloc, scope, &mut desk, path, dir, kind, budget);
+    drop(desk);
+    found
 }
 
-/// The same at a desk that was made for the scope's netlist: but for the vectors of a test it costs nothing that is as great as the
-/// circuit. The desk serves afterwards as before, whatever the answer.
+/// The same at a desk that was made for the scope's netlist: but for the vectors of a test it costs the cone of the path's end, and not
+/// the circuit. The desk serves afterwards as before, whatever the answer.
 pub fn search_at<S: Setting>(
     alloc: Global,
     scope: &mut Scope<FourStates, S>,

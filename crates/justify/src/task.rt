@@ -2,7 +2,7 @@
 use pd_base::{Direction, Kind, Path};
 
 /// A path, a transition at its source and a kind of test, and how many splits of the cases a search for it may make.
-#[derive(Clone, Copy, Debug)]
+#[derive(Clone, Copy)]
 pub(crate) struct Task<'p> {
     pub(crate) path: &'p Path,
     pub(crate) dir: Direction,

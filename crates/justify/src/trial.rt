@@ -16,7 +16,7 @@ use pd_base::LineId;
 use state_sets::{FourStates, State, StateSet};
 
 /// A source of a path's support, and the state in which it is tried.
-#[derive(Clone, Copy, Debug)]
+#[derive(Clone, Copy)]
 pub(crate) struct Tried {
     pub(crate) source: LineId,
     pub(crate) state: State,

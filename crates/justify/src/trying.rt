@@ -75,15 +75,53 @@ fn try_least<S: Setting>(
     ensures restored { IsRestored (standing scope.old) (standing scope.new) }
     ensures answer { IfOk result (IsTrialOf (task_target task.now) (standing scope.old) (standing scope.new)) }
 {
+    match judge_least(alloc, scope, task, desk)? {
+        Some(pair) => Ok(Some(pair)),
+        None => try_blamed(alloc, scope, task, desk),
+    }
+}
+
+// Judges the pair that has the least states of the labels at the sources of the cone, and leaves these states at the desk.
+fn judge_least<S: Setting>(
+    alloc: Global,
+    scope: &Scope<FourStates, S>,
+    task: &Task,
+    desk: &mut Desk,
+) -> Result<Option<Pair>, OutOfMemory>
+    requires prefix { IsPrefix (standing scope.now).net task.now.path.now }
+    requires node { StandsAtNode (task_target task.now) (standing scope.now) }
+    requires desk { IsDesk (standing scope.now).net task.now.path.now desk.old }
+    ensures desk { IsDesk (standing scope.now).net task.now.path.now desk.new }
+    ensures least { HasLeast (task_target task.now) (standing scope.now) desk.new.states.items }
+    ensures test { IfOk result (λ found. IfSome found (IsFitTest (standing scope.now).net (task_target task.now))) }
+    ensures blamed { IfOk result (λ found. IfNone found
+        (AreInSupport (standing scope.now).net task.now.path.now desk.new.blame.sources)) }
+{
     take_least(
         desk.cone.sources(),
         scope.labels(),
         desk.states.as_mut_slice(),
     );
-    let test = judge_states(alloc, scope, task, desk)?;
-    if test.is_some() {
-        return Ok(test);
-    }
+    judge_states(alloc, scope, task, desk)
+}
+
+// Tries the sources to blame for the failure of that pair, and then all.
+fn try_blamed<S: Setting>(
+    alloc: Global,
+    scope: &mut Scope<FourStates, S>,
+    task: &Task,
+    desk: &mut Desk,
+) -> Result<Option<Pair>, OutOfMemory>
+    requires prefix { IsPrefix (standing scope.old).net task.now.path.now }
+    requires node { StandsAtNode (task_target task.now) (standing scope.old) }
+    requires desk { IsDesk (standing scope.old).net task.now.path.now desk.old }
+    requires least { HasLeast (task_target task.now) (standing scope.old) desk.old.states.items }
+    requires blamed { AreInSupport (standing scope.old).net task.now.path.now desk.old.blame.sources }
+    ensures desk { IsDesk (standing scope.old).net task.now.path.now desk.new }
+    ensures scope { IsSameScope scope.old scope.new }
+    ensures restored { IsRestored (standing scope.old) (standing scope.new) }
+    ensures answer { IfOk result (IsTrialOf (task_target task.now) (standing scope.old) (standing scope.new)) }
+{
     collect(
         desk.blame.sources(),
         desk.states.as_slice(),

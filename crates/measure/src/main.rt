@@ -1,6 +1,6 @@
 //! The program `measure`, which the scripts of bench/ run: calls of the product's libraries, each in a process of its own. It
 //! reads a netlist and delays as the product does, and what refuses them is told by the product's line on err. Stands on
-//! commands, path_lister, delay_replay and system_files, and is no part of the product.
+//! commands, path_lister, delay_replay, the readers of a run's files and system_files, and is no part of the product.
 #![tactic(auto)]
 
 mod inputs;
@@ -8,6 +8,7 @@ mod listing;
 mod output;
 mod question;
 mod replaying;
+mod run_files;
 mod sorting;
 mod stop;
 mod vectors;
@@ -15,6 +16,7 @@ mod wave_lines;
 
 use listing::list;
 use replaying::replay;
+use run_files::{RunFile, read_run_file};
 use sorting::sort;
 use std::process::ExitCode;
 use std::{env, io};
@@ -26,6 +28,9 @@ use wave_lines::waves;
 const USAGE: &str = "measure: list NET DELAYS PATHS
          waves NET DELAYS V1 V2
          replay NET DELAYS V1 V2 TIMES
+         tests NET TESTS TIMES
+         report NET REPORT TIMES
+         proofs NET PROOFS TIMES
          sort COUNT TIMES";
 
 fn main(rt: HostRuntime) -> ExitCode {
@@ -67,6 +72,9 @@ fn call(rt: HostRuntime, name: &str, words: &[String]) -> Result<(), Stop> {
         "list" => list(alloc, files, out, words),
         "waves" => waves(alloc, files, out, words),
         "replay" => replay(alloc, files, out, words),
+        "tests" => read_run_file(alloc, files, out, RunFile::Tests, words),
+        "report" => read_run_file(alloc, files, out, RunFile::Report, words),
+        "proofs" => read_run_file(alloc, files, out, RunFile::Proofs, words),
         "sort" => sort(alloc, out, words),
         _ => Err(Stop::Words),
     }

@@ -1,5 +1,5 @@
 // The names that are defined: the first that is defined twice, and the first that is used with no definition.
-ghost use Rattle.std.specs.Prelude.{◌≡◌, ◌≢◌, ◌+◌, ◌<◌, length, map, take, All, AllPairs, Contains, IfOk, IfErr, OnOk};
+ghost use Rattle.std.specs.Prelude.{◌≡◌, ◌≢◌, ◌+◌, ◌<◌, [], length, map, take, All, AllPairs, Contains, IfOk, IfErr, OnOk};
 ghost use Rattle.netlist.specs.Description.{AreDefined, AreDistinct, IsWithinLimits, defined_names, gates, line_named, names_by_line, used_names};
 ghost use Rattle.netlist.specs.Statements.{used_by};
 ghost use Rattle.net_builder.specs.Reading.{statement_at};
@@ -27,24 +27,38 @@ pub(crate) fn distinct_names(alloc: Global, raw: &RawNet) -> Result<IndexSet<Vec
         Err(NameFault::NoMemory) => Err(BuildFault::NoMemory),
         Err(NameFault::Repeated) => {
             // The first in the order of the statements; it is found, since there is one.
-            all_defined(alloc, raw)?;
+            check_distinct(alloc, raw)?;
             Err(BuildFault::NoMemory)
         }
     }
 }
 
-// The names that are defined, in order, each once.
-fn all_defined(alloc: Global, raw: &RawNet) -> Result<IndexSet<Vec<u8>>, BuildFault>
+// Looks for the first name that is defined twice.
+fn check_distinct(alloc: Global, raw: &RawNet) -> Result<(), BuildFault>
     requires { IsWithinLimits raw.now }
-    ensures names { IfOk result (λ names. key_names names.keys ≡ defined_names raw.now) }
     ensures distinct { IfOk result (λ _. AreDistinct raw.now) }
     ensures refused { IfErr result (MayRefuse raw.now) }
 {
     let mut names = IndexSet::new(alloc);
+    add_all_defined(alloc, raw, &mut names)
+}
+
+// Puts the names that are defined, in order, into a set without names, each once.
+fn add_all_defined(
+    alloc: Global,
+    raw: &RawNet,
+    names: &mut IndexSet<Vec<u8>>,
+) -> Result<(), BuildFault>
+    requires limits { IsWithinLimits raw.now }
+    requires none { names.old.keys ≡ [] }
+    ensures names { OnOk result (key_names names.new.keys ≡ defined_names raw.now) }
+    ensures distinct { IfOk result (λ _. AreDistinct raw.now) }
+    ensures refused { IfErr result (MayRefuse raw.now) }
+{
     for place in 0..raw.len() {
-        add_defined(alloc, raw, place, &mut names)?;
+        add_defined(alloc, raw, place, names)?;
     }
-    Ok(names)
+    Ok(())
 }
 
 // Adds the name that a statement defines to those that the statements before it define.

@@ -14,7 +14,7 @@ use pd_base::{FlatLists, GateId, LineId, OutOfMemory, PinRef};
 use std::alloc::Global;
 
 /// Why a circuit has no levels.
-#[derive(Clone, Copy, Debug, PartialEq, Eq)]
+#[derive(Clone, Copy)]
 pub(crate) enum LevelFault {
     /// The gate of the least number that lies on a loop or is fed by one.
     Loop(GateId),

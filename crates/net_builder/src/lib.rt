@@ -16,6 +16,7 @@ mod measures;
 mod name_list;
 mod name_set;
 mod named_lines;
+mod named_parts;
 mod names;
 mod once;
 mod order;

@@ -31,37 +31,85 @@ pub(crate) struct NamedLines {
     pub(crate) flops: Vec<(LineId, LineId)>,
 }
 
-/// What the names of the lines, by line, tell of them. The set ends before lines are sorted, so that not all is kept at once.
+/// What is known of the lines before they are sorted by name: all for which the set of names is needed.
+#[derive(Drop)]
+pub(crate) struct UnsortedLines {
+    /// The names of the lines, by line number.
+    pub(crate) names: FlatLists<u8>,
+    /// The output lines, each once.
+    pub(crate) outputs: Vec<LineId>,
+    /// The flip-flops, each as its own line and its data line.
+    pub(crate) flops: Vec<(LineId, LineId)>,
+}
+
+/// The lines, sorted by name.
 pub(crate) fn named_lines(
     alloc: Global,
     raw: &RawNet,
-    names: IndexSet<Vec<u8>>,
+    lines: UnsortedLines,
 ) -> Result<NamedLines, OutOfMemory>
     requires named { AreNamed raw.now }
     requires lawful { All (λ s. IsStatement s.statement) raw.now }
-    requires names { key_names names.keys ≡ names_by_line raw.now }
+    requires names { lines.names ≡ names_by_line raw.now }
+    requires outputs { lines.outputs.items ≡ (described raw.now).outputs }
+    requires flops { lines.flops.items ≡ (described raw.now).flops }
     ensures { IfOk result (AreNamedLines (described raw.now)) }
 {
-    let listed = named_outputs(alloc, raw, &names)?;
-    let outputs = once(alloc, listed.as_slice(), names.len() as u32)?;
-    let flops = flops_of(alloc, raw, &names)?;
-    let names = flat_names(alloc, names)?;
+    let by_name = lines_by_name(alloc, &lines.names)?;
+    let longest_name = longest_of(&lines.names);
     Ok(NamedLines {
-        by_name: lines_by_name(alloc, &names)?,
-        longest_name: longest_of(&names),
+        names: lines.names,
+        by_name,
+        longest_name,
+        outputs: lines.outputs,
+        flops: lines.flops,
+    })
+}
+
+/// What the names of the lines, by line, tell of them.
+pub(crate) fn unsorted_lines(
+    alloc: Global,
+    raw: &RawNet,
+    names: &IndexSet<Vec<u8>>,
+) -> Result<UnsortedLines, OutOfMemory>
+    requires named { AreNamed raw.now }
+    requires lawful { All (λ s. IsStatement s.statement) raw.now }
+    requires names { key_names names.now.keys ≡ names_by_line raw.now }
+    ensures names { IfOk result (λ lines. lines.names ≡ names_by_line raw.now) }
+    ensures outputs { IfOk result (λ lines. lines.outputs.items ≡ (described raw.now).outputs) }
+    ensures flops { IfOk result (λ lines. lines.flops.items ≡ (described raw.now).flops) }
+{
+    let outputs = outputs_of(alloc, raw, names)?;
+    let flops = flops_of(alloc, raw, names)?;
+    let names = flat_names(alloc, names)?;
+    Ok(UnsortedLines {
         names,
         outputs,
         flops,
     })
 }
 
-// The names of a set, one after another.
-fn flat_names(alloc: Global, names: IndexSet<Vec<u8>>) -> Result<FlatLists<u8>, OutOfMemory>
-    requires few { length names.keys ≤ MOST_LINES }
-    requires names { All IsName (key_names names.keys) }
-    ensures { IfOk result (λ flat. flat ≡ key_names names.keys) }
+// The output lines, each once.
+fn outputs_of(
+    alloc: Global,
+    raw: &RawNet,
+    names: &IndexSet<Vec<u8>>,
+) -> Result<Vec<LineId>, OutOfMemory>
+    requires named { AreNamed raw.now }
+    requires names { key_names names.now.keys ≡ names_by_line raw.now }
+    ensures { IfOk result (λ lines. lines.items ≡ (described raw.now).outputs) }
 {
-    let mut flat = FlatLists::with_capacity(alloc, names.len(), byte_count(&names))?;
+    let listed = named_outputs(alloc, raw, names)?;
+    once(alloc, listed.as_slice(), names.len() as u32)
+}
+
+// The names of a set, one after another.
+fn flat_names(alloc: Global, names: &IndexSet<Vec<u8>>) -> Result<FlatLists<u8>, OutOfMemory>
+    requires few { length names.now.keys ≤ MOST_LINES }
+    requires names { All IsName (key_names names.now.keys) }
+    ensures { IfOk result (λ flat. flat ≡ key_names names.now.keys) }
+{
+    let mut flat = FlatLists::with_capacity(alloc, names.len(), byte_count(names))?;
     for name in names.as_slice() {
         flat.push(name.as_slice())?;
     }

@@ -25,10 +25,20 @@ pub(crate) fn names_of_lines(alloc: Global, raw: &RawNet) -> Result<IndexSet<Vec
     ensures distinct { IfOk result (λ _. AreDistinct raw.now) }
 {
     let mut names = IndexSet::with_capacity(alloc, raw.len())?;
-    add_group(alloc, raw, Group::Inputs, &mut names)?;
-    add_group(alloc, raw, Group::Flops, &mut names)?;
-    add_group(alloc, raw, Group::Gates, &mut names)?;
+    add_lines(alloc, raw, &mut names)?;
     Ok(names)
+}
+
+// Puts the names of all lines into a set without names.
+fn add_lines(alloc: Global, raw: &RawNet, names: &mut IndexSet<Vec<u8>>) -> Result<(), NameFault>
+    requires { names.old.keys ≡ [] }
+    ensures names { OnOk result (key_names names.new.keys ≡ names_by_line raw.now) }
+    ensures distinct { OnOk result (AreDistinct raw.now) }
+{
+    add_group(alloc, raw, Group::Inputs, names)?;
+    add_group(alloc, raw, Group::Flops, names)?;
+    add_group(alloc, raw, Group::Gates, names)?;
+    Ok(())
 }
 
 // Puts the names of a group last.

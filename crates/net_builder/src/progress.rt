@@ -10,7 +10,7 @@ use pd_base::{FlatLists, GateId, LineId, OutOfMemory, PinRef};
 use std::alloc::Global;
 
 // The levels of lines so far, 0 for a gate that has none; how many pins of each gate wait; and gates that do not.
-#[derive(Debug, Drop)]
+#[derive(Drop)]
 pub(crate) struct Progress {
     pub(crate) levels: Vec<u32>,
     pub(crate) waits: Vec<u32>,

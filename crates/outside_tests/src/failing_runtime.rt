@@ -3,12 +3,11 @@ use pd_io::{ReadFault, WriteFault, read_whole, write_whole};
 use std::alloc::{Allocator, Global};
 use std::fs::{Metadata, OpenFile, OpenOptions};
 use std::io::{Error, ErrorKind, Read, Seek, SeekFrom, Write};
-use std::test::Fail;
 use std::{io, rt};
 use system_files::StdFiles;
 
 /// Which call fails.
-#[derive(Clone, Copy, Debug)]
+#[derive(Clone, Copy)]
 enum Failing {
     /// None does.
     Nothing,
@@ -155,7 +154,7 @@ fn unsupported() -> Error {
 }
 
 #[test]
-fn a_failing_call_of_std_is_no_success(rt: HostRuntime) -> Result<(), Fail> {
+fn a_failing_call_of_std_is_no_success(rt: HostRuntime) {
     let rows = [
         (Failing::Nothing, true, true),
         (Failing::SecondRead, false, true),
@@ -167,15 +166,15 @@ fn a_failing_call_of_std_is_no_success(rt: HostRuntime) -> Result<(), Fail> {
         (Failing::Sync(ErrorKind::InvalidInput), true, true),
         (Failing::Sync(ErrorKind::Unsupported), true, true),
     ];
-    for (failing, reads, writes) in rows {
-        let mut files = StdFiles::new(rt.alloc(), FailingRuntime { failing });
-        assert!(rt;
-            is_read_or_fails(rt.alloc(), &mut files, reads),
-            "{failing:?}"
-        );
-        assert!(rt; is_written_or_fails(&mut files, writes), "{failing:?}");
+    for (row, (failing, reads, writes)) in rows.iter().enumerate() {
+        assert!(rt; ends_so(rt.alloc(), *failing, *reads, *writes), "row {row}");
     }
-    Ok(())
+}
+
+// Whether a file is read, or else reading has failed; and the same of writing.
+fn ends_so(alloc: Global, failing: Failing, reads: bool, writes: bool) -> bool {
+    let mut files = StdFiles::new(alloc, FailingRuntime { failing });
+    is_read_or_fails(alloc, &mut files, reads) && is_written_or_fails(&mut files, writes)
 }
 
 // Whether a file is read, or else reading has failed.

@@ -12,8 +12,39 @@ use netlist::Netlist;
 use pd_base::{OutOfMemory, PinRef};
 use std::alloc::Global;
 
+// What is known of each arc, and of each node as the end of a walk.
+#[derive(Drop)]
+pub(crate) struct Arcs {
+    pub(crate) ends: Vec<u32>,
+    pub(crate) times: Vec<u32>,
+    pub(crate) stops: Vec<bool>,
+}
+
+// The ends of the arcs, their delays, and the nodes at which a walk may stop.
+pub(crate) fn arcs_of(
+    alloc: Global,
+    net: &Netlist,
+    delays: &Delays,
+    nodes: &[u32],
+    pins: &[PinRef],
+) -> Result<Arcs, OutOfMemory>
+    requires fits { Fits net.now delays.now }
+    requires nodes { AreNodesWithin net.now nodes.now }
+    requires pins { All (IsPin net.now) pins.now }
+    ensures ends { IfOk result (λ arcs. arcs.ends.items
+        ≡ take (source_count net.now) nodes.now ++ map (λ pin. node_of nodes.now (gate_line net.now pin.gate.0)) pins.now) }
+    ensures times { IfOk result (λ arcs. arcs.times.items
+        ≡ replicate (source_count net.now) 0 ++ map (delays_of net.now delays.now) pins.now) }
+    ensures stops { IfOk result (λ arcs. AreStops net.now nodes.now arcs.stops.items) }
+{
+    let ends = arc_ends(alloc, net, nodes, pins)?;
+    let times = arc_delays(alloc, net, delays, pins)?;
+    let stops = stops_of(alloc, net, nodes)?;
+    Ok(Arcs { ends, times, stops })
+}
+
 // The node to which each arc leads: those of the sources, and then those of the lines of the pins' gates.
-pub(crate) fn arc_ends(
+fn arc_ends(
     alloc: Global,
     net: &Netlist,
     nodes: &[u32],
@@ -34,7 +65,7 @@ pub(crate) fn arc_ends(
 }
 
 // The delay of each arc: none on the way to a source, and else that of the arc's pin.
-pub(crate) fn arc_delays(
+fn arc_delays(
     alloc: Global,
     net: &Netlist,
     delays: &Delays,
@@ -54,11 +85,7 @@ pub(crate) fn arc_delays(
 }
 
 // Whether a walk may stop, by node: at those of the observed lines.
-pub(crate) fn stops_of(
-    alloc: Global,
-    net: &Netlist,
-    nodes: &[u32],
-) -> Result<Vec<bool>, OutOfMemory>
+fn stops_of(alloc: Global, net: &Netlist, nodes: &[u32]) -> Result<Vec<bool>, OutOfMemory>
     requires { AreNodesWithin net.now nodes.now }
     ensures { IfOk result (λ stops. AreStops net.now nodes.now stops.items) }
 {

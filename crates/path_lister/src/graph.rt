@@ -4,18 +4,19 @@ ghost use Rattle.std.specs.Prelude.{IfOk};
 ghost use Rattle.netlist.specs.Lawful.{IsCircuit};
 ghost use Rattle.delay_annotation.specs.Annotation.{delays_of, Fits};
 ghost use Rattle.path_lister.specs.Graphs.{IsGraphUnder};
+ghost use Rattle.path_lister.specs.Ranking.{IsRanking};
 
-use crate::arcs::{arc_delays, arc_ends, stops_of};
+use crate::arcs::arcs_of;
 use crate::ranking::{nodes_of, ranked_lines};
 use crate::rows::rows_of;
 use crate::timing_graph::TimingGraph;
 use delay_annotation::Delays;
 use netlist::Netlist;
-use pd_base::{OutOfMemory, PinRef};
+use pd_base::{LineId, OutOfMemory, PinRef};
 use std::alloc::Global;
 
 // The graph, and for each arc behind those of the sources its pin.
-#[derive(Debug, Drop)]
+#[derive(Drop)]
 pub(crate) struct CircuitGraph {
     pub(crate) graph: TimingGraph,
     pub(crate) pins: Vec<PinRef>,
@@ -32,13 +33,26 @@ pub(crate) fn graph_of(
     ensures circuit { IsCircuit net.now }
 {
     let lines = ranked_lines(alloc, net)?;
-    let nodes = nodes_of(alloc, net, lines.as_slice())?;
-    let rows = rows_of(alloc, net, lines.as_slice())?;
-    let ends = arc_ends(alloc, net, nodes.as_slice(), rows.pins.as_slice())?;
-    let times = arc_delays(alloc, net, delays, rows.pins.as_slice())?;
-    let stops = stops_of(alloc, net, nodes.as_slice())?;
+    graph_on(alloc, net, delays, lines.as_slice())
+}
+
+// Builds the graph on the nodes of the lines by level.
+fn graph_on(
+    alloc: Global,
+    net: &Netlist,
+    delays: &Delays,
+    lines: &[LineId],
+) -> Result<CircuitGraph, OutOfMemory>
+    requires circuit { IsCircuit net.now }
+    requires fits { Fits net.now delays.now }
+    requires lines { IsRanking net.now lines.now }
+    ensures { IfOk result (λ own. IsGraphUnder net.now (delays_of net.now delays.now) own.pins.items own.graph) }
+{
+    let nodes = nodes_of(alloc, net, lines)?;
+    let rows = rows_of(alloc, net, lines)?;
+    let arcs = arcs_of(alloc, net, delays, nodes.as_slice(), rows.pins.as_slice())?;
     Ok(CircuitGraph {
-        graph: TimingGraph::new(rows.firsts, ends, times, stops),
+        graph: TimingGraph::new(rows.firsts, arcs.ends, arcs.times, arcs.stops),
         pins: rows.pins,
     })
 }

@@ -15,7 +15,7 @@ use std::alloc::{AllocError, Global};
 use std::marker::Model;
 
 /// Walks in their order, the first at place 0. A walk is the list of its arcs.
-#[derive(Debug, Drop)]
+#[derive(Drop)]
 pub(crate) struct Listing {
     entries: Vec<WalkEntry>,
     places: Vec<u32>,

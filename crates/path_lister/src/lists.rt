@@ -11,7 +11,7 @@ use std::marker::Model;
 
 // The entries of all nodes, and what the next walk of a node is chosen by. The keys of a node's arcs stand side by side, since
 // to go over them is most of the work.
-#[derive(Debug, Drop)]
+#[derive(Drop)]
 pub(crate) struct NodeLists {
     entries: Vec<WalkEntry>,
     nexts: Vec<u32>,

@@ -6,7 +6,7 @@ use std::marker::Model;
 
 /// Nodes and arcs, both numbered from 0. The arcs of node v are those from `firsts[v]` up to, not including, `firsts[v + 1]`;
 /// each leads to a node of a greater number, and has a delay. A walk may stop where `stops` is true.
-#[derive(Debug, Drop)]
+#[derive(Drop)]
 pub(crate) struct TimingGraph {
     firsts: Vec<u32>,
     ends: Vec<u32>,

@@ -1,48 +1,56 @@
-// The tests file, written. It is read in tests_reading.rt.
-ghost use Rattle.std.specs.Prelude.{◌≡◌, ◌++◌, IfOk, OnOk, codes};
+// The tests file, written piece by piece. It is read in tests_reading.rt.
+ghost use Rattle.std.specs.Prelude.{◌≡◌, ◌+◌, ◌++◌, IfOk, OnOk, codes, drop, length};
 ghost use Rattle.runs.specs.Lawful.{AreLawfulTests};
-ghost use Rattle.pattern_writer.specs.TestsText.{names_text, observed_names, test_text, tests_text};
+ghost use Rattle.pattern_writer.specs.TestsText.{names_text, observed_names, test_text, tests_form, tests_text};
+ghost use Rattle.text_pieces.specs.LineFiles.{lines_text};
 ghost use Rattle.text_pieces.specs.Tokens.{digits, after_space, line};
 
 use netlist::Netlist;
 use pd_base::{LineId, OutOfMemory, Test, push_decimal};
+use pd_io::{Pieces, whole_text};
 use std::alloc::Global;
 use text_pieces::{direction_word, kind_word, push_spaced, push_spaced_digits, push_spaced_number};
 
-// The most bytes of a test's line beside its bits, and no fewer than those of the headings beside names: a number of 20 digits, a path's
-// number, two words, spaces and LF.
-const MOST_HEAD_BYTES: usize = 64;
+/// The tests file, piece by piece: its heading, the names of the sources and of the observed lines, and then a line for each
+/// test, numbered from 1.
+#[derive(Clone, Copy)]
+pub struct TestsPieces<'a> {
+    /// The netlist that the tests are for.
+    pub net: &'a Netlist,
+    /// The tests.
+    pub tests: &'a [Test],
+}
 
-/// The text of the tests file: its heading, the names of the sources and of the observed lines, and a line for each
-/// test, numbered from 1. It fails only where memory runs out.
+impl Pieces for TestsPieces<'_> {
+    ghost can_spell = { λ pieces. AreLawfulTests pieces.net.now pieces.tests.now };
+
+    ghost text = { λ pieces. tests_text pieces.net.now pieces.tests.now };
+
+    ghost total = { λ pieces. length pieces.tests.now };
+
+    ghost left = { λ pieces index. lines_text (tests_form pieces.net.now) (index + 1) (drop index pieces.tests.now) };
+
+    fn count(&self) -> usize {
+        self.tests.len()
+    }
+
+    fn push_head(&self, out: &mut Vec<u8>) -> Result<(), OutOfMemory> {
+        out.extend_from_slice(b"pdfgen tests 1\n")?;
+        push_sources(out, self.net)?;
+        push_observed(out, self.net)
+    }
+
+    fn push_item(&self, index: usize, out: &mut Vec<u8>) -> Result<(), OutOfMemory> {
+        push_test_line(out, index as u64 + 1, &self.tests[index])
+    }
+}
+
+/// The text of the tests file, whole. It fails only where memory runs out.
 pub fn tests_text(alloc: Global, net: &Netlist, tests: &[Test]) -> Result<Vec<u8>, OutOfMemory>
     requires { AreLawfulTests net.now tests.now }
     ensures { IfOk result (λ text. text.items ≡ tests_text net.now tests.now) }
 {
-    let mut text = Vec::with_capacity(alloc, room_for(net, tests))?;
-    text.extend_from_slice(b"pdfgen tests 1\n")?;
-    push_sources(&mut text, net)?;
-    push_observed(&mut text, net)?;
-    for (index, test) in tests.iter().enumerate() {
-        push_test_line(&mut text, index as u64 + 1, test)?;
-    }
-    Ok(text)
-}
-
-// No fewer bytes than the tests file has. So its text is made in one place, whose end is never touched where it stays empty.
-fn room_for(net: &Netlist, tests: &[Test]) -> usize {
-    let sources = net.sources() as usize;
-    let observed = net.observed().len();
-    let names = sources.saturating_add(observed);
-    let name_bytes = (net.longest_name() as usize).saturating_add(1);
-    let test_bytes = sources
-        .saturating_mul(2)
-        .saturating_add(observed)
-        .saturating_add(MOST_HEAD_BYTES);
-    names
-        .saturating_mul(name_bytes)
-        .saturating_add(tests.len().saturating_mul(test_bytes))
-        .saturating_add(MOST_HEAD_BYTES)
+    whole_text(alloc, &TestsPieces { net, tests })
 }
 
 /// Appends the line that names the sources. If memory runs out, a part of it may have been written; so too below.

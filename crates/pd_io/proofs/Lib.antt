@@ -1,5 +1,5 @@
 pub mod Handing
 pub mod Reading
 pub mod Tellings
-pub mod Writing
+pub mod OpenFile
 mod NamedFiles

@@ -1,3 +1,4 @@
+pub mod OpenFile
 pub mod Counts
 pub mod Fault
 pub mod Folder

@@ -4,6 +4,7 @@ ghost use Rattle.pd_io.specs.Fault.{read_fault_of, write_fault_of};
 ghost use Rattle.pd_io.specs.declared.fault.FileFault.TheVariants as call;
 ghost use Rattle.pd_io.specs.declared.fault.ReadFault.TheVariants as reading;
 
+use pd_base::OutOfMemory;
 use std::alloc::AllocError;
 use thiserror::Error;
 
@@ -68,6 +69,14 @@ impl From<FileFault> for WriteFault {
             FileFault::Failed => WriteFault::Failed,
             FileFault::NoMemory => WriteFault::NoMemory,
         }
+    }
+}
+
+impl From<OutOfMemory> for FileFault {
+    ghost from_gives = { λ _ error. error ≡ call.NoMemory };
+
+    fn from(_: OutOfMemory) -> FileFault {
+        FileFault::NoMemory
     }
 }
 

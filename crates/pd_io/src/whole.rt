@@ -5,7 +5,8 @@ ghost use Rattle.pd_io.specs.Telling.{Tells};
 ghost use Rattle.pd_io.specs.Folder.{bytes_at};
 ghost use Rattle.pd_io.specs.Whole.{AsksFor, folder_with, HoldsPart};
 
-use crate::{Files, ReadFault, WriteFault};
+use crate::appending::{append_all, append_text};
+use crate::{Files, Pieces, ReadFault, WriteFault};
 use std::alloc::Global;
 
 /// How many bytes are read at once.
@@ -75,13 +76,32 @@ pub fn write_whole<F: Files>(files: &mut F, name: &str, bytes: &[u8]) -> Result<
     ensures read_faults { F.read_faults files.new ≡ F.read_faults files.old }
 {
     files.begin_write(name)?;
+    append_all(files, bytes)?;
+    files.finish()?;
+    Ok(())
+}
 
-    // Each write is offered all that was not yet taken.
-    let mut rest = bytes;
-    while !rest.is_empty() {
-        let count = files.write(rest)?;
-        rest = &rest[count..];
-    }
+/// Makes the name hold a text that is made piece by piece, as `write_whole` does with bytes. `NoMemory` comes also where memory
+/// ran out for a piece.
+pub fn write_pieces<F: Files, P: Pieces>(
+    alloc: Global,
+    files: &mut F,
+    name: &str,
+    pieces: &P,
+) -> Result<(), WriteFault>
+    requires { P.can_spell pieces.now }
+    ensures ok { OnOk result (Tells (F.folder files.old) (F.folder files.new) (λ old new.
+        new ≡ folder_with old name.now (P.text pieces.now))) }
+    ensures writer { OnOk result (F.writer files.new ≡ None) }
+    ensures reader { OnOk result (F.reader files.new ≡ F.reader files.old) }
+    ensures err { OnErr result (
+        Tells (F.folder files.old) (F.folder files.new) (HoldsPart name.now (P.text pieces.now))) }
+    ensures cause { HasCause
+        (F.write_faults files.old) (F.write_faults files.new) result WriteFault.Failed }
+    ensures read_faults { F.read_faults files.new ≡ F.read_faults files.old }
+{
+    files.begin_write(name)?;
+    append_text(alloc, files, pieces)?;
     files.finish()?;
     Ok(())
 }

@@ -22,10 +22,10 @@ use Rattle.good_runs.proofs.Numbers.{all_at_number}
 use Rattle.prefix_sensitize.specs.declared.outcome.Aim.{Aim}
 use Rattle.prefix_sensitize.specs.declared.outcome.Outcome.{Outcome}
 use Rattle.prefix_sensitize.specs.declared.outcome.Outcome.TheVariants.{Unsearched, Tested, Proved}
-use Rattle.prefix_sensitize.specs.declared.searched.BothOutcomes.{BothOutcomes}
+use Rattle.prefix_sensitize.specs.declared.all_outcomes.BothOutcomes.{BothOutcomes}
 use Rattle.prefix_sensitize.specs.Outcomes.{AddsProofs, AreFoundProofs, AreOutcomes, IsFoundProof, IsNeeded, IsOutcome, NoneIsAbout, outcome_at}
 use Rattle.prefix_sensitize.specs.Readiness.{AddsProofsFor, NoneIsFor}
-use Rattle.prefix_sensitize.specs.Searches.{AreSearchedFrom, is_test}
+use Rattle.prefix_sensitize.specs.Searches.{AreBothOutcomesFrom, is_test}
 use Rattle.prefix_sensitize.specs.Walks.{AreExcused}
 
 -- an outcome stays as it is promised while proofs are added that do not apply
@@ -119,7 +119,7 @@ module _ (c : Circuit) (routes : List Route) (direction : Direction) (budget : �
       -- the outcomes of both searches are those of the faults
       pub both_are : (new : List Proof) (nonrobust : List Outcome) → AddsProofs (aim_for Nonrobust) middle new
           → AreOutcomes c routes new some (aim_for Nonrobust) nonrobust → (both : BothOutcomes) → both.robust.items ≡ robust
-          → both.nonrobust.items ≡ nonrobust → AreSearchedFrom c routes new direction 0 both
+          → both.nonrobust.items ≡ nonrobust → AreBothOutcomesFrom c routes new direction 0 both
       both_are new nonrobust adds are_too both is_robust is_nonrobust = record {
         robust = ap length is_robust ∙ are.one_each;
         nonrobust = ap length is_nonrobust ∙ are_too.one_each;
@@ -168,7 +168,7 @@ module _ (c : Circuit) (routes : List Route) (direction : Direction) (budget : �
 
 -- what was found for the rising transition stays while the falling one is searched for
 pub rises_stay : (c : Circuit) (routes : List Route) (middle new : List Proof) (rises : BothOutcomes) → AddsProofsFor Fall middle new
-    → AreSearchedFrom c routes middle Rise 0 rises → AreSearchedFrom c routes new Rise 0 rises
+    → AreBothOutcomesFrom c routes middle Rise 0 rises → AreBothOutcomesFrom c routes new Rise 0 rises
 rises_stay c routes middle new rises adds are = record {
   robust = are.robust;
   nonrobust = are.nonrobust;

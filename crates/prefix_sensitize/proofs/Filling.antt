@@ -1,5 +1,5 @@
 -- Tests get the bits that they expect, block by block, each out of its lane.
-use Rattle.std.proofs.Common.{◌≡◌, ◌≢◌, ⊎_elim, ℕ, zero, suc, ◌+◌, ◌-◌, ◌<◌, ◌≤◌, Bool, List, [], ◌∷◌, length, map, get_or, set, Some, refl, sym, ap, subst, ◌∙◌, arith, All}
+use Rattle.std.proofs.Common.{◌≡◌, ◌≢◌, ⊎_elim, ℕ, suc, ◌+◌, ◌-◌, ◌<◌, ◌≤◌, Bool, List, [], ◌∷◌, length, map, get_or, set, Some, refl, sym, ap, subst, ◌∙◌, arith, All}
 use Rattle.std.specs.Prelude.{slice_get}
 use Rattle.std.specs.Option.{option_map}
 use Rattle.std.proofs.lemmas.Bool.{cases_eq, cases_lt}
@@ -9,9 +9,9 @@ use Rattle.pd_base.specs.declared.test.Test.{Test}
 use Rattle.netlist.specs.Circuit.{Circuit, HasLines, line_count, observed_lines, source_count}
 use Rattle.netlist.specs.Values.{observed_values, value}
 use Rattle.netlist.proofs.Evaluation.{map_agree}
-use Rattle.logic_values.specs.Lanes.{IsInLane, lane_bit}
+use Rattle.logic_values.specs.Lanes.{IsInLane, lane_bit, lane_of}
 use Rattle.good_runs.proofs.Numbers.{get_set_other, get_set_same}
-use Rattle.prefix_sensitize.specs.Expected.{AreFilled, AreInLanes, expecting}
+use Rattle.prefix_sensitize.specs.Expected.{AreFilled, AreInLanes, expecting, word_of}
 
 -- the observed bits, out of the lane of a vector, are those of the circuit
 pub bits_of_lane : (c : Circuit) (second : List Bool) (words : List ℕ) (lane : ℕ) (lines : List LineId) → lines ≡ observed_lines c
@@ -21,6 +21,15 @@ bits_of_lane c second words lane lines are in_circuit each =
     map_agree (λ (line : LineId). lane_bit words lane line.0) (λ (line : LineId). value c second line.0) lines
     (λ k d within. each (get_or lines k d).0 (in_circuit k d within))
     ∙ ap (map (λ (line : LineId). value c second line.0)) are
+
+-- the bits in a lane of the words that were taken are those of the lines that they were taken of
+pub taken_bits : (words taken : List ℕ) (lane : ℕ) (lines : List LineId) → taken ≡ map (word_of words) lines
+    → map (λ word. lane_of word lane) taken ≡ map (λ line. lane_bit words lane line.0) lines
+taken_bits words taken lane lines are = ap (map (λ word. lane_of word lane)) are ∙ of_each lines
+  where
+    of_each : (lines : List LineId) → map (λ word. lane_of word lane) (map (word_of words) lines) ≡ map (λ line. lane_bit words lane line.0) lines
+    of_each [] = refl
+    of_each (line ∷ lines) = ap (λ bits. lane_bit words lane line.0 ∷ bits) (of_each lines)
 
 -- the second vectors so far stay in their lanes when one more is put into its own
 pub one_more_lane : (begin place : ℕ) (tests : List Test) (old new : List ℕ) → begin ≤ place → place < begin + 64

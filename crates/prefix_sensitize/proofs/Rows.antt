@@ -9,13 +9,13 @@ use Rattle.runs.specs.declared.run.Proof.{Proof}
 use Rattle.good_runs.specs.Faults.{IsNumber}
 use Rattle.prefix_sensitize.specs.declared.outcome.Outcome.{Outcome}
 use Rattle.prefix_sensitize.specs.declared.outcome.Outcome.TheVariants.{Unsearched}
-use Rattle.prefix_sensitize.specs.declared.searched.BothOutcomes.{BothOutcomes}
-use Rattle.prefix_sensitize.specs.declared.searched.FaultOutcomes.{FaultOutcomes}
+use Rattle.prefix_sensitize.specs.declared.all_outcomes.BothOutcomes.{BothOutcomes}
+use Rattle.prefix_sensitize.specs.declared.all_outcomes.FaultOutcomes.{FaultOutcomes}
 use Rattle.prefix_sensitize.specs.Outcomes.{outcome_at}
-use Rattle.prefix_sensitize.specs.Searches.{AreFaultOutcomes, AreSearchedFrom, fault_outcomes}
+use Rattle.prefix_sensitize.specs.Searches.{AreFaultOutcomes, AreBothOutcomesFrom, fault_outcomes}
 
 module _ (c : Circuit) (routes : List Route) (proofs : List Proof) (direction : Direction) (row : ℕ) (old : BothOutcomes)
-    (are : AreSearchedFrom c routes proofs direction row old) where
+    (are : AreBothOutcomesFrom c routes proofs direction row old) where
   -- there are outcomes in the row of a listed path
   pub robust_within : row < length routes → row < length old.robust.items
   robust_within within = let same = are.robust in omega arith
@@ -45,7 +45,7 @@ module _ (c : Circuit) (routes : List Route) (proofs : List Proof) (direction : 
       nonrobust = sym (ap (λ (list : List Outcome). outcome_at list other) nonrobust ∙ other_outcome old.nonrobust.items other differs) i;
     }
 
-    pub others_left : (next : ℕ) → next ≡ row + 1 → AreSearchedFrom c routes proofs direction next new
+    pub others_left : (next : ℕ) → next ≡ row + 1 → AreBothOutcomesFrom c routes proofs direction next new
     others_left next behind = record {
       robust = ap length robust ∙ length-set old.robust.items row Unsearched ∙ are.robust;
       nonrobust = ap length nonrobust ∙ length-set old.nonrobust.items row Unsearched ∙ are.nonrobust;

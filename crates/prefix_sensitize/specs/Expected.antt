@@ -1,5 +1,6 @@
 -- The bits that tests expect (this project's own).
-use Rattle.std.specs.Prelude.{◌≡◌, ℕ, ◌-◌, ◌<◌, ◌≤◌, List, map, slice_get, Some}
+use Rattle.std.specs.Prelude.{◌≡◌, ℕ, ◌-◌, ◌<◌, ◌≤◌, List, slice_get, slice_index_or, Some}
+use Rattle.pd_base.specs.declared.ids.LineId.{LineId}
 use Rattle.pd_base.specs.declared.test.Test.{Test}
 use Rattle.netlist.specs.Circuit.{Circuit}
 use Rattle.netlist.specs.Values.{observed_values}
@@ -15,6 +16,10 @@ pub record AreFilled (c : Circuit) (begin end : ℕ) (old new : List Test) : Typ
       → slice_get new place ≡ Some (expecting c test)
   pub before : (place : ℕ) → place < begin → slice_get new place ≡ slice_get old place
   pub behind : (place : ℕ) → end ≤ place → slice_get new place ≡ slice_get old place
+
+-- the word of a line
+abbrev pub word_of : List ℕ → LineId → ℕ
+word_of words line = slice_index_or words line.0 0
 
 -- the second vector of each test between two places stands in the lane of its place among them
 abbrev pub AreInLanes : ℕ → ℕ → List Test → List ℕ → Type 0

@@ -12,20 +12,20 @@ use Rattle.runs.specs.declared.run.Verdict.{Verdict}
 use Rattle.runs.specs.Lawful.{AreNumbered, Named, named_with, none_named}
 use Rattle.runs.specs.Verdicts.{verdicts_of}
 use Rattle.good_runs.specs.Faults.{IsNumber, verdict_for}
-use Rattle.prefix_sensitize.specs.declared.searched.Searched.{Searched}
+use Rattle.prefix_sensitize.specs.declared.all_outcomes.AllOutcomes.{AllOutcomes}
 use Rattle.prefix_sensitize.specs.declared.verdicts.Writer.{Writer}
 use Rattle.prefix_sensitize.specs.Answers.{AreWritten, IsAnswered, IsBackedVerdict, IsWriterFor, Written, named_in, written_by}
 use Rattle.prefix_sensitize.specs.Expected.{expecting}
 use Rattle.prefix_sensitize.specs.Numbering.{AreCited}
-use Rattle.prefix_sensitize.specs.Searches.{AreSearchedFrom, AreSearches, Searches}
+use Rattle.prefix_sensitize.specs.Searches.{AreBothOutcomesFrom, AreSearches, Searches}
 
 -- this is what these searches found
-pub record AreSearchedAll (c : Circuit) (searches : Searches) (searched : Searched) : Type 0 where
+pub record AreAllOutcomes (c : Circuit) (searches : Searches) (outcomes : AllOutcomes) : Type 0 where
   pub are_searches : AreSearches c searches
-  pub budget : searched.budget ≡ searches.budget
-  pub proofs : searched.proofs.items ≡ searches.proofs
-  pub rises : AreSearchedFrom c searches.routes searches.proofs Rise 0 searched.rises
-  pub falls : AreSearchedFrom c searches.routes searches.proofs Fall 0 searched.falls
+  pub budget : outcomes.budget ≡ searches.budget
+  pub proofs : outcomes.proofs.items ≡ searches.proofs
+  pub rises : AreBothOutcomesFrom c searches.routes searches.proofs Rise 0 outcomes.rises
+  pub falls : AreBothOutcomesFrom c searches.routes searches.proofs Fall 0 outcomes.falls
 
 -- this path is the next one to be listed, and numbers are far from the greatest that the program counts to
 pub record IsNextPath (c : Circuit) (searches : Searches) (path_number : ℕ) (path : Route) (writer : Writer) : Type 0 where

@@ -11,9 +11,9 @@ use Rattle.netlist.specs.Paths.{IsPath}
 use Rattle.runs.specs.declared.run.Proof.{Proof}
 use Rattle.prefix_sensitize.specs.declared.outcome.Outcome.{Outcome}
 use Rattle.prefix_sensitize.specs.declared.outcome.Outcome.TheVariants.{Unsearched, Tested, Proved}
-use Rattle.prefix_sensitize.specs.declared.searched.BothOutcomes.{BothOutcomes}
-use Rattle.prefix_sensitize.specs.declared.searched.FaultOutcomes.{FaultOutcomes}
-use Rattle.prefix_sensitize.specs.declared.searched.Searched.{Searched}
+use Rattle.prefix_sensitize.specs.declared.all_outcomes.BothOutcomes.{BothOutcomes}
+use Rattle.prefix_sensitize.specs.declared.all_outcomes.FaultOutcomes.{FaultOutcomes}
+use Rattle.prefix_sensitize.specs.declared.all_outcomes.AllOutcomes.{AllOutcomes}
 use Rattle.prefix_sensitize.specs.Outcomes.{AreFoundProofs, IsOutcome, outcome_at}
 
 -- what outcomes speak of: the rules for pairs, the budget of each search, the listed paths, and the proofs that were found
@@ -24,9 +24,9 @@ pub record Searches : Type 0 where
   pub proofs : List Proof
 
 -- the searches of listed paths under these rules and within this budget
-abbrev pub searches_of : Rules → ℕ → List Route → Searched → Searches
-searches_of rules budget routes searched =
-    record { rules = rules; budget = budget; routes = routes; proofs = searched.proofs.items }
+abbrev pub searches_of : Rules → ℕ → List Route → AllOutcomes → Searches
+searches_of rules budget routes outcomes =
+    record { rules = rules; budget = budget; routes = routes; proofs = outcomes.proofs.items }
 
 -- the listed paths are some of the circuit, few enough for the files, and the proofs are what searches promise
 pub record AreSearches (c : Circuit) (searches : Searches) : Type 0 where
@@ -55,7 +55,7 @@ fault_outcomes outcomes row = record {
 }
 
 -- there are outcomes for each path, and those from this row on are of their faults
-pub record AreSearchedFrom (c : Circuit) (routes : List Route) (proofs : List Proof) (direction : Direction) (from : ℕ)
+pub record AreBothOutcomesFrom (c : Circuit) (routes : List Route) (proofs : List Proof) (direction : Direction) (from : ℕ)
     (outcomes : BothOutcomes) : Type 0 where
   pub robust : length outcomes.robust.items ≡ length routes
   pub nonrobust : length outcomes.nonrobust.items ≡ length routes

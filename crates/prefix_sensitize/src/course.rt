@@ -6,7 +6,7 @@ use crate::outcome::Aim;
 use pd_base::{LineId, Path};
 
 /// The listed paths in the order of a walk, those of them for which an outcome is asked, and what is searched for.
-#[derive(Clone, Copy, Debug)]
+#[derive(Clone, Copy)]
 pub(crate) struct Course<'a> {
     /// The listed paths.
     pub(crate) paths: &'a [Path],

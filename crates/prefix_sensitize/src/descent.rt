@@ -24,7 +24,7 @@ use std::alloc::Global;
 use std::marker::Model;
 
 /// What a search for a test of a path ends with.
-#[derive(Debug, Drop)]
+#[derive(Drop)]
 pub(crate) enum Ended {
     /// A pair that is a test.
     Test(Pair),
@@ -35,7 +35,7 @@ pub(crate) enum Ended {
 }
 
 /// The pins that a scope has entered since its beginning, each with the mark before it. Contracts see the list of pins.
-#[derive(Debug, Drop)]
+#[derive(Drop)]
 pub(crate) struct Descent {
     pins: Vec<PinRef>,
     marks: Vec<ScopeMark>,

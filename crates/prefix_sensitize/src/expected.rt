@@ -2,9 +2,9 @@
 // has lanes.
 ghost use Rattle.std.specs.Prelude.{◌≡◌, ◌+◌, ◌<◌, ◌≤◌, All, IfOk, OnOk, length, map};
 ghost use Rattle.logic_values.specs.Known.{HasPlaces};
-ghost use Rattle.logic_values.specs.Lanes.{lane_bit};
-ghost use Rattle.netlist.specs.Circuit.{line_count, source_count};
-ghost use Rattle.prefix_sensitize.specs.Expected.{AreFilled, AreInLanes, expecting};
+ghost use Rattle.logic_values.specs.Lanes.{lane_of};
+ghost use Rattle.netlist.specs.Circuit.{line_count, observed_lines, source_count};
+ghost use Rattle.prefix_sensitize.specs.Expected.{AreFilled, AreInLanes, expecting, word_of};
 
 use logic_values::{bit_in_lane, evaluate_lanes, put_into_lane};
 use netlist::Netlist;
@@ -33,26 +33,34 @@ fn fill_all(alloc: Global, net: &Netlist, tests: &mut [Test]) -> Result<(), OutO
     requires { All (λ test. length test.pair.second ≡ source_count net.now) tests.old }
     ensures { OnOk result (tests.new ≡ map (expecting net.now) tests.old) }
 {
-    let lines = net.lines() as usize;
-    let mut words = vec![in alloc; 0; lines]?;
-    fill_blocks(alloc, net, words.as_mut_slice(), tests)
+    let mut words = vec![in alloc; 0; net.lines() as usize]?;
+    let mut observed = vec![in alloc; 0; net.observed().len()]?;
+    fill_blocks(
+        alloc,
+        net,
+        words.as_mut_slice(),
+        observed.as_mut_slice(),
+        tests,
+    )
 }
 
-// Fills them in, one block of tests after another.
+// Fills them in, one block of tests after another. There is a word for each line, and one for each observed line.
 fn fill_blocks(
     alloc: Global,
     net: &Netlist,
     words: &mut [u64],
+    observed: &mut [u64],
     tests: &mut [Test],
 ) -> Result<(), OutOfMemory>
     requires words { length words.old ≡ line_count net.now }
+    requires observed { length observed.old ≡ length (observed_lines net.now) }
     requires bits { All (λ test. length test.pair.second ≡ source_count net.now) tests.old }
     ensures { OnOk result (tests.new ≡ map (expecting net.now) tests.old) }
 {
     let mut begin = 0;
     while begin < tests.len() {
         let end = block_end(begin, tests.len());
-        fill_block(alloc, net, words, tests, begin, end)?;
+        fill_block(alloc, net, words, observed, tests, begin, end)?;
         begin = end;
     }
     Ok(())
@@ -77,11 +85,13 @@ fn fill_block(
     alloc: Global,
     net: &Netlist,
     words: &mut [u64],
+    observed: &mut [u64],
     tests: &mut [Test],
     begin: usize,
     end: usize,
 ) -> Result<(), OutOfMemory>
     requires words { length words.old ≡ line_count net.now }
+    requires observed { length observed.old ≡ length (observed_lines net.now) }
     requires bits { All (λ test. length test.pair.second ≡ source_count net.now) tests.old }
     requires few { end ≤ begin + 64 }
     requires within { end ≤ length tests.old }
@@ -90,8 +100,9 @@ fn fill_block(
 {
     put_vectors(net, tests, begin, end, words);
     evaluate_lanes(net, words);
+    take_words(net.observed(), words, observed);
     for place in begin..end {
-        let bits = bits_in_lane(alloc, net.observed(), words, (place - begin) as u32)?;
+        let bits = bits_in_lane(alloc, observed, (place - begin) as u32)?;
         tests[place].expected = Items::new(bits);
     }
     Ok(())
@@ -112,20 +123,35 @@ fn put_vectors(net: &Netlist, tests: &[Test], begin: usize, end: usize, words: &
     }
 }
 
-// The bits of a lane at these lines.
-fn bits_in_lane(
-    alloc: Global,
-    lines: &[LineId],
-    words: &[u64],
-    lane: u32,
-) -> Result<Vec<bool>, OutOfMemory>
-    requires lane { lane < 64 }
+// Takes the words of these lines, which are read from one place after another: what is done with each of their lanes then reads memory in
+// order.
+fn take_words(lines: &[LineId], words: &[u64], taken: &mut [u64])
     requires lines { HasPlaces words.now lines.now }
-    ensures { IfOk result (λ bits. bits.items ≡ map (λ line. lane_bit words.now lane line.0) lines.now) }
+    requires places { length taken.old ≡ length lines.now }
+    ensures { taken.new ≡ map (word_of words.now) lines.now }
 {
-    let mut bits = Vec::with_capacity(alloc, lines.len())?;
-    for line in lines {
-        bits.push(bit_in_lane(words[line.0 as usize], lane))?;
+    for (place, line) in lines.iter().enumerate() {
+        taken[place] = words[line.0 as usize];
     }
+}
+
+// The bits in a lane of these words.
+fn bits_in_lane(alloc: Global, words: &[u64], lane: u32) -> Result<Vec<bool>, OutOfMemory>
+    requires { lane < 64 }
+    ensures { IfOk result (λ bits. bits.items ≡ map (λ word. lane_of word lane) words.now) }
+{
+    let mut bits = vec![in alloc; false; words.len()]?;
+    put_bits(words, lane, bits.as_mut_slice());
     Ok(bits)
+}
+
+// Puts the bits in a lane of these words into places.
+fn put_bits(words: &[u64], lane: u32, bits: &mut [bool])
+    requires lane { lane < 64 }
+    requires places { length bits.old ≡ length words.now }
+    ensures { bits.new ≡ map (λ word. lane_of word lane) words.now }
+{
+    for (place, word) in words.iter().enumerate() {
+        bits[place] = bit_in_lane(*word, lane);
+    }
 }

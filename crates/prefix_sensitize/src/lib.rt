@@ -4,6 +4,7 @@
 //! The layer above uses `sensitize_all` and `PathTree`, and cites their contracts.
 #![tactic(auto)]
 
+mod all_outcomes;
 mod course;
 mod descent;
 mod ends;
@@ -12,7 +13,6 @@ mod listing;
 mod numbering;
 mod outcome;
 mod path_tree;
-mod searched;
 mod sensitizing;
 mod settling;
 mod sharing;

@@ -6,11 +6,11 @@ ghost use Rattle.good_runs.specs.GoodRun.{IsGoodRun};
 ghost use Rattle.good_runs.specs.Shortest.{IsShortestRun};
 ghost use Rattle.runs.specs.Lawful.{IsLawfulRun};
 ghost use Rattle.prefix_sensitize.specs.Answers.{AreWritten, IsWriterFor, written_by};
-ghost use Rattle.prefix_sensitize.specs.Listed.{ArePathsAnswered, AreSearchedAll, IsNextPath, IsPathAnswered, IsRunWith};
-ghost use Rattle.prefix_sensitize.specs.Searches.{AreFaultOutcomes, AreSearchedFrom, AreSearches, Searches};
+ghost use Rattle.prefix_sensitize.specs.Listed.{AreAllOutcomes, ArePathsAnswered, IsNextPath, IsPathAnswered, IsRunWith};
+ghost use Rattle.prefix_sensitize.specs.Searches.{AreBothOutcomesFrom, AreFaultOutcomes, AreSearches, Searches};
 
+use crate::all_outcomes::{AllOutcomes, BothOutcomes, FaultOutcomes};
 use crate::expected::with_expected_bits;
-use crate::searched::{BothOutcomes, FaultOutcomes, Searched};
 use crate::verdicts::Writer;
 use delay_annotation::Delays;
 use netlist::Netlist;
@@ -27,25 +27,25 @@ pub(crate) fn run_of(
     delays: &Delays,
     rules: Rules,
     paths: Vec<Path>,
-    searched: Searched,
+    outcomes: AllOutcomes,
 ) -> Result<Run, OutOfMemory>
     ghost searches: { Searches }
     requires fits { Fits net.now delays.now }
     requires rules { rules ≡ searches.rules }
     requires paths { paths.items ≡ searches.routes }
-    requires searched { AreSearchedAll net.now searches searched }
+    requires outcomes { AreAllOutcomes net.now searches outcomes }
     ensures good { IfOk result (λ run. (count : ℕ) → AreFirst net.now (delays_of net.now delays.now) count searches.routes
         → IsGoodRun net.now (delays_of net.now delays.now) count searches.budget run) }
     ensures lawful { IfOk result (λ run. IsLawfulRun net.now run) }
     ensures rules { IfOk result (λ run. run.rules ≡ rules) }
     ensures shortest { IfOk result (λ run. IsShortestRun net.now run) }
 {
-    let Searched {
+    let AllOutcomes {
         budget: _,
         mut rises,
         mut falls,
         proofs,
-    } = searched;
+    } = outcomes;
     let mut writer = Writer::new(alloc, net, proofs)?;
     let listed = list_paths(
         alloc,
@@ -73,8 +73,8 @@ fn list_paths(
     requires fits { Fits net.now delays.now }
     requires paths { paths.items ≡ searches.routes }
     requires searches { AreSearches net.now searches }
-    requires rises { AreSearchedFrom net.now searches.routes searches.proofs Direction.Rise 0 rises.old }
-    requires falls { AreSearchedFrom net.now searches.routes searches.proofs Direction.Fall 0 falls.old }
+    requires rises { AreBothOutcomesFrom net.now searches.routes searches.proofs Direction.Rise 0 rises.old }
+    requires falls { AreBothOutcomesFrom net.now searches.routes searches.proofs Direction.Fall 0 falls.old }
     requires writer { IsWriterFor net.now searches writer.old }
     requires nothing { written_by writer.old ≡ record { tests = []; cited = [] } }
     ensures listed { IfOk result (λ listed. ArePathsAnswered net.now (delays_of net.now delays.now) searches searches.routes listed.items (written_by writer.new)) }

@@ -8,7 +8,7 @@ use std::alloc::Global;
 use std::marker::Model;
 
 /// The numbers that were given to some of the proofs that were found, which it knows by their indices.
-#[derive(Debug, Drop)]
+#[derive(Drop)]
 pub(crate) struct Numbering {
     // by index
     numbers: Vec<Option<u32>>,

@@ -2,7 +2,7 @@
 use pd_base::{Direction, Kind, Pair};
 
 /// Which tests are searched for, and how many splits each search may make.
-#[derive(Clone, Copy, Debug)]
+#[derive(Clone, Copy)]
 pub(crate) struct Aim {
     /// The conditions.
     pub(crate) kind: Kind,
@@ -13,7 +13,7 @@ pub(crate) struct Aim {
 }
 
 /// What is known of a path for an aim.
-#[derive(Debug, Drop)]
+#[derive(Drop)]
 pub(crate) enum Outcome {
     /// It was not searched.
     Unsearched,

@@ -9,17 +9,17 @@ ghost use Rattle.good_runs.specs.Shortest.{IsShortestRun};
 ghost use Rattle.runs.specs.Lawful.{IsLawfulRun};
 ghost use Rattle.justify.specs.Desks.{IsDeskFor};
 ghost use Rattle.prefix_sensitize.specs.Entering.{IsIdleAgain};
-ghost use Rattle.prefix_sensitize.specs.Listed.{AreSearchedAll};
+ghost use Rattle.prefix_sensitize.specs.Listed.{AreAllOutcomes};
 ghost use Rattle.prefix_sensitize.specs.Outcomes.{AddsProofs, AreFoundProofs, AreOutcomes, NoneIsAbout};
 ghost use Rattle.prefix_sensitize.specs.Readiness.{AddsProofsFor, CountsAtMost, IsReadyFor, NoneIsFor};
-ghost use Rattle.prefix_sensitize.specs.Searches.{AreSearchedFrom, is_test, searches_of};
+ghost use Rattle.prefix_sensitize.specs.Searches.{AreBothOutcomesFrom, is_test, searches_of};
 ghost use Rattle.prefix_sensitize.specs.Walks.{AreExcused, AreSearchablePaths, AreToldPaths, IsBudget};
 
+use crate::all_outcomes::{AllOutcomes, BothOutcomes};
 use crate::ends::ends_of;
 use crate::listing::run_of;
 use crate::outcome::{Aim, Outcome};
 use crate::path_tree::PathTree;
-use crate::searched::{BothOutcomes, Searched};
 use crate::walking::walk;
 use delay_annotation::Delays;
 use implication::{Engine, RuledNetlist, Setting};
@@ -61,8 +61,8 @@ pub fn sensitize_all<L>(
 {
     // a netlist has few levels, and so its paths have few steps
     let _ = net.sources();
-    let searched = search_paths(alloc, net, paths.as_slice(), budget, &rules, steps)?;
-    run_of(alloc, net, delays, rules, paths, searched)
+    let outcomes = search_paths(alloc, net, paths.as_slice(), budget, &rules, steps)?;
+    run_of(alloc, net, delays, rules, paths, outcomes)
 }
 
 // Searches for all tests of these paths.
@@ -73,11 +73,11 @@ fn search_paths<L>(
     budget: u32,
     rules: &Rules,
     steps: &mut Steps<L>,
-) -> Result<Searched, OutOfMemory>
+) -> Result<AllOutcomes, OutOfMemory>
     requires listed { AreSearchablePaths net.now paths.now }
     requires budget { IsBudget budget }
     requires steps { steps.old ≤ 2 ^ 63 }
-    ensures searched { IfOk result (λ searched. AreSearchedAll net.now (searches_of rules.now budget paths.now searched) searched) }
+    ensures outcomes { IfOk result (λ outcomes. AreAllOutcomes net.now (searches_of rules.now budget paths.now outcomes) outcomes) }
     ensures steps { CountsAtMost paths.now 4 steps.old steps.new }
 {
     // a netlist is a circuit
@@ -85,7 +85,9 @@ fn search_paths<L>(
     let ends = ends_of(alloc, net, paths)?;
     let setting = RuledNetlist { net, rules };
     let mut engine = Engine::within(alloc, setting, ends.as_slice())?;
-    search_on(alloc, net, &mut engine, paths, budget, steps)
+    let outcomes = search_on(alloc, net, &mut engine, paths, budget, steps);
+    drop(engine);
+    outcomes
 }
 
 // Does so with this engine, on which no scope is open.
@@ -96,18 +98,20 @@ fn search_on<S: Setting, L>(
     paths: &[Path],
     budget: u32,
     steps: &mut Steps<L>,
-) -> Result<Searched, OutOfMemory>
+) -> Result<AllOutcomes, OutOfMemory>
     requires net { engine.old.net ≡ net.now }
     requires idle { engine.old.beginning ≡ None }
     requires listed { AreSearchablePaths engine.old.net paths.now }
     requires told { AreToldPaths engine.old paths.now }
     requires budget { IsBudget budget }
     requires steps { steps.old ≤ 2 ^ 63 }
-    ensures searched { IfOk result (λ searched. AreSearchedAll engine.old.net (searches_of engine.old.rules budget paths.now searched) searched) }
+    ensures outcomes { IfOk result (λ outcomes. AreAllOutcomes engine.old.net (searches_of engine.old.rules budget paths.now outcomes) outcomes) }
     ensures steps { CountsAtMost paths.now 4 steps.old steps.new }
 {
     let mut desk = Desk::new(alloc, net)?;
-    search_in_order(alloc, engine, &mut desk, paths, budget, steps)
+    let outcomes = search_in_order(alloc, engine, &mut desk, paths, budget, steps);
+    drop(desk);
+    outcomes
 }
 
 // Does so at this desk, in an order in which each prefix is entered once.
@@ -118,14 +122,14 @@ fn search_in_order<S: Setting, L>(
     paths: &[Path],
     budget: u32,
     steps: &mut Steps<L>,
-) -> Result<Searched, OutOfMemory>
+) -> Result<AllOutcomes, OutOfMemory>
     requires idle { engine.old.beginning ≡ None }
     requires listed { AreSearchablePaths engine.old.net paths.now }
     requires told { AreToldPaths engine.old paths.now }
     requires desk { IsDeskFor engine.old.net desk.old }
     requires budget { IsBudget budget }
     requires steps { steps.old ≤ 2 ^ 63 }
-    ensures searched { IfOk result (λ searched. AreSearchedAll engine.old.net (searches_of engine.old.rules budget paths.now searched) searched) }
+    ensures outcomes { IfOk result (λ outcomes. AreAllOutcomes engine.old.net (searches_of engine.old.rules budget paths.now outcomes) outcomes) }
     ensures steps { CountsAtMost paths.now 4 steps.old steps.new }
 {
     let tree = PathTree::new(alloc, paths)?;
@@ -141,10 +145,10 @@ fn search_all<S: Setting, L>(
     tree: &PathTree,
     budget: u32,
     steps: &mut Steps<L>,
-) -> Result<Searched, OutOfMemory>
+) -> Result<AllOutcomes, OutOfMemory>
     requires ready { IsReadyFor paths.now tree.now budget engine.old desk.old }
     requires steps { steps.old ≤ 2 ^ 63 }
-    ensures searched { IfOk result (λ searched. AreSearchedAll engine.old.net (searches_of engine.old.rules budget paths.now searched) searched) }
+    ensures outcomes { IfOk result (λ outcomes. AreAllOutcomes engine.old.net (searches_of engine.old.rules budget paths.now outcomes) outcomes) }
     ensures steps { steps.new ≤ steps.old + 4 * tree.now.prefixes }
 {
     let mut proofs = Vec::new(alloc);
@@ -170,7 +174,7 @@ fn search_all<S: Setting, L>(
         &mut proofs,
         steps,
     )?;
-    Ok(Searched {
+    Ok(AllOutcomes {
         budget,
         rises,
         falls,
@@ -196,7 +200,7 @@ fn search_way<S: Setting, L>(
     requires room { steps.old + 2 * (length paths.now * MOST_LEVELS) < 2 ^ 64 }
     ensures ready { OnOk result (IsReadyFor paths.now tree.now budget engine.new desk.new) }
     ensures rest { OnOk result (IsIdleAgain engine.old engine.new) }
-    ensures outcomes { IfOk result (λ outcomes. AreSearchedFrom engine.old.net paths.now proofs.new.items dir 0 outcomes) }
+    ensures outcomes { IfOk result (λ outcomes. AreBothOutcomesFrom engine.old.net paths.now proofs.new.items dir 0 outcomes) }
     ensures found { OnOk result (AreFoundProofs engine.old.net engine.old.rules budget paths.now proofs.new.items) }
     ensures adds { OnOk result (AddsProofsFor dir proofs.old.items proofs.new.items) }
     ensures steps { steps.new ≤ steps.old + 2 * tree.now.prefixes }

@@ -7,7 +7,7 @@ ghost use Rattle.prefix_sensitize.specs.PathOrder.{StandsInOrder, IsOrder, IsStr
 use pd_base::Path;
 
 /// Places of an order, from a known one on.
-#[derive(Clone, Copy, Debug)]
+#[derive(Clone, Copy)]
 pub(crate) struct Stretch {
     /// The place behind the last one.
     pub(crate) end: usize,

@@ -11,9 +11,9 @@ ghost use Rattle.prefix_sensitize.specs.Searches.{AreFaultOutcomes, AreSearches,
 ghost use Rattle.prefix_sensitize.specs.Numbering.{AreCited, HaveOneNumber};
 ghost use Rattle.prefix_sensitize.specs.Answers.{AddsTest, IsAnswered, IsAsked, IsWriterFor, written_by};
 
+use crate::all_outcomes::FaultOutcomes;
 use crate::numbering::{Numbering, cited_proofs};
 use crate::outcome::Outcome;
-use crate::searched::FaultOutcomes;
 use netlist::Netlist;
 use path_model::{Scratch, meets};
 use pd_base::{Direction, Items, Kind, OutOfMemory, Pair, Path, Test};

@@ -7,7 +7,7 @@ use Rattle.pd_base.specs.Target.{Target}
 use Rattle.pd_base.specs.declared.rules.Rules.{Rules}
 use Rattle.pd_base.specs.declared.ids.PinRef.{PinRef}
 use Rattle.pd_base.specs.declared.fault.Kind.{Kind}
-use Rattle.narrowing.specs.Conditions.{Entered}
+use Rattle.hulls.specs.Conditions.{Entered}
 use Rattle.netlist.specs.Circuit.{Circuit, source_count}
 use Rattle.state_laws.specs.declared.half.Half.{Half}
 use Rattle.runs.specs.declared.tree.Node.{Node}

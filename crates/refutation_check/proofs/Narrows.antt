@@ -26,7 +26,7 @@ use Rattle.state_laws.proofs.Sets.{has_in_circuit, no_state_at, none_has}
 use Rattle.state_laws.proofs.Cones.{hull_of_all, emptied_inside}
 use Rattle.state_laws.proofs.Hulls.{Widens, closes_if_wider}
 use Rattle.state_laws.proofs.Restart.{may_be_below, may_be_above}
-use Rattle.narrowing.proofs.Sets.{has_both, both_have}
+use Rattle.hulls.proofs.Sets.{has_both, both_have}
 use Rattle.refutation_check.specs.Walks.{NarrowsToHull}
 use Rattle.refutation_check.specs.Judged.{IsJudged}
 

@@ -10,7 +10,7 @@ use Rattle.state_sets.specs.States.{Has, no_states}
 use Rattle.state_sets.specs.FourStates.{four_states}
 use Rattle.state_sets.specs.Starts.{IsInHalf, IsLeast}
 use Rattle.state_sets.specs.FourLaws.{state_of}
-use Rattle.narrowing.proofs.Sets.{has_both, both_have, has_some, some_not_none, cut_within, only_has, only_this, only_within, ne_tells, ne_told}
+use Rattle.hulls.proofs.Sets.{has_both, both_have, has_some, some_not_none, cut_within, only_has, only_this, only_within, ne_tells, ne_told}
 use Rattle.tree_laws.specs.Spent.{HasInHalf}
 
 -- a number that is tested not to be 0 is greater

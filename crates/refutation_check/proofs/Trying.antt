@@ -13,7 +13,7 @@ use Rattle.state_sets.specs.FourStates.{four_states}
 use Rattle.state_sets.specs.Labellings.{label_at}
 use Rattle.state_sets.specs.Starts.{IsLeast}
 use Rattle.state_sets.specs.Hulls.{HasNoEmptySet}
-use Rattle.narrowing.proofs.Sets.{has_both, both_have, has_some, some_not_none}
+use Rattle.hulls.proofs.Sets.{has_both, both_have, has_some, some_not_none}
 use Rattle.hulls.specs.Boards.{OnBoard}
 use Rattle.hulls.specs.Settling.{MaySettle, IsShrunk, IsCutTo}
 use Rattle.hulls.proofs.Changing.{shrunk_none, shrunk_on, some_left}

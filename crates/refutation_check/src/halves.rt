@@ -5,7 +5,7 @@ ghost use Rattle.state_sets.specs.Starts.{IsLeast};
 ghost use Rattle.state_sets.specs.declared.state.State.{State};
 ghost use Rattle.tree_laws.specs.Spent.{HasInHalf};
 
-use narrowing::half_states;
+use hulls::half_states;
 use state_laws::Half;
 use state_sets::{FourStates, State, StateSet};
 

@@ -5,14 +5,14 @@ ghost use Rattle.pd_base.specs.declared.rules.Rules.{Rules};
 ghost use Rattle.netlist.specs.Circuit.{line_count};
 ghost use Rattle.state_sets.specs.declared.state.StateSet.{StateSet};
 ghost use Rattle.state_laws.specs.declared.half.Half.{Half};
-ghost use Rattle.narrowing.specs.Conditions.{IsEnteredOn};
+ghost use Rattle.hulls.specs.Conditions.{IsEnteredOn};
 ghost use Rattle.tree_laws.specs.Spent.{HasInHalf, IsOpen, IsDue};
 ghost use Rattle.refutation_check.specs.Walks.{IsWalkUnder, IsNearer};
 ghost use Rattle.refutation_check.specs.Judged.{IsNode, MarksSupport};
 
 use crate::halves::has_in_half;
 use crate::walk::Walk;
-use narrowing::{Conditions, NarrowScratch};
+use hulls::{Conditions, NarrowScratch};
 use netlist::Netlist;
 use pd_base::LineId;
 use state_laws::Half;

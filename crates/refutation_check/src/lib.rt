@@ -1,5 +1,5 @@
 //! Whether a tree of cases refutes, and whether it shows that a budget was spent; if not, which node is first at fault.
-//! Stands on pd_base, netlist, logic_values, state_sets, state_laws, narrowing, hulls, runs and tree_laws.
+//! Stands on pd_base, netlist, logic_values, state_sets, state_laws, hulls, runs and tree_laws.
 //! The layers above use the contracts of `check_tree` and `check_spent`.
 #![tactic(auto)]
 

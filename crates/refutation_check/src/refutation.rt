@@ -9,7 +9,7 @@ ghost use Rattle.netlist.specs.Conditions.{Meets};
 ghost use Rattle.netlist.specs.Paths.{IsPrefix, IsPrefixOf};
 ghost use Rattle.state_laws.specs.Steadied.{steadied};
 ghost use Rattle.state_laws.specs.declared.half.Half.{Half};
-ghost use Rattle.narrowing.specs.Conditions.{IsEnteredOn};
+ghost use Rattle.hulls.specs.Conditions.{IsEnteredOn};
 ghost use Rattle.tree_laws.specs.Refutations.{IsRefutation};
 ghost use Rattle.tree_laws.specs.Faults.{IsRightInRefutation};
 ghost use Rattle.refutation_check.specs.Walks.{IsWalkUnder, IsNearer};
@@ -18,8 +18,7 @@ ghost use Rattle.refutation_check.specs.Answers.{TellsOfRefutation};
 
 use crate::TreeCheck;
 use crate::walk::Walk;
-use hulls::launch;
-use narrowing::{Conditions, NarrowScratch, enter_all};
+use hulls::{Conditions, NarrowScratch, enter_all, launch};
 use netlist::Netlist;
 use pd_base::{Direction, Kind, OutOfMemory, Path, Rules};
 use runs::{Node, Tree};

@@ -8,15 +8,14 @@ ghost use Rattle.netlist.specs.Circuit.{line_count};
 ghost use Rattle.state_sets.specs.Labellings.{IsLabelling, label_at};
 ghost use Rattle.state_laws.specs.declared.half.Half.{Half};
 ghost use Rattle.state_laws.specs.Nodes.{IsNodeHull};
-ghost use Rattle.narrowing.specs.Conditions.{IsEnteredOn};
+ghost use Rattle.hulls.specs.Conditions.{IsEnteredOn};
 ghost use Rattle.tree_laws.specs.Halves.{turned};
 ghost use Rattle.refutation_check.specs.Walks.{NarrowsToHull, IsAt, IsWalk, IsWalkUnder, IsNearer, IsBelow, GoesOnFrom, IsOn, WalksOn};
 ghost use Rattle.refutation_check.specs.Judged.{IsNode, IsJudged, MarksSupport, ClosesAtTrial};
 ghost use Rattle.refutation_check.specs.Trials.{IsQuiet};
 
 use crate::trial::cut_to_least;
-use hulls::Board;
-use narrowing::{Conditions, NarrowScratch, half_states};
+use hulls::{Board, Conditions, NarrowScratch, half_states};
 use netlist::Netlist;
 use pd_base::{LineId, OutOfMemory};
 use runs::Node;

@@ -1,6 +1,7 @@
 // Netlists, names of their lines, and vectors of rows.
-ghost use Rattle.std.specs.Prelude.{◌≡◌, ◌<◌, length, vec_len, IfOk};
+ghost use Rattle.std.specs.Prelude.{◌≡◌, ◌≤◌, ◌<◌, length, vec_len, IfOk};
 ghost use Rattle.netlist.specs.Circuit.{line_count, source_count};
+ghost use Rattle.row_answers.specs.declared.circuits.TheConstants.{MOST_BYTES};
 
 use crate::texts::spelled_out;
 use crate::trouble::Trouble;
@@ -18,9 +19,16 @@ pub fn read(alloc: Global, row: &str) -> Result<Option<Netlist>, Trouble> {
     if text.len() > MOST_BYTES {
         return Err(Trouble::NoRow);
     }
-    match read_bench(alloc, text.as_bytes()) {
-        Ok(net) => Ok(Some(net)),
-        Err(_) => Ok(None),
+    Ok(netlist_of(alloc, text.as_bytes()))
+}
+
+// The netlist of a text. It promises nothing, so that the answers are not proved over again under the contract of `read_bench`.
+fn netlist_of(alloc: Global, text: &[u8]) -> Option<Netlist>
+    requires { length text.now ≤ MOST_BYTES }
+{
+    match read_bench(alloc, text) {
+        Ok(net) => Some(net),
+        Err(_) => None,
     }
 }
 

@@ -4,6 +4,7 @@ ghost use Rattle.delay_annotation.specs.Annotation.{Fits};
 ghost use Rattle.netlist.specs.Circuit.{gate_count};
 
 use crate::circuits::name;
+use crate::lines::add_number;
 use crate::paths::delays;
 use crate::trouble::Trouble;
 use delay_annotation::{DelayFault, Delays};
@@ -42,13 +43,27 @@ fn gates_text(alloc: Global, net: &Netlist, delays: &Delays) -> Result<String, T
 {
     let mut text = String::new(alloc);
     for gate in 0..net.gates() {
-        let gate = GateId(gate);
-        text.push_str("  ")?;
-        text.push_str(name(net, net.line_of(gate))?)?;
-        add_delays(alloc, net, delays, gate, &mut text)?;
-        text.push('\n')?;
+        add_gate(alloc, net, delays, GateId(gate), &mut text)?;
     }
     Ok(text)
+}
+
+// The line of a gate.
+fn add_gate(
+    alloc: Global,
+    net: &Netlist,
+    delays: &Delays,
+    gate: GateId,
+    text: &mut String,
+) -> Result<(), Trouble>
+    requires fits { Fits net.now delays.now }
+    requires gate { gate.0 < gate_count net.now }
+{
+    text.push_str("  ")?;
+    text.push_str(name(net, net.line_of(gate))?)?;
+    add_delays(alloc, net, delays, gate, text)?;
+    text.push('\n')?;
+    Ok(())
 }
 
 // The delays of the pins of a gate.
@@ -67,8 +82,7 @@ fn add_delays(
             return Err(Trouble::NoRow);
         };
         let pin = PinRef { gate, pin };
-        let delay = format!(in alloc; " {}", delays.delay(net, pin))?;
-        text.push_str(delay.as_str())?;
+        add_number(alloc, " ", delays.delay(net, pin) as u64, text)?;
     }
     Ok(())
 }

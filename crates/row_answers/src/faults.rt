@@ -12,11 +12,16 @@ pub struct Fault {
     pub kind: Kind,
 }
 
+// Rules of rows, which nothing has to drop.
+const ONE: &Rules = &Rules::One;
+
+const TWO: &Rules = &Rules::Two;
+
 /// The rules that a row begins with, and what stands behind them: rules Two if it begins with this word, and else rules One.
-pub fn rules_of(row: &str) -> (Rules, &str) {
+pub fn rules_of(row: &str) -> (&'static Rules, &str) {
     match row.strip_prefix("two ") {
-        Some(rest) => (Rules::Two, rest),
-        None => (Rules::One, row),
+        Some(rest) => (TWO, rest),
+        None => (ONE, row),
     }
 }
 

@@ -5,19 +5,29 @@ ghost use Rattle.netlist.specs.Circuit.{source_count};
 use crate::trouble::Trouble;
 use five_valued::{Five, simulate};
 use netlist::Netlist;
-use std::alloc::Global;
+use std::alloc::{AllocError, Global};
 
 /// The values of all lines, by line number, where the sources have those that the words spell, in their order.
 pub fn five_values(alloc: Global, net: &Netlist, words: &str) -> Result<String, Trouble> {
     let partial = sources(alloc, net, words)?;
     let values = simulated(alloc, net, partial.as_slice())?;
+    Ok(values_text(alloc, values.as_slice())?)
+}
+
+// The words of these values.
+fn values_text(alloc: Global, values: &[Five]) -> Result<String, AllocError> {
     let mut text = String::from_str(alloc, " ")?;
-    for value in values.as_slice() {
-        text.push(' ')?;
-        text.push_str(word_of(*value))?;
+    for value in values {
+        add_word(word_of(*value), &mut text)?;
     }
     text.push('\n')?;
     Ok(text)
+}
+
+// A space and a word.
+fn add_word(word: &str, text: &mut String) -> Result<(), AllocError> {
+    text.push(' ')?;
+    text.push_str(word)
 }
 
 // The values of all lines. It promises nothing, so that the answers are not proved over again under the contract of `simulate`.

@@ -1,18 +1,19 @@
 // What is said of the hull below halves of splits.
 ghost use Rattle.std.specs.Prelude.{◌<◌, All, IfOk};
 ghost use Rattle.netlist.specs.Circuit.{line_count, source_count};
+ghost use Rattle.netlist.specs.Paths.{IsPath};
 
 use crate::circuits::name;
-use crate::faults::{fault_of, rules_of};
+use crate::faults::{Fault, fault_of, rules_of};
 use crate::nodes::node_of;
 use crate::paths::path;
 use crate::trouble::Trouble;
 use hulls::{Hull, hull};
 use netlist::Netlist;
-use pd_base::LineId;
+use pd_base::{LineId, OutOfMemory, Path, Rules};
 use runs::Node;
 use state_laws::Half;
-use state_sets::{FourStates, Labels, State, StateSet};
+use state_sets::{State, StateSet};
 use std::alloc::Global;
 
 /// The hull below these halves: the rules, if they are not rules One, transition, kind, and for each half a split, as in a tree, and
@@ -20,26 +21,56 @@ use std::alloc::Global;
 pub fn hull_at(alloc: Global, net: &Netlist, prefix: &str, row: &str) -> Result<String, Trouble> {
     let (rules, row) = rules_of(row);
     let (fault, halves) = fault_of(row)?;
-    let prefix = path(alloc, net, prefix)?;
     let halves = halves_of(alloc, net, halves)?;
-    match hull(
-        alloc,
-        net,
-        &rules,
-        &prefix,
-        fault.direction,
-        fault.kind,
-        halves.as_slice(),
-    )? {
-        Hull::Rest(labels) => states(alloc, net, &labels),
+    let prefix = path(alloc, net, prefix)?;
+    hull_text(alloc, net, rules, &prefix, fault, halves.as_slice())
+}
+
+// The lines of the hull.
+fn hull_text(
+    alloc: Global,
+    net: &Netlist,
+    rules: &Rules,
+    prefix: &Path,
+    fault: Fault,
+    halves: &[Half],
+) -> Result<String, Trouble>
+    requires path { IsPath net.now prefix.now }
+    requires halves { All (λ half. half.source < source_count net.now) halves.now }
+{
+    match hull_of(alloc, net, rules, prefix, fault, halves)? {
+        Hull::Rest(labels) => states_text(alloc, net, labels.as_slice()),
         Hull::Empty(_) => Ok(String::from_str(alloc, "  empty\n")?),
     }
 }
 
-// The states of all lines.
-fn states(alloc: Global, net: &Netlist, labels: &Labels<FourStates>) -> Result<String, Trouble> {
+// The hull. It promises nothing, so that the answers are not proved over again under the contract of `hull`.
+fn hull_of(
+    alloc: Global,
+    net: &Netlist,
+    rules: &Rules,
+    prefix: &Path,
+    fault: Fault,
+    halves: &[Half],
+) -> Result<Hull, OutOfMemory>
+    requires path { IsPath net.now prefix.now }
+    requires halves { All (λ half. half.source < source_count net.now) halves.now }
+{
+    hull(
+        alloc,
+        net,
+        rules,
+        prefix,
+        fault.direction,
+        fault.kind,
+        halves,
+    )
+}
+
+/// A line for each line of the circuit: its name, and the numbers of its states.
+pub fn states_text(alloc: Global, net: &Netlist, sets: &[StateSet]) -> Result<String, Trouble> {
     let mut text = String::new(alloc);
-    for (line, set) in labels.as_slice().iter().enumerate() {
+    for (line, set) in sets.iter().enumerate() {
         if line as u64 >= net.lines() as u64 {
             return Err(Trouble::NoRow);
         }

@@ -1,6 +1,6 @@
 //! Answers to rows of tests, as texts: what a netlist and a delay file say, values, five values, paths, tests, waves, hulls, and what
 //! the judge says of trees. Stands on the readers, the models, the lister, the replay, hulls and refutation_check, and is no part of
-//! the product. The program rows prints the answers; it and search_tests read netlists and paths of their rows by it.
+//! the product. The program rows prints the answers; it and search_answers read netlists, paths and words of their rows by it.
 #![tactic(auto)]
 
 mod circuit_facts;
@@ -23,11 +23,13 @@ mod trouble;
 pub use circuit_facts::{netlist_facts, netlist_text};
 pub use circuits::{read, vector};
 pub use delay_files::delays_text;
+pub use faults::{Fault, fault_of, rules_of};
 pub use fives::five_values;
-pub use halves::hull_at;
+pub use halves::{hull_at, states_text};
 pub use line_values::{steadiness, support_of, values};
+pub use lines::{add_number, yes_or_no};
 pub use listed_paths::listing;
-pub use paths::path;
+pub use paths::{accepted_delays, path};
 pub use replays::{samples, sides, waves};
 pub use single_paths::{comparison, path_facts, verdict};
 pub use texts::{number_of, shown, spelled_out};

@@ -10,7 +10,7 @@ use crate::trouble::Trouble;
 use logic_values::{Steady, evaluate, steady, support};
 use netlist::Netlist;
 use pd_base::{LineId, Pair};
-use std::alloc::Global;
+use std::alloc::{AllocError, Global};
 
 /// The values of all lines under a vector, by line number.
 pub fn values(alloc: Global, net: &Netlist, bits: &str) -> Result<String, Trouble> {
@@ -52,8 +52,13 @@ pub fn steadiness(alloc: Global, net: &Netlist, vectors: &str) -> Result<String,
     let (first, second) = parted(vectors)?;
     let pair = pair(alloc, net, first, second)?;
     let steadiness = steadiness_under(alloc, net, &pair)?;
+    Ok(steadiness_text(alloc, steadiness.as_slice())?)
+}
+
+// A sign for each line.
+fn steadiness_text(alloc: Global, steadiness: &[Steady]) -> Result<String, AllocError> {
     let mut text = String::from_str(alloc, "  ")?;
-    for found in steadiness.as_slice() {
+    for found in steadiness {
         text.push(sign_of(*found))?;
     }
     text.push('\n')?;

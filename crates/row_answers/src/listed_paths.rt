@@ -4,6 +4,7 @@ ghost use Rattle.delay_annotation.specs.Annotation.{Fits};
 ghost use Rattle.netlist.specs.Paths.{IsPath};
 
 use crate::circuits::name;
+use crate::lines::add_number;
 use crate::paths::accepted_delays;
 use crate::single_paths::length_of;
 use crate::texts::number_of;
@@ -21,11 +22,25 @@ pub fn listing(
     file: Option<&str>,
     count: &str,
 ) -> Result<String, Trouble> {
+    let count = number_of(count)?;
     let delays = accepted_delays(alloc, net, file)?;
-    let paths = listed(alloc, net, &delays, number_of(count)?)?;
+    let paths = listed(alloc, net, &delays, count)?;
+    paths_text(alloc, net, &delays, paths.as_slice())
+}
+
+// A line for each path.
+fn paths_text(
+    alloc: Global,
+    net: &Netlist,
+    delays: &Delays,
+    paths: &[Path],
+) -> Result<String, Trouble>
+    requires fits { Fits net.now delays.now }
+    requires paths { All (IsPath net.now) paths.now }
+{
     let mut text = String::new(alloc);
-    for path in paths.as_slice() {
-        add_path(alloc, net, &delays, path, &mut text)?;
+    for path in paths {
+        add_path(alloc, net, delays, path, &mut text)?;
     }
     Ok(text)
 }
@@ -52,9 +67,9 @@ fn add_path(
     requires fits { Fits net.now delays.now }
     requires path { IsPath net.now path.now }
 {
-    let source = name(net, path.source())?;
-    let head = format!(in alloc; "  {} {source}", length_of(net, delays, path))?;
-    text.push_str(head.as_str())?;
+    add_number(alloc, "  ", length_of(net, delays, path), text)?;
+    text.push(' ')?;
+    text.push_str(name(net, path.source())?)?;
     for step in path.steps() {
         add_step(alloc, net, *step, text)?;
     }
@@ -67,8 +82,8 @@ fn add_step(alloc: Global, net: &Netlist, step: PinRef, text: &mut String) -> Re
     if step.gate.0 >= net.gates() {
         return Err(Trouble::NoRow);
     }
-    let gate = name(net, net.line_of(step.gate))?;
-    let step = format!(in alloc; " {gate}:{}", step.pin)?;
-    text.push_str(step.as_str())?;
+    text.push(' ')?;
+    text.push_str(name(net, net.line_of(step.gate))?)?;
+    add_number(alloc, ":", step.pin as u64, text)?;
     Ok(())
 }

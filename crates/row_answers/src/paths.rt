@@ -1,6 +1,7 @@
 // Delays and paths of rows.
-ghost use Rattle.std.specs.Prelude.{All, IfOk};
+ghost use Rattle.std.specs.Prelude.{◌<◌, All, IfOk, IfSome};
 ghost use Rattle.delay_annotation.specs.Annotation.{Fits};
+ghost use Rattle.netlist.specs.Circuit.{gate_count};
 ghost use Rattle.netlist.specs.Pins.{IsPin};
 ghost use Rattle.netlist.specs.Paths.{IsPath};
 
@@ -9,7 +10,7 @@ use crate::trouble::Trouble;
 use delay_annotation::{DelayFault, Delays, read_delays};
 use netlist::Netlist;
 use path_model::is_path;
-use pd_base::{Path, PinRef};
+use pd_base::{GateId, Path, PinRef};
 use std::alloc::Global;
 
 // The most bytes of a delay file that a row may have.
@@ -56,14 +57,23 @@ pub fn path(alloc: Global, net: &Netlist, row: &str) -> Result<Path, Trouble>
 pub fn route(alloc: Global, net: &Netlist, row: &str) -> Result<Path, Trouble>
     ensures { IfOk result (λ route. All (IsPin net.now) route.steps) }
 {
-    let mut words = row.split(' ');
-    let source = words.next().ok_or(Trouble::NoRow)?;
+    let (source, steps) = row.split_once(' ').unwrap_or((row, ""));
     let source = net.find(source.as_bytes()).ok_or(Trouble::NoRow)?;
-    let mut steps = Vec::new(alloc);
-    for word in words {
-        steps.push(step(net, word)?)?;
-    }
+    let steps = steps_of(alloc, net, steps)?;
     Ok(Path::new(alloc, source, steps.as_slice())?)
+}
+
+// The steps of a route.
+fn steps_of(alloc: Global, net: &Netlist, row: &str) -> Result<Vec<PinRef>, Trouble>
+    ensures { IfOk result (λ steps. All (IsPin net.now) steps.items) }
+{
+    let mut steps = Vec::new(alloc);
+    for word in row.split(' ') {
+        if !word.is_empty() {
+            steps.push(step(net, word)?)?;
+        }
+    }
+    Ok(steps)
 }
 
 // A step of a route.
@@ -71,13 +81,16 @@ fn step(net: &Netlist, word: &str) -> Result<PinRef, Trouble>
     ensures { IfOk result (λ step. IsPin net.now step) }
 {
     let (gate, pin) = word.split_once(':').ok_or(Trouble::NoRow)?;
-    let line = net.find(gate.as_bytes()).ok_or(Trouble::NoRow)?;
     let pin = number_of(pin)?;
-    let Some(gate) = net.gate_of(line) else {
-        return Err(Trouble::NoRow);
-    };
-    if pin as usize >= net.pins(gate).len() {
-        return Err(Trouble::NoRow);
+    match gate_named(net, gate) {
+        Some(gate) if (pin as usize) < net.pins(gate).len() => Ok(PinRef { gate, pin }),
+        _ => Err(Trouble::NoRow),
     }
-    Ok(PinRef { gate, pin })
+}
+
+// The gate whose line has this name.
+fn gate_named(net: &Netlist, name: &str) -> Option<GateId>
+    ensures { IfSome result (λ gate. gate.0 < gate_count net.now) }
+{
+    net.gate_of(net.find(name.as_bytes())?)
 }

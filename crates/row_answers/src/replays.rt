@@ -22,23 +22,40 @@ pub fn waves(
     vectors: &str,
 ) -> Result<String, Trouble> {
     let waves = waves_under(alloc, net, file, vectors)?;
+    waves_text(alloc, net, waves.as_slice())
+}
+
+// A line for each line of the circuit.
+fn waves_text(alloc: Global, net: &Netlist, waves: &[Wave]) -> Result<String, Trouble>
+    requires { length waves.now ≡ line_count net.now }
+{
     let mut text = String::new(alloc);
     for line in 0..net.lines() {
-        text.push_str("  ")?;
-        text.push_str(name(net, LineId(line))?)?;
-        add_wave(alloc, &waves[line as usize], &mut text)?;
+        add_line(
+            alloc,
+            name(net, LineId(line))?,
+            &waves[line as usize],
+            &mut text,
+        )?;
     }
     Ok(text)
 }
 
-// The value before all changes, the times of the changes, and the end of the line.
-fn add_wave(alloc: Global, wave: &Wave, text: &mut String) -> Result<(), AllocError> {
+// A line: a name, the value before all changes, and the times of the changes.
+fn add_line(alloc: Global, name: &str, wave: &Wave, text: &mut String) -> Result<(), AllocError> {
+    text.push_str("  ")?;
+    text.push_str(name)?;
     text.push_str(if wave.earliest() { " 1" } else { " 0" })?;
     for time in wave.changes() {
-        let time = format!(in alloc; " {time}")?;
-        text.push_str(time.as_str())?;
+        add_time(alloc, *time, text)?;
     }
     text.push('\n')
+}
+
+// A time.
+fn add_time(alloc: Global, time: i64, text: &mut String) -> Result<(), AllocError> {
+    let time = format!(in alloc; " {time}")?;
+    text.push_str(time.as_str())
 }
 
 // The waves of all lines under two vectors.
@@ -83,7 +100,14 @@ pub fn samples(
     let (time, vectors) = parted(row)?;
     let time = time_of(time)?;
     let waves = waves_under(alloc, net, file, vectors)?;
-    let sampled = sampled(alloc, net, waves.as_slice(), time)?;
+    sampled_line(alloc, net, waves.as_slice(), time)
+}
+
+// The line of a sample.
+fn sampled_line(alloc: Global, net: &Netlist, waves: &[Wave], time: i64) -> Result<String, Trouble>
+    requires { length waves.now ≡ line_count net.now }
+{
+    let sampled = sampled(alloc, net, waves, time)?;
     Ok(bits_line(alloc, sampled.as_slice())?)
 }
 
@@ -119,9 +143,24 @@ fn have_settled(
     let (first, rest) = parted(row)?;
     let (second, row) = parted(rest)?;
     let delays = accepted_delays(alloc, net, file)?;
-    let path = path(alloc, net, row)?;
     let waves = replayed(alloc, net, &delays, first, second)?;
-    Ok(settled(net, &delays, waves.as_slice(), &path, time))
+    is_settled(alloc, net, &delays, waves.as_slice(), row, time)
+}
+
+// The same of these waves.
+fn is_settled(
+    alloc: Global,
+    net: &Netlist,
+    delays: &Delays,
+    waves: &[Wave],
+    row: &str,
+    time: i64,
+) -> Result<bool, Trouble>
+    requires fits { Fits net.now delays.now }
+    requires waves { length waves.now ≡ line_count net.now }
+{
+    let path = path(alloc, net, row)?;
+    Ok(settled(net, delays, waves, &path, time))
 }
 
 // A time.

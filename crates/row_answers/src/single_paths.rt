@@ -29,8 +29,20 @@ pub fn path_facts(
     if !is_path(net, &route) {
         return Ok(String::from_str(alloc, "  no path\n")?);
     }
+    length_under(alloc, net, file, &route)
+}
+
+// How long a path is under the delays of a file.
+fn length_under(
+    alloc: Global,
+    net: &Netlist,
+    file: Option<&str>,
+    path: &Path,
+) -> Result<String, Trouble>
+    requires { IsPath net.now path.now }
+{
     let delays = accepted_delays(alloc, net, file)?;
-    Ok(length_line(alloc, length_of(net, &delays, &route))?)
+    Ok(length_line(alloc, length_of(net, &delays, path))?)
 }
 
 // The line of a length.
@@ -56,8 +68,22 @@ pub fn comparison(
     let (one, other) = row.split_once(" / ").ok_or(Trouble::NoRow)?;
     let one = path(alloc, net, one)?;
     let other = path(alloc, net, other)?;
+    compared(alloc, net, file, &one, &other)
+}
+
+// How two paths compare under the delays of a file.
+fn compared(
+    alloc: Global,
+    net: &Netlist,
+    file: Option<&str>,
+    one: &Path,
+    other: &Path,
+) -> Result<String, Trouble>
+    requires one { IsPath net.now one.now }
+    requires other { IsPath net.now other.now }
+{
     let delays = accepted_delays(alloc, net, file)?;
-    Ok(String::from_str(alloc, order_line(net, &delays, &one, &other))?)
+    Ok(String::from_str(alloc, order_line(net, &delays, one, other))?)
 }
 
 // How two paths compare, as a line.

@@ -7,13 +7,11 @@ pub fn spelled_out(alloc: Global, row: &str) -> Result<String, AllocError> {
     let mut text = String::new(alloc);
     let mut in_sign = false;
     for letter in row.chars() {
-        if in_sign {
-            text.push(meant(letter))?;
-            in_sign = false;
-        } else if letter == '\\' {
+        if letter == '\\' && !in_sign {
             in_sign = true;
         } else {
-            text.push(letter)?;
+            text.push(if in_sign { meant(letter) } else { letter })?;
+            in_sign = false;
         }
     }
     Ok(text)
@@ -38,13 +36,18 @@ fn meant(letter: char) -> char {
 pub fn shown(alloc: Global, text: &str) -> Result<String, AllocError> {
     let mut shown = String::new(alloc);
     for letter in text.chars() {
-        if letter == '\n' {
-            shown.push_str("\\n")?;
-        } else {
-            shown.push(letter)?;
-        }
+        add_shown(letter, &mut shown)?;
     }
     Ok(shown)
+}
+
+// A letter, or the sign of LF.
+fn add_shown(letter: char, shown: &mut String) -> Result<(), AllocError> {
+    if letter == '\n' {
+        shown.push_str("\\n")
+    } else {
+        shown.push(letter)
+    }
 }
 
 /// The first word, and what stands behind the space after it.

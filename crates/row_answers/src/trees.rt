@@ -15,7 +15,7 @@ pub fn refutes(alloc: Global, net: &Netlist, prefix: &str, row: &str) -> Result<
     let (rules, row) = rules_of(row);
     let (fault, nodes) = fault_of(row)?;
     let tree = tree_of(alloc, nodes)?;
-    judged(alloc, net, &rules, prefix, fault, &tree)
+    judged(alloc, net, rules, prefix, fault, &tree)
 }
 
 /// What `check_tree` says of a tree of so many splits, all on the first source, each in the first half of the one before: the
@@ -25,20 +25,24 @@ pub fn deep(alloc: Global, net: &Netlist, prefix: &str, row: &str) -> Result<Str
     let (splits, rest) = parted(row)?;
     let (fault, _) = fault_of(rest)?;
     let tree = deep_tree(alloc, number_of(splits)?)?;
-    judged(alloc, net, &rules, prefix, fault, &tree)
+    judged(alloc, net, rules, prefix, fault, &tree)
 }
 
 // The tree of so many splits.
 fn deep_tree(alloc: Global, splits: u32) -> Result<Tree, Trouble> {
     let mut nodes = Vec::new(alloc);
-    for _ in 0..splits {
-        nodes.push(Node::Value(0))?;
-    }
-    for _ in 0..splits {
-        nodes.push(Node::Closed)?;
-    }
+    push_each(&mut nodes, Node::Value(0), splits)?;
+    push_each(&mut nodes, Node::Closed, splits)?;
     nodes.push(Node::Closed)?;
     whole(nodes)
+}
+
+// So many of these nodes.
+fn push_each(nodes: &mut Vec<Node>, node: Node, count: u32) -> Result<(), Trouble> {
+    for _ in 0..count {
+        nodes.push(node)?;
+    }
+    Ok(())
 }
 
 // What `check_tree` says of a tree.
@@ -70,7 +74,7 @@ pub fn spent(alloc: Global, net: &Netlist, prefix: &str, row: &str) -> Result<St
     let budget = number_of(budget)?;
     let (fault, nodes) = fault_of(rest)?;
     let tree = tree_of(alloc, nodes)?;
-    judged_spent(alloc, net, &rules, prefix, fault, budget, &tree)
+    judged_spent(alloc, net, rules, prefix, fault, budget, &tree)
 }
 
 // What `check_spent` says of a budget and a tree.

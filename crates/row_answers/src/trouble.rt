@@ -4,7 +4,7 @@ use std::alloc::{AllocError, AllocFailed};
 use std::io;
 
 /// Why a row can't be played.
-#[derive(Debug, Drop)]
+#[derive(Clone, Copy, Debug)]
 pub enum Trouble {
     /// The line is no row.
     NoRow,
@@ -13,7 +13,7 @@ pub enum Trouble {
     /// Memory ran out.
     NoMemory,
     /// A line could not be read or printed.
-    Io(io::Error),
+    NoStream,
 }
 
 impl From<OutOfMemory> for Trouble {
@@ -35,7 +35,7 @@ impl<T: Drop> From<AllocFailed<T>> for Trouble {
 }
 
 impl From<io::Error> for Trouble {
-    fn from(error: io::Error) -> Trouble {
-        Trouble::Io(error)
+    fn from(_: io::Error) -> Trouble {
+        Trouble::NoStream
     }
 }

@@ -1,17 +1,20 @@
 //! Plays rows and prints what came of each: what a netlist's text says, values, delays, paths and tests, waves, hulls and trees of
-//! cases; what is read of the files of a run; and whole calls over files and streams in memory. The rows are this crate's stdin; what
-//! they have to print, its stdout, was worked out by hand. Stands on row_answers, pattern_writer, verdict_report and commands, and is
-//! no part of the product.
+//! cases, searches; what is read of the files of a run; and whole calls over files and streams in memory. The rows are this crate's
+//! stdin; what they have to print, its stdout, was worked out by hand. In the end it is the program `pdfgen` once more, for words that
+//! are refused (the file `args`): it ends with their status (the file `status`), and writes nothing more on out. Stands on row_answers,
+//! search_answers, pattern_writer, verdict_report and commands, and is no part of the product.
 #![tactic(auto)]
 
 mod chain;
 mod claims;
 mod questions;
 mod row;
+mod searches;
 mod subject;
 mod table;
 mod wide;
 
+use commands::serve;
 use row::Row;
 use row_answers::Trouble;
 use std::alloc::Global;
@@ -21,7 +24,7 @@ use table::Table;
 
 fn main(rt: HostRuntime) -> ExitCode {
     match play_all(&rt) {
-        Ok(()) => ExitCode::SUCCESS,
+        Ok(()) => serve(rt),
         Err(_) => ExitCode::FAILURE,
     }
 }
@@ -30,9 +33,14 @@ fn main(rt: HostRuntime) -> ExitCode {
 fn play_all(rt: &HostRuntime) -> Result<(), Trouble> {
     let mut table = Table::new(rt.alloc());
     let mut subject = Subject::new(rt.alloc());
+    play_lines(rt, &mut table, &mut subject)
+}
+
+// Plays the rows of stdin.
+fn play_lines(rt: &HostRuntime, table: &mut Table, subject: &mut Subject) -> Result<(), Trouble> {
     for line in rt.lines(rt.alloc()) {
         let line = line?;
-        play(rt, &mut table, &mut subject, line.as_str())?;
+        play(rt, table, subject, line.as_str())?;
     }
     Ok(())
 }
@@ -50,10 +58,17 @@ fn play(
         Row::Show(names) => table.show(names)?,
         Row::Fail(object, nth) => table.fail(object, nth)?,
         row => {
-            println!(rt; "{line}")?;
-            print!(rt; "{}", answer(rt.alloc(), table, subject, row)?)?;
+            let answer = answer(rt.alloc(), table, subject, row)?;
+            print(rt, line, answer.as_str())?;
         }
     }
+    Ok(())
+}
+
+// Prints a row and its answer.
+fn print(rt: &HostRuntime, line: &str, answer: &str) -> Result<(), Trouble> {
+    println!(rt; "{line}")?;
+    print!(rt; "{answer}")?;
     Ok(())
 }
 

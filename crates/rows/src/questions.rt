@@ -1,5 +1,5 @@
 // The rows that are questions to the last netlist.
-use crate::claims;
+use crate::searches;
 use crate::subject::Subject;
 use row_answers::Trouble;
 use std::alloc::Global;
@@ -43,7 +43,7 @@ pub fn asked(alloc: Global, subject: &Subject, word: &str, row: &str) -> Result<
         "spent" => row_answers::spent(alloc, net, prefix, row),
         // whether a tree of so many splits refutes, each in the first half of the one before: the number, transition, kind
         "deep" => row_answers::deep(alloc, net, prefix, row),
-        // what is read of a file of a run, or no question
-        _ => claims::read(alloc, net, word, row),
+        // a question about searches, or none
+        _ => searches::asked(alloc, net, delays, prefix, word, row),
     }
 }

@@ -3,7 +3,7 @@ use pd_io::FileCall;
 use row_answers::{Trouble, number_of};
 
 /// What fails: a call of the files, or a write on out or err.
-#[derive(Clone, Copy, Debug)]
+#[derive(Clone, Copy)]
 pub enum Object {
     /// Such a call of the files.
     Files(FileCall),
@@ -14,7 +14,7 @@ pub enum Object {
 }
 
 /// One row.
-#[derive(Clone, Copy, Debug)]
+#[derive(Clone, Copy)]
 pub enum Row<'a> {
     /// A line for the reader: empty, or behind `#`.
     Heading,

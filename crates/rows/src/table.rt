@@ -55,15 +55,20 @@ impl Table {
 
     /// A call with these words: what came of it, line by line.
     pub fn call(&mut self, words: &[&str]) -> Result<String, Trouble> {
-        let alloc = self.alloc;
         let mut files = self.files()?;
-        let mut out = MemorySink::new(alloc);
-        let mut err = MemorySink::new(alloc);
-        self.plan_failures(&mut files, &mut out, &mut err)?;
-        self.failing.clear();
-        let mut came = told(alloc, words, &mut files, &mut out, &mut err)?;
+        let mut came = self.call_over(words, &mut files)?;
         self.add_changed(&mut came, &files)?;
         Ok(came)
+    }
+
+    // A call over these files: its status, and what err and out took.
+    fn call_over(&mut self, words: &[&str], files: &mut MemoryFiles) -> Result<String, Trouble> {
+        let alloc = self.alloc;
+        let mut out = MemorySink::new(alloc);
+        let mut err = MemorySink::new(alloc);
+        self.plan_failures(files, &mut out, &mut err)?;
+        self.failing.clear();
+        told(alloc, words, files, &mut out, &mut err)
     }
 
     // Makes the calls fail that are to fail.
@@ -117,8 +122,23 @@ impl Table {
     }
 }
 
-/// A call over these files and streams: its status, and what err and out took.
-pub fn told(
+/// A call of these words, in which `net` stands for this netlist, and `delays` for unit delays: its status, and what err and out took.
+pub fn call_on(alloc: Global, net: &str, words: &[&str]) -> Result<String, Trouble> {
+    let mut files = MemoryFiles::new(alloc);
+    files.put("net", net.as_bytes())?;
+    files.put("delays", b"gate,pin,delay\n")?;
+    told_over(alloc, words, &mut files)
+}
+
+// A call over these files.
+fn told_over(alloc: Global, words: &[&str], files: &mut MemoryFiles) -> Result<String, Trouble> {
+    let mut out = MemorySink::new(alloc);
+    let mut err = MemorySink::new(alloc);
+    told(alloc, words, files, &mut out, &mut err)
+}
+
+// A call over these files and streams: its status, and what err and out took.
+fn told(
     alloc: Global,
     words: &[&str],
     files: &mut MemoryFiles,
@@ -144,9 +164,16 @@ fn add_taken(alloc: Global, came: &mut String, name: &str, bytes: &[u8]) -> Resu
 fn add(alloc: Global, came: &mut String, name: &str, bytes: &[u8]) -> Result<(), Trouble> {
     let text = str::from_utf8(bytes).map_err(|_| Trouble::NoText)?;
     let shown = shown(alloc, text)?;
-    let line = format!(in alloc; "  {name} {shown}\n")?;
-    came.push_str(line.as_str())?;
-    Ok(())
+    Ok(add_line(came, name, shown.as_str())?)
+}
+
+// The same of a text as it is shown.
+fn add_line(came: &mut String, name: &str, shown: &str) -> Result<(), AllocError> {
+    came.push_str("  ")?;
+    came.push_str(name)?;
+    came.push(' ')?;
+    came.push_str(shown)?;
+    came.push('\n')
 }
 
 // The status of a call. It promises nothing, so that what is printed is not proved over again under the contract of `run`.

@@ -1,3 +1,4 @@
 pub mod FourInversions
+pub mod FourJoins
 pub mod FourSets
 pub mod FourTables

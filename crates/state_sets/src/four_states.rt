@@ -1,11 +1,11 @@
 // The four states of the project's definitions: steady or not, with the value under the second vector.
 ghost use Rattle.std.specs.Prelude.{◌≡◌, ◌<◌, ◌+◌, ◌*◌, length, slice_index_or, not, refl};
-ghost use Rattle.state_sets.specs.FourStates.{four_states, four_state, four_stays, four_last};
-ghost use Rattle.state_sets.specs.StateAlgebra.{joined_bit, unit_bit};
+ghost use Rattle.state_sets.specs.FourStates.{four_states, four_state, four_last};
 ghost use Rattle.state_sets.specs.FourLaws.{four_laws};
 
 use crate::four_tables::{
-    AND_SETS, AND_SUPPORTS, INVERTED_SETS, OR_SETS, OR_SUPPORTS, XOR_SETS, XOR_SUPPORTS,
+    AND_SETS, AND_STATES, AND_SUPPORTS, INVERTED_SETS, OR_SETS, OR_STATES, OR_SUPPORTS, XOR_SETS,
+    XOR_STATES, XOR_SUPPORTS,
 };
 use crate::{Algebra, State, StateSet};
 use netlist::{Op, SideCondition};
@@ -22,7 +22,11 @@ impl Algebra for FourStates {
     ghost algebra = { four_states };
 
     fn join(op: Op, a: State, b: State) -> State {
-        state_of(stays_steady(op, a, b), join_bits(op, is_one(a), is_one(b)))
+        match op {
+            Op::And => state_in(&AND_STATES, a, b),
+            Op::Or => state_in(&OR_STATES, a, b),
+            Op::Xor => state_in(&XOR_STATES, a, b),
+        }
     }
 
     fn unit(op: Op) -> State {
@@ -111,27 +115,14 @@ fn state_of(steady: bool, last: bool) -> State
     }
 }
 
-// What an operation makes of two bits.
-fn join_bits(op: Op, a: bool, b: bool) -> bool
-    ensures { result ≡ joined_bit op a b }
+// The state that a table has for two states.
+fn state_in(table: &[u8], a: State, b: State) -> State
+    requires first { a.0 < 4 }
+    requires second { b.0 < 4 }
+    requires places { length table.now ≡ 16 }
+    ensures { result.0 ≡ slice_index_or table.now (a.0 * 4 + b.0) 0 }
 {
-    match op {
-        Op::And => a && b,
-        Op::Or => a || b,
-        Op::Xor => a != b,
-    }
-}
-
-// Whether the join of two states is steady.
-fn stays_steady(op: Op, a: State, b: State) -> bool
-    ensures { result ≡ four_stays op a b }
-{
-    let both = a.0 < 2 && b.0 < 2;
-    match op {
-        Op::And => both || a.0 == 0 || b.0 == 0,
-        Op::Or => both || a.0 == 1 || b.0 == 1,
-        Op::Xor => both,
-    }
+    State(table[(a.0 as usize) * 4 + b.0 as usize])
 }
 
 // The set that a table has for two sets.

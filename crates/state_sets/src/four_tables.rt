@@ -1,6 +1,15 @@
 // What operations make of sets of the four states, as tables: place 16 * a + b of a table of joins has what the operation makes of
 // one state of set a and one of set b, and place 16 * rest + target of a table of supports the states that the operation joins with
-// some state of the rest into the target.
+// some state of the rest into the target. Place 4 * a + b of a table of states has what the operation makes of states a and b.
+
+// What AND makes of two states.
+pub(crate) static AND_STATES: [u8; 16] = [0, 0, 0, 0, 0, 1, 2, 3, 0, 2, 2, 2, 0, 3, 2, 3];
+
+// What OR makes of two states.
+pub(crate) static OR_STATES: [u8; 16] = [0, 1, 2, 3, 1, 1, 1, 1, 2, 1, 2, 3, 3, 1, 3, 3];
+
+// What XOR makes of two states.
+pub(crate) static XOR_STATES: [u8; 16] = [0, 1, 2, 3, 1, 0, 3, 2, 2, 3, 2, 3, 3, 2, 3, 2];
 
 // What AND makes of two sets, 16 places for each first set.
 pub(crate) static AND_SETS: [u8; 256] = [

@@ -1,3 +1,4 @@
+pub mod LadderLine
 pub mod PlainTexts
 pub mod ProofsReading
 pub mod ProofsText

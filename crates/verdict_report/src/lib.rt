@@ -1,9 +1,11 @@
 //! The report and the proofs file both ways, and the line of counts that a run ends with.
-//! Stands on pd_base, netlist, runs (lawful reports and proofs), text_pieces, csv and itoa. The layers above use
-//! `report_text`, `read_report`, `proofs_text`, `read_proofs` and `summary_text`; a program that measures uses `steps_text`.
+//! Stands on pd_base, pd_io, netlist, runs (lawful reports and proofs), text_pieces, csv and itoa. The layers above use
+//! `ReportPieces`, `report_text`, `read_report`, `ProofsPieces`, `proofs_text`, `read_proofs`, `summary_text` and `ladder_line`; a program that
+//! measures uses `steps_text`.
 #![tactic(auto)]
 
 mod fault;
+mod ladder;
 mod proof_head;
 mod proof_line;
 mod proofs_file;
@@ -19,9 +21,10 @@ mod steps;
 mod summary;
 
 pub use fault::TextFault;
-pub use proofs_file::proofs_text;
+pub use ladder::ladder_line;
+pub use proofs_file::{ProofsPieces, proofs_text};
 pub use proofs_reading::read_proofs;
-pub use report::report_text;
+pub use report::{ReportPieces, report_text};
 pub use report_reading::read_report;
 pub use steps::steps_text;
 pub use summary::summary_text;

@@ -14,6 +14,9 @@ use runs::{Node, Proof, Tree};
 use std::alloc::Global;
 use text_pieces::{next_word, read_number};
 
+// For how many nodes room is taken at once, at most. So a long line of spaces takes no memory.
+const MOST_ROOM: usize = 1_048_576;
+
 /// The proof of this number that a line without its LF tells.
 pub(crate) fn read_proof(
     alloc: Global,
@@ -51,7 +54,7 @@ fn read_nodes(
 ) -> Result<Option<Vec<Node>>, OutOfMemory>
     ensures { IfOk result (λ read. Reads (λ nodes. map node_text nodes) (All (IsOnSource net.now)) (words_left left.entry) (option_map items_of read)) }
 {
-    let mut nodes = Vec::new(alloc);
+    let mut nodes = Vec::with_capacity(alloc, word_count(left).min(MOST_ROOM))?;
     let mut rest = left;
     while let Some((word, behind)) = next_word(rest) {
         let Some(node) = read_node(net, word) else {
@@ -61,6 +64,18 @@ fn read_nodes(
         rest = behind;
     }
     Ok(Some(nodes))
+}
+
+// How many words are left of a line.
+fn word_count(left: Option<&[u8]>) -> usize {
+    let Some(text) = left else {
+        return 0;
+    };
+    let mut count: usize = 1;
+    for byte in text {
+        count = count.wrapping_add(usize::from(*byte == b' '));
+    }
+    count
 }
 
 // The node that a word spells.

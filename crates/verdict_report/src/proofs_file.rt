@@ -1,25 +1,58 @@
-// The proofs file, written. It is read in proofs_reading.rt.
-ghost use Rattle.std.specs.Prelude.{◌≡◌, ◌++◌, IfOk, OnOk, decimal, flat_map};
-ghost use Rattle.runs.specs.Lawful.{AreLawfulProofs};
-ghost use Rattle.verdict_report.specs.ProofsText.{claim_word, node_text, proof_text, proofs_text, version_line};
+// The proofs file, written piece by piece. It is read in proofs_reading.rt.
+ghost use Rattle.std.specs.Prelude.{◌≡◌, ◌+◌, ◌++◌, IfOk, OnOk, decimal, drop, flat_map, length};
+ghost use Rattle.runs.specs.Lawful.{AreLawfulProofs, IsLawfulProof};
+ghost use Rattle.verdict_report.specs.ProofsText.{claim_word, node_text, proof_text, proofs_form, proofs_text, version_line};
+ghost use Rattle.text_pieces.specs.LineFiles.{lines_text};
 ghost use Rattle.text_pieces.specs.Tokens.{after_space, line};
 
 use pd_base::{OutOfMemory, Rules, push_decimal};
+use pd_io::{Pieces, whole_text};
 use runs::{Node, Proof, Run};
 use std::alloc::Global;
 use text_pieces::{direction_word, kind_word, push_spaced, push_spaced_number};
 
-/// The text of the proofs file of a run: the version of the run's rules, and a line for each proof, numbered from 1. The
-/// proofs must be lawful as far as no circuit is asked. It fails only where memory runs out.
+/// The proofs file, piece by piece: the version of the rules, and then a line for each proof, numbered from 1.
+#[derive(Clone, Copy)]
+pub struct ProofsPieces<'a> {
+    /// The rules under which the proofs are judged.
+    pub rules: &'a Rules,
+    /// The proofs.
+    pub proofs: &'a [Proof],
+}
+
+impl Pieces for ProofsPieces<'_> {
+    ghost can_spell = { λ pieces. AreLawfulProofs pieces.proofs.now };
+
+    ghost text = { λ pieces. proofs_text pieces.rules.now pieces.proofs.now };
+
+    ghost total = { λ pieces. length pieces.proofs.now };
+
+    ghost left = { λ pieces index. lines_text (proofs_form IsLawfulProof) (index + 1) (drop index pieces.proofs.now) };
+
+    fn count(&self) -> usize {
+        self.proofs.len()
+    }
+
+    fn push_head(&self, out: &mut Vec<u8>) -> Result<(), OutOfMemory> {
+        Ok(out.extend_from_slice(version_line(self.rules))?)
+    }
+
+    fn push_item(&self, index: usize, out: &mut Vec<u8>) -> Result<(), OutOfMemory> {
+        push_proof_line(out, index as u64 + 1, &self.proofs[index])
+    }
+}
+
+/// The text of the proofs file of a run, whole. The proofs must be lawful as far as no circuit is asked. It fails only where memory
+/// runs out.
 pub fn proofs_text(alloc: Global, run: &Run) -> Result<Vec<u8>, OutOfMemory>
     requires { AreLawfulProofs run.now.proofs }
     ensures { IfOk result (λ text. text.items ≡ proofs_text run.now.rules run.now.proofs) }
 {
-    let mut text = Vec::from_slice(alloc, version_line(&run.rules))?;
-    for (index, proof) in run.proofs.as_slice().iter().enumerate() {
-        push_proof_line(&mut text, index as u64 + 1, proof)?;
-    }
-    Ok(text)
+    let pieces = ProofsPieces {
+        rules: &run.rules,
+        proofs: run.proofs.as_slice(),
+    };
+    whole_text(alloc, &pieces)
 }
 
 /// The first line of a file of proofs that are judged under these rules, with its LF.

@@ -1,66 +1,106 @@
-// The report: its header and two rows per listed path, each written with csv.
-ghost use Rattle.std.specs.Prelude.{◌≡◌, ◌++◌, All, IfOk, OnOk, flat_map};
-ghost use Rattle.netlist.specs.Pins.{IsPin};
+// The report, written piece by piece: its header and two rows per listed path, each written with csv.
+ghost use Rattle.std.specs.Prelude.{◌≡◌, ◌+◌, ◌++◌, IfOk, OnOk, drop, flat_map, length};
 ghost use Rattle.runs.specs.Lawful.{IsLawfulReport, IsNameable};
-ghost use Rattle.verdict_report.specs.PlainTexts.{HasPlainNames};
+ghost use Rattle.verdict_report.specs.PlainTexts.{HasPlainNames, IsPlainReport};
 ghost use Rattle.verdict_report.specs.ReportRows.{ArePlain, IsBetweenRows, both_rows, rows_text};
-ghost use Rattle.verdict_report.specs.ReportText.{path_rows, report_text, row_line};
+ghost use Rattle.verdict_report.specs.ReportText.{path_rows, report_rows, report_text, row_line};
 
 use crate::rows::{PathTexts, digits_of, write_fault, write_header};
 use crate::steps::steps_text;
 use csv::{Writer, WriterBuilder};
 use itoa::Buffer;
 use netlist::Netlist;
-use pd_base::{Direction, OutOfMemory, PinRef};
+use pd_base::{Direction, OutOfMemory};
+use pd_io::{Pieces, whole_text};
 use runs::{ListedPath, Run};
 use std::alloc::Global;
+use std::mem;
 
-// The most bytes of a row beside its steps, and no fewer than those of the header: a source's name, three numbers and a length of 20
-// digits each, two words, commas and LF.
-const MOST_ROW_BYTES: usize = 384;
+/// The report, piece by piece: its header, and then for each path a row for the rising transition and one for the falling one.
+#[derive(Clone, Copy)]
+pub struct ReportPieces<'a> {
+    /// The netlist of the paths.
+    pub net: &'a Netlist,
+    /// The paths.
+    pub paths: &'a [ListedPath],
+}
 
-/// The text of the report of a run: the header, and for each path a row for the rising transition and one for the
-/// falling one. The run's report must be lawful for the circuit, and no line's name may call for quotes.
+impl Pieces for ReportPieces<'_> {
+    ghost can_spell = { λ pieces. IsPlainReport pieces.net.now pieces.paths.now };
+
+    ghost text = { λ pieces. report_text pieces.net.now pieces.paths.now };
+
+    ghost total = { λ pieces. length pieces.paths.now };
+
+    ghost left = { λ pieces index.
+        flat_map row_line (report_rows pieces.net.now (index + 1) (drop index pieces.paths.now)) };
+
+    fn count(&self) -> usize {
+        self.paths.len()
+    }
+
+    fn push_head(&self, out: &mut Vec<u8>) -> Result<(), OutOfMemory> {
+        let mut rows = rows_behind(out);
+        write_header(&mut rows)?;
+        *out = text_of(rows)?;
+        Ok(())
+    }
+
+    fn push_item(&self, index: usize, out: &mut Vec<u8>) -> Result<(), OutOfMemory> {
+        push_path(out, self.net, index as u64 + 1, &self.paths[index])
+    }
+}
+
+/// The text of the report of a run, whole. The run's report must be lawful for the circuit, and no line's name may call for
+/// quotes. It fails only where memory runs out.
 pub fn report_text(alloc: Global, net: &Netlist, run: &Run) -> Result<Vec<u8>, OutOfMemory>
     requires lawful { IsLawfulReport net.now run.now.paths }
     requires names { HasPlainNames net.now }
     ensures { IfOk result (λ text. text.items ≡ report_text net.now run.now.paths) }
 {
-    let text = Vec::with_capacity(alloc, room_for(net, run.paths.as_slice()))?;
-    let mut rows = WriterBuilder::new().from_writer(text);
-    write_header(&mut rows)?;
-    for (index, listed) in run.paths.as_slice().iter().enumerate() {
-        write_path(alloc, &mut rows, net, index as u64 + 1, listed)?;
-    }
+    let pieces = ReportPieces {
+        net,
+        paths: run.paths.as_slice(),
+    };
+    whole_text(alloc, &pieces)
+}
+
+// Appends the two rows of a path.
+fn push_path(
+    out: &mut Vec<u8>,
+    net: &Netlist,
+    number: u64,
+    listed: &ListedPath,
+) -> Result<(), OutOfMemory>
+    requires names { HasPlainNames net.now }
+    requires path { IsNameable net.now listed.now.path }
+    ensures { OnOk result (out.new.items
+        ≡ out.old.items ++ flat_map row_line (path_rows net.now number listed.now)) }
+{
+    let alloc = *out.allocator();
+    let mut rows = rows_behind(out);
+    write_path(alloc, &mut rows, net, number, listed)?;
+    *out = text_of(rows)?;
+    Ok(())
+}
+
+// A writer of rows behind these bytes, which it takes.
+fn rows_behind(bytes: &mut Vec<u8>) -> Writer<Vec<u8>>
+    ensures ready { IsBetweenRows result }
+    ensures text { rows_text result ≡ bytes.old.items }
+{
+    let alloc = *bytes.allocator();
+    WriterBuilder::new().from_writer(mem::replace(bytes, Vec::new(alloc)))
+}
+
+// All that was written.
+fn text_of(rows: Writer<Vec<u8>>) -> Result<Vec<u8>, OutOfMemory>
+    ensures { IfOk result (λ text. text.items ≡ rows_text rows) }
+{
     match rows.into_inner() {
         Ok(text) => Ok(text),
         Err(_) => Err(OutOfMemory),
     }
-}
-
-// No fewer bytes than the report has. So its text is made in one place, whose end is never touched where it stays empty.
-fn room_for(net: &Netlist, paths: &[ListedPath]) -> usize
-    requires { All (λ listed. IsNameable net.now listed.path) paths.now }
-{
-    let mut room = MOST_ROW_BYTES;
-    for listed in paths {
-        let steps = steps_room(net, listed.path.steps());
-        let row = steps.saturating_add(MOST_ROW_BYTES);
-        room = room.saturating_add(row.saturating_mul(2));
-    }
-    room
-}
-
-// No fewer bytes than the steps of a path have: each has a name, a colon, a pin's number of four digits at most, and a space or a comma.
-fn steps_room(net: &Netlist, steps: &[PinRef]) -> usize
-    requires { All (IsPin net.now) steps.now }
-{
-    let mut room = 0usize;
-    for step in steps {
-        let name = net.name(net.line_of(step.gate));
-        room = room.saturating_add(name.len()).saturating_add(6);
-    }
-    room
 }
 
 // Writes the two rows of a path.

@@ -1,7 +1,7 @@
 // The line of counts that a run ends with.
 ghost use Rattle.std.specs.Prelude.{◌≡◌, ◌+◌, ◌-◌, ◌++◌, ◌^◌, ◌<◌, IfOk, OnOk, decimal};
 ghost use Rattle.runs.specs.Verdicts.{verdicts_of};
-ghost use Rattle.verdict_report.specs.Summary.{summary_text};
+ghost use Rattle.verdict_report.specs.Summary.{counts_text, summary_text};
 ghost use Rattle.verdict_report.specs.VerdictCounts.{AreCountsOf, CountsOneMore, verdict_total};
 
 use pd_base::{OutOfMemory, push_decimal};
@@ -21,20 +21,28 @@ struct Counts {
 pub fn summary_text(alloc: Global, run: &Run) -> Result<Vec<u8>, OutOfMemory>
     ensures { IfOk result (λ text. text.items ≡ summary_text run.now) }
 {
-    let paths = run.paths.as_slice();
-    let counts = count_verdicts(paths);
     let mut text = Vec::new(alloc);
-    push_count(&mut text, b"paths ", paths.len() as u64)?;
-    push_count(&mut text, b" robust ", counts.robust)?;
-    push_count(&mut text, b" nonrobust ", counts.nonrobust)?;
-    push_count(&mut text, b" untestable ", counts.untestable)?;
-    push_count(&mut text, b" aborted ", counts.aborted)?;
+    push_counts(&mut text, run)?;
     text.push(b'\n')?;
     Ok(text)
 }
 
-// Appends a word, with its spaces, and a count.
-fn push_count(out: &mut Vec<u8>, word: &[u8], count: u64) -> Result<(), OutOfMemory>
+/// Appends how many paths a run lists, and how many of their faults have each verdict. If memory runs out, a part of it may have
+/// been appended; so too below.
+pub(crate) fn push_counts(out: &mut Vec<u8>, run: &Run) -> Result<(), OutOfMemory>
+    ensures { OnOk result (out.new.items ≡ out.old.items ++ counts_text run.now) }
+{
+    let paths = run.paths.as_slice();
+    let counts = count_verdicts(paths);
+    push_count(out, b"paths ", paths.len() as u64)?;
+    push_count(out, b" robust ", counts.robust)?;
+    push_count(out, b" nonrobust ", counts.nonrobust)?;
+    push_count(out, b" untestable ", counts.untestable)?;
+    push_count(out, b" aborted ", counts.aborted)
+}
+
+/// Appends a word, with its spaces, and a count.
+pub(crate) fn push_count(out: &mut Vec<u8>, word: &[u8], count: u64) -> Result<(), OutOfMemory>
     ensures { OnOk result (out.new.items ≡ out.old.items ++ word.now ++ decimal count) }
 {
     out.extend_from_slice(word)?;

@@ -1,5 +1,5 @@
 -- What is done at status 0, and when a call completes, by the laws of all calls.
-use Rattle.call_laws.proofs.Calls.{is_done, completes}
+use Rattle.calls.proofs.Calls.{is_done, completes}
 use Rattle.commands.proofs.calling.run.Goals as goal
 
 pub returns-clause-done : goal.returns-clause-done

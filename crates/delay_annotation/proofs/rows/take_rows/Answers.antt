@@ -1,7 +1,7 @@
 -- Each turn takes the row that csv read; a row that is refused, or the end of the file, ends it.
 use Rattle.std.proofs.Common.{◌∙◌, refl, arith}
-use Rattle.csv.specs.Records.{fields_of}
-use Rattle.delay_annotation.proofs.Gathering.{all_taken, few_taken, has_read_none, none_taken, taken_more, taken_refused}
+use Rattle.std.proofs.lemmas.Result.{err_from_is_err_and}
+use Rattle.delay_annotation.proofs.Gathering.{all_taken, few_taken, has_read_none, none_taken, read_refused, read_taken}
 use Rattle.delay_annotation.proofs.rows.take_rows.Goals as goal
 
 pub loop-row-init : goal.loop-row-init
@@ -25,35 +25,31 @@ loop-row-init c =
       };
     })
 
-pub returns-in_err-row-clause-places : goal.returns-in_err-row-clause-places
-returns-in_err-row-clause-places c = c.loop-row.invariant.has.places
-
 pub overflow_add-number : goal.overflow_add-number
 overflow_add-number c =
     let few = few_taken c.args.net.now c.args.bytes.now c.loop-row.row-iterator.rdr c.next.new.self.rdr c.loop-row.number
     c.loop-row.kept c.loop-row.invariant.has in
     omega (arith, few, c.requires.short)
 
-pub take_row-requires : goal.take_row-requires
-take_row-requires c = c.loop-row.invariant.has.places
+pub take_read-requires : goal.take_read-requires
+take_read-requires c = c.loop-row.invariant.has.places
 
-pub returns-in-Err-clause-takes : goal.returns-in-Err-clause-takes
-returns-in-Err-clause-takes c =
+pub returns-in_err-take_read-clause-takes : goal.returns-in_err-take_read-clause-takes
+returns-in_err-take_read-clause-takes c =
     let inv = c.loop-row.invariant in
-    let step = rw (c.in-Some.is, c.in_ok-row.was) at ((c.next.ensures.steps inv.goes_on inv.has.read.trim).0 inv.has.read.ready) in
-    taken_refused c.args.net.now c.args.bytes.now c.loop-row.row-iterator.rdr c.next.new.self.rdr c.loop-row.number
-    c.loop-row.kept inv.has (fields_of c.in_ok-row.row) c.in-Err.fault step.0 step.1 c.in-Err.ensures.err
+    let step = rw c.in-Some.is at ((c.next.ensures.steps inv.goes_on inv.has.read.trim).0 inv.has.read.ready) in
+    let answer = err_from_is_err_and c.from_residual.result c.from_residual.ensures.1 in
+    rw (answer.1, answer.2) (read_refused c.args.net.now c.args.bytes.now c.loop-row.row-iterator.rdr c.next.new.self.rdr
+    c.loop-row.number c.loop-row.kept inv.has c.next.new.self.left c.in-Some.row c.in_err-take_read.field-0.0 step
+    c.in_err-take_read.ensures.err)
 
 pub loop-row-preserved : goal.loop-row-preserved
 loop-row-preserved c =
     let inv = c.loop-row.invariant in
-    let step = rw (c.in-Some.is, c.in_ok-row.was) at ((c.next.ensures.steps inv.goes_on inv.has.read.trim).0 inv.has.read.ready) in
-    record {
-      goes_on = step.2;
-      has = taken_more c.args.net.now c.args.bytes.now c.loop-row.row-iterator.rdr c.next.new.self.rdr c.loop-row.number
-          c.loop-row.kept inv.has (fields_of c.in_ok-row.row) c.take_row.new.kept step.0 step.1 c.take_row.ensures.places
-          c.in_default.ensures.ok;
-    }
+    let step = rw c.in-Some.is at ((c.next.ensures.steps inv.goes_on inv.has.read.trim).0 inv.has.read.ready) in
+    let more = read_taken c.args.net.now c.args.bytes.now c.loop-row.row-iterator.rdr c.next.new.self.rdr c.loop-row.number
+    c.loop-row.kept inv.has c.next.new.self.left c.in-Some.row c.take_read.new.kept step c.take_read.ensures.places c.in_ok-take_read.ensures.ok in
+    record { goes_on = more.0; has = more.1 }
 
 pub returns-then-number-eq0-clause-places : goal.returns-then-number-eq0-clause-places
 returns-then-number-eq0-clause-places c = c.loop-row.invariant.has.places

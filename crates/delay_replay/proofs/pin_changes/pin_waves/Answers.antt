@@ -40,3 +40,15 @@ loop-place-preserved c =
           (one_more all (delays_of c.args.net.now c.args.delays.now) c.args.gate.0 pins pin c.loop-place-test.true delay c.delay.ensures.delay time)
           (c.loop-place.invariant.counted time);
     }
+
+pub overflow_add-ones : goal.overflow_add-ones
+overflow_add-ones c =
+    omega (arith, c.loop-place.invariant.among.most, c.requires.few_pins, ap length c.pins-pins.ensures.pins)
+
+pub bounds-waves-line : goal.bounds-waves-line
+bounds-waves-line c =
+    let none : LineId = record { 0 = 0 } in
+    omega (arith, c.pins-pins.ensures.in_circuit c.loop-place.place none c.loop-place-test.true, c.requires.one_each)
+
+pub delay-requires-clause-pin : goal.delay-requires-clause-pin
+delay-requires-clause-pin c = omega (arith, ap length c.pins-pins.ensures.pins)

@@ -2,7 +2,7 @@
 use Rattle.std.proofs.Common.{IfOk, ap, ◌∙◌, subst}
 use Rattle.pd_base.specs.Target.{target_of}
 use Rattle.pd_base.specs.declared.fault.Kind.{Kind}
-use Rattle.narrowing.specs.Conditions.{Entered}
+use Rattle.hulls.specs.Conditions.{Entered}
 use Rattle.hulls.specs.Answers.{IsAtNode}
 use Rattle.hulls.proofs.node.hull_at.Goals as goal
 

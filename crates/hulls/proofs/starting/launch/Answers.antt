@@ -1,10 +1,11 @@
 -- The sets written are those of a start.
 use Rattle.std.proofs.Common.{◌≡◌, ◌<◌, ◌↔◌, List, length, sym, ap, ◌∙◌, subst, arith}
+use Rattle.std.proofs.lemmas.Grind.{common_steps}
 use Rattle.netlist.specs.Circuit.{line_count}
 use Rattle.state_sets.specs.declared.state.StateSet.{StateSet}
 use Rattle.state_sets.specs.Hulls.{HasAt}
 use Rattle.state_sets.specs.Starts.{MayStart}
-use Rattle.narrowing.proofs.Whole.{lent_back}
+use Rattle.hulls.proofs.Whole.{lent_back}
 use Rattle.hulls.proofs.Starts.{is_start}
 use Rattle.hulls.proofs.starting.launch.Goals as goal
 
@@ -24,3 +25,6 @@ returns-clause-start g c line state =
     (λ l in_sources away. c.launch_in.ensures.others l (omega arith) away)
     (λ l at_gate in_circuit. c.launch_in.ensures.gates l (omega arith) (let e = c.requires.lines in omega arith))
     line state)
+
+pub returns-clause-labelling : goal.returns-clause-labelling
+returns-clause-labelling g c = grind (arith, common_steps)

@@ -1,6 +1,6 @@
 -- A state launches the transition where it moves and has the last value.
 use Rattle.std.proofs.Common.{sym, ◌∙◌}
-use Rattle.narrowing.proofs.Sets.{has_both, both_have}
+use Rattle.hulls.proofs.Sets.{has_both, both_have}
 use Rattle.hulls.proofs.starting.launching_states.Goals as goal
 
 pub returns-clause-means : goal.returns-clause-means

@@ -4,7 +4,7 @@ use Rattle.pd_base.specs.declared.rules.Rules.{Rules}
 use Rattle.state_sets.specs.declared.state.StateSet.{StateSet}
 use Rattle.state_sets.specs.States.{Has}
 use Rattle.state_sets.specs.Starts.{IsOtherStart}
-use Rattle.narrowing.proofs.Sets.{all_have}
+use Rattle.hulls.proofs.Sets.{all_have}
 use Rattle.hulls.proofs.starting.other_states.Goals as goal
 
 pub returns-in-One-clause-means : goal.returns-in-One-clause-means

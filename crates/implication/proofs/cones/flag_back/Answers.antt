@@ -2,8 +2,7 @@
 use Rattle.std.proofs.Common.{◌+◌, ◌-◌, ℕ, get_or, sym, ◌∙◌, subst, arith}
 use Rattle.std.proofs.lemmas.Bool.{false≢true}
 use Rattle.netlist.specs.Pins.{IsFanout}
-use Rattle.implication.specs.Inside.{AreFlaggedFrom}
-use Rattle.implication.proofs.Inside.{passed_over, passed_flagged, passed_all}
+use Rattle.implication.proofs.Inside.{AreFlaggedFrom, passed_over, passed_flagged, passed_all}
 use Rattle.implication.proofs.cones.flag_back.Goals as goal
 
 pub loop-place-preserved-then-is_read : goal.loop-place-preserved-then-is_read

@@ -1,5 +1,5 @@
 -- The gates from this place on have had their turn.
-use Rattle.implication.specs.Inside.{AreFlaggedFrom}
+use Rattle.implication.proofs.Inside.{AreFlaggedFrom}
 use Rattle.implication.proofs.cones.flag_back.Given as goal
 
 abbrev pub invariant-loop-place : goal.invariant-loop-place

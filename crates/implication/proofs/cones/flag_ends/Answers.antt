@@ -2,8 +2,7 @@
 use Rattle.std.proofs.Common.{◌≡◌, ◌+◌, List, Bool, get_or, sym, subst}
 use Rattle.std.proofs.lemmas.List.{get_or_default}
 use Rattle.pd_base.specs.declared.ids.LineId.{LineId}
-use Rattle.implication.specs.Inside.{AreFirstFlagged}
-use Rattle.implication.proofs.Inside.{ends_skip, ends_more, ends_all}
+use Rattle.implication.proofs.Inside.{AreFirstFlagged, ends_skip, ends_more, ends_all}
 use Rattle.implication.proofs.cones.flag_ends.Goals as goal
 use Rattle.implication.proofs.cones.flag_ends.Goals.{in-Some, in_default}
 

@@ -1,5 +1,5 @@
 -- The gates of the ends so far are flagged.
-use Rattle.implication.specs.Inside.{AreFirstFlagged}
+use Rattle.implication.proofs.Inside.{AreFirstFlagged}
 use Rattle.implication.proofs.cones.flag_ends.Given as goal
 
 abbrev pub invariant-loop-end : goal.invariant-loop-end

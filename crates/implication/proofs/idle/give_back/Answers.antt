@@ -1,5 +1,6 @@
 -- Each turn gives one line its label back; when none is left, all have theirs.
 use Rattle.std.proofs.Common.{◌≡◌, ◌<◌, [], List, length, ap, sym, ◌∙◌, subst, arith, set}
+use Rattle.std.proofs.lemmas.Grind.{common_steps}
 use Rattle.std.specs.List.{Contains}
 use Rattle.std.proofs.lemmas.List.{length-set}
 use Rattle.pd_base.specs.declared.ids.LineId.{LineId}
@@ -35,3 +36,15 @@ returns-clause-board g c =
     (λ line within. i.same (record { 0 = line }) (λ stands.
     let s : Contains [] (record { 0 = line }) = subst (λ (ls : List LineId). Contains ls (record { 0 = line })) c.in_default.ensures.cases.0 stands in
     omega (arith, s.1))))
+
+pub loop-line-init : goal.loop-line-init
+loop-line-init g c = grind (arith, common_steps)
+
+pub loop-line-smaller : goal.loop-line-smaller
+loop-line-smaller g c = grind (arith, common_steps)
+
+pub returns-clause-count : goal.returns-clause-count
+returns-clause-count g c = grind (arith, common_steps)
+
+pub returns-clause-reached : goal.returns-clause-reached
+returns-clause-reached g c = grind (arith, common_steps)

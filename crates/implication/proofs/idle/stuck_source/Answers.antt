@@ -1,6 +1,6 @@
 -- Where the rules leave some state, a source may start; where they leave none, each source may start in none.
 use Rattle.std.proofs.Common.{ap}
-use Rattle.narrowing.proofs.Sets.{ne_tells}
+use Rattle.hulls.proofs.Sets.{ne_tells}
 use Rattle.state_sets.specs.declared.state.StateSet.{StateSet}
 use Rattle.implication.proofs.Idling.{some_somewhere}
 use Rattle.implication.proofs.idle.stuck_source.Goals as goal

@@ -1,6 +1,6 @@
 -- The readers of the lines seen so far are reached.
 use Rattle.std.proofs.Common.{◌-◌}
-use Rattle.implication.specs.Reached.{IsSpread}
+use Rattle.implication.proofs.Spreading.{IsSpread}
 use Rattle.implication.proofs.reaching.reach.Given as goal
 
 abbrev pub invariant-loop-seen : goal.invariant-loop-seen

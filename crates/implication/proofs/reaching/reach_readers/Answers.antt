@@ -2,8 +2,8 @@
 use Rattle.std.proofs.Common.{◌+◌, take, sym, ◌∙◌, subst}
 use Rattle.pd_base.specs.declared.ids.LineId.{LineId}
 use Rattle.pd_base.specs.declared.ids.PinRef.{PinRef}
-use Rattle.implication.specs.Reached.{Reached, IsLineAdded, HasPinsReached}
-use Rattle.implication.proofs.Spreading.{pins_skip, pins_more, pins_all}
+use Rattle.implication.specs.Reached.{Reached, IsLineAdded}
+use Rattle.implication.proofs.Spreading.{HasPinsReached, pins_skip, pins_more, pins_all}
 use Rattle.implication.proofs.reaching.reach_readers.Goals as goal
 use Rattle.implication.proofs.reaching.reach_readers.Goals.{then-is_inside, else-is_inside}
 

@@ -1,6 +1,6 @@
 -- The lines of the gates inside of the pins so far are reached.
 use Rattle.std.proofs.Common.{take}
-use Rattle.implication.specs.Reached.{HasPinsReached}
+use Rattle.implication.proofs.Spreading.{HasPinsReached}
 use Rattle.implication.proofs.reaching.reach_readers.Given as goal
 
 abbrev pub invariant-loop-pin : goal.invariant-loop-pin

@@ -1,5 +1,6 @@
 -- What the next line reads is behind the first lines too, if the search goes on there.
 use Rattle.std.proofs.Common.{◌<◌, List, get_or, length, sym, ap, subst, ◌∙◌, arith}
+use Rattle.std.proofs.lemmas.Grind.{common_steps}
 use Rattle.std.proofs.lemmas.List.{get_or_default}
 use Rattle.pd_base.specs.declared.ids.LineId.{LineId}
 use Rattle.justify.proofs.Spreading.{no_line}
@@ -31,3 +32,9 @@ loop-place-preserved c =
         behind = before.behind;
       })
     ]
+
+pub loop-place-init : goal.loop-place-init
+loop-place-init c = grind (arith, common_steps)
+
+pub find_reads-requires-clause-room : goal.find_reads-requires-clause-room
+find_reads-requires-clause-room c = grind (arith, common_steps)

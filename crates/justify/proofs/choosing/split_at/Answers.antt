@@ -1,4 +1,5 @@
-use Rattle.std.proofs.Common.{refl, subst}
+use Rattle.std.proofs.Common.{refl, subst, arith}
+use Rattle.std.proofs.lemmas.Grind.{common_steps}
 use Rattle.state_sets.specs.declared.state.StateSet.{StateSet}
 use Rattle.tree_laws.specs.Spent.{HasInHalf}
 use Rattle.implication.specs.Scopes.{standing}
@@ -17,3 +18,6 @@ returns-clause-some g c = record {
       c.label.result c.requires.source (c.label.ensures.told c.requires.node.free) labels is)
       (in_both c.label.result c.in_ok-steadiness.steadiness c.in_ok-steadiness.ensures.some second);
 }
+
+pub way_to_split-requires : goal.way_to_split-requires
+way_to_split-requires g c = grind (arith, common_steps)

@@ -2,7 +2,7 @@
 use Rattle.std.proofs.Common.{◌<◌, length, sym, subst}
 use Rattle.std.specs.Option.{IfSome}
 use Rattle.netlist.specs.Circuit.{pins_at}
-use Rattle.narrowing.proofs.Marks.{condition_pin}
+use Rattle.hulls.proofs.Marks.{condition_pin}
 use Rattle.justify.proofs.region.condition_of.Goals as goal
 
 pub returns : goal.returns

@@ -1,4 +1,5 @@
 use Rattle.std.proofs.Common.{◌∷◌, [], List, Option, refl, ap, ◌∙◌, subst, arith}
+use Rattle.std.proofs.lemmas.Grind.{common_steps}
 use Rattle.pd_base.specs.Pair.{Vectors}
 use Rattle.pd_base.specs.declared.ids.LineId.{LineId}
 use Rattle.pd_base.specs.declared.rules.Rules.{Rules}
@@ -109,3 +110,12 @@ returns-in-None-clause-counted g c =
     let grown = subst P c.in-None.is c.in_ok-test.ensures.answer in
     end_counts now.net now.rules (task_target c.args.task.now) c.args.task.now.budget now.assumptions c.grow.new.growth.nodes.items
     c.grow.new.growth.splits grown.1 c.end.result c.end.ensures old now grown.0
+
+pub grow-requires-clause-origin : goal.grow-requires-clause-origin
+grow-requires-clause-origin g c = grind (arith, common_steps)
+
+pub returns-in-Some-clause-found : goal.returns-in-Some-clause-found
+returns-in-Some-clause-found g c = grind (arith, common_steps)
+
+pub propose-requires-clause-prefix : goal.propose-requires-clause-prefix
+propose-requires-clause-prefix g c = grind (arith, common_steps)

@@ -2,6 +2,7 @@ use Rattle.std.proofs.Common.{ℕ, length, sym, ◌∙◌, subst, arith}
 use Rattle.implication.specs.Scopes.{standing}
 use Rattle.justify.specs.Answers.{HasCounted}
 use Rattle.justify.proofs.Ended.{counted_more}
+use Rattle.std.proofs.lemmas.Grind.{common_steps}
 use Rattle.justify.proofs.GoingOn.{goes_further, grown_some, visit_none, searching_on, setting_trans}
 use Rattle.justify.proofs.searching.grow.Goals as goal
 
@@ -47,3 +48,15 @@ pub returns-clause-goes_on : goal.returns-clause-goes_on
 returns-clause-goes_on g c =
     let inv = c.loop-place.invariant in
     record { setting = inv.setting; under_way = inv.searching.under_way; serves = inv.searching.serves; later = inv.later }
+
+pub loop-place-init : goal.loop-place-init
+loop-place-init g c = grind (arith, common_steps)
+
+pub loop-place-smaller : goal.loop-place-smaller
+loop-place-smaller g c = grind (arith, common_steps)
+
+pub visit-requires-clause-searching : goal.visit-requires-clause-searching
+visit-requires-clause-searching g c = grind (arith, common_steps)
+
+pub returns-clause-answer : goal.returns-clause-answer
+returns-clause-answer g c = grind (arith, common_steps)

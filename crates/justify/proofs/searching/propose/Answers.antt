@@ -1,4 +1,5 @@
-use Rattle.std.proofs.Common.{ap, ◌∙◌, length}
+use Rattle.std.proofs.Common.{ap, ◌∙◌, length, arith}
+use Rattle.std.proofs.lemmas.Grind.{common_steps}
 use Rattle.implication.specs.Scopes.{standing}
 use Rattle.justify.proofs.SplitChoices.{read_in_support}
 use Rattle.justify.proofs.TriedSources.{support_within}
@@ -23,3 +24,6 @@ take_preferred-requires-clause-places g c =
     support_within net c.args.task.now.path.now c.sources.result.now (length c.as_mut_slice.result.now)
     (ap length c.as_mut_slice.ensures.value ∙ c.requires.desk.made.states)
     (read_in_support net c.args.task.now.path.now c.args.desk.now.cone.sources c.sources.result.now c.requires.desk.cone.sources c.sources.ensures)
+
+pub judge_states-requires-clause-desk : goal.judge_states-requires-clause-desk
+judge_states-requires-clause-desk g c = grind (arith, common_steps)

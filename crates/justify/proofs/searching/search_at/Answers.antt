@@ -1,4 +1,5 @@
-use Rattle.std.proofs.Common.{Option, refl, sym, ap, ◌∙◌, subst}
+use Rattle.std.proofs.Common.{Option, refl, sym, ap, ◌∙◌, subst, arith}
+use Rattle.std.proofs.lemmas.Grind.{common_steps}
 use Rattle.std.specs.Prelude.{IfSome}
 use Rattle.pd_base.specs.Pair.{Vectors}
 use Rattle.pd_base.specs.Target.{target_of}
@@ -86,3 +87,9 @@ returns-in-None-clause-restored g c =
     ended_restored (target_of c.args.path.now c.args.dir c.args.kind) (standing c.args.scope.now) (standing c.find-ended.new.scope)
     (standing c.back_to.new.self) c.requires.start c.find-ended.ensures.goes_on.under_way c.find-ended.ensures.goes_on.setting
     c.find-ended.ensures.goes_on.later c.mark-mark.result.at c.mark-mark.ensures c.back_to.ensures.back
+
+pub find-ended-requires-clause-left_open : goal.find-ended-requires-clause-left_open
+find-ended-requires-clause-left_open g c = grind (arith, common_steps)
+
+pub returns-in-None-clause-found : goal.returns-in-None-clause-found
+returns-in-None-clause-found g c = grind (arith, common_steps)

@@ -5,11 +5,12 @@ use Rattle.std.specs.List.{All}
 use Rattle.std.proofs.lemmas.List.{take_all}
 use Rattle.std.proofs.lemmas.List.Elements.{All-more}
 use Rattle.implication.specs.Scopes.{standing}
-use Rattle.implication.specs.Standing.{Standing, IsFree}
+use Rattle.implication.specs.Standing.{IsFree}
 use Rattle.implication.proofs.Restoring.{extends_trans}
 use Rattle.justify.specs.Tasks.{task_target}
 use Rattle.justify.specs.Nodes.{beginning_of}
 use Rattle.justify.specs.Trying.{IsHeldIn}
+use Rattle.justify.proofs.Assumed.{grown_list, grown_conflict, closed_list, closed_count}
 use Rattle.justify.proofs.Resting.{counted_later, closes_there}
 use Rattle.justify.proofs.Trials.{within_more, held_here, held_before}
 use Rattle.justify.proofs.trial.assume_all.Goals as goal
@@ -23,7 +24,7 @@ returns-in-Err-clause-trial g c =
     } in
     within_more (task_target c.args.task.now) first c.requires.node now (standing c.assume.new.self) _
     (c.requires.tried c.loop-entry.entry-index _ c.loop-entry-test.true) c.only.result c.only.ensures
-    (ap (λ (s : Standing). s.assumptions) (c.in-Err.ensures.err free)) c.loop-entry.invariant.trial
+    (closed_list now (standing c.assume.new.self) _ c.only.result _ (c.in-Err.ensures.err free)) c.loop-entry.invariant.trial
 
 pub returns-in-Err-clause-ends : goal.returns-in-Err-clause-ends
 returns-in-Err-clause-ends g c =
@@ -35,7 +36,7 @@ returns-in-Err-clause-ends g c =
           (c.assume.ensures.extends.rules ∙ before.rules) (c.assume.ensures.extends.beginning ∙ before.beginning ∙ c.requires.node.beginning)
           _ c.in-Err.ensures.emptied;
       counted = counted_later first.closings now.closings new.closings before.later
-          (ap (λ (s : Standing). s.closings) (c.in-Err.ensures.err free));
+          (closed_count now new _ c.only.result _ (c.in-Err.ensures.err free));
     }
 
 pub loop-entry-preserved : goal.loop-entry-preserved
@@ -43,7 +44,7 @@ loop-entry-preserved g c =
     let first = standing c.args.scope.now in let now = standing c.loop-entry.scope in let new = standing c.assume.new.self in
     let target = task_target c.args.task.now in
     let before = c.loop-entry.invariant in
-    let more = ap (λ (s : Standing). s.assumptions) c.in-Ok.ensures.ok in
+    let more = grown_list now new _ c.only.result c.in-Ok.ensures.ok in
     let is = c.requires.tried c.loop-entry.entry-index _ c.loop-entry-test.true in
     record {
       scope = record {
@@ -53,7 +54,7 @@ loop-entry-preserved g c =
       extends = extends_trans first now new before.extends c.assume.ensures.extends;
       trial = within_more target first c.requires.node now new _ is c.only.result c.only.ensures more before.trial;
       held = record {
-        free = ap (λ (s : Standing). s.conflict) c.in-Ok.ensures.ok ∙ before.held.free;
+        free = grown_conflict now new _ c.only.result c.in-Ok.ensures.ok ∙ before.held.free;
         left_open = c.in-Ok.ensures.open;
         held = All-more (IsHeldIn target first new) c.args.tried.now c.loop-entry.entry-index _ c.loop-entry-test.true
             (held_before target first c.requires.node now new _ is c.only.result c.only.ensures more (take c.loop-entry.entry-index c.args.tried.now) before.held.held)

@@ -1,5 +1,6 @@
 -- A conflict shows that the node's trial closes; where none came, the labels that stand then give a test.
-use Rattle.std.proofs.Common.{ap, sym, subst, ◌≤◌, ℕ}
+use Rattle.std.proofs.Common.{ap, sym, subst, ◌≤◌, ℕ, arith}
+use Rattle.std.proofs.lemmas.Grind.{common_steps}
 use Rattle.netlist.specs.Circuit.{Circuit}
 use Rattle.netlist.specs.Lawful.{IsCircuit}
 use Rattle.implication.specs.Moves.{risen}
@@ -27,3 +28,9 @@ returns-clause-ends g c =
     let there = c.label-2.ensures.told (ends_free (task_target c.args.task.now) first last c.args.tried.now c.assume_all.result c.if-assume_all.false held) in
     ends_open (task_target c.args.task.now) first c.requires.node here.0 here.1 (subst P c.net.ensures c.sources.ensures.circuit) c.requires.prefix
     last c.assume_all.ensures.trial c.assume_all.ensures.extends there.0 there.1 c.args.tried.now c.assume_all.result c.if-assume_all.false held
+
+pub returns-clause-restored : goal.returns-clause-restored
+returns-clause-restored g c = grind (arith, common_steps)
+
+pub returns-then-assume_all-clause-restored : goal.returns-then-assume_all-clause-restored
+returns-then-assume_all-clause-restored g c = grind (arith, common_steps)

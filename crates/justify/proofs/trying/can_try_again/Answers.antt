@@ -1,4 +1,5 @@
-use Rattle.std.proofs.Common.{◌∙◌, subst, List}
+use Rattle.std.proofs.Common.{◌∙◌, subst, List, arith}
+use Rattle.std.proofs.lemmas.Grind.{common_steps}
 use Rattle.std.specs.List.{All}
 use Rattle.std.proofs.lemmas.List.{take_all}
 use Rattle.std.proofs.lemmas.List.Elements.{All-more}
@@ -22,3 +23,9 @@ returns g c = λ some.
     let P : List Tried → Type 0 = λ xs. All (CanTry (task_target c.args.task.now) (standing c.args.scope.now)) xs in
     subst P (take_all c.loop-entry.entry-index c.as_slice-tried.result.now c.loop-entry-test.false ∙ c.as_slice-tried.ensures.value)
     c.loop-entry.invariant
+
+pub has_least-requires-clause-marks : goal.has_least-requires-clause-marks
+has_least-requires-clause-marks g c = grind (arith, common_steps)
+
+pub loop-entry-init : goal.loop-entry-init
+loop-entry-init g c = grind (arith, common_steps)

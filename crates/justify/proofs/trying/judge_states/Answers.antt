@@ -57,3 +57,40 @@ returns-in_ok-pair-in-IsTest-clause-test g c =
     (c.as_slice.ensures.value ∙ with_items_is c.args.desk.now.states c.judge-judgement.new.states long)
     c.in_ok-pair-in-IsTest.pair c.in_ok-pair-in-IsTest.ensures)
     c.in-IsTest.ensures.judged
+
+pub returns-in_err-pair-in-IsTest-clause-desk : goal.returns-in_err-pair-in-IsTest-clause-desk
+returns-in_err-pair-in-IsTest-clause-desk g c =
+    let long = c.judge-judgement.ensures.places ∙ ap length c.as_mut_slice.ensures.value in
+    desk_again (standing c.args.scope.now).net c.args.task.now.path.now c.args.desk.now _ c.judge-judgement.new.states c.requires.desk refl refl refl
+    (with_items_is c.args.desk.now.states c.judge-judgement.new.states (long ∙ sym c.args.desk.now.states.ok.0))
+    c.judge-judgement.ensures.states long c.requires.desk.made.justifier
+
+pub returns-in_err-pair-in-IsTest-clause-kept : goal.returns-in_err-pair-in-IsTest-clause-kept
+returns-in_err-pair-in-IsTest-clause-kept g c =
+    let long = c.judge-judgement.ensures.places ∙ ap length c.as_mut_slice.ensures.value ∙ sym c.args.desk.now.states.ok.0 in
+    record {
+      cone = refl;
+      states = λ source within.
+          ap (λ (xs : List State). state_in xs source) (with_items_is c.args.desk.now.states c.judge-judgement.new.states long)
+          ∙ c.judge-judgement.ensures.sources source (subst (λ (n : Circuit). source < source_count n) (sym c.net-net.ensures) within)
+          ∙ ap (λ (xs : List State). state_in xs source) c.as_mut_slice.ensures.value;
+    }
+
+pub returns-in-FailsAt-clause-desk : goal.returns-in-FailsAt-clause-desk
+returns-in-FailsAt-clause-desk g c =
+    let long = c.judge-judgement.ensures.places ∙ ap length c.as_mut_slice.ensures.value in
+    desk_again (standing c.args.scope.now).net c.args.task.now.path.now c.args.desk.now _ c.judge-judgement.new.states c.requires.desk refl
+    c.set_failure.ensures.room refl
+    (with_items_is c.args.desk.now.states c.judge-judgement.new.states (long ∙ sym c.args.desk.now.states.ok.0))
+    c.judge-judgement.ensures.states long c.requires.desk.made.justifier
+
+pub returns-in-FailsAt-clause-kept : goal.returns-in-FailsAt-clause-kept
+returns-in-FailsAt-clause-kept g c =
+    let long = c.judge-judgement.ensures.places ∙ ap length c.as_mut_slice.ensures.value ∙ sym c.args.desk.now.states.ok.0 in
+    record {
+      cone = refl;
+      states = λ source within.
+          ap (λ (xs : List State). state_in xs source) (with_items_is c.args.desk.now.states c.judge-judgement.new.states long)
+          ∙ c.judge-judgement.ensures.sources source (subst (λ (n : Circuit). source < source_count n) (sym c.net-net.ensures) within)
+          ∙ ap (λ (xs : List State). state_in xs source) c.as_mut_slice.ensures.value;
+    }

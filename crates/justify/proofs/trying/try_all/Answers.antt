@@ -1,4 +1,5 @@
-use Rattle.std.proofs.Common.{sym, ap, ◌∙◌, subst, length, List}
+use Rattle.std.proofs.Common.{sym, ap, ◌∙◌, subst, length, List, arith}
+use Rattle.std.proofs.lemmas.Grind.{common_steps}
 use Rattle.std.specs.List.{All}
 use Rattle.netlist.specs.Paths.{end_of}
 use Rattle.pd_base.specs.declared.ids.LineId.{LineId}
@@ -48,3 +49,12 @@ returns-clause-answer g c =
     c.args.desk.now.cone.sources c.sources-2.ensures c.requires.desk.cone.sources c.as_slice-3.result.now c.as_slice.result.now
     (c.as_slice-3.ensures.value ∙ sym c.as_slice.ensures.value) c.in_ok-pair.pair c.in_ok-pair.ensures)
     (subst Q c.as_slice-2.ensures.value c.if-closes.ensures.ends)
+
+pub read_test-requires-clause-states : goal.read_test-requires-clause-states
+read_test-requires-clause-states g c = grind (arith, common_steps)
+
+pub read_test-requires-clause-places : goal.read_test-requires-clause-places
+read_test-requires-clause-places g c = grind (arith, common_steps)
+
+pub returns-then-closes-clause-answer : goal.returns-then-closes-clause-answer
+returns-then-closes-clause-answer g c = grind (arith, common_steps)

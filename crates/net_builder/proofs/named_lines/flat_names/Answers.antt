@@ -15,7 +15,7 @@ push-requires c =
     let i = c.loop-name.name-index in
     let within : i < length items = omega arith in
     let is = subst IsName (ap (λ l. get_or (key_names l) i []) (sym keys) ∙ name_at_key items i c.name-item.result within c.name-item.is)
-    (c.requires.names i [] (omega (arith, ap length keys, names_of_keys c.args.names.keys))) in
+    (c.requires.names i [] (omega (arith, ap length keys, names_of_keys c.args.names.now.keys))) in
     omega (
       arith,
       is.few_bytes,
@@ -32,7 +32,7 @@ loop-name-preserved c =
     let i = c.loop-name.name-index in
     let within : i < length items = omega arith in
     let is = subst IsName (ap (λ l. get_or (key_names l) i []) (sym keys) ∙ name_at_key items i c.name-item.result within c.name-item.is)
-    (c.requires.names i [] (omega (arith, ap length keys, names_of_keys c.args.names.keys))) in
+    (c.requires.names i [] (omega (arith, ap length keys, names_of_keys c.args.names.now.keys))) in
     let own : List ℕ = c.name-item.result.items in
     let put : c.push.new.self ≡ c.loop-name.flat ++ own ∷ [] =
     c.in_ok-push.ensures.ok ∙ ap (λ name. c.loop-name.flat ++ name ∷ []) c.as_slice.ensures.value in

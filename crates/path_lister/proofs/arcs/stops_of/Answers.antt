@@ -1,5 +1,6 @@
 -- Each turn marks the node of one observed line more.
-use Rattle.std.proofs.Common.{List, get_or, set, take, true, sym, subst}
+use Rattle.std.proofs.Common.{List, get_or, set, take, true, sym, subst, arith}
+use Rattle.std.proofs.lemmas.Grind.{common_steps}
 use Rattle.std.proofs.lemmas.List.{take_more}
 use Rattle.pd_base.specs.declared.ids.LineId.{LineId}
 use Rattle.path_laws.specs.CircuitGraph.{node_of}
@@ -16,3 +17,6 @@ loop-line-preserved c =
     (sym (take_more lines c.loop-line.line-index none c.loop-line-test.true))
     (marked_more c.args.net.now nodes c.requires (take c.loop-line.line-index lines) next c.loop-line.stops.items
     (c.observed-line-items.ensures.in_circuit c.loop-line.line-index none c.loop-line-test.true) c.loop-line.invariant)
+
+pub loop-line-init : goal.loop-line-init
+loop-line-init c = grind (arith, common_steps)

@@ -1,6 +1,7 @@
 -- Each turn of a loop lists one line more, and the sources and then the gates in rank order are all lines by level.
-use Rattle.std.proofs.Common.{List, ◌++◌, map, take_all, sym, ap, subst, ◌∙◌}
+use Rattle.std.proofs.Common.{List, ◌++◌, map, take_all, sym, ap, subst, ◌∙◌, arith}
 use Rattle.std.specs.List.{range_with_len}
+use Rattle.std.proofs.lemmas.Grind.{common_steps}
 use Rattle.pd_base.specs.declared.ids.GateId.{GateId}
 use Rattle.netlist.specs.Circuit.{source_count}
 use Rattle.path_lister.specs.Ranking.{IsRanking}
@@ -11,6 +12,9 @@ pub loop-source-preserved : goal.loop-source-preserved
 loop-source-preserved c =
     source_more c.loop-source.source c.loop-source.lines.items c.push.new.self.items c.loop-source.invariant
     c.in_ok-push.ensures.items
+
+pub loop-gate-preserved : goal.loop-gate-preserved
+loop-gate-preserved c = grind (arith, common_steps)
 
 pub returns-clause-lines : goal.returns-clause-lines
 returns-clause-lines c =

@@ -1,5 +1,6 @@
 -- Steps that connect are pins of the circuit, and there are too few of them for their delays to overflow.
 use Rattle.std.proofs.Common.{length, ap, subst, sym, arith}
+use Rattle.std.proofs.lemmas.Grind.{common_steps}
 use Rattle.std.specs.List.{All}
 use Rattle.netlist.specs.Pins.{IsPin}
 use Rattle.path_laws.proofs.StepCounts.{prefix_has_few_steps}
@@ -24,3 +25,6 @@ pub overflow_add-total : goal.overflow_add-total
 overflow_add-total c =
     let few = prefix_has_few_steps c.args.net.now c.sources.ensures.circuit c.args.path.now c.requires.prefix in
     omega (arith, ap length c.steps-step-items.ensures)
+
+pub loop-step-preserved : goal.loop-step-preserved
+loop-step-preserved c = grind (arith, common_steps)

@@ -1,28 +1,20 @@
-use Rattle.std.proofs.Common.{◌∙◌, arith}
-use Rattle.std.proofs.lemmas.List.{take_rest}
+-- A file that was begun holds all bytes, or a front of them.
 use Rattle.pd_io.proofs.Tellings.{on_err}
-use Rattle.pd_io.proofs.Writing.{writing_more, writing_part, writing_stays}
+use Rattle.pd_io.proofs.OpenFile.{begun_part, ended_part, ended_whole}
 use Rattle.pd_io.proofs.whole.write_whole.Goals as goal
 
--- what the loop keeps, after one more write
-pub loop-rest-preserved : goal.loop-rest-preserved
-loop-rest-preserved g c = record {
-  writing = writing_more _ _ _ _ _ _ _ c.loop-rest.invariant.writing _ _ _ c.in_ok-count.ensures.told c.write.ensures.writer
-      (take_rest c.loop-rest.rest.now c.in_ok-count.count);
-  reader = c.write.ensures.reader ∙ c.loop-rest.invariant.reader;
-  unchanged = c.in_ok-count.ensures.cause.only_then ∙ c.loop-rest.invariant.unchanged;
-  within = omega arith;
-  read_faults = c.write.ensures.read_faults ∙ c.loop-rest.invariant.read_faults;
-}
+pub returns-in_err-append_all-clause-err : goal.returns-in_err-append_all-clause-err
+returns-in_err-append_all-clause-err g c =
+    on_err c.from_residual-in_err-append_all.result
+    (begun_part _ _ _ _ _ _ c.in_ok-begin_write.ensures.begins c.in_ok-begin_write.ensures.told c.in_err-append_all.ensures.err)
 
--- what stands under the name after a write that failed
-pub returns-in_err-count-clause-err : goal.returns-in_err-count-clause-err
-returns-in_err-count-clause-err g c =
-    on_err c.from_residual-in_err-count.result
-    (writing_part _ _ _ _ _ _ _ c.loop-rest.invariant.writing _ c.in_err-count.ensures.told)
-
--- what stands under the name after a `finish` that failed
 pub returns-in_err-finish-clause-err : goal.returns-in_err-finish-clause-err
 returns-in_err-finish-clause-err g c =
     on_err c.from_residual-in_err-finish.result
-    (writing_stays _ _ _ _ _ _ _ c.loop-rest.invariant.writing c.finish.ensures.folder)
+    (ended_part _ _ _ _ _ _ c.in_ok-begin_write.ensures.begins c.in_ok-begin_write.ensures.told _ c.finish.ensures.folder
+    c.in_ok-append_all.ensures.ok)
+
+pub returns-clause-ok : goal.returns-clause-ok
+returns-clause-ok g c =
+    ended_whole _ _ _ _ _ _ c.in_ok-begin_write.ensures.begins c.in_ok-begin_write.ensures.told _ c.finish.ensures.folder
+    c.in_ok-append_all.ensures.ok

@@ -1,5 +1,5 @@
 -- A block more is filled in; behind the last one all tests are.
-use Rattle.std.proofs.Common.{◌≡◌, ◌≤◌, length, ◌∙◌, arith}
+use Rattle.std.proofs.Common.{◌∙◌, arith}
 use Rattle.prefix_sensitize.proofs.Filling.{all_filled, one_block, still_fit}
 use Rattle.prefix_sensitize.proofs.expected.fill_blocks.Goals as goal
 
@@ -17,6 +17,7 @@ loop-begin-preserved c =
           c.in_ok-fill_block.ensures;
       fit = still_fit net c.loop-begin.begin end c.loop-begin.tests c.fill_block.new.tests c.in_ok-fill_block.ensures same turn.fit;
       places = c.fill_block.auto.words ∙ turn.places;
+      observed = c.fill_block.auto.observed ∙ turn.observed;
     }
 
 pub returns : goal.returns

@@ -1,5 +1,5 @@
 use Rattle.std.proofs.Common.{◌≡◌, ◌-◌, ◌≤◌, length, All}
-use Rattle.netlist.specs.Circuit.{line_count, source_count}
+use Rattle.netlist.specs.Circuit.{line_count, observed_lines, source_count}
 use Rattle.prefix_sensitize.specs.Expected.{AreFilled}
 use Rattle.prefix_sensitize.proofs.expected.fill_blocks.Given as goal
 
@@ -10,6 +10,7 @@ invariant-loop-begin l = record {
   filled : AreFilled l.net 0 l.begin l.initial.tests l.tests;
   fit : All (λ test. length test.pair.second ≡ source_count l.net) l.tests;
   places : length l.words ≡ line_count l.net;
+  observed : length l.observed ≡ length (observed_lines l.net);
 }
 
 abbrev pub decreases-loop-begin : goal.decreases-loop-begin

@@ -6,7 +6,7 @@ use Rattle.pd_base.specs.Route.{Route}
 use Rattle.pd_base.specs.declared.fault.Direction.TheVariants.{Rise, Fall}
 use Rattle.delay_annotation.specs.Annotation.{delays_of}
 use Rattle.prefix_sensitize.specs.Answers.{written_by}
-use Rattle.prefix_sensitize.specs.Searches.{AreSearchedFrom}
+use Rattle.prefix_sensitize.specs.Searches.{AreBothOutcomesFrom}
 use Rattle.prefix_sensitize.proofs.ListedPaths.{is_listed, is_next, one_more}
 use Rattle.prefix_sensitize.proofs.Rows.{others_left, taken_are}
 use Rattle.prefix_sensitize.proofs.listing.list_paths.Goals as goal
@@ -21,8 +21,8 @@ list_path-requires g c =
     let next : c.len-row.result + 1 ≡ length c.loop-path.listed.items + 1 = omega (arith, row) in
     let listed = is_listed net delays g.searches are c.loop-path.yielded _ turn.rest c.loop-path.listed.items
     (written_by c.loop-path.writer) turn.listed c.in-Some.path _ c.in-Some.ensures.steps.0 (c.len-row.result + 1) next in
-    let Rises : ℕ → Type 0 = λ from. AreSearchedFrom net g.searches.routes g.searches.proofs Rise from c.loop-path.rises in
-    let Falls : ℕ → Type 0 = λ from. AreSearchedFrom net g.searches.routes g.searches.proofs Fall from c.loop-path.falls in (
+    let Rises : ℕ → Type 0 = λ from. AreBothOutcomesFrom net g.searches.routes g.searches.proofs Rise from c.loop-path.rises in
+    let Falls : ℕ → Type 0 = λ from. AreBothOutcomesFrom net g.searches.routes g.searches.proofs Fall from c.loop-path.falls in (
       c.requires.0,
       (
         is_next net delays g.searches are c.loop-path.yielded _ turn.rest c.loop-path.listed.items (written_by c.loop-path.writer)
@@ -43,8 +43,8 @@ loop-path-preserved g c =
     let row : c.len-row.result ≡ length c.loop-path.listed.items = omega (arith, c.len-row.ensures) in
     let more : length c.push.new.self.items ≡ c.len-row.result + 1 =
     ap length c.in_ok-push.ensures.items ∙ length_push c.loop-path.listed.items c.in_ok-entry.entry ∙ ap (λ (n : ℕ). n + 1) (sym row) in
-    let Rises : ℕ → Type 0 = λ from. AreSearchedFrom net g.searches.routes g.searches.proofs Rise from c.loop-path.rises in
-    let Falls : ℕ → Type 0 = λ from. AreSearchedFrom net g.searches.routes g.searches.proofs Fall from c.loop-path.falls in
+    let Rises : ℕ → Type 0 = λ from. AreBothOutcomesFrom net g.searches.routes g.searches.proofs Rise from c.loop-path.rises in
+    let Falls : ℕ → Type 0 = λ from. AreBothOutcomesFrom net g.searches.routes g.searches.proofs Fall from c.loop-path.falls in
     record {
       listed = one_more net (delays_of net c.args.delays.now) g.searches c.requires.1.1.0 c.loop-path.yielded _ turn.rest
           c.loop-path.listed.items (written_by c.loop-path.writer) turn.listed c.in-Some.path _ c.in-Some.ensures.steps.0

@@ -5,17 +5,17 @@ use Rattle.pd_base.specs.declared.rules.Rules.{Rules}
 use Rattle.netlist.specs.Circuit.{Circuit}
 use Rattle.runs.specs.declared.run.Proof.{Proof}
 use Rattle.prefix_sensitize.specs.Outcomes.{AreFoundProofs}
-use Rattle.prefix_sensitize.specs.Searches.{AreSearchedFrom}
+use Rattle.prefix_sensitize.specs.Searches.{AreBothOutcomesFrom}
 use Rattle.prefix_sensitize.proofs.BothKinds.{rises_stay}
 use Rattle.prefix_sensitize.proofs.sensitizing.search_all.Goals as goal
 
-pub returns-clause-searched : goal.returns-clause-searched
-returns-clause-searched g c =
+pub returns-clause-outcomes : goal.returns-clause-outcomes
+returns-clause-outcomes g c =
     let rest = c.in_ok-rises.ensures.rest in
     let listed = c.requires.ready.listed in
     let proofs = c.search_way-2.new.proofs.items in
     let Found : Circuit → Rules → Type 0 = λ net rules. AreFoundProofs net rules c.args.budget c.args.paths.now proofs in
-    let Falls : Circuit → Type 0 = λ net. AreSearchedFrom net c.args.paths.now proofs Fall 0 c.in_ok-falls.falls in
+    let Falls : Circuit → Type 0 = λ net. AreBothOutcomesFrom net c.args.paths.now proofs Fall 0 c.in_ok-falls.falls in
     record {
       are_searches = record {
         are_paths = listed.are_paths;

@@ -16,8 +16,8 @@ within-requires g c =
     subst P (sym (c.as_slice.ensures.value ∙ c.in_ok-ends.ensures))
     (ends_in_circuit net c.args.paths.now c.sources.ensures.circuit c.requires.listed.are_paths)
 
-pub search_on-requires-clause-told : goal.search_on-requires-clause-told
-search_on-requires-clause-told g c =
+pub search_on-outcomes-requires-clause-told : goal.search_on-outcomes-requires-clause-told
+search_on-outcomes-requires-clause-told g c =
     let net = c.args.net.now in
     let engine = c.in_ok-engine.engine in
     let are : engine.ends ≡ Some (ends_of net c.args.paths.now) =

@@ -23,15 +23,15 @@ returns-clause-good g c =
     let delays = delays_of net c.args.delays.now in
     IfOk-weaker c.run_of.result
     (λ (run : Run). (count : ℕ) → AreFirst net delays count c.args.paths.items
-    → IsGoodRun net delays count c.in_ok-searched.searched.budget run)
+    → IsGoodRun net delays count c.in_ok-outcomes.outcomes.budget run)
     (λ (run : Run). IsGoodRun net delays c.args.count c.args.budget run)
     (λ run good.
-    subst (λ (budget : ℕ). IsGoodRun net delays c.args.count budget run) c.in_ok-searched.ensures.searched.budget
+    subst (λ (budget : ℕ). IsGoodRun net delays c.args.count budget run) c.in_ok-outcomes.ensures.outcomes.budget
     (good c.args.count c.requires.first))
     c.run_of.ensures.good
 
-pub returns-in_err-searched-clause-steps : goal.returns-in_err-searched-clause-steps
-returns-in_err-searched-clause-steps g c =
+pub returns-in_err-outcomes-clause-steps : goal.returns-in_err-outcomes-clause-steps
+returns-in_err-outcomes-clause-steps g c =
     subst (λ (routes : List Route). CountsAtMost routes 4 c.args.steps.now c.search_paths.new.steps) c.as_slice.ensures.value
     c.search_paths.ensures.steps
 

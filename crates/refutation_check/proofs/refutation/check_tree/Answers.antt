@@ -6,7 +6,7 @@ use Rattle.state_laws.specs.declared.half.Half.{Half}
 use Rattle.runs.specs.declared.tree.Node.{Node}
 use Rattle.runs.specs.declared.tree.Node.TheVariants.{Closed}
 use Rattle.runs.specs.Trees.{IsTree}
-use Rattle.narrowing.specs.Conditions.{Entered}
+use Rattle.hulls.specs.Conditions.{Entered}
 use Rattle.tree_laws.specs.Halves.{halves_of}
 use Rattle.tree_laws.specs.Faults.{IsRightInRefutation, IsFirstFaultOf}
 use Rattle.tree_laws.specs.Refutations.{IsRefutation}

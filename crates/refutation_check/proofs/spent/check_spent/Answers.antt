@@ -7,7 +7,7 @@ use Rattle.runs.specs.declared.tree.Node.{Node}
 use Rattle.runs.specs.declared.tree.Node.TheVariants.{Closed, Waiting}
 use Rattle.runs.specs.Trees.{IsTree, split_count}
 use Rattle.std.specs.List.{Contains}
-use Rattle.narrowing.specs.Conditions.{Entered}
+use Rattle.hulls.specs.Conditions.{Entered}
 use Rattle.tree_laws.specs.Halves.{halves_of}
 use Rattle.tree_laws.specs.Faults.{IsRightInSpent, IsFirstFaultOf}
 use Rattle.tree_laws.specs.Faults.IsFaultOfSpent.{other_splits, none_open, at_node}

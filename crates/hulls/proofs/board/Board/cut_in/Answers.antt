@@ -3,7 +3,7 @@ use Rattle.std.proofs.Common.{◌≡◌, ◌<◌, length, sym, subst, arith}
 use Rattle.netlist.specs.Circuit.{line_count}
 use Rattle.hulls.specs.Boards.{OnBoard}
 use Rattle.hulls.specs.Settling.{IsCutTo}
-use Rattle.hulls.proofs.Cutting.{room_left, cut_is, cut_to}
+use Rattle.hulls.proofs.BoardCuts.{room_left, cut_is, cut_to}
 use Rattle.hulls.proofs.board.Board.cut_in.Goals as goal
 
 pub note-requires : goal.note-requires

@@ -5,7 +5,7 @@ use Rattle.pd_base.specs.declared.ids.LineId.{LineId}
 use Rattle.netlist.specs.Circuit.{line_count, pins_at}
 use Rattle.state_sets.specs.States.{no_states}
 use Rattle.state_sets.specs.Labellings.{label_at}
-use Rattle.narrowing.specs.Sets.{set_at}
+use Rattle.hulls.specs.Sets.{set_at}
 use Rattle.state_sets.specs.declared.state.StateSet.{StateSet}
 use Rattle.hulls.specs.Settling.{IsCutTo}
 use Rattle.hulls.proofs.Changing.{cut_more, some_left}

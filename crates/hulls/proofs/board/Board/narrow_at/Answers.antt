@@ -2,7 +2,7 @@
 use Rattle.std.proofs.Common.{◌≡◌, ◌<◌, ◌+◌, ℕ, length, sym, ap, ◌∙◌, subst}
 use Rattle.std.specs.Option.{IfSome}
 use Rattle.netlist.specs.Circuit.{pins_at, gate_line}
-use Rattle.narrowing.proofs.Marks.{condition_pin}
+use Rattle.hulls.proofs.Marks.{condition_pin}
 use Rattle.state_sets.specs.Labellings.{label_at}
 use Rattle.state_sets.specs.Hulls.{condition_at}
 use Rattle.hulls.specs.Settling.{IsConflict, IsCutTo}

@@ -1,5 +1,6 @@
 -- Each turn narrows at one gate; where none waits any more, the labels are the hull.
-use Rattle.std.proofs.Common.{ap, sym, ◌∙◌, subst}
+use Rattle.std.proofs.Common.{ap, sym, ◌∙◌, subst, arith}
+use Rattle.std.proofs.lemmas.Grind.{common_steps}
 use Rattle.state_sets.specs.Hulls.{IsHull, HasAt}
 use Rattle.state_laws.specs.Cones.{IsNarrowingIn}
 use Rattle.state_laws.specs.Sweeps.{KeepsRests}
@@ -77,3 +78,12 @@ returns-clause-hull g c =
     c.loop-gate.invariant.narrowed.keeps
     (rests_inside a net on.kind on.steps c.args.self.now.inside c.loop-gate.self c.loop-gate.invariant.narrowed.inside
     c.in_default.ensures.cases.0 c.loop-gate.invariant.awake))
+
+pub loop-gate-init : goal.loop-gate-init
+loop-gate-init g c = grind (arith, common_steps)
+
+pub returns-clause-emptied : goal.returns-clause-emptied
+returns-clause-emptied g c = grind (arith, common_steps)
+
+pub returns-clause-keeps : goal.returns-clause-keeps
+returns-clause-keeps g c = grind (arith, common_steps)

@@ -1,5 +1,6 @@
 use Rattle.state_sets.specs.Hulls.{HasNoEmptySet}
-use Rattle.hulls.specs.Settling.{IsNarrowed, IsAwake, work_left}
+use Rattle.hulls.specs.Settling.{IsNarrowed, IsAwake}
+use Rattle.hulls.proofs.Narrowed.{work_left}
 use Rattle.hulls.proofs.board.Board.settle.Given as goal
 
 abbrev pub invariant-loop-gate : goal.invariant-loop-gate

@@ -1,5 +1,6 @@
 -- A line without a state is emptied; else all gates inside are asked, and the labels stay as they are until the board settles.
-use Rattle.std.proofs.Common.{List, sym, ap, ◌∙◌, subst}
+use Rattle.std.proofs.Common.{List, sym, ap, ◌∙◌, subst, arith}
+use Rattle.std.proofs.lemmas.Grind.{common_steps}
 use Rattle.state_sets.specs.declared.state.StateSet.{StateSet}
 use Rattle.state_sets.specs.States.{no_states}
 use Rattle.state_sets.specs.Labellings.{label_at}
@@ -27,3 +28,15 @@ returns-clause-keeps g c =
     let on = c.args.conditions.now in let net = c.args.net.now in
     subst (λ (b : OnBoard). KeepsRests g.A.Algebra.algebra net (IsNarrowingIn net (is_inside b.inside) on.kind on.steps) b.labels c.settle.new.self.labels)
     c.ask_all.ensures.labels c.settle.ensures.keeps
+
+pub returns-clause-emptied : goal.returns-clause-emptied
+returns-clause-emptied g c = grind (arith, common_steps)
+
+pub returns-clause-hull : goal.returns-clause-hull
+returns-clause-hull g c = grind (arith, common_steps)
+
+pub returns-clause-follows : goal.returns-clause-follows
+returns-clause-follows g c = grind (arith, common_steps)
+
+pub settle-requires-clause-ready : goal.settle-requires-clause-ready
+settle-requires-clause-ready g c = grind (arith, common_steps)

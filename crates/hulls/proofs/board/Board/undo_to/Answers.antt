@@ -1,9 +1,9 @@
 -- The notes that are left still fall.
 use Rattle.std.proofs.Common.{◌≡◌, ◌++◌, length, take, drop, ap, ◌∙◌}
-use Rattle.narrowing.proofs.Whole.{lent_back}
+use Rattle.hulls.proofs.Whole.{lent_back}
 use Rattle.undo_trail.specs.Undoing.{undone}
 use Rattle.undo_trail.proofs.Undoing.{length-undone}
-use Rattle.hulls.proofs.Cutting.{undone_is}
+use Rattle.hulls.proofs.BoardCuts.{undone_is}
 use Rattle.hulls.proofs.board.Board.undo_to.Goals as goal
 
 pub invariant_of-self : goal.invariant_of-self

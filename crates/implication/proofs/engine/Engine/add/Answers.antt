@@ -6,14 +6,14 @@ use Rattle.implication.proofs.engine.Engine.add.Goals as goal
 
 pub push_reserved-requires : goal.push_reserved-requires
 push_reserved-requires g c =
-    let room : length c.self.inside.befores.items < vec_capacity c.self.inside.befores =
+    let room : length c.self.inside.lists.befores.items < vec_capacity c.self.inside.lists.befores =
     add_befores_room g.A.Algebra.algebra c.self.invariant c.args.self.now c.self.view_is c.requires.begun c.requires.free c.args.entry
     c.requires.fits in
     search rules
 
 pub push_reserved-requires-2 : goal.push_reserved-requires-2
 push_reserved-requires-2 g c =
-    let room : length c.self.inside.assumptions.items < vec_capacity c.self.inside.assumptions =
+    let room : length c.self.inside.lists.assumptions.items < vec_capacity c.self.inside.lists.assumptions =
     add_room g.A.Algebra.algebra c.self.invariant c.args.self.now c.self.view_is c.requires.begun c.requires.free c.args.entry
     c.requires.fits in
     search rules

@@ -1,18 +1,24 @@
 -- The outermost scope begins: the labels are the hull of the start.
 use Rattle.std.proofs.Common.{refl}
-use Rattle.implication.proofs.Wholes.{open_of}
+use Rattle.implication.proofs.Wholes.{open_of, emptied_of}
 use Rattle.implication.proofs.Beginnings.{kept_begun, free_begun}
 use Rattle.implication.proofs.engine.Engine.begin.Goals as goal
 
-pub returns-clause-open : goal.returns-clause-open
-returns-clause-open g c =
+pub invariant_of-self : goal.invariant_of-self
+invariant_of-self g c =
     let call = c.begin-self-inside in
-    open_of g.A.Algebra.algebra g.met.A.Algebra.laws
-    (kept_begun g.A.Algebra.algebra c.self.invariant c.args.self.now c.self.view_is c.requires.idle c.args.begun c.requires.source
+    kept_begun g.A.Algebra.algebra c.self.invariant c.args.self.now c.self.view_is c.requires.idle c.args.begun c.requires.source
     call.new.board call.new.self call.ensures.board.inside call.ensures.board.lines call.ensures.board.at_rest c.set_kind.new.self c.set_kind.ensures
     c.netlist.result.now c.netlist.ensures c.rules.result.now c.rules.ensures call.result call.ensures.hull call.ensures.none_empty
-    call.ensures.emptied call.ensures.stands c.self.inside.closings)
-    _ refl call.result refl
+    call.ensures.emptied call.ensures.stands c.self.inside.closings
+
+pub returns-clause-open : goal.returns-clause-open
+returns-clause-open g c =
+    open_of g.A.Algebra.algebra g.met.A.Algebra.laws (invariant_of-self g c) _ refl c.begin-self-inside.result refl
+
+pub returns-clause-emptied : goal.returns-clause-emptied
+returns-clause-emptied g c =
+    emptied_of g.A.Algebra.algebra g.met.A.Algebra.laws (invariant_of-self g c) _ refl c.begin-self-inside.result refl
 
 pub returns-clause-four_states : goal.returns-clause-four_states
 returns-clause-four_states g c =

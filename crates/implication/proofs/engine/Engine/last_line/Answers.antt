@@ -14,13 +14,13 @@ pub returns-in-Some-clause-told : goal.returns-in-Some-clause-told
 returns-in-Some-clause-told g c = λ open_.
     let e = c.self.inside in let net = g.S.Setting.circuit e.setting in let ends = option_map (λ (v : _). v.items) e.ends in
     let begun = c.in-Some.begun in
-    let P : Option Beginning → Type 0 = λ b. StandsFrom g.A.Algebra.algebra net (g.S.Setting.rules e.setting) ends b e.assumptions.items
+    let P : Option Beginning → Type 0 = λ b. StandsFrom g.A.Algebra.algebra net (g.S.Setting.rules e.setting) ends b e.lists.assumptions.items
     e.conflict
-    (record { board = e.board; idle = e.idle; befores = e.befores.items; left = e.left.items; steps = e.conditions }) in
+    (record { board = e.parts.board; idle = e.parts.idle; befores = e.lists.befores.items; left = e.lists.left.items; steps = e.parts.conditions }) in
     let stands = subst P c.in-Some.is c.self.invariant.stands in
     let Q : Standing → Type 0 = λ s. IsTold s c.line_behind.result.0 in
     let R : ℕ → Type 0 = λ line. IsToldBy net ends line in
-    let is : c.line_behind.result.0 ≡ line_after net begun.source.0 (entered_pins e.assumptions.items) =
+    let is : c.line_behind.result.0 ≡ line_after net begun.source.0 (entered_pins e.lists.assumptions.items) =
     c.line_behind.ensures.end ∙ ap (λ (x : Circuit). line_after x begun.source.0 c.steps.result.now) c.netlist.ensures
     ∙ ap (line_after net begun.source.0) (c.steps.ensures ∙ stands.entered) in
-    subst Q c.self.view_is (subst R (sym is) (told_end net ends begun e.assumptions.items stands.list.source stands.told))
+    subst Q c.self.view_is (subst R (sym is) (told_end net ends begun e.lists.assumptions.items stands.list.source stands.told))

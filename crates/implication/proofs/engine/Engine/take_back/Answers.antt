@@ -1,5 +1,6 @@
 -- The last assumption taken back: what stood before it stands again.
-use Rattle.std.proofs.Common.{◌++◌, Option, vec_capacity, ap, ◌∙◌}
+use Rattle.std.proofs.Common.{◌++◌, Option, vec_capacity, ap, ◌∙◌, arith}
+use Rattle.std.proofs.lemmas.Grind.{common_steps}
 use Rattle.std.specs.Option.{option_to_list}
 use Rattle.implication.specs.declared.assumption.Assumption.{Assumption}
 use Rattle.implication.specs.declared.before.Before.{Before}
@@ -22,3 +23,18 @@ invariant_of-self-2 g c =
     c.undo_to.new.self c.undo_to.ensures.labels c.undo_to.ensures.notes c.undo_to.ensures.waiting c.undo_to.ensures.inside
     c.put_back.new.left.items c.put_back.ensures c.leave_step.new.conditions c.leave_step.ensures (vec_capacity c.pop-2.new.self)
     (vec_capacity c.pop.new.self) c.pop-2.ensures.capacity c.pop.ensures.capacity c.self.inside.closings
+
+pub invariant_of-self : goal.invariant_of-self
+invariant_of-self g c = grind (arith, common_steps)
+
+pub invariant_of-self-in_default-pop : goal.invariant_of-self-in_default-pop
+invariant_of-self-in_default-pop g c = grind (arith, common_steps)
+
+pub returns-in_default : goal.returns-in_default
+returns-in_default g c = grind (arith, common_steps)
+
+pub returns-in_default-pop : goal.returns-in_default-pop
+returns-in_default-pop g c = grind (arith, common_steps)
+
+pub returns : goal.returns
+returns g c = grind (arith, common_steps)

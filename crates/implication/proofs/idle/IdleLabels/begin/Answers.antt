@@ -146,3 +146,22 @@ returns-then-eq-2-clause-board g c = record {
   lines = as_many c.args.board.now c.narrow_on_cut.new.board c.narrow_on_cut.ensures.follows;
   at_rest = c.narrow_on_cut.ensures.at_rest;
 }
+
+pub returns-in-Some-clause-stands : goal.returns-in-Some-clause-stands
+returns-in-Some-clause-stands g c = c.requires.idle.stands
+
+pub returns-in-Some-clause-board : goal.returns-in-Some-clause-board
+returns-in-Some-clause-board g c = record { inside = refl; lines = refl; at_rest = c.requires.idle.at_rest }
+
+pub returns-then-eq-clause-stands : goal.returns-then-eq-clause-stands
+returns-then-eq-clause-stands g c = c.requires.idle.stands
+
+pub returns-then-eq-clause-board : goal.returns-then-eq-clause-board
+returns-then-eq-clause-board g c = record { inside = refl; lines = refl; at_rest = c.requires.idle.at_rest }
+
+pub returns-clause-board : goal.returns-clause-board
+returns-clause-board g c = record {
+  inside = c.settle.ensures.inside ∙ c.start_lines.ensures.inside;
+  lines = as_many c.start_lines.new.board c.settle.new.self c.settle.ensures.follows ∙ c.start_lines.ensures.one_each;
+  at_rest = c.settle.ensures.waiting;
+}

@@ -1,7 +1,7 @@
 -- One room more, and in the end all lists are empty.
 use Rattle.std.proofs.Common.{◌≡◌, ◌+◌, [], ◌∷◌, ◌++◌, length, sum, take, get_or, sym, ap, ap₂, subst, ◌∙◌, arith}
 use Rattle.std.proofs.lemmas.List.{take_all, take_more}
-use Rattle.std.proofs.lemmas.List.Sums.{sum_by_push}
+use Rattle.std.proofs.lemmas.List.Sums.{sum_by_more_le, sum_by_push}
 use Rattle.net_builder.specs.Filling.{FillRooms, filled_lists, rooms_within}
 use Rattle.net_builder.proofs.Rooms.{begins_more, begins_of, counted_begin, empty_begin, limits_more, limits_of, rooms_are, rooms_begin}
 use Rattle.net_builder.proofs.filling.Filling.with_rooms.Goals as goal
@@ -62,3 +62,12 @@ returns-clause-empty c =
     ap₂ (λ limits ends. get_or (filled_lists c.in_ok-items.items.items 0 limits ends) list [])
     (c.loop-room.invariant.limits ∙ ap (limits_of 0) all) (c.loop-room.invariant.ends ∙ ap (begins_of 0) all)
     ∙ empty_begin c.in_ok-items.items.items 0 rooms list
+
+pub overflow_add-total : goal.overflow_add-total
+overflow_add-total c =
+    omega (
+      arith,
+      c.loop-room.invariant.total,
+      sum_by_more_le (λ n. n) c.args.rooms.now c.loop-room.room-index 0 (omega arith),
+      c.requires,
+    )

@@ -1,0 +1,7 @@
+-- The line of one output more is written.
+use Rattle.std.proofs.Common.{arith}
+use Rattle.std.proofs.lemmas.Grind.{common_steps}
+use Rattle.bench_reader.proofs.text.push_outputs.Goals as goal
+
+pub loop-line-preserved : goal.loop-line-preserved
+loop-line-preserved c = grind (arith, common_steps)

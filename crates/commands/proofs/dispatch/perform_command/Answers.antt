@@ -1,0 +1,9 @@
+-- The work of the command is that of its case.
+use Rattle.pd_io.specs.Seen.{files_seen}
+use Rattle.commands.proofs.dispatch.perform_command.Goals as goal
+
+pub returns-in-Gen : goal.returns-in-Gen
+returns-in-Gen g c = rw c.in-Gen.is c.generate.ensures
+
+pub returns-in-Make : goal.returns-in-Make
+returns-in-Make g c = rw c.in-Make.is (c.make.ensures (files_seen g.F.Files c.args.files.now))

@@ -1,0 +1,19 @@
+-- The run is good and lawful, and the summary is its own.
+use Rattle.std.proofs.Common.{List, ℕ}
+use Rattle.command_line.specs.Commands.{gen_call_of}
+use Rattle.commands.specs.Gen.{run_files}
+use Rattle.calls.specs.Work.{Products}
+use Rattle.commands.proofs.Headline.{good_run_promises}
+use Rattle.commands.proofs.preparing.told_run.Goals as goal
+
+pub returns-clause-gives : goal.returns-clause-gives
+returns-clause-gives c = record {
+  run = c.in_ok-run.run';
+  rules = c.in_ok-run.ensures.rules;
+  good = c.in_ok-run.ensures.good;
+  lawful = c.in_ok-run.ensures.lawful;
+  promises = good_run_promises c.args.net.now c.requires.circuit _ _ _ c.in_ok-run.run' c.in_ok-run.ensures.rules
+      c.in_ok-run.ensures.good;
+  shortest = c.in_ok-run.ensures.shortest;
+  texts = λ i. record { files = run_files (gen_call_of c.args.command.now) c.args.net.now c.in_ok-run.run'; out = c.in_ok-summary.ensures i };
+}

@@ -1,0 +1,13 @@
+-- Each turn cuts the set of one pin.
+use Rattle.std.proofs.Common.{arith}
+use Rattle.std.proofs.lemmas.Grind.{common_steps}
+use Rattle.hulls.proofs.limits.cut_to.Goals as goal
+
+pub loop-pin-init : goal.loop-pin-init
+loop-pin-init c = grind (arith, common_steps)
+
+pub loop-pin-preserved : goal.loop-pin-preserved
+loop-pin-preserved c = grind (arith, common_steps)
+
+pub returns : goal.returns
+returns c = grind (arith, common_steps)

@@ -1,0 +1,26 @@
+-- The sets that are seen at a gate, and what choices out of them keep there (this project's own).
+use Rattle.std.specs.Prelude.{ℕ, ◌<◌, List, length, map, Option}
+use Rattle.state_sets.specs.declared.state.StateSet.{StateSet}
+use Rattle.state_sets.specs.declared.condition.Condition.{Condition}
+use Rattle.state_sets.specs.StateAlgebra.{StateAlgebra}
+use Rattle.state_sets.specs.Labellings.{label_at}
+use Rattle.state_sets.specs.Narrowing.{GateSets, GivesAtGate, GivesAtPin}
+use Rattle.hulls.specs.declared.view.GateView.{GateView}
+use Rattle.hulls.specs.Sets.{Means, set_at}
+
+-- the sets of the lines that the pins read, pin by pin
+abbrev pub pin_sets : GateView → List StateSet
+pin_sets gate = map (λ line. label_at gate.labels.now line.0) gate.pins.now
+
+-- what narrowing looks at there
+abbrev pub sets_seen : GateView → GateSets
+sets_seen gate = record { kind = gate.kind; pins = pin_sets gate; own = gate.own }
+
+-- at each pin these sets have the states that allowed choices have there
+abbrev pub AreKeptAtPins : StateAlgebra → GateView → Option Condition → List StateSet → Type 0
+AreKeptAtPins a gate condition kept =
+    (pin : ℕ) → pin < length gate.pins.now → Means a.count (set_at kept pin) (GivesAtPin a (sets_seen gate) condition pin)
+
+-- the set has the states that allowed choices give at the gate's line
+abbrev pub IsGivenAtGate : StateAlgebra → GateView → Option Condition → StateSet → Type 0
+IsGivenAtGate a gate condition given = Means a.count given (GivesAtGate a (sets_seen gate) condition)

@@ -1,0 +1,118 @@
+// Which states the choices at a gate with one pin or two keep, as most gates have: what a pin is joined with is the other pin's set
+// there, or nothing.
+ghost use Rattle.std.specs.Prelude.{◌≡◌, ◌<◌, length, All, IfSome};
+ghost use Rattle.netlist.specs.Gates.{op_of};
+ghost use Rattle.state_sets.specs.States.{IsWithin};
+ghost use Rattle.hulls.specs.Sets.{Means};
+ghost use Rattle.hulls.specs.Passes.{PassFolds, PassSupports};
+ghost use Rattle.hulls.specs.GateViews.{pin_sets, AreKeptAtPins, IsGivenAtGate};
+
+use crate::inverting::uninverted;
+use crate::limits::{Limits, limits_of, no_limits};
+use crate::view::GateView;
+use state_sets::{Algebra, Condition, StateSet};
+
+// The states that the choices of a pass have at two pins, and those to which they join.
+#[derive(Clone, Copy)]
+struct Pass {
+    first: StateSet,
+    second: StateSet,
+    joined: StateSet,
+}
+
+// Leaves in `kept` the states that choices have at the only pin, and gives those that they give at the gate's line. A condition
+// asks nothing of such a gate.
+pub(crate) fn keep_at_one<A: Algebra>(
+    gate: &GateView,
+    condition: Option<Condition>,
+    kept: &mut [StateSet],
+) -> StateSet
+    requires lines { All (λ line. line.0 < length gate.now.labels.now) gate.now.pins.now }
+    requires one { length gate.now.pins.now ≡ 1 }
+    requires kept { 0 < length kept.old }
+    requires pin { IfSome condition (λ c. c.pin < length gate.now.pins.now) }
+    ensures at_pins { AreKeptAtPins A.algebra gate.now condition kept.new }
+    ensures at_gate { IsGivenAtGate A.algebra gate.now condition result }
+{
+    let target = uninverted::<A>(gate.kind, gate.own);
+    let states = gate.cut_at(no_limits::<A>(), 0).intersect(target);
+    kept[0] = states;
+    uninverted::<A>(gate.kind, states)
+}
+
+// Leaves in `kept` the states that allowed choices have at the two pins, and gives those that they give at the gate's line.
+pub(crate) fn keep_at_two<A: Algebra>(
+    gate: &GateView,
+    condition: Option<Condition>,
+    kept: &mut [StateSet],
+) -> StateSet
+    requires lines { All (λ line. line.0 < length gate.now.labels.now) gate.now.pins.now }
+    requires two { length gate.now.pins.now ≡ 2 }
+    requires kept { 1 < length kept.old }
+    requires pin { IfSome condition (λ c. c.pin < length gate.now.pins.now) }
+    ensures at_pins { AreKeptAtPins A.algebra gate.now condition kept.new }
+    ensures at_gate { IsGivenAtGate A.algebra gate.now condition result }
+{
+    match condition {
+        None => two_freely::<A>(gate, kept),
+        Some(step) => two_at_step::<A>(gate, step, kept),
+    }
+}
+
+// The same without a condition.
+fn two_freely<A: Algebra>(gate: &GateView, kept: &mut [StateSet]) -> StateSet
+    requires lines { All (λ line. line.0 < length gate.now.labels.now) gate.now.pins.now }
+    requires two { length gate.now.pins.now ≡ 2 }
+    requires kept { 1 < length kept.old }
+    ensures at_pins { AreKeptAtPins A.algebra gate.now None kept.new }
+    ensures at_gate { IsGivenAtGate A.algebra gate.now None result }
+{
+    let target = uninverted::<A>(gate.kind, gate.own);
+    let pass = pass_two::<A>(gate, no_limits::<A>(), target);
+    kept[0] = pass.first;
+    kept[1] = pass.second;
+    uninverted::<A>(gate.kind, pass.joined)
+}
+
+// The same with the condition of a step: a pass for each final value of the on-path pin.
+fn two_at_step<A: Algebra>(gate: &GateView, step: Condition, kept: &mut [StateSet]) -> StateSet
+    requires lines { All (λ line. line.0 < length gate.now.labels.now) gate.now.pins.now }
+    requires two { length gate.now.pins.now ≡ 2 }
+    requires kept { 1 < length kept.old }
+    requires pin { step.pin < length gate.now.pins.now }
+    ensures at_pins { AreKeptAtPins A.algebra gate.now (Some step) kept.new }
+    ensures at_gate { IsGivenAtGate A.algebra gate.now (Some step) result }
+{
+    let target = uninverted::<A>(gate.kind, gate.own);
+    let at_zero = limits_of::<A>(gate.kind, step, false);
+    let zero = pass_two::<A>(gate, at_zero, target);
+    let at_one = limits_of::<A>(gate.kind, step, true);
+    let one = pass_two::<A>(gate, at_one, target);
+    kept[0] = zero.first.unite(one.first);
+    kept[1] = zero.second.unite(one.second);
+    uninverted::<A>(gate.kind, zero.joined.unite(one.joined))
+}
+
+// What choices within the limits that join into the target have at the two pins, and join to.
+fn pass_two<A: Algebra>(gate: &GateView, limits: Limits, target: StateSet) -> Pass
+    requires lines { All (λ line. line.0 < length gate.now.labels.now) gate.now.pins.now }
+    requires two { length gate.now.pins.now ≡ 2 }
+    requires on_path { IsWithin A.algebra.count limits.at_on_path }
+    requires sides { IsWithin A.algebra.count limits.at_sides }
+    requires target { IsWithin A.algebra.count target }
+    ensures first { Means A.algebra.count result.first
+        (PassSupports A.algebra (op_of gate.now.kind) limits (pin_sets gate.now) target 0) }
+    ensures second { Means A.algebra.count result.second
+        (PassSupports A.algebra (op_of gate.now.kind) limits (pin_sets gate.now) target 1) }
+    ensures joined { Means A.algebra.count result.joined
+        (PassFolds A.algebra (op_of gate.now.kind) limits (pin_sets gate.now) target) }
+{
+    let op = gate.kind.operation();
+    let first = gate.cut_at(limits, 0);
+    let second = gate.cut_at(limits, 1);
+    Pass {
+        first: first.intersect(A::supporting(op, second, target)),
+        second: second.intersect(A::supporting(op, first, target)),
+        joined: A::join_sets(op, first, second).intersect(target),
+    }
+}

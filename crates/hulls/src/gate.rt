@@ -1,0 +1,118 @@
+// Narrowing at one gate: all kept sets are collected from the labels as they are, and only then are labels cut.
+ghost use Rattle.std.specs.Prelude.{◌≡◌, ◌<◌, ◌≤◌, ℕ, length, All, IfSome};
+ghost use Rattle.netlist.specs.declared.limits.TheConstants.{MOST_FAN_IN};
+ghost use Rattle.netlist.specs.Circuit.{gate_count, line_count, pins_at};
+ghost use Rattle.state_sets.specs.States.{AreWithin};
+ghost use Rattle.state_sets.specs.Labellings.{TellsOfNarrowing};
+ghost use Rattle.state_sets.specs.Narrowing.{IsNarrowing, KeepsAgreeing, GivesAtGate, GivesAtPin, gate_lines, gate_sets};
+ghost use Rattle.hulls.specs.Sets.{Means, set_at};
+ghost use Rattle.hulls.specs.GateViews.{AreKeptAtPins, IsGivenAtGate};
+
+use crate::collecting::keep_at_all;
+use crate::cutting::{cut_line, cut_pins, told};
+use crate::few::{keep_at_one, keep_at_two};
+use crate::scratch::NarrowScratch;
+use crate::three::keep_at_three;
+use crate::view::GateView;
+use netlist::Netlist;
+use pd_base::{GateId, LineId};
+use state_sets::{Algebra, Condition, Labels, Narrowed, StateSet};
+
+/// Narrows the labels at a gate: each line that its pins read and its own line keep exactly the states that allowed choices have
+/// there. With a condition, its pin is the on-path pin of the gate, and its kind is that of the test. Takes no memory.
+pub fn narrow<A: Algebra>(
+    net: &Netlist,
+    labels: &mut Labels<A>,
+    gate: GateId,
+    condition: Option<Condition>,
+    scratch: &mut NarrowScratch,
+) -> Narrowed
+    requires lines { length labels.old ≡ line_count net.now }
+    requires gate { gate.0 < gate_count net.now }
+    requires pin { IfSome condition (λ c. c.pin < length (pins_at net.now gate.0)) }
+    ensures narrowed { IsNarrowing A.algebra net.now gate.0 condition labels.old labels.new }
+    ensures answer { TellsOfNarrowing (gate_lines net.now gate.0) labels.old labels.new result }
+
+    // sets of states below the count stay such sets
+    ensures within { AreWithin A.algebra.count labels.old → AreWithin A.algebra.count labels.new }
+
+    // states that agree at the gate and meet the condition are not lost
+    ensures agreeing { KeepsAgreeing A.algebra net.now gate.0 condition labels.old labels.new }
+{
+    narrow_sets::<A>(net, labels.as_mut_slice(), gate, condition, scratch)
+}
+
+// The same on the sets alone.
+fn narrow_sets<A: Algebra>(
+    net: &Netlist,
+    labels: &mut [StateSet],
+    gate: GateId,
+    condition: Option<Condition>,
+    scratch: &mut NarrowScratch,
+) -> Narrowed
+    requires lines { length labels.old ≡ line_count net.now }
+    requires gate { gate.0 < gate_count net.now }
+    requires pin { IfSome condition (λ c. c.pin < length (pins_at net.now gate.0)) }
+    ensures narrowed { IsNarrowing A.algebra net.now gate.0 condition labels.old labels.new }
+    ensures answer { TellsOfNarrowing (gate_lines net.now gate.0) labels.old labels.new result }
+    ensures within { AreWithin A.algebra.count labels.old → AreWithin A.algebra.count labels.new }
+{
+    let given = kept_at::<A>(net, labels, gate, condition, scratch);
+    let own = LineId(net.sources() + gate.0);
+    let pins = net.pins(gate);
+    let changed = cut_pins(labels, pins, &scratch.kept);
+    let own_changed = cut_line(labels, own, given);
+    told(labels, pins, own, changed | own_changed)
+}
+
+/// The states that narrowing at a gate keeps, with no label written: those at each pin stand in the scratch, and those at the gate's
+/// line are given. With a condition, its pin is the on-path pin of the gate, and its kind is that of the test. Takes no memory.
+pub fn kept_at<A: Algebra>(
+    net: &Netlist,
+    labels: &[StateSet],
+    gate: GateId,
+    condition: Option<Condition>,
+    scratch: &mut NarrowScratch,
+) -> StateSet
+    requires lines { length labels.now ≡ line_count net.now }
+    requires gate { gate.0 < gate_count net.now }
+    requires pin { IfSome condition (λ c. c.pin < length (pins_at net.now gate.0)) }
+    ensures at_pins { (pin : ℕ) → pin < length (pins_at net.now gate.0)
+        → Means A.algebra.count (set_at scratch.new pin) (GivesAtPin A.algebra (gate_sets net.now gate.0 labels.now) condition pin) }
+    ensures at_gate { Means A.algebra.count result (GivesAtGate A.algebra (gate_sets net.now gate.0 labels.now) condition) }
+{
+    let own = LineId(net.sources() + gate.0);
+    let view = GateView {
+        kind: net.kind(gate),
+        pins: net.pins(gate),
+        labels,
+        own: labels[own.0 as usize],
+    };
+    keep::<A>(&view, condition, scratch)
+}
+
+// The same of what is seen at a gate.
+fn keep<A: Algebra>(
+    gate: &GateView,
+    condition: Option<Condition>,
+    scratch: &mut NarrowScratch,
+) -> StateSet
+    requires lines { All (λ line. line.0 < length gate.now.labels.now) gate.now.pins.now }
+    requires few { length gate.now.pins.now ≤ MOST_FAN_IN }
+    requires pin { IfSome condition (λ c. c.pin < length gate.now.pins.now) }
+    ensures at_pins { AreKeptAtPins A.algebra gate.now condition scratch.new }
+    ensures at_gate { IsGivenAtGate A.algebra gate.now condition result }
+{
+    match gate.pins.len() {
+        1 => keep_at_one::<A>(gate, condition, &mut scratch.kept),
+        2 => keep_at_two::<A>(gate, condition, &mut scratch.kept),
+        3 => keep_at_three::<A>(gate, condition, &mut scratch.kept),
+        _ => keep_at_all::<A>(
+            gate,
+            condition,
+            &mut scratch.cut,
+            &mut scratch.suffixes,
+            &mut scratch.kept,
+        ),
+    }
+}

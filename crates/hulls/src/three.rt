@@ -1,0 +1,108 @@
+// Which states the choices at a gate with three pins keep, as most of the other gates have: what a pin is joined with is what the other
+// two join to.
+ghost use Rattle.std.specs.Prelude.{◌≡◌, ◌<◌, length, All, IfSome};
+ghost use Rattle.netlist.specs.Gates.{op_of};
+ghost use Rattle.state_sets.specs.States.{IsWithin};
+ghost use Rattle.hulls.specs.Sets.{Means};
+ghost use Rattle.hulls.specs.Passes.{PassFolds, PassSupports};
+ghost use Rattle.hulls.specs.GateViews.{pin_sets, AreKeptAtPins, IsGivenAtGate};
+
+use crate::inverting::uninverted;
+use crate::limits::{Limits, limits_of, no_limits};
+use crate::view::GateView;
+use state_sets::{Algebra, Condition, StateSet};
+
+// The states that the choices of a pass have at three pins, and those to which they join.
+#[derive(Clone, Copy)]
+struct PassOfThree {
+    first: StateSet,
+    second: StateSet,
+    third: StateSet,
+    joined: StateSet,
+}
+
+// Leaves in `kept` the states that allowed choices have at the three pins, and gives those that they give at the gate's line.
+pub(crate) fn keep_at_three<A: Algebra>(
+    gate: &GateView,
+    condition: Option<Condition>,
+    kept: &mut [StateSet],
+) -> StateSet
+    requires lines { All (λ line. line.0 < length gate.now.labels.now) gate.now.pins.now }
+    requires three { length gate.now.pins.now ≡ 3 }
+    requires kept { 2 < length kept.old }
+    requires pin { IfSome condition (λ c. c.pin < length gate.now.pins.now) }
+    ensures at_pins { AreKeptAtPins A.algebra gate.now condition kept.new }
+    ensures at_gate { IsGivenAtGate A.algebra gate.now condition result }
+{
+    match condition {
+        None => three_freely::<A>(gate, kept),
+        Some(step) => three_at_step::<A>(gate, step, kept),
+    }
+}
+
+// The same without a condition.
+fn three_freely<A: Algebra>(gate: &GateView, kept: &mut [StateSet]) -> StateSet
+    requires lines { All (λ line. line.0 < length gate.now.labels.now) gate.now.pins.now }
+    requires three { length gate.now.pins.now ≡ 3 }
+    requires kept { 2 < length kept.old }
+    ensures at_pins { AreKeptAtPins A.algebra gate.now None kept.new }
+    ensures at_gate { IsGivenAtGate A.algebra gate.now None result }
+{
+    let target = uninverted::<A>(gate.kind, gate.own);
+    let pass = pass_three::<A>(gate, no_limits::<A>(), target);
+    kept[0] = pass.first;
+    kept[1] = pass.second;
+    kept[2] = pass.third;
+    uninverted::<A>(gate.kind, pass.joined)
+}
+
+// The same with the condition of a step: a pass for each final value of the on-path pin.
+fn three_at_step<A: Algebra>(gate: &GateView, step: Condition, kept: &mut [StateSet]) -> StateSet
+    requires lines { All (λ line. line.0 < length gate.now.labels.now) gate.now.pins.now }
+    requires three { length gate.now.pins.now ≡ 3 }
+    requires kept { 2 < length kept.old }
+    requires pin { step.pin < length gate.now.pins.now }
+    ensures at_pins { AreKeptAtPins A.algebra gate.now (Some step) kept.new }
+    ensures at_gate { IsGivenAtGate A.algebra gate.now (Some step) result }
+{
+    let target = uninverted::<A>(gate.kind, gate.own);
+    let at_zero = limits_of::<A>(gate.kind, step, false);
+    let zero = pass_three::<A>(gate, at_zero, target);
+    let at_one = limits_of::<A>(gate.kind, step, true);
+    let one = pass_three::<A>(gate, at_one, target);
+    kept[0] = zero.first.unite(one.first);
+    kept[1] = zero.second.unite(one.second);
+    kept[2] = zero.third.unite(one.third);
+    uninverted::<A>(gate.kind, zero.joined.unite(one.joined))
+}
+
+// What choices within the limits that join into the target have at the three pins, and join to.
+fn pass_three<A: Algebra>(gate: &GateView, limits: Limits, target: StateSet) -> PassOfThree
+    requires lines { All (λ line. line.0 < length gate.now.labels.now) gate.now.pins.now }
+    requires three { length gate.now.pins.now ≡ 3 }
+    requires on_path { IsWithin A.algebra.count limits.at_on_path }
+    requires sides { IsWithin A.algebra.count limits.at_sides }
+    requires target { IsWithin A.algebra.count target }
+    ensures first { Means A.algebra.count result.first
+        (PassSupports A.algebra (op_of gate.now.kind) limits (pin_sets gate.now) target 0) }
+    ensures second { Means A.algebra.count result.second
+        (PassSupports A.algebra (op_of gate.now.kind) limits (pin_sets gate.now) target 1) }
+    ensures third { Means A.algebra.count result.third
+        (PassSupports A.algebra (op_of gate.now.kind) limits (pin_sets gate.now) target 2) }
+    ensures joined { Means A.algebra.count result.joined
+        (PassFolds A.algebra (op_of gate.now.kind) limits (pin_sets gate.now) target) }
+{
+    let op = gate.kind.operation();
+    let first = gate.cut_at(limits, 0);
+    let second = gate.cut_at(limits, 1);
+    let third = gate.cut_at(limits, 2);
+    let last_two = A::join_sets(op, second, third);
+    let outer = A::join_sets(op, first, third);
+    let first_two = A::join_sets(op, first, second);
+    PassOfThree {
+        first: first.intersect(A::supporting(op, last_two, target)),
+        second: second.intersect(A::supporting(op, outer, target)),
+        third: third.intersect(A::supporting(op, first_two, target)),
+        joined: A::join_sets(op, first, last_two).intersect(target),
+    }
+}

@@ -1,9 +1,0 @@
-use Rattle.std.specs.Prelude.{IsTrue}
-use Rattle.state_sets.specs.declared.state.State.{State}
-use Rattle.state_sets.specs.States.{Has}
-use Rattle.narrowing.specs.Sets.{Gathers}
-use Rattle.narrowing.proofs.link.linked_lines.Given as goal
-
-abbrev pub invariant-loop-number : goal.invariant-loop-number
-invariant-loop-number g l = Gathers g.A.Algebra.algebra.count l.found
-    (λ c. (s : State) × Has g.A.Algebra.algebra.count l.sources s × IsTrue (g.A.Algebra.algebra.link s c)) l.number

@@ -1,0 +1,7 @@
+-- One line more is listed.
+use Rattle.std.proofs.Common.{arith}
+use Rattle.std.proofs.lemmas.Grind.{common_steps}
+use Rattle.net_builder.proofs.by_name.without_names.Goals as goal
+
+pub loop-line-preserved : goal.loop-line-preserved
+loop-line-preserved c = grind (arith, common_steps)

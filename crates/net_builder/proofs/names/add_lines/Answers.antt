@@ -1,0 +1,17 @@
+-- The groups one behind another are all lines.
+use Rattle.std.proofs.Common.{subst}
+use Rattle.net_builder.proofs.ByLine.{Differ, all_lines, lines_distinct}
+use Rattle.net_builder.proofs.names.add_lines.Goals as goal
+
+pub returns-clause-names : goal.returns-clause-names
+returns-clause-names c =
+    all_lines c.args.raw.now _ c.add_group.new.names.keys c.add_group-2.new.names.keys c.add_group-3.new.names.keys
+    c.requires c.in_ok-add_group.ensures.names c.in_ok-add_group-2.ensures.names
+    c.in_ok-add_group-3.ensures.names
+
+pub returns-clause-distinct : goal.returns-clause-distinct
+returns-clause-distinct c =
+    lines_distinct c.args.raw.now (subst Differ
+    (all_lines c.args.raw.now _ c.add_group.new.names.keys c.add_group-2.new.names.keys c.add_group-3.new.names.keys
+    c.requires c.in_ok-add_group.ensures.names c.in_ok-add_group-2.ensures.names
+    c.in_ok-add_group-3.ensures.names) c.in_ok-add_group-3.ensures.distinct)

@@ -1,0 +1,10 @@
+-- One node more has its first walk.
+use Rattle.std.proofs.Common.{arith}
+use Rattle.std.proofs.lemmas.Grind.{common_steps}
+use Rattle.path_lister.proofs.lists.NodeLists.start.Goals as goal
+
+pub loop-node-init : goal.loop-node-init
+loop-node-init c = grind (arith, common_steps)
+
+pub loop-node-preserved : goal.loop-node-preserved
+loop-node-preserved c = grind (arith, common_steps)

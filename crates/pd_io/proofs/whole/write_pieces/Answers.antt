@@ -1,0 +1,20 @@
+-- A file that was begun holds the whole text, or a front of it.
+use Rattle.pd_io.proofs.Tellings.{on_err}
+use Rattle.pd_io.proofs.OpenFile.{begun_part, ended_part, ended_whole}
+use Rattle.pd_io.proofs.whole.write_pieces.Goals as goal
+
+pub returns-in_err-append_text-clause-err : goal.returns-in_err-append_text-clause-err
+returns-in_err-append_text-clause-err g c =
+    on_err c.from_residual-in_err-append_text.result
+    (begun_part _ _ _ _ _ _ c.in_ok-begin_write.ensures.begins c.in_ok-begin_write.ensures.told c.in_err-append_text.ensures.err)
+
+pub returns-in_err-finish-clause-err : goal.returns-in_err-finish-clause-err
+returns-in_err-finish-clause-err g c =
+    on_err c.from_residual-in_err-finish.result
+    (ended_part _ _ _ _ _ _ c.in_ok-begin_write.ensures.begins c.in_ok-begin_write.ensures.told _ c.finish.ensures.folder
+    c.in_ok-append_text.ensures.ok)
+
+pub returns-clause-ok : goal.returns-clause-ok
+returns-clause-ok g c =
+    ended_whole _ _ _ _ _ _ c.in_ok-begin_write.ensures.begins c.in_ok-begin_write.ensures.told _ c.finish.ensures.folder
+    c.in_ok-append_text.ensures.ok

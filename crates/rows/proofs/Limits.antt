@@ -1,0 +1,123 @@
+-- The limits as numbers (this project's own; docs/formats.md lists them).
+use Rattle.std.proofs.Common.{◌≡◌, pos, refl}
+use Rattle.pd_base.specs.declared.limits.TheConstants.{MOST_BUDGET, MOST_PATHS}
+use Rattle.command_line.specs.declared.number.TheConstants.{MOST_DIGITS}
+use Rattle.command_line.specs.declared.reading.TheConstants.{DEFAULT_BUDGET, DEFAULT_PATHS, MOST_PRODUCT}
+use Rattle.command_line.specs.declared.stages.TheConstants.{MOST_STAGES as MOST_STAGES_ASKED, MOST_STAGES_DIGITS}
+use Rattle.text_pieces.specs.declared.limits.TheConstants.{MOST_BYTES as MOST_CLAIM_BYTES}
+use Rattle.ladder.specs.declared.building.TheConstants.{MOST_STAGES as MOST_STAGES_BUILT}
+use Rattle.pd_io.specs.declared.named.TheConstants.{MOST_AT_ONCE}
+use Rattle.netlist.specs.declared.limits.TheConstants.{MOST_LINES, MOST_PINS, MOST_FAN_IN, MOST_LEVELS, MOST_NAME_BYTES, MOST_STATEMENTS}
+use Rattle.bench_reader.specs.declared.statements.TheConstants.{MOST_BYTES as MOST_NETLIST_BYTES}
+use Rattle.delay_annotation.specs.declared.delays.TheConstants.{MOST_DELAY, UNIT_DELAY}
+use Rattle.delay_annotation.specs.declared.field.TheConstants.{MOST_PIN_DIGITS, MOST_NUMBER_DIGITS}
+use Rattle.delay_annotation.specs.declared.reading.TheConstants.{MOST_BYTES as MOST_DELAY_FILE_BYTES}
+use Rattle.delay_replay.specs.declared.gate.TheConstants.{MOST_CHANGES}
+use Rattle.delay_replay.specs.declared.line_waves.TheConstants.{MOST_CHANGES_OF_ALL}
+use Rattle.delay_replay.specs.declared.wave.TheConstants.{LATEST_CHANGE}
+use Rattle.commands.specs.declared.judging.TheConstants.{INPUT_LIMIT}
+use Rattle.commands.specs.declared.making.TheConstants.{LADDER_BUDGET, LADDER_PATHS}
+use Rattle.commands.specs.declared.sizes.TheConstants.{MOST_PATH_TEXT, MOST_TEST_TEXT, STEP_BYTES}
+
+-- of circuits
+most_lines : MOST_LINES ≡ 262144
+most_lines = refl
+
+most_pins : MOST_PINS ≡ 1048576
+most_pins = refl
+
+most_fan_in : MOST_FAN_IN ≡ 1024
+most_fan_in = refl
+
+most_levels : MOST_LEVELS ≡ 4096
+most_levels = refl
+
+most_name_bytes : MOST_NAME_BYTES ≡ 255
+most_name_bytes = refl
+
+most_statements : MOST_STATEMENTS ≡ 2147483647
+most_statements = refl
+
+most_netlist_bytes : MOST_NETLIST_BYTES ≡ 268435456
+most_netlist_bytes = refl
+
+-- of delays
+most_delay : MOST_DELAY ≡ 1000000
+most_delay = refl
+
+unit_delay : UNIT_DELAY ≡ 1
+unit_delay = refl
+
+most_pin_digits : MOST_PIN_DIGITS ≡ 4
+most_pin_digits = refl
+
+most_number_digits : MOST_NUMBER_DIGITS ≡ 7
+most_number_digits = refl
+
+most_delay_file_bytes : MOST_DELAY_FILE_BYTES ≡ 268435456
+most_delay_file_bytes = refl
+
+-- of replays
+most_changes : MOST_CHANGES ≡ 65536
+most_changes = refl
+
+most_changes_of_all : MOST_CHANGES_OF_ALL ≡ 16777216
+most_changes_of_all = refl
+
+latest_change : LATEST_CHANGE ≡ pos 5000000000
+latest_change = refl
+
+-- of files in memory
+most_at_once : MOST_AT_ONCE ≡ 4096
+most_at_once = refl
+
+-- of calls
+most_paths : MOST_PATHS ≡ 10000
+most_paths = refl
+
+most_budget : MOST_BUDGET ≡ 1000000
+most_budget = refl
+
+most_product : MOST_PRODUCT ≡ 4000000
+most_product = refl
+
+most_digits : MOST_DIGITS ≡ 7
+most_digits = refl
+
+default_paths : DEFAULT_PATHS ≡ 100
+default_paths = refl
+
+default_budget : DEFAULT_BUDGET ≡ 1000
+default_budget = refl
+
+input_limit : INPUT_LIMIT ≡ 33554432
+input_limit = refl
+
+most_path_text : MOST_PATH_TEXT ≡ 67108864
+most_path_text = refl
+
+most_test_text : MOST_TEST_TEXT ≡ 40000000
+most_test_text = refl
+
+step_bytes : STEP_BYTES ≡ 6
+step_bytes = refl
+
+-- of the files of a run, read back
+most_claim_bytes : MOST_CLAIM_BYTES ≡ 268435456
+most_claim_bytes = refl
+
+-- of ladders
+most_stages_asked : MOST_STAGES_ASKED ≡ 1000
+most_stages_asked = refl
+
+most_stages_digits : MOST_STAGES_DIGITS ≡ 4
+most_stages_digits = refl
+
+most_stages_built : MOST_STAGES_BUILT ≡ 1000
+most_stages_built = refl
+
+ladder_paths : LADDER_PATHS ≡ 100
+ladder_paths = refl
+
+ladder_budget : LADDER_BUDGET ≡ 1000
+ladder_budget = refl

@@ -1,0 +1,30 @@
+// The rows about searches.
+use crate::claims;
+use netlist::Netlist;
+use row_answers::Trouble;
+use std::alloc::Global;
+
+/// What came of a question about the search for tests of a path, or about what it stands on.
+pub fn asked(
+    alloc: Global,
+    net: &Netlist,
+    delays: Option<&str>,
+    path: &str,
+    word: &str,
+    row: &str,
+) -> Result<String, Trouble> {
+    match word {
+        // what a search for a test of the path ends with: transition, kind and budget; here and below the word two may stand first
+        "search" => search_answers::searched(alloc, net, path, row),
+        // whether sweeps over all gates and the worklist end alike on the path
+        "alike" => search_answers::ends_alike(alloc, net, path),
+        // the labels when a transition is launched, and what comes of the path's first pin: transition, kind
+        "launch" => search_answers::launched(alloc, net, path, row),
+        // how many prefixes the first paths have, so many
+        "walk" => search_answers::walked(alloc, net, delays, row),
+        // what writes to a list are undone to: values, writes, and writes that are undone, bars between them
+        "undo" => search_answers::undone(alloc, row),
+        // what is read of a file of a run, or no question
+        _ => claims::read(alloc, net, word, row),
+    }
+}

@@ -1,0 +1,194 @@
+// Sweeps over all gates, and the worklist of hulls and engines, play the same assumptions: the labels that they end with are the same,
+// or both leave some line without a state. Scopes are played in scopes.rt.
+ghost use Rattle.std.specs.Prelude.{◌<◌, All, IsTrue};
+ghost use Rattle.netlist.specs.Circuit.{source_count};
+ghost use Rattle.netlist.specs.Paths.{IsPath};
+
+use crate::scopes::{whole_alike, within_alike};
+use crate::sweeping::{Assumed, swept};
+use hulls::{Hull, hull};
+use netlist::Netlist;
+use pd_base::Direction::{Fall, Rise};
+use pd_base::Kind::{Nonrobust, Robust};
+use pd_base::{Direction, Kind, OutOfMemory, Path, Rules};
+use row_answers::{Trouble, path, yes_or_no};
+use state_laws::Half;
+use std::alloc::Global;
+
+// Halves of splits on the first two sources.
+const FIRST_AT_0: Half = Half {
+    source: 0,
+    steadiness: false,
+    second: false,
+};
+
+const FIRST_STEADY: Half = Half {
+    source: 0,
+    steadiness: true,
+    second: false,
+};
+
+const SECOND_AT_1: Half = Half {
+    source: 1,
+    steadiness: false,
+    second: true,
+};
+
+const SECOND_MOVES: Half = Half {
+    source: 1,
+    steadiness: true,
+    second: true,
+};
+
+const HALVES: [&[Half]; 6] = [
+    &[],
+    &[SECOND_AT_1],
+    &[SECOND_MOVES],
+    &[FIRST_AT_0, SECOND_AT_1],
+    &[FIRST_STEADY, SECOND_MOVES],
+    &[SECOND_AT_1, SECOND_MOVES, FIRST_AT_0, FIRST_STEADY],
+];
+
+// The transitions and kinds of tests.
+const FAULTS: [(Direction, Kind); 4] = [
+    (Rise, Robust),
+    (Fall, Robust),
+    (Rise, Nonrobust),
+    (Fall, Nonrobust),
+];
+
+/// Whether sweeps and the worklist end alike on a path: under both rules, for each transition and kind of test, under several lists of
+/// halves of the first two sources.
+pub fn ends_alike(alloc: Global, net: &Netlist, route: &str) -> Result<String, Trouble> {
+    let path = path(alloc, net, route)?;
+    let alike = rules_alike(alloc, net, &path, &Rules::One)?
+        && rules_alike(alloc, net, &path, &Rules::Two)?;
+    Ok(yes_or_no(alloc, alike)?)
+}
+
+// The same under these rules.
+fn rules_alike(
+    alloc: Global,
+    net: &Netlist,
+    path: &Path,
+    rules: &Rules,
+) -> Result<bool, OutOfMemory>
+    requires { IsPath net.now path.now }
+{
+    for (direction, kind) in FAULTS {
+        if !fault_alike(alloc, net, path, rules, direction, kind)? {
+            return Ok(false);
+        }
+    }
+    Ok(true)
+}
+
+// The same for this transition and kind of test.
+fn fault_alike<'x>(
+    alloc: Global,
+    net: &Netlist,
+    path: &'x Path,
+    rules: &'x Rules,
+    direction: Direction,
+    kind: Kind,
+) -> Result<bool, OutOfMemory>
+    requires { IsPath net.now path.now }
+{
+    for halves in HALVES {
+        let assumed = Assumed {
+            rules,
+            source: path.source(),
+            direction,
+            kind,
+            steps: path.steps(),
+            halves,
+        };
+        if !all_alike(alloc, net, path, &assumed)? {
+            return Ok(false);
+        }
+    }
+    Ok(true)
+}
+
+// Whether the hull, an engine that tells all lines, and one that tells those in the fan-in of the path's end alone end like the sweeps.
+fn all_alike(
+    alloc: Global,
+    net: &Netlist,
+    path: &Path,
+    assumed: &Assumed,
+) -> Result<bool, OutOfMemory>
+    requires { IsPath net.now path.now }
+{
+    // a netlist without these sources has no such row
+    if assumed.source.0 < net.sources() && are_on_sources(net, assumed.halves) {
+        fit_alike(alloc, net, path, assumed)
+    } else {
+        Ok(false)
+    }
+}
+
+// The same where all are sources.
+fn fit_alike(
+    alloc: Global,
+    net: &Netlist,
+    path: &Path,
+    assumed: &Assumed,
+) -> Result<bool, OutOfMemory>
+    requires path { IsPath net.now path.now }
+    requires source { assumed.now.source.0 < source_count net.now }
+    requires halves { All (λ half. half.source < source_count net.now) assumed.now.halves.now }
+{
+    Ok(
+        hull_alike(alloc, net, path, assumed)?
+            && whole_alike(alloc, net, assumed)?
+            && within_alike(alloc, net, assumed)?,
+    )
+}
+
+// Whether each half is on a source.
+fn are_on_sources(net: &Netlist, halves: &[Half]) -> bool
+    ensures { IsTrue result → All (λ half. half.source < source_count net.now) halves.now }
+{
+    let sources = net.sources();
+    halves.iter().all(|half| half.source < sources)
+}
+
+// Whether `hull` ends like the sweeps.
+fn hull_alike(
+    alloc: Global,
+    net: &Netlist,
+    path: &Path,
+    assumed: &Assumed,
+) -> Result<bool, OutOfMemory>
+    requires path { IsPath net.now path.now }
+    requires halves { All (λ half. half.source < source_count net.now) assumed.now.halves.now }
+{
+    let swept = swept(alloc, net, assumed)?;
+    let rest = rest_of(alloc, net, path, assumed)?;
+    Ok(match (rest, swept) {
+        (Hull::Rest(labels), Some(swept)) => labels.as_slice() == swept.as_slice(),
+        (Hull::Empty(_), None) => true,
+        _ => false,
+    })
+}
+
+// The hull. It promises nothing, so that the answers are not proved over again under the contract of `hull`.
+fn rest_of(
+    alloc: Global,
+    net: &Netlist,
+    path: &Path,
+    assumed: &Assumed,
+) -> Result<Hull, OutOfMemory>
+    requires path { IsPath net.now path.now }
+    requires halves { All (λ half. half.source < source_count net.now) assumed.now.halves.now }
+{
+    hull(
+        alloc,
+        net,
+        assumed.rules,
+        path,
+        assumed.direction,
+        assumed.kind,
+        assumed.halves,
+    )
+}

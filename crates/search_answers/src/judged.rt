@@ -1,0 +1,64 @@
+// Whether the tree that a search found has as many splits as it may have, and the judge of trees accepts it.
+ghost use Rattle.netlist.specs.Paths.{IsPath};
+
+use crate::found::Wanted;
+use justify::Found;
+use netlist::Netlist;
+use refutation_check::{TreeCheck, check_spent, check_tree};
+use row_answers::Trouble;
+use runs::Tree;
+use std::alloc::Global;
+
+/// Whether what was found is a pair, or a tree that is accepted.
+pub(crate) fn is_accepted(
+    alloc: Global,
+    net: &Netlist,
+    wanted: &Wanted,
+    found: &Found,
+) -> Result<bool, Trouble>
+    requires { IsPath net.now wanted.now.path.now }
+{
+    match found {
+        Found::Test(_) => Ok(true),
+        Found::Refuted(tree) => is_refutation(alloc, net, wanted, tree),
+        Found::Spent(tree) => is_spent(alloc, net, wanted, tree),
+    }
+}
+
+// Whether a tree refutes within the budget.
+fn is_refutation(
+    alloc: Global,
+    net: &Netlist,
+    wanted: &Wanted,
+    tree: &Tree,
+) -> Result<bool, Trouble>
+    requires { IsPath net.now wanted.now.path.now }
+{
+    let told = check_tree(
+        alloc,
+        net,
+        wanted.rules,
+        wanted.path,
+        wanted.direction,
+        wanted.kind,
+        tree,
+    )?;
+    Ok(tree.splits() <= wanted.budget && matches!(told, TreeCheck::Yes))
+}
+
+// Whether a tree spent the budget.
+fn is_spent(alloc: Global, net: &Netlist, wanted: &Wanted, tree: &Tree) -> Result<bool, Trouble>
+    requires { IsPath net.now wanted.now.path.now }
+{
+    let told = check_spent(
+        alloc,
+        net,
+        wanted.rules,
+        wanted.path,
+        wanted.direction,
+        wanted.kind,
+        wanted.budget,
+        tree,
+    )?;
+    Ok(tree.splits() == wanted.budget && matches!(told, TreeCheck::Yes))
+}

@@ -1,0 +1,144 @@
+// Searches for tests of single paths, as callers make them: in a scope that began at the path's source and has entered its pins. What
+// a row tells of one is spelled in found.rt. Each call of a function with a long contract stands in a function of its own that promises
+// little.
+ghost use Rattle.std.specs.Prelude.{◌≡◌, None};
+ghost use Rattle.pd_base.specs.Target.{target_of};
+ghost use Rattle.netlist.specs.Paths.{IsPath, IsPrefix};
+ghost use Rattle.implication.specs.Scopes.{standing};
+ghost use Rattle.justify.specs.Scoping.{IsStart};
+ghost use Rattle.search_answers.specs.Told.{AreMarkedTold};
+
+use crate::entering::enter_all;
+use crate::found::{Came, Wanted, line_of};
+use crate::judged::is_accepted;
+use implication::{Engine, RuledNetlist, Scope, Setting};
+use justify::{Found, search};
+use netlist::Netlist;
+use pd_base::MOST_BUDGET;
+use row_answers::{Trouble, fault_of, number_of, path, rules_of};
+use state_sets::{FourStates, StateSet};
+use std::alloc::Global;
+
+/// What a search for a test of a path ends with: the rules, if they are not rules One, transition, kind, and the budget.
+pub fn searched(alloc: Global, net: &Netlist, route: &str, row: &str) -> Result<String, Trouble> {
+    let (rules, row) = rules_of(row);
+    let (fault, budget) = fault_of(row)?;
+    let budget = number_of(budget)?;
+    let path = path(alloc, net, route)?;
+    let wanted = Wanted {
+        rules,
+        path: &path,
+        direction: fault.direction,
+        kind: fault.kind,
+        budget,
+    };
+    told(alloc, net, &wanted)
+}
+
+// The line of a search.
+fn told(alloc: Global, net: &Netlist, wanted: &Wanted) -> Result<String, Trouble>
+    requires { IsPath net.now wanted.now.path.now }
+{
+    let came = search_for(alloc, net, wanted)?;
+    line(alloc, net, wanted, &came)
+}
+
+// The line of what came of it.
+fn line(alloc: Global, net: &Netlist, wanted: &Wanted, came: &Came) -> Result<String, Trouble>
+    requires { IsPath net.now wanted.now.path.now }
+{
+    let accepted = is_accepted(alloc, net, wanted, &came.found)?;
+    Ok(line_of(alloc, came, accepted)?)
+}
+
+// Searches on an engine of its own.
+#[tactic(auto, using(crate::proofs::Told::all_told))]
+fn search_for(alloc: Global, net: &Netlist, wanted: &Wanted) -> Result<Came, Trouble>
+    requires { IsPath net.now wanted.now.path.now }
+{
+    let marks = vec![in alloc; true; net.lines() as usize]?;
+    let rules = wanted.rules;
+    let mut engine = Engine::<FourStates, RuledNetlist>::new(alloc, RuledNetlist { net, rules })?;
+    search_on(alloc, &mut engine, wanted, marks.as_slice())
+}
+
+// Searches on an engine on which no scope is open.
+#[tactic(auto, using(crate::proofs::Starts::at_start, crate::proofs::Starts::at_path, crate::proofs::Told::still_told))]
+fn search_on<S: Setting>(
+    alloc: Global,
+    engine: &mut Engine<FourStates, S>,
+    wanted: &Wanted,
+    marks: &[bool],
+) -> Result<Came, Trouble>
+    requires idle { engine.old.beginning ≡ None }
+    requires path { IsPath engine.old.net wanted.now.path.now }
+    requires told { AreMarkedTold engine.old marks.now }
+{
+    let path = wanted.path;
+    let mut scope = Scope::begin(engine, path.source(), wanted.direction, wanted.kind);
+    if !enter_all(&mut scope, path.steps(), marks) {
+        return Err(Trouble::NoRow);
+    }
+    search_in(alloc, &mut scope, wanted)
+}
+
+// Searches in a scope that has entered the path.
+fn search_in<S: Setting>(
+    alloc: Global,
+    scope: &mut Scope<FourStates, S>,
+    wanted: &Wanted,
+) -> Result<Came, Trouble>
+    requires path { IsPrefix (standing scope.old).net wanted.now.path.now }
+    requires start { IsStart (target_of wanted.now.path.now wanted.now.direction wanted.now.kind) (standing scope.old) }
+{
+    let labels = Vec::from_slice(alloc, scope.labels())?;
+    search_beside(alloc, scope, wanted, labels.as_slice())
+}
+
+// Searches, and compares what stands then with these labels and with how the scope stood.
+fn search_beside<S: Setting>(
+    alloc: Global,
+    scope: &mut Scope<FourStates, S>,
+    wanted: &Wanted,
+    labels: &[StateSet],
+) -> Result<Came, Trouble>
+    requires path { IsPrefix (standing scope.old).net wanted.now.path.now }
+    requires start { IsStart (target_of wanted.now.path.now wanted.now.direction wanted.now.kind) (standing scope.old) }
+{
+    let mark = scope.mark();
+    let closings = scope.closings();
+    let found = find(alloc, scope, wanted)?;
+    Ok(Came {
+        found,
+        conflicts: scope.closings().saturating_sub(closings),
+        restored: scope.mark() == mark && is_free(scope, labels),
+    })
+}
+
+// What the search finds. It promises nothing, so that the answers are not proved over again under the contract of `search`.
+fn find<S: Setting>(
+    alloc: Global,
+    scope: &mut Scope<FourStates, S>,
+    wanted: &Wanted,
+) -> Result<Found, Trouble>
+    requires path { IsPrefix (standing scope.old).net wanted.now.path.now }
+    requires start { IsStart (target_of wanted.now.path.now wanted.now.direction wanted.now.kind) (standing scope.old) }
+{
+    let budget = wanted.budget;
+    if budget == 0 || budget > MOST_BUDGET {
+        return Err(Trouble::NoRow);
+    }
+    Ok(search(
+        alloc,
+        scope,
+        wanted.path,
+        wanted.direction,
+        wanted.kind,
+        budget,
+    )?)
+}
+
+// Whether no conflict stands, and the lines have these sets.
+fn is_free<S: Setting>(scope: &Scope<FourStates, S>, sets: &[StateSet]) -> bool {
+    scope.conflict().is_none() && scope.labels() == sets
+}

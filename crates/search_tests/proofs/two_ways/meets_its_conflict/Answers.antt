@@ -1,7 +1,0 @@
--- The engine tells all lines.
-use Rattle.implication.specs.Scopes.{standing}
-use Rattle.search_tests.proofs.Told.{told_by_all}
-use Rattle.search_tests.proofs.two_ways.meets_its_conflict.Goals as goal
-
-pub enter-requires-clause-told : goal.enter-requires-clause-told
-enter-requires-clause-told g c = told_by_all (standing c.args.scope.now) _ c.requires.all
