@@ -1,6 +1,7 @@
 pub mod Items
 pub mod Rows
 pub mod Walks
+pub mod MakeWords
 pub mod Matches
 pub mod Beginnings
 pub mod Numbers

@@ -4,7 +4,6 @@ pub mod FewLines
 pub mod GenLaws
 pub mod GenStages
 pub mod GenTexts
-pub mod Headline
 pub mod Judged
 pub mod MakeLaws
 pub mod OneRun

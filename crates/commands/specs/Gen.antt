@@ -1,6 +1,6 @@
 -- The command `gen`: its stages, what it refuses, and what it gives. Where a call ends with status 0, its three files hold the
 -- texts of one good run: it lists the first paths by nonincreasing length, each once, with one verdict for each transition, and each
--- test, refutation and spent budget is one; what its verdicts promise is said in Headline.antt (this project's own).
+-- test, refutation and spent budget is one; what its verdicts promise is said in Promises.antt of good_runs (this project's own).
 use Rattle.std.specs.Prelude.{◌≡◌, ℕ, ◌<◌, ◌≤◌, List, [], ◌∷◌, length}
 use Rattle.pd_base.specs.declared.rules.Rules.TheVariants.{One}
 use Rattle.netlist.specs.Circuit.{Circuit}
@@ -8,6 +8,7 @@ use Rattle.netlist.specs.Waves.{Delays}
 use Rattle.runs.specs.declared.run.Run.{Run}
 use Rattle.runs.specs.Lawful.{IsLawfulRun}
 use Rattle.good_runs.specs.GoodRun.{IsGoodRun}
+use Rattle.good_runs.specs.Promises.{AllKeepPromises}
 use Rattle.good_runs.specs.Shortest.{IsShortestRun}
 use Rattle.bench_reader.specs.Circuits.{HasCircuit}
 use Rattle.delay_annotation.specs.DelayFile.{HasDelays}
@@ -28,7 +29,6 @@ use Rattle.commands.specs.declared.preparing.ToldRun.{ToldRun}
 use Rattle.commands.specs.declared.judging.TheConstants.{INPUT_LIMIT}
 use Rattle.commands.specs.declared.sizes.TheConstants.{MOST_PATH_TEXT, MOST_TEST_TEXT}
 use Rattle.commands.specs.Reasons.{HasNoCircuitFor, HasNoDelaysFor}
-use Rattle.commands.specs.Headline.{AllPromise}
 use Rattle.commands.specs.Sizes.{path_text_product, test_text_product}
 
 -- NET is read, and has to have a circuit; then DELAYS is read, and has to give delays; then the texts have to be short
@@ -102,7 +102,7 @@ pub record GivesProductsOf (call : GenCall) (c : Circuit) (delays : Delays) (pro
   pub rules : run.rules ≡ One
   pub good : IsGoodRun c delays call.paths call.budget run
   pub lawful : IsLawfulRun c run
-  pub promises : AllPromise c call.budget run
+  pub promises : AllKeepPromises c call.budget run
   pub shortest : IsShortestRun c run
   pub texts : products ≡ gen_products call c run
 

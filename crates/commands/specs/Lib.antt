@@ -1,7 +1,6 @@
 pub mod InputJudging
 pub mod Reasons
 pub mod Gen
-pub mod Headline
 pub mod Make
 pub mod Judging
 pub mod Sizes

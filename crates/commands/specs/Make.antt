@@ -10,6 +10,7 @@ use Rattle.delay_annotation.specs.declared.delays.TheConstants.{UNIT_DELAY}
 use Rattle.ladder.specs.Ladder.{ladder_circuit}
 use Rattle.runs.specs.declared.run.Run.{Run}
 use Rattle.good_runs.specs.GoodRun.{IsGoodRun}
+use Rattle.good_runs.specs.Promises.{AllKeepPromises}
 use Rattle.verdict_report.specs.LadderLine.{ladder_line}
 use Rattle.command_line.specs.Words.{MakeCall}
 use Rattle.calls.specs.declared.refusal.Refusal.{Refusal}
@@ -20,13 +21,14 @@ use Rattle.commands.specs.declared.making.TheConstants.{LADDER_BUDGET, LADDER_PA
 abbrev pub AreUnit : Circuit → Delays → Type 0
 AreUnit c delays = (pin : PinRef) (line : ℕ) → IsPinOn c pin line → delays pin ≡ UNIT_DELAY
 
--- no file, and on out the line of a good run of the ladder of so many stages
+-- no file, and on out the line of a good run of the ladder of so many stages, whose verdicts keep their promises
 pub record GivesLadder (stages : ℕ) (products : Products) : Type 0 where
   pub delays : Delays
   pub unit : AreUnit (ladder_circuit stages) delays
   pub run : Run
   pub rules : run.rules ≡ One
   pub good : IsGoodRun (ladder_circuit stages) delays LADDER_PATHS LADDER_BUDGET run
+  pub promises : AllKeepPromises (ladder_circuit stages) LADDER_BUDGET run
   pub text : products ≡ record { files = []; out = ladder_line stages (ladder_circuit stages) run }
 
 -- nothing is refused

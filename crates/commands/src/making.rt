@@ -43,6 +43,8 @@ fn made_line(alloc: Global, stages: u32) -> Result<Vec<u8>, OutOfMemory>
     ensures { IfOk result (λ text. GivesLadder stages (record { files = []; out = text.items })) }
 {
     let net = ladder(alloc, stages)?;
+    // a netlist has a circuit
+    let _ = net.sources();
     let delays = Delays::unit(alloc, &net)?;
     let run = run_of(alloc, &net, &delays, LADDER_PATHS, LADDER_BUDGET)?;
     ladder_line(alloc, stages, &net, &run)

@@ -41,7 +41,8 @@ use Rattle.good_runs.specs.Faults.{IsFault}
 use Rattle.good_runs.specs.GoodRun.{HasRobustProof, IsGoodRun, IsVerdict}
 use Rattle.good_runs.specs.Truth.{HasSomeTest, IsTruth}
 use Rattle.good_runs.proofs.LeastPairs.{least_pair, takes_least}
-use Rattle.good_runs.proofs.Verdicts.{HasRefutingTree, HasSpentTree, cited_spent, listed_is_path, robust_proof_tells, untestable_excludes_every_pair}
+use Rattle.good_runs.specs.Promises.{RefutesOnPrefix, SpendsBudget}
+use Rattle.good_runs.proofs.Verdicts.{cited_spent, listed_is_path, robust_proof_tells, untestable_excludes_every_pair}
 
 -- a closed leaf alone has no open one
 none_waits : Contains (Closed ∷ []) Waiting → ⊥
@@ -77,14 +78,14 @@ module _ (c : Circuit) (circuit : IsCircuit c) (delays : Delays) (count budget :
 
   -- the proof that there is no robust test, where none spent the budget
   no_robust_test : (proof : ℕ) → HasRobustProof run number direction listed.path proof
-      → (HasSpentTree c budget run (target_of listed.path direction kinds.Robust) proof → ⊥)
+      → (SpendsBudget c budget run (target_of listed.path direction kinds.Robust) proof → ⊥)
       → (pair : Vectors) → ¬ Meets c (target_of listed.path direction kinds.Robust) pair
   no_robust_test proof has no_spent =
       ⊎_elim
-      (λ (refutes : HasRefutingTree c run (target_of listed.path direction kinds.Robust) proof).
+      (λ (refutes : RefutesOnPrefix c run (target_of listed.path direction kinds.Robust) proof).
       refutation_excludes_path c circuit run.rules kinds.Robust refutes.prefix listed.path is_prefix refutes.is_prefix direction
       refutes.proof.tree refutes.refutes)
-      (λ (spent : HasSpentTree c budget run (target_of listed.path direction kinds.Robust) proof). absurd (no_spent spent))
+      (λ (spent : SpendsBudget c budget run (target_of listed.path direction kinds.Robust) proof). absurd (no_spent spent))
       (robust_proof_tells c circuit delays count budget run good number listed fault.is_listed direction proof has)
 
   -- with a budget that no spent tree reaches, the verdict tells what there is

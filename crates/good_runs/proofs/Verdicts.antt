@@ -1,6 +1,6 @@
 -- What each verdict of a good run tells of its fault.
 use Rattle.std.proofs.Common.{◌≡◌, ◌⊎◌, inl, inr, ℕ, true, false, subst}
-use Rattle.pd_base.specs.Target.{Target, target_of}
+use Rattle.pd_base.specs.Target.{target_of}
 use Rattle.pd_base.specs.Pair.{Vectors}
 use Rattle.pd_base.specs.Route.{Route}
 use Rattle.pd_base.specs.declared.test.Test.{Test}
@@ -11,36 +11,23 @@ use Rattle.netlist.specs.Circuit.{Circuit}
 use Rattle.netlist.specs.Conditions.{Meets}
 use Rattle.netlist.specs.Lawful.{IsCircuit}
 use Rattle.netlist.specs.Meaning.{Detects, DetectsSettled}
-use Rattle.netlist.specs.Paths.{IsPath, IsPrefixOf}
+use Rattle.netlist.specs.Paths.{IsPath}
+use Rattle.netlist.specs.Values.{observed_values}
 use Rattle.netlist.specs.Waves.{Delays}
-use Rattle.path_laws.proofs.NonrobustPath.{nonrobust_detects}
-use Rattle.path_laws.proofs.RobustPath.{robust_detects}
+use Rattle.path_laws.proofs.NonrobustPath.{nonrobust_detects, nonrobust_detects_along}
+use Rattle.path_laws.proofs.RobustPath.{robust_detects, robust_holds_back}
 use Rattle.runs.specs.declared.run.ListedPath.{ListedPath}
 use Rattle.runs.specs.declared.run.Proof.{Proof}
 use Rattle.runs.specs.declared.run.Run.{Run}
 use Rattle.runs.specs.declared.run.Verdict.TheVariants.{Robust, Nonrobust, Untestable, Aborted}
-use Rattle.tree_laws.specs.Refutations.{IsRefutation}
 use Rattle.tree_laws.specs.Spent.{IsSpent}
 use Rattle.tree_laws.proofs.Refuting.{nonrobust_excludes_path, refutation_excludes_path}
 use Rattle.good_runs.specs.Faults.{CitesRefutation, CitesSpent, IsFault, IsNumber, routes_of}
 use Rattle.good_runs.specs.Faults.HasProof.{refuted, spent}
 use Rattle.good_runs.specs.GoodRun.{HasRobustProof, IsGoodRefutation, IsGoodRun, IsGoodSpent}
+use Rattle.good_runs.specs.Promises.{RefutesOnPrefix, ShowsByTest, ShowsLate, ShowsLateSettled, SpendsBudget}
 use Rattle.good_runs.proofs.Applying.{refutes_on_prefix}
 use Rattle.good_runs.proofs.Numbers.{all_at_number, number_in_map, number_same}
-
--- the budget was spent on the target: the proof of this number has a tree that shows it
-pub record HasSpentTree (c : Circuit) (budget : ℕ) (run : Run) (target : Target) (number : ℕ) : Type 0 where
-  pub proof : Proof
-  pub is_proof : IsNumber run.proofs number proof
-  pub is_spent : IsSpent c run.rules target budget proof.tree
-
--- the proof of this number refutes the target on a prefix of its path
-pub record HasRefutingTree (c : Circuit) (run : Run) (target : Target) (number : ℕ) : Type 0 where
-  pub proof : Proof
-  pub is_proof : IsNumber run.proofs number proof
-  pub prefix : Route
-  pub is_prefix : IsPrefixOf prefix target.path
-  pub refutes : IsRefutation c run.rules (target_of prefix target.direction target.kind) proof.tree
 
 module _ (c : Circuit) (circuit : IsCircuit c) (delays : Delays) (count budget : ℕ) (run : Run)
     (good : IsGoodRun c delays count budget run) where
@@ -68,7 +55,7 @@ module _ (c : Circuit) (circuit : IsCircuit c) (delays : Delays) (count budget :
     -- a refutation that is cited refutes a prefix of the path
     pub cited_refutes : (kind : Kind) (proof_number : ℕ)
         → CitesRefutation (routes_of run) run.proofs (target_of listed.path direction kind) proof_number
-        → HasRefutingTree c run (target_of listed.path direction kind) proof_number
+        → RefutesOnPrefix c run (target_of listed.path direction kind) proof_number
     cited_refutes kind proof_number cites =
         let proof = cites.proof in
         let on_prefix = refutes_on_prefix c run.rules budget (routes_of run) (target_of listed.path direction kind) proof
@@ -83,7 +70,7 @@ module _ (c : Circuit) (circuit : IsCircuit c) (delays : Delays) (count budget :
 
     -- a spent proof that is cited spent the budget on the path
     pub cited_spent : (kind : Kind) (proof_number : ℕ) → CitesSpent run.proofs kind direction number proof_number
-        → HasSpentTree c budget run (target_of listed.path direction kind) proof_number
+        → SpendsBudget c budget run (target_of listed.path direction kind) proof_number
     cited_spent kind proof_number cites =
         let proof = cites.proof in
         let is_good = good_spent proof_number proof cites.is_proof cites.spent in
@@ -110,34 +97,69 @@ module _ (c : Circuit) (circuit : IsCircuit c) (delays : Delays) (count budget :
 
     -- the robust proof: a refutation of the robust conditions, or a spent budget
     pub robust_proof_tells : (proof_number : ℕ) → HasRobustProof run number direction listed.path proof_number
-        → HasRefutingTree c run (target_of listed.path direction kinds.Robust) proof_number
-        ⊎ HasSpentTree c budget run (target_of listed.path direction kinds.Robust) proof_number
+        → RefutesOnPrefix c run (target_of listed.path direction kinds.Robust) proof_number
+        ⊎ SpendsBudget c budget run (target_of listed.path direction kinds.Robust) proof_number
     robust_proof_tells proof_number (refuted cites) = inl (cited_refutes kinds.Robust proof_number cites)
     robust_proof_tells proof_number (spent none cites) = inr (cited_spent kinds.Robust proof_number cites)
 
   module _ (number : ℕ) (listed : ListedPath) (direction : Direction) where
+    -- each test of the run expects what the observed lines have under its second vector
+    expects : (test_number : ℕ) (test : Test) → IsNumber run.tests test_number test
+        → test.expected ≡ observed_values c test.pair.second
+    expects test_number test is =
+        all_at_number (λ (t : Test). t.expected ≡ observed_values c t.pair.second) run.tests test_number test good.expected is
+
+    -- a robust verdict's test shows its path late whenever it is
+    pub robust_test_shows : (test_number : ℕ) → IsFault run number listed direction (Robust test_number)
+        → ShowsByTest c run number (target_of listed.path direction kinds.Robust) (ShowsLate c listed.path) test_number
+    robust_test_shows test_number fault =
+        let has = good.verdicts number listed direction (Robust test_number) fault in
+        let is = (listed_is_path number listed fault.is_listed direction).prefix in
+        record {
+          test = has.test;
+          is_test = has.is_test;
+          of_fault = has.of_fault;
+          expects = expects test_number has.test has.is_test;
+          shows = record {
+            holds_back = robust_holds_back c circuit listed.path direction has.test.pair is has.of_fault.meets;
+            detects = robust_detects c circuit listed.path direction has.test.pair is has.of_fault.meets;
+          };
+        }
+
+    -- a nonrobust verdict's test does so where the path's sides have settled too
+    pub nonrobust_test_shows : (test_number proof_number : ℕ)
+        → IsFault run number listed direction (Nonrobust test_number proof_number)
+        → ShowsByTest c run number (target_of listed.path direction kinds.Nonrobust) (ShowsLateSettled c listed.path) test_number
+    nonrobust_test_shows test_number proof_number fault =
+        let has = (good.verdicts number listed direction (Nonrobust test_number proof_number) fault).0 in
+        let is = (listed_is_path number listed fault.is_listed direction).prefix in
+        record {
+          test = has.test;
+          is_test = has.is_test;
+          of_fault = has.of_fault;
+          expects = expects test_number has.test has.is_test;
+          shows = record {
+            along = nonrobust_detects_along c circuit listed.path direction has.test.pair is has.of_fault.meets;
+            detects = nonrobust_detects c circuit listed.path direction has.test.pair is has.of_fault.meets;
+          };
+        }
+
     -- a robust verdict's test samples a wrong value at the path's end, under each delay assignment that makes the path late
     pub robust_test_detects : (test_number : ℕ) → IsFault run number listed direction (Robust test_number) → (test : Test)
         → IsNumber run.tests test_number test → Detects c listed.path test.pair
     robust_test_detects test_number fault test numbered =
-        let has = good.verdicts number listed direction (Robust test_number) fault in
-        let same = number_same run.tests test_number has.test test has.is_test numbered in
+        let has = robust_test_shows test_number fault in
         let P : Test → Type 0 = λ t. Detects c listed.path t.pair in
-        subst P same
-        (robust_detects c circuit listed.path direction has.test.pair (listed_is_path number listed fault.is_listed direction).prefix
-        has.of_fault.meets)
+        subst P (number_same run.tests test_number has.test test has.is_test numbered) has.shows.detects
 
     -- a nonrobust verdict's test does so where the path's sides have settled too
     pub nonrobust_test_detects_settled : (test_number proof_number : ℕ)
         → IsFault run number listed direction (Nonrobust test_number proof_number) → (test : Test)
         → IsNumber run.tests test_number test → DetectsSettled c listed.path test.pair
     nonrobust_test_detects_settled test_number proof_number fault test numbered =
-        let has = (good.verdicts number listed direction (Nonrobust test_number proof_number) fault).0 in
-        let same = number_same run.tests test_number has.test test has.is_test numbered in
+        let has = nonrobust_test_shows test_number proof_number fault in
         let P : Test → Type 0 = λ t. DetectsSettled c listed.path t.pair in
-        subst P same
-        (nonrobust_detects c circuit listed.path direction has.test.pair
-        (listed_is_path number listed fault.is_listed direction).prefix has.of_fault.meets)
+        subst P (number_same run.tests test_number has.test test has.is_test numbered) has.shows.detects
 
     -- an untestable verdict excludes every pair: none meets the nonrobust conditions, and so none the robust ones
     pub untestable_excludes_every_pair : (proof_number : ℕ) → IsFault run number listed direction (Untestable proof_number)
@@ -150,9 +172,9 @@ module _ (c : Circuit) (circuit : IsCircuit c) (delays : Delays) (count budget :
 
     -- an aborted verdict spent its budget on a nonrobust test, and has no robust one: by a refutation, or by a spent budget
     pub aborted_spent_its_budget : (robust nonrobust : ℕ) → IsFault run number listed direction (Aborted robust nonrobust)
-        → HasSpentTree c budget run (target_of listed.path direction kinds.Nonrobust) nonrobust
-        × (HasRefutingTree c run (target_of listed.path direction kinds.Robust) robust
-        ⊎ HasSpentTree c budget run (target_of listed.path direction kinds.Robust) robust)
+        → SpendsBudget c budget run (target_of listed.path direction kinds.Nonrobust) nonrobust
+        × (RefutesOnPrefix c run (target_of listed.path direction kinds.Robust) robust
+        ⊎ SpendsBudget c budget run (target_of listed.path direction kinds.Robust) robust)
     aborted_spent_its_budget robust nonrobust fault =
         let has = good.verdicts number listed direction (Aborted robust nonrobust) fault in (
           cited_spent number listed fault.is_listed direction kinds.Nonrobust nonrobust has.1.cites,

@@ -2,3 +2,4 @@ pub mod Faults
 pub mod GoodRun
 pub mod Truth
 pub mod Shortest
+pub mod Promises

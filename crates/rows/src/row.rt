@@ -34,6 +34,8 @@ pub enum Row<'a> {
     Wide(u32),
     /// A call for so many paths of a chain of a thousand buffers, each with a name of a hundred bytes.
     Chain(&'a str),
+    /// The files TESTS, REPORT and PROOFS are judged as a run of the last netlist, for so many paths and a budget.
+    Judge(&'a str),
     /// A word of the rows about netlists, and what stands behind it.
     Ask(&'a str, &'a str),
 }
@@ -59,6 +61,7 @@ impl<'a> Row<'a> {
             "call" => Ok(Row::Call(rest)),
             "wide" => Ok(Row::Wide(number_of(rest)?)),
             "chain" => Ok(Row::Chain(rest)),
+            "judge" => Ok(Row::Judge(rest)),
             _ => Ok(Row::Ask(word, rest)),
         }
     }

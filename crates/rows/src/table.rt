@@ -1,4 +1,5 @@
 // What stands between two calls: the files that a call finds, and what is to fail in the next one.
+use crate::judging::Claimed;
 use crate::row::Object;
 use commands::run;
 use pd_io::{MemoryFiles, MemorySink};
@@ -51,6 +52,23 @@ impl Table {
     pub fn fail(&mut self, object: Object, nth: u64) -> Result<(), AllocError> {
         self.failing.push((object, nth))?;
         Ok(())
+    }
+
+    /// The files of a run. A file that is absent counts as empty.
+    pub fn claimed(&self) -> Claimed<'_> {
+        Claimed {
+            tests: self.text("tests"),
+            report: self.text("report"),
+            proofs: self.text("proofs"),
+        }
+    }
+
+    // The text under a name.
+    fn text(&self, name: &str) -> &[u8] {
+        match self.held.get(name) {
+            Some(text) => text.as_bytes(),
+            None => b"",
+        }
     }
 
     /// A call with these words: what came of it, line by line.

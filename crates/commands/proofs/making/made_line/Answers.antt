@@ -13,5 +13,5 @@ returns c =
     let run = c.in_ok-run.run' in
     IfOk-weaker c.ladder_line.result (λ text. text.items ≡ ladder_line c.args.stages net run)
     (λ text. GivesLadder c.args.stages (record { files = []; out = text.items }))
-    (λ text told. gives_ladder c.args.stages net (delays_of net c.in_ok-delays.delays) run text.items c.in_ok-net.ensures
+    (λ text told. gives_ladder c.args.stages net c.sources.ensures.circuit (delays_of net c.in_ok-delays.delays) run text.items c.in_ok-net.ensures
     c.in_ok-delays.ensures.unit c.in_ok-run.ensures.rules c.in_ok-run.ensures.good told) c.ladder_line.ensures

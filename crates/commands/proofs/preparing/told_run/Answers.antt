@@ -3,7 +3,7 @@ use Rattle.std.proofs.Common.{List, ℕ}
 use Rattle.command_line.specs.Commands.{gen_call_of}
 use Rattle.commands.specs.Gen.{run_files}
 use Rattle.calls.specs.Work.{Products}
-use Rattle.commands.proofs.Headline.{good_run_promises}
+use Rattle.good_runs.proofs.Promising.{good_run_keeps}
 use Rattle.commands.proofs.preparing.told_run.Goals as goal
 
 pub returns-clause-gives : goal.returns-clause-gives
@@ -12,8 +12,7 @@ returns-clause-gives c = record {
   rules = c.in_ok-run.ensures.rules;
   good = c.in_ok-run.ensures.good;
   lawful = c.in_ok-run.ensures.lawful;
-  promises = good_run_promises c.args.net.now c.requires.circuit _ _ _ c.in_ok-run.run' c.in_ok-run.ensures.rules
-      c.in_ok-run.ensures.good;
+  promises = good_run_keeps c.args.net.now c.requires.circuit _ _ _ c.in_ok-run.run' c.in_ok-run.ensures.good;
   shortest = c.in_ok-run.ensures.shortest;
   texts = λ i. record { files = run_files (gen_call_of c.args.command.now) c.args.net.now c.in_ok-run.run'; out = c.in_ok-summary.ensures i };
 }

@@ -1,0 +1,98 @@
+// A run, judged from the netlist and the delays alone.
+ghost use Rattle.std.specs.Prelude.{◌≡◌, ◌↔◌, ◌≤◌, All, IfOk, MatchOption, Ok, length};
+ghost use Rattle.pd_base.specs.declared.limits.TheConstants.{MOST_PATHS};
+ghost use Rattle.delay_annotation.specs.Annotation.{delays_of, Fits};
+ghost use Rattle.netlist.specs.Paths.{IsPath};
+ghost use Rattle.runs.specs.Lawful.{IsLawfulRun};
+ghost use Rattle.good_runs.specs.GoodRun.{IsGoodRun};
+ghost use Rattle.good_runs.specs.Promises.{AllKeepPromises};
+ghost use Rattle.claim_check.specs.Claims.{TellsOfRun};
+ghost use Rattle.claim_check.specs.Flaws.{HasFlaw, IsFirstFlaw};
+ghost use Rattle.claim_check.specs.Items.{claim_of};
+ghost use Rattle.claim_check.specs.Right.{IsRightRun};
+
+use crate::claim::{Claim, Flaw};
+use crate::counts::wrong_count;
+use crate::listed::wrong_path;
+use crate::prefix_tree::PrefixTree;
+use crate::proving::wrong_proof;
+use crate::verdicts::wrong_verdict;
+use delay_annotation::Delays;
+use netlist::Netlist;
+use path_lister::first_paths;
+use pd_base::{OutOfMemory, Path};
+use runs::Run;
+use std::alloc::Global;
+
+/// Whether a run is good for the first `count` paths, at most `MOST_PATHS` of them, and a budget of splits, under the rules of the run.
+/// It is judged from the netlist and the delays alone: the paths are listed again, each refutation and each spent tree is walked, and each
+/// test is evaluated. The run has to be one that the three files can spell.
+///
+/// Where it is not good, its first flaw is told: of the counts first, then of the listed paths, then of the proofs, then of the faults; by
+/// the number of the item, and at one item in the order of the reasons. Where it is good, its verdicts keep their promises: this follows from
+/// what is checked here alone.
+///
+/// `OutOfMemory` comes where a growth was refused.
+pub fn check_run(
+    alloc: Global,
+    net: &Netlist,
+    delays: &Delays,
+    count: u32,
+    budget: u32,
+    run: &Run,
+) -> Result<Claim, OutOfMemory>
+    requires fits { Fits net.now delays.now }
+    requires count { count ≤ MOST_PATHS }
+    requires lawful { IsLawfulRun net.now run.now }
+    ensures exactly { IfOk result (λ claim. (claim ≡ Claim.Holds) ↔ IsGoodRun net.now (delays_of net.now delays.now) count budget run.now) }
+    ensures tells { IfOk result (TellsOfRun net.now (delays_of net.now delays.now) count budget run.now) }
+    ensures promises { result ≡ Ok Claim.Holds → AllKeepPromises net.now budget run.now }
+{
+    // a netlist knows itself as a circuit
+    let _ = net.sources();
+    let first = first_paths(alloc, net, delays, count)?;
+    let flaw = first_flaw(alloc, net, delays, budget, run, first.as_slice())?;
+    Ok(claim_of(flaw))
+}
+
+// The claim that tells a flaw, if there is one.
+fn claim_of(flaw: Option<Flaw>) -> Claim
+    ensures { result ≡ claim_of flaw }
+{
+    match flaw {
+        Some(Flaw { item, reason }) => Claim::Fails(item, reason),
+        None => Claim::Holds,
+    }
+}
+
+// The first flaw of a run, where these are the first paths.
+fn first_flaw(
+    alloc: Global,
+    net: &Netlist,
+    delays: &Delays,
+    budget: u32,
+    run: &Run,
+    first: &[Path],
+) -> Result<Option<Flaw>, OutOfMemory>
+    requires fits { Fits net.now delays.now }
+    requires paths { All (IsPath net.now) first.now }
+    requires few { length first.now ≤ MOST_PATHS }
+    requires lawful { IsLawfulRun net.now run.now }
+    ensures { IfOk result (λ found. MatchOption found (IsRightRun net.now (delays_of net.now delays.now) budget first.now run.now)
+        (λ flaw. IsFirstFlaw (HasFlaw net.now (delays_of net.now delays.now) budget first.now run.now) flaw.item flaw.reason)) }
+{
+    // so its paths have few steps
+    let _ = net.sources();
+    if let Some(flaw) = wrong_count(first.len(), run) {
+        return Ok(Some(flaw));
+    }
+    if let Some(flaw) = wrong_path(net, delays, first, run.paths.as_slice()) {
+        return Ok(Some(flaw));
+    }
+    let prefixes = PrefixTree::new(alloc, first)?;
+    let found = wrong_proof(alloc, net, budget, run, first, &prefixes)?;
+    if found.is_some() {
+        return Ok(found);
+    }
+    wrong_verdict(alloc, net, run, first, &prefixes)
+}

@@ -1,0 +1,187 @@
+// The proofs of a run, one by one: whether each is a refutation of the prefix that it names, or a tree that spent the budget on the path.
+ghost use Rattle.std.specs.Prelude.{◌≡◌, ◌<◌, ◌≤◌, ◌↔◌, ◌^◌, All, IfOk, IsTrue, MatchOption, None, Some, length, if◌then◌else◌};
+ghost use Rattle.pd_base.specs.Target.{target_of};
+ghost use Rattle.pd_base.specs.Route.{Route};
+ghost use Rattle.netlist.specs.Paths.{IsPath, prefix_of};
+ghost use Rattle.tree_laws.specs.Refutations.{IsRefutation};
+ghost use Rattle.good_runs.specs.Faults.{routes_of};
+ghost use Rattle.good_runs.specs.GoodRun.{IsGoodRefutation, IsGoodSpent};
+ghost use Rattle.claim_check.specs.Flaws.{IsFirstFlaw, ProofFlaw};
+ghost use Rattle.claim_check.specs.Items.{IsFirstPrefix, IsWrongProof};
+ghost use Rattle.claim_check.specs.Prefixes.{AreTreeNodes};
+ghost use Rattle.claim_check.specs.Right.{AreRightProofs, IsRightProof};
+
+use crate::claim::{Flaw, Reason};
+use crate::numbered::numbered;
+use crate::prefix_tree::PrefixTree;
+use netlist::Netlist;
+use pd_base::{OutOfMemory, Path, Rules};
+use refutation_check::{TreeCheck, check_spent, check_tree};
+use runs::{Proof, Run};
+use std::alloc::Global;
+
+// The first proof of a run that is not what it says, where these are the listed paths.
+pub(crate) fn wrong_proof(
+    alloc: Global,
+    net: &Netlist,
+    budget: u32,
+    run: &Run,
+    paths: &[Path],
+    prefixes: &PrefixTree,
+) -> Result<Option<Flaw>, OutOfMemory>
+    requires routes { paths.now ≡ routes_of run.now }
+    requires paths { All (IsPath net.now) paths.now }
+    requires nodes { AreTreeNodes paths.now prefixes.now }
+    requires whole { length prefixes.now.rows ≡ length paths.now }
+    requires few { length run.now.proofs < 2 ^ 32 }
+    ensures { IfOk result (λ found. MatchOption found (AreRightProofs net.now budget run.now)
+        (λ flaw. IsFirstFlaw (ProofFlaw net.now budget run.now) flaw.item flaw.reason)) }
+{
+    let proofs = run.proofs.as_slice();
+    for place in 0..proofs.len() {
+        if let Some(reason) = wrong_in(
+            alloc,
+            net,
+            &run.rules,
+            budget,
+            paths,
+            prefixes,
+            &proofs[place],
+        )? {
+            return Ok(Some(Flaw {
+                item: place as u32 + 1,
+                reason,
+            }));
+        }
+    }
+    Ok(None)
+}
+
+// What is wrong with a proof.
+fn wrong_in(
+    alloc: Global,
+    net: &Netlist,
+    rules: &Rules,
+    budget: u32,
+    paths: &[Path],
+    prefixes: &PrefixTree,
+    proof: &Proof,
+) -> Result<Option<Reason>, OutOfMemory>
+    requires paths { All (IsPath net.now) paths.now }
+    requires nodes { AreTreeNodes paths.now prefixes.now }
+    requires whole { length prefixes.now.rows ≡ length paths.now }
+    ensures { IfOk result (λ found. MatchOption found (IsRightProof net.now rules.now budget paths.now proof.now)
+        (IsWrongProof net.now rules.now budget paths.now proof.now)) }
+{
+    if proof.spent {
+        let good = is_good_spent(alloc, net, rules, budget, paths, proof)?;
+        return Ok(unless(good, Reason::BadSpent));
+    }
+    let good = is_good_refutation(alloc, net, rules, budget, paths, prefixes, proof)?;
+    Ok(unless(good, Reason::BadRefutation))
+}
+
+// The reason, where it is not good.
+fn unless(good: bool, reason: Reason) -> Option<Reason>
+    ensures { result ≡ (if good then None else Some reason) }
+{
+    if good { None } else { Some(reason) }
+}
+
+// Whether a proof names a listed path and all its steps, and its tree spent the budget on it.
+fn is_good_spent(
+    alloc: Global,
+    net: &Netlist,
+    rules: &Rules,
+    budget: u32,
+    paths: &[Path],
+    proof: &Proof,
+) -> Result<bool, OutOfMemory>
+    requires { All (IsPath net.now) paths.now }
+    ensures { IfOk result (λ good. IsTrue good ↔ IsGoodSpent net.now rules.now budget paths.now proof.now) }
+{
+    match numbered(paths, proof.path) {
+        Some(path) if proof.steps as usize == path.steps().len() => {
+            let check = check_spent(
+                alloc,
+                net,
+                rules,
+                path,
+                proof.dir,
+                proof.kind,
+                budget,
+                &proof.tree,
+            )?;
+            Ok(check == TreeCheck::Yes)
+        }
+        _ => Ok(false),
+    }
+}
+
+// Whether a proof names a prefix of a listed path and of none before it, and its tree refutes that within the budget.
+fn is_good_refutation(
+    alloc: Global,
+    net: &Netlist,
+    rules: &Rules,
+    budget: u32,
+    paths: &[Path],
+    prefixes: &PrefixTree,
+    proof: &Proof,
+) -> Result<bool, OutOfMemory>
+    requires paths { All (IsPath net.now) paths.now }
+    requires nodes { AreTreeNodes paths.now prefixes.now }
+    requires whole { length prefixes.now.rows ≡ length paths.now }
+    ensures { IfOk result (λ good. IsTrue good ↔ IsGoodRefutation net.now rules.now budget paths.now proof.now) }
+{
+    match path_of_new_prefix(paths, prefixes, proof) {
+        Some(path) if proof.tree.splits() <= budget => refutes_prefix(
+            alloc, net, rules, path, proof,
+        ),
+        _ => Ok(false),
+    }
+}
+
+// The listed path that a proof names, if it has so many steps and no path before it has its prefix.
+fn path_of_new_prefix<'p>(
+    paths: &'p [Path],
+    prefixes: &PrefixTree,
+    proof: &Proof,
+) -> Option<&'p Path>
+    requires nodes { AreTreeNodes paths.now prefixes.now }
+    requires whole { length prefixes.now.rows ≡ length paths.now }
+    ensures { MatchOption result ((path : Route) → ¬ IsFirstPrefix paths.now proof.now path)
+        (λ path. IsFirstPrefix paths.now proof.now path.now) }
+{
+    let path = numbered(paths, proof.path)?;
+    let steps = proof.steps as usize;
+    if steps > path.steps().len() || prefixes.is_known(proof.path as usize - 1, steps) {
+        return None;
+    }
+    Some(path)
+}
+
+// Whether a proof's tree refutes its kind and direction for the first steps of a path.
+fn refutes_prefix(
+    alloc: Global,
+    net: &Netlist,
+    rules: &Rules,
+    path: &Path,
+    proof: &Proof,
+) -> Result<bool, OutOfMemory>
+    requires path { IsPath net.now path.now }
+    requires steps { proof.now.steps ≤ length path.now.steps }
+    ensures { IfOk result (λ refutes. IsTrue refutes
+        ↔ IsRefutation net.now rules.now (target_of (prefix_of proof.now.steps path.now) proof.now.dir proof.now.kind) proof.now.tree) }
+{
+    let prefix = Path::new(alloc, path.source(), &path.steps()[..proof.steps as usize])?;
+    let check = check_tree(
+        alloc,
+        net,
+        rules,
+        &prefix,
+        proof.dir,
+        proof.kind,
+        &proof.tree,
+    )?;
+    Ok(check == TreeCheck::Yes)
+}
