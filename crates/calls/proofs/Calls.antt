@@ -4,7 +4,7 @@ use Rattle.pd_io.specs.Folder.{Folder}
 use Rattle.pd_io.specs.Seen.{FilesSeen, SinkSeen, Outside, seen_of}
 use Rattle.pd_io.proofs.Tellings.{tells_chain}
 use Rattle.calls.specs.declared.refusal.Refusal.{Refusal}
-use Rattle.calls.specs.declared.refusal.Refusal.TheVariants.{Words, TooLong, Netlist, Delays, PathText, TestText}
+use Rattle.calls.specs.declared.refusal.Refusal.TheVariants.{Words, TooLong, Netlist, Delays, PathText, TestText, Malformed, NotGood, TooManyChanges}
 use Rattle.calls.specs.declared.ending.Ending.{Ending}
 use Rattle.calls.specs.declared.ending.Ending.TheVariants.{Done, Refused, ReadFault, WriteFault, OutFault, NoMemory}
 use Rattle.calls.specs.declared.status.Status.{Status}
@@ -30,6 +30,9 @@ refused_is_not_done (Netlist reason) same = cc
 refused_is_not_done (Delays reason) same = cc
 refused_is_not_done (PathText product) same = cc
 refused_is_not_done (TestText product) same = cc
+refused_is_not_done (Malformed reader role place) same = cc
+refused_is_not_done (NotGood reason) same = cc
+refused_is_not_done (TooManyChanges test name) same = cc
 
 -- no ending but `Done` has its status
 done_alone : (ending : Ending) → (ending ≡ Done → ⊥) → status_of ending ≡ exit.Done → ⊥

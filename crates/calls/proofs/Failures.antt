@@ -4,7 +4,7 @@ use Rattle.pd_io.specs.Counts.{Rose}
 use Rattle.pd_io.specs.Seen.{Outside, seen_of}
 use Rattle.calls.specs.declared.role.Role.{Role}
 use Rattle.calls.specs.declared.refusal.Refusal.{Refusal}
-use Rattle.calls.specs.declared.refusal.Refusal.TheVariants.{Words, TooLong, Netlist, Delays, PathText, TestText}
+use Rattle.calls.specs.declared.refusal.Refusal.TheVariants.{Words, TooLong, Netlist, Delays, PathText, TestText, Malformed, NotGood, TooManyChanges}
 use Rattle.calls.specs.declared.ending.Ending.{Ending}
 use Rattle.calls.specs.declared.ending.Ending.TheVariants.{Done, Refused, ReadFault, WriteFault, OutFault, NoMemory}
 use Rattle.calls.specs.declared.status.Status.{Status}
@@ -40,6 +40,9 @@ refusal_is_no_read (Netlist reason) same = cc
 refusal_is_no_read (Delays reason) same = cc
 refusal_is_no_read (PathText product) same = cc
 refusal_is_no_read (TestText product) same = cc
+refusal_is_no_read (Malformed reader role place) same = cc
+refusal_is_no_read (NotGood reason) same = cc
+refusal_is_no_read (TooManyChanges test name) same = cc
 
 -- and none that of a failed write
 refusal_is_no_write : (refusal : Refusal) → refusal_status refusal ≡ exit.WriteFault → ⊥
@@ -49,6 +52,9 @@ refusal_is_no_write (Netlist reason) same = cc
 refusal_is_no_write (Delays reason) same = cc
 refusal_is_no_write (PathText product) same = cc
 refusal_is_no_write (TestText product) same = cc
+refusal_is_no_write (Malformed reader role place) same = cc
+refusal_is_no_write (NotGood reason) same = cc
+refusal_is_no_write (TooManyChanges test name) same = cc
 
 -- status 5: a read of the file of this role failed, nothing was written, and out is as it was
 pub record HasFailedRead (work : Work) (old new : Outside) : Type 0 where

@@ -1,4 +1,5 @@
 pub mod Acceptance
+pub mod Accepting
 pub mod Calls
 pub mod Failures
 pub mod Inputs

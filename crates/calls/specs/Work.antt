@@ -3,7 +3,7 @@
 use Rattle.std.specs.Prelude.{ℕ, List, [], ◌∷◌}
 use Rattle.calls.specs.declared.role.Role.{Role}
 use Rattle.calls.specs.declared.refusal.Refusal.{Refusal}
-use Rattle.calls.specs.declared.refusal.Refusal.TheVariants.{Words, TooLong, Netlist, Delays, PathText, TestText}
+use Rattle.calls.specs.declared.refusal.Refusal.TheVariants.{Words, TooLong, Netlist, Delays, PathText, TestText, Malformed, NotGood, TooManyChanges}
 
 -- what is required of the words, or of the inputs that were read so far
 pub data Requirement : Type 0 where
@@ -19,6 +19,12 @@ pub data Requirement : Type 0 where
   ShortPathText : Requirement
   -- so is the one that bounds the texts of the tests
   ShortTestText : Requirement
+  -- each line of the claim file of this role has its form
+  WellFormed : Role → Requirement
+  -- the run that the claim files spell is good
+  GoodRun : Requirement
+  -- under no test the waves have too many changes
+  FewChanges : Requirement
 
 -- the requirement that a refusal speaks of
 abbrev pub requirement_of : Refusal → Requirement
@@ -28,6 +34,9 @@ requirement_of (Netlist reason) = SpellsCircuit
 requirement_of (Delays reason) = SpellsDelays
 requirement_of (PathText product) = ShortPathText
 requirement_of (TestText product) = ShortTestText
+requirement_of (Malformed reader role place) = WellFormed role
+requirement_of (NotGood reason) = GoodRun
+requirement_of (TooManyChanges test name) = FewChanges
 
 -- a stage of a command before it writes
 pub data Stage : Type 0 where

@@ -4,6 +4,8 @@
 //! `print`; the program's call uses `tell`.
 #![tactic(auto)]
 
+mod claims_reader;
+mod claims_telling;
 mod delays_refusal;
 mod delays_telling;
 mod ending;
@@ -12,16 +14,19 @@ mod netlist_telling;
 mod reading;
 mod refusal;
 mod role;
+mod run_refusal;
 mod status;
 mod telling;
 mod writing;
 
+pub use claims_reader::ClaimsReader;
 pub use delays_refusal::DelaysRefusal;
 pub use ending::Ending;
 pub use netlist_refusal::NetlistRefusal;
 pub use reading::read_input;
 pub use refusal::Refusal;
 pub use role::Role;
+pub use run_refusal::RunRefusal;
 pub use status::Status;
 pub use telling::tell;
 pub use writing::{print, write_file};

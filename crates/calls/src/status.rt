@@ -7,6 +7,8 @@ ghost use Rattle.calls.specs.Lines.{number_of};
 pub enum Status {
     /// The work was done.
     Done = 0,
+    /// A claim file is malformed, or the run that the claim files spell is not good.
+    Refused = 1,
     /// The words were refused.
     Words = 2,
     /// The netlist has no circuit.

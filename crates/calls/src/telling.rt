@@ -5,6 +5,7 @@ ghost use Rattle.calls.specs.Lines.{line_of, pieces_text, refusal_line, refusal_
 ghost use Rattle.calls.specs.Reports.{IsReported, LineEnds};
 ghost use Rattle.text_pieces.specs.Tokens.{line};
 
+use crate::claims_telling::{write_malformed, write_run_refusal};
 use crate::delays_telling::write_delays_refusal;
 use crate::netlist_telling::write_netlist_refusal;
 use crate::{Ending, Refusal, Role, Status};
@@ -45,9 +46,13 @@ fn refused_status(refusal: &Refusal) -> Status
 {
     match refusal {
         Refusal::Words(_) => Status::Words,
-        Refusal::TooLong(_) | Refusal::PathText(_) | Refusal::TestText(_) => Status::Size,
+        Refusal::TooLong(_)
+        | Refusal::PathText(_)
+        | Refusal::TestText(_)
+        | Refusal::TooManyChanges(_, _) => Status::Size,
         Refusal::Netlist(_) => Status::Netlist,
         Refusal::Delays(_) => Status::Delays,
+        Refusal::Malformed(_, _, _) | Refusal::NotGood(_) => Status::Refused,
     }
 }
 
@@ -78,6 +83,9 @@ fn write_refusal<E: Sink>(refusal: &Refusal, err: &mut E) -> Result<(), FileFaul
         Refusal::Delays(reason) => write_delays_refusal(*reason, err),
         Refusal::PathText(product) => write_product(err, b"path text ", *product),
         Refusal::TestText(product) => write_product(err, b"test text ", *product),
+        Refusal::Malformed(reader, role, place) => write_malformed(err, *reader, *role, *place),
+        Refusal::NotGood(reason) => write_run_refusal(*reason, err),
+        Refusal::TooManyChanges(test, name) => write_changes(err, *test, name.as_slice()),
     }
 }
 
@@ -89,6 +97,16 @@ fn write_product<E: Sink>(err: &mut E, what: &[u8], product: u64) -> Result<(), 
     let mut digits = Buffer::new();
     let product = digits.format(product).as_bytes();
     write_pieces(err, &[b"size: ", what, product, b"\n"])
+}
+
+// Writes the line that names a test and a line with too many changes under its pair.
+fn write_changes<E: Sink>(err: &mut E, test: u32, name: &[u8]) -> Result<(), FileFault>
+    ensures { LineEnds (line (codes "size: test " ++ decimal test ++ codes " line " ++ name.now)) result
+        (sink_seen E.Sink err.old) (sink_seen E.Sink err.new) }
+{
+    let mut digits = Buffer::new();
+    let test = digits.format(test).as_bytes();
+    write_pieces(err, &[b"size: test ", test, b" line ", name, b"\n"])
 }
 
 // Writes the line that says why the words were refused.
@@ -117,6 +135,7 @@ fn write_words_refusal<E: Sink>(reason: WordsRefusal, err: &mut E) -> Result<(),
         WordsRefusal::Product(product) => {
             write_reason(err, b"product ", first.format(product).as_bytes())
         }
+        WordsRefusal::Time => write_reason(err, b"value TIME", b""),
         WordsRefusal::Stages => write_reason(err, b"value N", b""),
     }
 }
@@ -130,7 +149,7 @@ fn write_reason<E: Sink>(err: &mut E, reason: &[u8], more: &[u8]) -> Result<(), 
 }
 
 // The word for a file, by its role.
-fn word(role: Role) -> &'static [u8]
+pub(crate) fn word(role: Role) -> &'static [u8]
     ensures { result.now ≡ role_word role }
 {
     match role {

@@ -6,27 +6,28 @@ use Rattle.netlist.specs.Circuit.{Circuit}
 use Rattle.netlist.specs.Waves.{Delays}
 use Rattle.runs.specs.declared.run.Run.{Run}
 use Rattle.good_runs.specs.GoodRun.{IsGoodRun}
+use Rattle.good_runs.proofs.FirstOnce.{first_once}
 use Rattle.claim_check.specs.declared.claim.Claim.{Claim}
 use Rattle.claim_check.specs.declared.claim.Claim.TheVariants.{Holds, Fails}
 use Rattle.claim_check.specs.declared.claim.Reason.{Reason}
 use Rattle.claim_check.specs.declared.claim.Reason.TheVariants.{WrongCount, WrongPath, WrongLength, BadRefutation, BadSpent, NotShared, BadTest, WrongExpected}
 use Rattle.claim_check.specs.Claims.{TellsOfRun}
-use Rattle.claim_check.specs.Flaws.{HasFlaw, IsFirstFlaw, stage_of, turn_of}
+use Rattle.claim_check.specs.Flaws.{IsFirstFlaw, stage_of, turn_of}
 use Rattle.claim_check.specs.Flaws.IsToldBefore.{earlier_stage, lesser_item, earlier_reason}
-use Rattle.claim_check.proofs.FirstOnce.{first_once}
-use Rattle.claim_check.proofs.Rightness.{no_flaw_of_good}
+use Rattle.claim_check.specs.Right.{IsRightAt}
+use Rattle.claim_check.proofs.Rightness.{right_of_good}
 
--- no two reasons of one stage have one turn
-same_reason : (reason other : Reason) → stage_of reason ≡ stage_of other → turn_of reason ≡ turn_of other → reason ≡ other
-same_reason WrongCount WrongCount stage turn = refl
-same_reason WrongPath WrongPath stage turn = refl
-same_reason WrongLength WrongLength stage turn = refl
-same_reason BadRefutation BadRefutation stage turn = refl
-same_reason BadSpent BadSpent stage turn = refl
-same_reason NotShared NotShared stage turn = refl
-same_reason BadTest BadTest stage turn = refl
-same_reason WrongExpected WrongExpected stage turn = refl
-same_reason reason other stage turn = absurd (omega arith)
+-- no two reasons have one turn
+same_reason : (reason other : Reason) → turn_of reason ≡ turn_of other → reason ≡ other
+same_reason WrongCount WrongCount turn = refl
+same_reason WrongPath WrongPath turn = refl
+same_reason WrongLength WrongLength turn = refl
+same_reason BadRefutation BadRefutation turn = refl
+same_reason BadSpent BadSpent turn = refl
+same_reason NotShared NotShared turn = refl
+same_reason BadTest BadTest turn = refl
+same_reason WrongExpected WrongExpected turn = refl
+same_reason reason other turn = absurd (omega arith)
 
 -- two numbers of which none is below the other one are the same
 same_number : (a b : ℕ) → ¬ (a < b) → ¬ (b < a) → a ≡ b
@@ -35,31 +36,29 @@ same_number a b no_less no_more =
     (λ (most : b ≤ a). ⊎_elim (λ (more : b < a). absurd (no_more more)) (λ (least : a ≤ b). omega arith) (cases_lt b a)) (cases_lt a b)
 
 -- one flaw is told first
-module _ (Flawed : ℕ → Reason → Type 0) (item other : ℕ) (reason other_reason : Reason) (one : IsFirstFlaw Flawed item reason)
-    (its : IsFirstFlaw Flawed other other_reason) where
+module _ (IsRight : ℕ → Reason → Type 0) (item other : ℕ) (reason other_reason : Reason) (one : IsFirstFlaw IsRight item reason)
+    (its : IsFirstFlaw IsRight other other_reason) where
   same_stage : stage_of reason ≡ stage_of other_reason
   same_stage =
-      same_number (stage_of reason) (stage_of other_reason) (λ less. its.none_before item reason (earlier_stage less) one.flawed)
-      (λ less. one.none_before other other_reason (earlier_stage less) its.flawed)
+      same_number (stage_of reason) (stage_of other_reason) (λ less. one.flawed (its.before item reason (earlier_stage less)))
+      (λ less. its.flawed (one.before other other_reason (earlier_stage less)))
 
   pub same_item : item ≡ other
   same_item =
-      same_number item other (λ less. its.none_before item reason (lesser_item same_stage less) one.flawed)
-      (λ less. one.none_before other other_reason (lesser_item (sym same_stage) less) its.flawed)
-
-  same_turn : turn_of reason ≡ turn_of other_reason
-  same_turn =
-      same_number (turn_of reason) (turn_of other_reason)
-      (λ less. its.none_before item reason (earlier_reason same_stage same_item less) one.flawed)
-      (λ less. one.none_before other other_reason (earlier_reason (sym same_stage) (sym same_item) less) its.flawed)
+      same_number item other (λ less. one.flawed (its.before item reason (lesser_item same_stage less)))
+      (λ less. its.flawed (one.before other other_reason (lesser_item (sym same_stage) less)))
 
   pub is_reason : reason ≡ other_reason
-  is_reason = same_reason reason other_reason same_stage same_turn
+  is_reason =
+      same_reason reason other_reason
+      (same_number (turn_of reason) (turn_of other_reason)
+      (λ less. one.flawed (its.before item reason (earlier_reason same_stage same_item less)))
+      (λ less. its.flawed (one.before other other_reason (earlier_reason (sym same_stage) (sym same_item) less))))
 
 module _ (c : Circuit) (delays : Delays) (count budget : ℕ) (run : Run) where
   -- a good run has no first flaw
   none_of_good : (item : ℕ) (reason : Reason) → IsGoodRun c delays count budget run → TellsOfRun c delays count budget run (Fails item reason) → ⊥
-  none_of_good item reason good (first, are, is) = no_flaw_of_good c delays count budget run first are good item reason is.flawed
+  none_of_good item reason good (first, are, is) = is.flawed (right_of_good c delays count budget run first are good item reason)
 
   pub claims_agree : (claim other : Claim) → TellsOfRun c delays count budget run claim → TellsOfRun c delays count budget run other
       → claim ≡ other
@@ -67,9 +66,9 @@ module _ (c : Circuit) (delays : Delays) (count budget : ℕ) (run : Run) where
   claims_agree Holds (Fails item reason) good tells = absurd (none_of_good item reason good tells)
   claims_agree (Fails item reason) Holds tells good = absurd (none_of_good item reason good tells)
   claims_agree (Fails item reason) (Fails other other_reason) (first, are, is) (firsts, also, its) =
-      let P : List Route → Type 0 = λ paths. IsFirstFlaw (HasFlaw c delays budget paths run) other other_reason in
+      let P : List Route → Type 0 = λ paths. IsFirstFlaw (IsRightAt c delays budget paths run) other other_reason in
       let here = subst P (first_once c delays count firsts first also are) its in
-      let Flawed : ℕ → Reason → Type 0 = HasFlaw c delays budget first run in
-      let items = same_item Flawed item other reason other_reason is here in
-      let reasons = is_reason Flawed item other reason other_reason is here in
+      let IsRight : ℕ → Reason → Type 0 = IsRightAt c delays budget first run in
+      let items = same_item IsRight item other reason other_reason is here in
+      let reasons = is_reason IsRight item other reason other_reason is here in
       ap (λ n. Fails n reason) items ∙ ap (Fails other) reasons

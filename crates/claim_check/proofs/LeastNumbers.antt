@@ -1,10 +1,10 @@
 -- The least number at the nodes of a path's prefixes is that of the refutation of the least number that applies to the path.
-use Rattle.std.proofs.Common.{◌≡◌, ◌≢◌, ◌⊎◌, ⊎_elim, ℕ, ◌+◌, ◌-◌, ◌<◌, ◌≤◌, List, [], length, get_or, refl, sym, ap, subst, ◌∙◌, length-append, arith}
+use Rattle.std.proofs.Common.{◌≡◌, ⊎_elim, ℕ, ◌+◌, ◌-◌, ◌<◌, ◌≤◌, List, [], length, get_or, refl, sym, ap, subst, ◌∙◌, length-append, arith}
 use Rattle.std.specs.List.{All}
-use Rattle.std.specs.Prelude.{slice_get, Option, Some, None}
-use Rattle.std.proofs.lemmas.Bool.{cases_lt}
+use Rattle.std.specs.Prelude.{Contains, slice_get, Option, Some, None}
 use Rattle.std.proofs.lemmas.Grind.{get_or_default_zero}
 use Rattle.std.proofs.lemmas.List.{length-take-le}
+use Rattle.std.proofs.lemmas.List.Elements.{Contains-get_or}
 use Rattle.std.proofs.lemmas.Option.{same_Some, slice_get_cases, slice_get_within}
 use Rattle.pd_base.specs.Route.{Route}
 use Rattle.pd_base.specs.Target.{Target, target_of}
@@ -13,49 +13,12 @@ use Rattle.pd_base.specs.declared.fault.Kind.{Kind}
 use Rattle.netlist.specs.Paths.{IsPrefixOf, prefix_of}
 use Rattle.path_laws.proofs.Prefixes.{is_prefix_of, prefix_of-is_prefix}
 use Rattle.runs.specs.declared.run.Proof.{Proof}
-use Rattle.good_runs.specs.Faults.{Applies, CitesRefutation, IsNumber, NoneApplies}
+use Rattle.good_runs.specs.Faults.{Applies, IsNumber}
 use Rattle.good_runs.proofs.Numbers.{all_at_number}
-use Rattle.claim_check.specs.Prefixes.{AreLeastFound, AreLeastRefutations, AreMarkedFrom, AreTreeNodes, IsLeastAt, IsLeastFound, IsLeastRefutation, IsRefutationAbout, NamesPrefix, Nodes, node_at, node_of_proof}
+use Rattle.claim_check.specs.Prefixes.{AreLeastMarks, AreLeastRefutations, AreTreeNodes, IsLeastMark, IsLeastNumber, IsLeastRefutation, IsRefutationAbout, NamesPrefix, Nodes, RefutesAtNode, node_at, node_of_proof}
 
-module _ (numbers nodes : List ℕ) where
-  abbrev number_at : ℕ → ℕ
-  number_at place = get_or numbers (get_or nodes place 0) 0
-
-  pub least_of_none : IsLeastAt numbers nodes 0 0
-  least_of_none = record { there = λ some. absurd (some refl); least_of = λ place within. absurd (omega arith) }
-
-  module _ (count least number : ℕ) (is : number_at count ≡ number) (so_far : IsLeastAt numbers nodes count least) where
-    -- the number at the next node is no less, or is 0
-    pub least_kept : (number ≡ 0) ⊎ ((least ≢ 0) × (least ≤ number)) → IsLeastAt numbers nodes (count + 1) least
-    least_kept high = record {
-      there = λ some. let found = so_far.there some in (found.0, omega (arith, found.1), found.2);
-      least_of = λ place within some.
-          ⊎_elim (λ (before : place < count). so_far.least_of place before some)
-          (λ (most : count ≤ place).
-          let at : place ≡ count = omega arith in
-          let value = ap number_at at ∙ is in
-          ⊎_elim (λ (none : number ≡ 0). absurd (some (value ∙ none)))
-          (λ (greater : (least ≢ 0) × (least ≤ number)). (greater.0, let few = greater.1 in omega arith)) high) (cases_lt place count);
-    }
-
-    -- or it is the least
-    pub least_taken : number ≢ 0 → (least ≡ 0) ⊎ (number < least) → IsLeastAt numbers nodes (count + 1) number
-    least_taken some low = record {
-      there = λ _. (count, omega arith, is);
-      least_of = λ place within some_there.
-          ⊎_elim
-          (λ (before : place < count).
-          let of = so_far.least_of place before some_there in
-          let no_zero = of.0 in
-          let few = of.1 in
-          (some, ⊎_elim (λ (zero : least ≡ 0). absurd (no_zero zero)) (λ (less : number < least). omega arith) low))
-          (λ (most : count ≤ place).
-          let at : place ≡ count = omega arith in let value = ap number_at at ∙ is in (some, omega arith)) (cases_lt place count);
-    }
-
-module _ (routes : List Route) (nodes : Nodes) (are : AreTreeNodes routes nodes) (whole : length nodes.rows ≡ length routes) (proofs : List Proof)
-    (names : All (NamesPrefix routes) proofs) (kind : Kind) (direction : Direction) (row : ℕ) (path : Route) (row_within : row < length nodes.rows)
-    (is_listed : slice_get routes row ≡ Some path) where
+module _ (routes : List Route) (nodes : Nodes) (are : AreTreeNodes routes nodes) (proofs : List Proof) (names : All (NamesPrefix routes) proofs)
+    (kind : Kind) (direction : Direction) (row : ℕ) (path : Route) (is_listed : slice_get routes row ≡ Some path) where
   abbrev target : Target
   target = target_of path direction kind
 
@@ -64,14 +27,11 @@ module _ (routes : List Route) (nodes : Nodes) (are : AreTreeNodes routes nodes)
     within : proof.steps ≤ length path.steps
     node : node_of_proof nodes proof ≡ node_at nodes row proof.steps
 
-  named_row : (proof : Proof) → NamesPrefix routes proof → proof.path - 1 < length nodes.rows
-  named_row proof named = let inside = slice_get_within routes (proof.path - 1) named.listed named.is_listed.found in omega arith
-
   node_of_applying : (proof : Proof) → NamesPrefix routes proof → Applies routes target proof → HasNodeOfPath proof
   node_of_applying proof named applies = record {
     within = few;
-    node = (are.exactly (proof.path - 1) row proof.steps proof.steps named.listed path (named_row proof named) row_within named.is_listed.found
-        is_listed named.has_steps few).1 prefix;
+    node = (are.exactly (proof.path - 1) row proof.steps proof.steps named.listed path named.is_listed.found is_listed named.has_steps
+        few).1 prefix;
   }
     where
       same : applies.listed ≡ named.listed
@@ -95,8 +55,7 @@ module _ (routes : List Route) (nodes : Nodes) (are : AreTreeNodes routes nodes)
       → steps ≤ length path.steps → node_of_proof nodes proof ≡ node_at nodes row steps → Applies routes target proof
   applying_of_node proof named about steps within node =
       let prefix =
-      (are.exactly (proof.path - 1) row proof.steps steps named.listed path (named_row proof named) row_within named.is_listed.found is_listed
-      named.has_steps within).0 node in
+      (are.exactly (proof.path - 1) row proof.steps steps named.listed path named.is_listed.found is_listed named.has_steps within).0 node in
       record {
         refutes = about.refutes;
         is_about = about.is_about;
@@ -108,77 +67,123 @@ module _ (routes : List Route) (nodes : Nodes) (are : AreTreeNodes routes nodes)
   abbrev own_nodes : List ℕ
   own_nodes = get_or nodes.rows row []
 
-  module _ (numbers : List ℕ) (marked : AreMarkedFrom nodes proofs kind direction 0 numbers) where
-    -- a refutation that applies has a number at one of the path's nodes
-    at_applying : (number : ℕ) (proof : Proof) → IsNumber proofs number proof → Applies routes target proof
-        → (place : ℕ) × (place < length own_nodes) × (get_or numbers (get_or own_nodes place 0) 0 ≢ 0)
-        × (get_or numbers (get_or own_nodes place 0) 0 ≤ number)
-    at_applying number proof is applies =
-        let named = all_at_number (NamesPrefix routes) proofs number proof names is in
-        let has = node_of_applying proof named applies in
-        let few = has.within in
-        let long = are.long row path row_within is_listed in
-        let some = is.positive in
-        let at = marked.marked number proof is (omega arith) (record { refutes = applies.refutes; is_about = applies.is_about }) in
-        let P : ℕ → Type 0 = λ node. (1 ≤ get_or numbers node 0) × (get_or numbers node 0 ≤ number) in
-        let here = subst P has.node at in
-        let one = here.0 in
-        (proof.steps, omega arith, λ none. absurd (omega arith), here.1)
+  own_count : length own_nodes ≡ length path.steps + 1
+  own_count = are.long row path is_listed
 
-    pub none_of_least : IsLeastAt numbers own_nodes (length own_nodes) 0 → NoneApplies routes proofs target
-    none_of_least least number proof is applies =
-        let at = at_applying number proof is applies in (least.least_of at.0 at.1 at.2).0 refl
+  module _ (marks : List (Option ℕ)) (marked : AreLeastMarks nodes proofs kind direction marks) where
+    -- one of the path's nodes is marked with a number no greater than that of a refutation that applies
+    record HasMark (number : ℕ) : Type 0 where
+      node : ℕ
+      own : Contains own_nodes node
+      mark : ℕ
+      marks_node : get_or marks node None ≡ Some mark
+      few : mark ≤ number
 
-    pub cites_of_least : (number : ℕ) → number ≢ 0 → IsLeastAt numbers own_nodes (length own_nodes) number
-        → CitesRefutation routes proofs target number
-    cites_of_least number some least =
-        let there = least.there some in
-        let found = marked.numbered (get_or own_nodes there.0 0) (λ none. some (sym there.2 ∙ none)) in
-        let is = subst (λ (n : ℕ). IsNumber proofs n found.0) there.2 found.1 in
-        let named = all_at_number (NamesPrefix routes) proofs number found.0 names is in
-        let long = are.long row path row_within is_listed in
-        let inside = there.1 in
-        record {
-          proof = found.0;
+    at_applying : (number : ℕ) (proof : Proof) → IsNumber proofs number proof → Applies routes target proof → HasMark number
+    at_applying number proof is applies = by (get_or marks at None) refl (marked.least at inside)
+      where
+        named : NamesPrefix routes proof
+        named = all_at_number (NamesPrefix routes) proofs number proof names is
+
+        has : HasNodeOfPath proof
+        has = node_of_applying proof named applies
+
+        at : ℕ
+        at = node_at nodes row proof.steps
+
+        inside : at < nodes.count
+        inside = are.within row proof.steps path is_listed has.within
+
+        refutes : RefutesAtNode nodes proofs kind direction at number
+        refutes = record {
+          proof = proof;
           is_proof = is;
-          applies = applying_of_node found.0 named found.2 there.0 (omega arith) found.3;
+          about = record { refutes = applies.refutes; is_about = applies.is_about };
+          is_node = has.node;
+        }
+
+        by : (found : Option ℕ) → get_or marks at None ≡ found → IsLeastNumber (RefutesAtNode nodes proofs kind direction at) found
+            → HasMark number
+        by None marks_node none = absurd (none number refutes)
+        by (Some mark) marks_node least = record {
+          node = at;
+          own = Contains-get_or own_nodes proof.steps 0 (let within = has.within in let long = own_count in omega arith);
+          mark = mark;
+          marks_node = marks_node;
+          few = least.1 number refutes;
+        }
+
+    -- and a number with which one is marked is that of one that applies
+    record IsOfApplying (number : ℕ) : Type 0 where
+      proof : Proof
+      is_proof : IsNumber proofs number proof
+      applies : Applies routes target proof
+
+    of_mark : (number node : ℕ) → Contains own_nodes node → get_or marks node None ≡ Some number → IsOfApplying number
+    of_mark number node own marks_node = by (get_or marks node None) marks_node (marked.least node inside)
+      where
+        long : length own_nodes ≡ length path.steps + 1
+        long = own_count
+
+        is_node : node_at nodes row own.0 ≡ node
+        is_node = sym (get_or_default_zero own_nodes own.0 node own.1) ∙ own.2
+
+        steps_within : own.0 ≤ length path.steps
+        steps_within = let within = own.1 in let many = long in omega arith
+
+        inside : node < nodes.count
+        inside = subst (λ (k : ℕ). k < nodes.count) is_node (are.within row own.0 path is_listed steps_within)
+
+        by : (found : Option ℕ) → found ≡ Some number → IsLeastNumber (RefutesAtNode nodes proofs kind direction node) found
+            → IsOfApplying number
+        by None same least = let impossible : ⊥ = cc in absurd impossible
+        by (Some mark) same least =
+            let has = subst (RefutesAtNode nodes proofs kind direction node) (same_Some mark number same) least.0 in
+            let named = all_at_number (NamesPrefix routes) proofs number has.proof names has.is_proof in
+            record {
+              proof = has.proof;
+              is_proof = has.is_proof;
+              applies = applying_of_node has.proof named has.about own.0 steps_within (has.is_node ∙ sym is_node);
+            }
+
+    pub least_applies : (found : Option ℕ) → IsLeastMark marks own_nodes found → IsLeastRefutation routes proofs target found
+    least_applies None none = λ number proof is applies.
+        let has = at_applying number proof is applies in none has.mark (has.node, has.own, has.marks_node)
+    least_applies (Some number) least =
+        let there = least.0 in
+        let has = of_mark number there.0 there.1 there.2 in
+        record {
+          proof = has.proof;
+          is_proof = has.is_proof;
+          applies = has.applies;
           least = λ other other_proof its applies.
               let at = at_applying other other_proof its applies in
-              let most = (least.least_of at.0 at.1 at.2).1 in
-              let few = at.3 in
+              let most = least.1 at.mark (at.node, at.own, at.marks_node) in
+              let few = at.few in
               omega arith;
         }
 
 -- the nodes of a row are below the number of nodes
-pub own_within : (routes : List Route) (nodes : Nodes) → AreTreeNodes routes nodes → (row : ℕ) (path : Route) → row < length nodes.rows
-    → slice_get routes row ≡ Some path → All (λ node. node < nodes.count) (get_or nodes.rows row [])
-own_within routes nodes are row path within listed steps d inside =
-    let long = are.long row path within listed in
-    let below = are.within row steps path within listed (omega arith) in
+own_within : (routes : List Route) (nodes : Nodes) → AreTreeNodes routes nodes → (row : ℕ) (path : Route) → slice_get routes row ≡ Some path
+    → All (λ node. node < nodes.count) (get_or nodes.rows row [])
+own_within routes nodes are row path listed steps d inside =
+    let long = are.long row path listed in
+    let below = are.within row steps path listed (omega arith) in
     let same = get_or_default_zero (get_or nodes.rows row []) steps d inside in
     omega arith
 
-pub rows_within : (routes : List Route) (nodes : Nodes) → AreTreeNodes routes nodes → length nodes.rows ≡ length routes → (row : ℕ)
-    → row < length routes → All (λ node. node < nodes.count) (get_or nodes.rows row [])
-rows_within routes nodes are whole row within =
-    ⊎_elim (λ there. own_within routes nodes are row there.0 (omega arith) there.2) (λ past. let few = past.0 in absurd (omega arith))
+pub rows_within : (routes : List Route) (nodes : Nodes) → AreTreeNodes routes nodes → (row : ℕ) → row < length routes
+    → All (λ node. node < nodes.count) (get_or nodes.rows row [])
+rows_within routes nodes are row within =
+    ⊎_elim (λ there. own_within routes nodes are row there.0 there.2) (λ past. let few = past.0 in absurd (omega arith))
     (slice_get_cases routes row).1
 
 -- what was found for each row is the refutation of the least number that applies to its path
-pub least_are : (routes : List Route) (nodes : Nodes) → AreTreeNodes routes nodes → length nodes.rows ≡ length routes → (proofs : List Proof)
-    → All (NamesPrefix routes) proofs → (kind : Kind) (direction : Direction) (numbers : List ℕ)
-    → AreMarkedFrom nodes proofs kind direction 0 numbers → (least : List (Option ℕ)) → AreLeastFound numbers nodes (length routes) least
+pub least_are : (routes : List Route) (nodes : Nodes) → AreTreeNodes routes nodes → (proofs : List Proof)
+    → All (NamesPrefix routes) proofs → (kind : Kind) (direction : Direction) (marks : List (Option ℕ))
+    → AreLeastMarks nodes proofs kind direction marks → (least : List (Option ℕ))
+    → ((row : ℕ) → row < length routes → IsLeastMark marks (get_or nodes.rows row []) (get_or least row None))
     → AreLeastRefutations routes proofs direction kind least
-least_are routes nodes are whole proofs names kind direction numbers marked least found row path listed =
-    by (get_or least row None) (found row inside)
-  where
-    inside : row < length routes
-    inside = slice_get_within routes row path listed
-
-    by : (its : Option ℕ) → IsLeastFound numbers (get_or nodes.rows row []) its
-        → IsLeastRefutation routes proofs (target_of path direction kind) its
-    by None is =
-        none_of_least routes nodes are whole proofs names kind direction row path (let few = inside in omega arith) listed numbers marked is
-    by (Some number) is =
-        cites_of_least routes nodes are whole proofs names kind direction row path (let few = inside in omega arith) listed numbers marked
-        number is.0 is.1
+least_are routes nodes are proofs names kind direction marks marked least found row path listed =
+    least_applies routes nodes are proofs names kind direction row path listed marks marked (get_or least row None)
+    (found row (slice_get_within routes row path listed))

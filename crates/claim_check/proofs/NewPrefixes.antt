@@ -1,5 +1,5 @@
 -- A proof's prefix is one of no path before its own exactly where the tree of prefixes does not know it.
-use Rattle.std.proofs.Common.{◌≡◌, ⊎_elim, ℕ, ◌+◌, ◌-◌, ◌<◌, ◌≤◌, List, length, sym, ap, subst, ◌∙◌, length-append, arith}
+use Rattle.std.proofs.Common.{⊎_elim, ℕ, ◌+◌, ◌-◌, ◌<◌, ◌≤◌, List, [], length, sym, ap, subst, ◌∙◌, length-append, arith}
 use Rattle.std.specs.Prelude.{slice_index_or}
 use Rattle.std.proofs.lemmas.Bool.{cases_lt}
 use Rattle.std.proofs.lemmas.List.{length-take-le}
@@ -10,18 +10,21 @@ use Rattle.path_laws.proofs.Prefixes.{is_prefix_of, prefix_of-is_prefix}
 use Rattle.runs.specs.declared.run.Proof.{Proof}
 use Rattle.good_runs.specs.Faults.{IsNumber}
 use Rattle.good_runs.proofs.Numbers.{number_of_place, number_same}
-use Rattle.claim_check.specs.Items.{IsFirstPrefix}
-use Rattle.claim_check.specs.Prefixes.{AreTreeNodes, HasPrefixInRow, Nodes}
+use Rattle.claim_check.specs.Prefixes.{AreTreeNodes, HasPrefixInRow, IsFirstPrefix, Nodes, node_at}
 
-module _ (routes : List Route) (nodes : Nodes) (are : AreTreeNodes routes nodes) (whole : length nodes.rows ≡ length routes) (proof : Proof)
-    (path : Route) (listed : IsNumber routes proof.path path) (has_steps : proof.steps ≤ length path.steps) where
-  row_within : proof.path - 1 < length nodes.rows
-  row_within = let within = slice_get_within routes (proof.path - 1) path listed.found in omega arith
+module _ (routes : List Route) (nodes : Nodes) (are : AreTreeNodes routes nodes) (proof : Proof) (path : Route)
+    (listed : IsNumber routes proof.path path) (has_steps : proof.steps ≤ length path.steps) where
+  -- it has a place in the tree
+  pub row_inside : proof.path - 1 < length routes
+  row_inside = slice_get_within routes (proof.path - 1) path listed.found
+
+  pub steps_inside : proof.steps < length (slice_index_or nodes.rows (proof.path - 1) [])
+  steps_inside = let long = are.long (proof.path - 1) path listed.found in omega arith
 
   -- where a path before has it
-  pub known_is_not_first : proof.steps < slice_index_or nodes.known (proof.path - 1) 0 → (other : Route) → ¬ IsFirstPrefix routes proof other
+  pub known_is_not_first : node_at nodes (proof.path - 1) proof.steps < slice_index_or nodes.before (proof.path - 1) 0 → (other : Route) → ¬ IsFirstPrefix routes proof other
   known_is_not_first known other first =
-      let found = (are.earlier (proof.path - 1) proof.steps path row_within listed.found has_steps).0 known in
+      let found = (are.earlier (proof.path - 1) proof.steps path listed.found has_steps).0 known in
       let its = found.2 in
       let same = number_same routes proof.path other path first.is_listed listed in
       let P : Route → Type 0 = λ route. IsPrefixOf route its.other in
@@ -34,7 +37,7 @@ module _ (routes : List Route) (nodes : Nodes) (are : AreTreeNodes routes nodes)
       absurd (omega arith)
 
   -- where none has
-  pub new_is_first : (proof.steps < slice_index_or nodes.known (proof.path - 1) 0 → ⊥) → IsFirstPrefix routes proof path
+  pub new_is_first : (node_at nodes (proof.path - 1) proof.steps < slice_index_or nodes.before (proof.path - 1) 0 → ⊥) → IsFirstPrefix routes proof path
   new_is_first unknown = record { is_listed = listed; has_steps = has_steps; is_first = first }
     where
       first : (other : ℕ) (route : Route) → IsNumber routes other route → IsPrefixOf (prefix_of proof.steps path) route → proof.path ≤ other
@@ -50,5 +53,5 @@ module _ (routes : List Route) (nodes : Nodes) (are : AreTreeNodes routes nodes)
           let its : HasPrefixInRow routes (other - 1) proof.steps path =
           record { other = route; is_listed = is.found; long = omega arith; same = sym prefix } in
           absurd (unknown
-          ((are.earlier (proof.path - 1) proof.steps path row_within listed.found has_steps).1 (other - 1, omega arith, its))))
+          ((are.earlier (proof.path - 1) proof.steps path listed.found has_steps).1 (other - 1, omega arith, its))))
           (λ (most : proof.path ≤ other). most) (cases_lt other proof.path)

@@ -1,11 +1,12 @@
 -- A run is good exactly where all of it is right.
-use Rattle.std.proofs.Common.{◌≡◌, ℕ, zero, suc, ◌+◌, ◌-◌, ◌<◌, true, false, List, [], ◌∷◌, length, get_or, refl, sym, ap, subst, ◌∙◌, arith}
+use Rattle.std.proofs.Common.{◌≡◌, ℕ, zero, suc, ◌+◌, ◌-◌, ◌*◌, ◌<◌, ◌≤◌, true, false, List, [], ◌∷◌, length, get_or, refl, sym, ap, subst, ◌∙◌, arith}
 use Rattle.std.specs.Prelude.{slice_get, Some}
 use Rattle.std.proofs.lemmas.List.{length-map}
 use Rattle.std.proofs.lemmas.Option.{same_Some, slice_get-get_or}
 use Rattle.pd_base.specs.Route.{Route}
 use Rattle.pd_base.specs.declared.test.Test.{Test}
 use Rattle.pd_base.specs.declared.fault.Direction.{Direction}
+use Rattle.pd_base.specs.declared.fault.Direction.TheVariants.{Rise, Fall}
 use Rattle.netlist.specs.Circuit.{Circuit}
 use Rattle.netlist.specs.Order.{AreFirst}
 use Rattle.netlist.specs.Paths.{length_of}
@@ -17,16 +18,15 @@ use Rattle.runs.specs.declared.run.Run.{Run}
 use Rattle.runs.specs.declared.run.Verdict.{Verdict}
 use Rattle.runs.specs.declared.run.Verdict.TheVariants.{Robust, Nonrobust, Untestable, Aborted}
 use Rattle.runs.specs.Lawful.{IsLawfulRun, none_named}
-use Rattle.good_runs.specs.Faults.{IsNumber, routes_of, verdict_for}
+use Rattle.good_runs.specs.Faults.{IsFault, IsNumber, routes_of, verdict_for}
 use Rattle.good_runs.specs.GoodRun.{IsGoodRefutation, IsGoodRun, IsGoodSpent, IsVerdict}
+use Rattle.good_runs.proofs.FirstOnce.{first_once}
 use Rattle.good_runs.proofs.Numbers.{all_at_number, number_in_map, number_of_map, number_of_place}
 use Rattle.claim_check.specs.declared.claim.Reason.{Reason}
-use Rattle.claim_check.specs.Flaws.{HasFlaw}
-use Rattle.claim_check.specs.Flaws.HasFlaw.{of_counts, of_paths, of_proofs, of_faults}
-use Rattle.claim_check.specs.Right.{AreListedRight, AreRightProofs, AreRightVerdicts, ExpectsRight, HasRightCounts, IsRightVerdict, ItsTestExpectsRight}
-use Rattle.claim_check.proofs.FirstOnce.{first_once}
+use Rattle.claim_check.specs.declared.claim.Reason.TheVariants.{WrongCount, WrongPath, WrongLength, BadRefutation, BadSpent, NotShared, BadTest, WrongExpected}
+use Rattle.claim_check.specs.Right.{CitesItsProofs, ExpectsRight, HasItsTest, IsFaultNumber, IsRightAt, IsRightCount, IsRightFaultAt, IsRightPathAt, IsRightProofAt, IsRightVerdict, ItsTestExpectsRight}
+use Rattle.claim_check.specs.Right.IsFaultNumber.{rise, fall}
 use Rattle.claim_check.proofs.NamedTests.{NamesTest, test_is_named}
-use Rattle.claim_check.proofs.Telling.{no_count_flaw, no_fault_flaw, no_path_flaw, no_proof_flaw}
 
 -- lists of one length are the same where each item of the one is in its place in the other
 same_by_numbers : {T : Type 0} (items others : List T) → length items ≡ length others
@@ -41,11 +41,26 @@ same_by_numbers (item ∷ items) (other ∷ others) long each =
 
 -- what a verdict asks, in its parts
 is_verdict : (c : Circuit) (run : Run) (number : ℕ) (direction : Direction) (path : Route) (verdict : Verdict)
-    → IsRightVerdict c run number direction path verdict → IsVerdict c run number direction path verdict
-is_verdict c run number direction path (Robust test) right = right.tests
-is_verdict c run number direction path (Nonrobust test proof) right = (right.tests, right.shares)
-is_verdict c run number direction path (Untestable proof) right = right.shares
-is_verdict c run number direction path (Aborted robust nonrobust) right = right.shares
+    → CitesItsProofs run number direction path verdict → HasItsTest c run number direction path verdict
+    → IsVerdict c run number direction path verdict
+is_verdict c run number direction path (Robust test) shares tests = tests
+is_verdict c run number direction path (Nonrobust test proof) shares tests = (tests, shares)
+is_verdict c run number direction path (Untestable proof) shares tests = shares
+is_verdict c run number direction path (Aborted robust nonrobust) shares tests = shares
+
+its_proofs : (c : Circuit) (run : Run) (number : ℕ) (direction : Direction) (path : Route) (verdict : Verdict)
+    → IsVerdict c run number direction path verdict → CitesItsProofs run number direction path verdict
+its_proofs c run number direction path (Robust test) is = tt
+its_proofs c run number direction path (Nonrobust test proof) is = is.1
+its_proofs c run number direction path (Untestable proof) is = is
+its_proofs c run number direction path (Aborted robust nonrobust) is = is
+
+its_test : (c : Circuit) (run : Run) (number : ℕ) (direction : Direction) (path : Route) (verdict : Verdict)
+    → IsVerdict c run number direction path verdict → HasItsTest c run number direction path verdict
+its_test c run number direction path (Robust test) is = is
+its_test c run number direction path (Nonrobust test proof) is = is.0
+its_test c run number direction path (Untestable proof) is = tt
+its_test c run number direction path (Aborted robust nonrobust) is = tt
 
 -- a verdict's test expects the right bits where each test does
 its_expects : (c : Circuit) (run : Run) (verdict : Verdict) → ((number : ℕ) → ExpectsRight c run.tests number)
@@ -55,14 +70,6 @@ its_expects c run (Nonrobust test proof) each = each test
 its_expects c run (Untestable proof) each = tt
 its_expects c run (Aborted robust nonrobust) each = tt
 
-right_verdict : (c : Circuit) (run : Run) (number : ℕ) (direction : Direction) (path : Route) (verdict : Verdict)
-    → ((test : ℕ) → ExpectsRight c run.tests test) → IsVerdict c run number direction path verdict
-    → IsRightVerdict c run number direction path verdict
-right_verdict c run number direction path (Robust test) each is = record { shares = tt; tests = is; expects = each test }
-right_verdict c run number direction path (Nonrobust test proof) each is = record { shares = is.1; tests = is.0; expects = each test }
-right_verdict c run number direction path (Untestable proof) each is = record { shares = is; tests = tt; expects = tt }
-right_verdict c run number direction path (Aborted robust nonrobust) each is = record { shares = is; tests = tt; expects = tt }
-
 -- a test that a verdict names expects what the verdict's test does
 expects_by : (c : Circuit) (run : Run) (number : ℕ) (verdict : Verdict) → NamesTest verdict number → ItsTestExpectsRight c run verdict
     → ExpectsRight c run.tests number
@@ -71,89 +78,124 @@ expects_by c run number (Nonrobust test proof) names expects = subst (ExpectsRig
 expects_by c run number (Untestable proof) names expects = absurd names
 expects_by c run number (Aborted robust nonrobust) names expects = absurd names
 
--- the listed paths are the first ones, where their counts and each of them are right
-pub routes_are : (delays : Delays) (run : Run) (first : List Route) → HasRightCounts (length first) run
-    → AreListedRight delays first run.paths → routes_of run ≡ first
+-- each fault has a number
+record HasFaultNumber (number : ℕ) (direction : Direction) : Type 0 where
+  item : ℕ
+  is_number : IsFaultNumber number direction item
+
+fault_number : (number : ℕ) (direction : Direction) → 1 ≤ number → HasFaultNumber number direction
+fault_number number Rise some = let at : 2 * number - 1 + 1 ≡ 2 * number = omega arith in record { item = 2 * number - 1; is_number = rise (2 * number - 1) at }
+fault_number number Fall some = record { item = 2 * number; is_number = fall (2 * number) refl }
+
+-- the listed paths are the first ones, where so many are listed and each is that of its place
+pub routes_are : (delays : Delays) (run : Run) (first : List Route) → ((item : ℕ) (reason : Reason) → IsRightCount (length first) run item reason)
+    → ((item : ℕ) (reason : Reason) → IsRightPathAt delays first run.paths item reason) → routes_of run ≡ first
 routes_are delays run first counts paths =
-    same_by_numbers (routes_of run) first (length-map run.paths (λ (l : ListedPath). l.path) ∙ counts.paths)
+    same_by_numbers (routes_of run) first (length-map run.paths (λ (l : ListedPath). l.path) ∙ (counts 1 WrongCount).paths refl)
     (λ place path there.
     let number = number_of_place (routes_of run) place path there in
     let listed = number_of_map (λ (l : ListedPath). l.path) run.paths (place + 1) path number in
     let P : Route → Type 0 = λ route. slice_get first place ≡ Some route in
-    let found = (paths (place + 1) listed.0 listed.1).in_place.found in
+    let found = (paths (place + 1) WrongPath listed.0 listed.1).found in
     let at : place + 1 - 1 ≡ place = omega arith in
     subst P listed.2 (subst (λ (k : ℕ). slice_get first k ≡ Some listed.0.path) at found))
 
 module _ (c : Circuit) (delays : Delays) (count budget : ℕ) (run : Run) (first : List Route) (are_first : AreFirst c delays count first) where
-  -- what is right in all stages is good
-  module _ (lawful : IsLawfulRun c run) (counts : HasRightCounts (length first) run) (paths : AreListedRight delays first run.paths)
-    where
-      module _ (proofs : AreRightProofs c budget run) (verdicts : AreRightVerdicts c run) where
-        expects : (place : ℕ) (d : Test) → place < length run.tests
-            → (get_or run.tests place d).expected ≡ observed_values c (get_or run.tests place d).pair.second
-        expects place d within =
-            let many = counts.tests in
-            let named = test_is_named none_named run.paths (place + 1) lawful.report.numbered (omega arith) (omega arith) in
-            let verdict = verdict_for named.listed named.direction in
-            let right = verdicts named.number named.listed named.direction verdict (record { is_listed = named.is_listed; is_verdict = refl }) in
-            expects_by c run (place + 1) verdict named.names right.expects (get_or run.tests place d)
-            (number_of_place run.tests place (get_or run.tests place d) (slice_get-get_or run.tests place d within))
+  -- where all is right the run is good
+  module _ (lawful : IsLawfulRun c run) (right : (item : ℕ) (reason : Reason) → IsRightAt c delays budget first run item reason) where
+    verdict_right : (number : ℕ) (listed : ListedPath) (direction : Direction) → IsNumber run.paths number listed → (reason : Reason)
+        → IsRightVerdict c run number direction listed.path (verdict_for listed direction) reason
+    verdict_right number listed direction is reason =
+        let has = fault_number number direction is.positive in
+        (right has.item reason).fault number listed direction is has.is_number
 
-        pub good_of_right : IsGoodRun c delays count budget run
-        good_of_right = record {
-          first = subst (AreFirst c delays count) (sym (routes_are delays run first counts paths)) are_first;
-          lengths = λ place d within.
-              (paths (place + 1) (get_or run.paths place d)
-              (number_of_place run.paths place (get_or run.paths place d) (slice_get-get_or run.paths place d within))).long;
-          tests_cited = counts.tests;
-          proofs_cited = counts.proofs;
-          refutations = λ place d within.
-              (proofs (place + 1) (get_or run.proofs place d)
-              (number_of_place run.proofs place (get_or run.proofs place d) (slice_get-get_or run.proofs place d within))).refutes;
-          spent = λ place d within.
-              (proofs (place + 1) (get_or run.proofs place d)
-              (number_of_place run.proofs place (get_or run.proofs place d) (slice_get-get_or run.proofs place d within))).spends;
-          verdicts = λ number listed direction verdict fault.
-              is_verdict c run number direction listed.path verdict (verdicts number listed direction verdict fault);
-          expected = expects;
-        }
+    expects : (place : ℕ) (d : Test) → place < length run.tests
+        → (get_or run.tests place d).expected ≡ observed_values c (get_or run.tests place d).pair.second
+    expects place d within =
+        let many = (right 2 WrongCount).count.tests refl in
+        let named = test_is_named none_named run.paths (place + 1) lawful.report.numbered (omega arith) (omega arith) in
+        expects_by c run (place + 1) (verdict_for named.listed named.direction) named.names
+        (verdict_right named.number named.listed named.direction named.is_listed WrongExpected) (get_or run.tests place d)
+        (number_of_place run.tests place (get_or run.tests place d) (slice_get-get_or run.tests place d within))
 
-  -- and a good run has no flaw
+    verdicts : (number : ℕ) (listed : ListedPath) (direction : Direction) (verdict : Verdict) → IsFault run number listed direction verdict
+        → IsVerdict c run number direction listed.path verdict
+    verdicts number listed direction verdict fault =
+        let P : Verdict → Type 0 = λ v. IsVerdict c run number direction listed.path v in
+        subst P (sym fault.is_verdict)
+        (is_verdict c run number direction listed.path (verdict_for listed direction)
+        (verdict_right number listed direction fault.is_listed NotShared) (verdict_right number listed direction fault.is_listed BadTest))
+
+    pub good_of_right : IsGoodRun c delays count budget run
+    good_of_right = record {
+      first = subst (AreFirst c delays count)
+          (sym (routes_are delays run first (λ item reason. (right item reason).count) (λ item reason. (right item reason).path))) are_first;
+      lengths = λ place d within.
+          (right (place + 1) WrongLength).path (get_or run.paths place d)
+          (number_of_place run.paths place (get_or run.paths place d) (slice_get-get_or run.paths place d within));
+      tests_cited = (right 2 WrongCount).count.tests refl;
+      proofs_cited = (right 3 WrongCount).count.proofs refl;
+      refutations = λ place d within.
+          (right (place + 1) BadRefutation).proof (get_or run.proofs place d)
+          (number_of_place run.proofs place (get_or run.proofs place d) (slice_get-get_or run.proofs place d within));
+      spent = λ place d within.
+          (right (place + 1) BadSpent).proof (get_or run.proofs place d)
+          (number_of_place run.proofs place (get_or run.proofs place d) (slice_get-get_or run.proofs place d within));
+      verdicts = verdicts;
+      expected = expects;
+    }
+
+  -- and all is right of a good run
   module _ (good : IsGoodRun c delays count budget run) where
     routes_same : first ≡ routes_of run
     routes_same = first_once c delays count first (routes_of run) are_first good.first
 
-    right_counts : HasRightCounts (length first) run
-    right_counts = record {
-      paths = sym (length-map run.paths (λ (l : ListedPath). l.path)) ∙ ap length (sym routes_same);
-      tests = good.tests_cited;
-      proofs = good.proofs_cited;
+    right_count : (item : ℕ) (reason : Reason) → IsRightCount (length first) run item reason
+    right_count item WrongCount = record {
+      paths = λ _. sym (length-map run.paths (λ (l : ListedPath). l.path)) ∙ ap length (sym routes_same);
+      tests = λ _. good.tests_cited;
+      proofs = λ _. good.proofs_cited;
     }
+    right_count item reason = tt
 
-    right_paths : AreListedRight delays first run.paths
-    right_paths number listed is = record {
-      in_place = subst (λ (routes : List Route). IsNumber routes number listed.path) (sym routes_same)
-          (number_in_map (λ (l : ListedPath). l.path) run.paths number listed is);
-      long = all_at_number (λ (l : ListedPath). l.length ≡ length_of delays l.path) run.paths number listed good.lengths is;
+    right_path : (item : ℕ) (reason : Reason) → IsRightPathAt delays first run.paths item reason
+    right_path item WrongPath = λ listed is.
+        subst (λ (routes : List Route). IsNumber routes item listed.path) (sym routes_same)
+        (number_in_map (λ (l : ListedPath). l.path) run.paths item listed is)
+    right_path item WrongLength = λ listed is.
+        all_at_number (λ (l : ListedPath). l.length ≡ length_of delays l.path) run.paths item listed good.lengths is
+    right_path item reason = λ listed is. tt
+
+    right_proof : (item : ℕ) (reason : Reason) → IsRightProofAt c budget run item reason
+    right_proof item BadRefutation = λ proof is.
+        all_at_number (λ (p : Proof). p.spent ≡ false → IsGoodRefutation c run.rules budget (routes_of run) p) run.proofs item proof
+        good.refutations is
+    right_proof item BadSpent = λ proof is.
+        all_at_number (λ (p : Proof). p.spent ≡ true → IsGoodSpent c run.rules budget (routes_of run) p) run.proofs item proof good.spent is
+    right_proof item reason = λ proof is. tt
+
+    right_fault : (item : ℕ) (reason : Reason) → IsRightFaultAt c run item reason
+    right_fault item reason number listed direction is at = by reason
+      where
+        verdict : Verdict
+        verdict = verdict_for listed direction
+
+        asks : IsVerdict c run number direction listed.path verdict
+        asks = good.verdicts number listed direction verdict (record { is_listed = is; is_verdict = refl })
+
+        by : (other : Reason) → IsRightVerdict c run number direction listed.path verdict other
+        by NotShared = its_proofs c run number direction listed.path verdict asks
+        by BadTest = its_test c run number direction listed.path verdict asks
+        by WrongExpected =
+            its_expects c run verdict
+            (λ test_number test its.
+            all_at_number (λ (t : Test). t.expected ≡ observed_values c t.pair.second) run.tests test_number test good.expected its)
+        by other = tt
+
+    pub right_of_good : (item : ℕ) (reason : Reason) → IsRightAt c delays budget first run item reason
+    right_of_good item reason = record {
+      count = right_count item reason;
+      path = right_path item reason;
+      proof = right_proof item reason;
+      fault = right_fault item reason;
     }
-
-    right_proofs : AreRightProofs c budget run
-    right_proofs number proof is = record {
-      refutes = all_at_number (λ (p : Proof). p.spent ≡ false → IsGoodRefutation c run.rules budget (routes_of run) p) run.proofs number
-          proof good.refutations is;
-      spends = all_at_number (λ (p : Proof). p.spent ≡ true → IsGoodSpent c run.rules budget (routes_of run) p) run.proofs number proof
-          good.spent is;
-    }
-
-    right_verdicts : AreRightVerdicts c run
-    right_verdicts number listed direction verdict fault =
-        right_verdict c run number direction listed.path verdict
-        (λ test_number test is.
-        all_at_number (λ (t : Test). t.expected ≡ observed_values c t.pair.second) run.tests test_number test good.expected is)
-        (good.verdicts number listed direction verdict fault)
-
-    pub no_flaw_of_good : (item : ℕ) (reason : Reason) → HasFlaw c delays budget first run item reason → ⊥
-    no_flaw_of_good item reason (of_counts flaw) = no_count_flaw (length first) run right_counts flaw
-    no_flaw_of_good item reason (of_paths flaw) = no_path_flaw delays first run.paths item (right_paths item) flaw
-    no_flaw_of_good item reason (of_proofs flaw) = no_proof_flaw c budget run right_proofs flaw
-    no_flaw_of_good item reason (of_faults flaw) = no_fault_flaw c run right_verdicts flaw

@@ -10,7 +10,7 @@ use Rattle.pd_base.specs.declared.ids.PinRef.{PinRef}
 abbrev pub is_one_pin : PinRef → PinRef → Bool
 is_one_pin a b = eqb a.gate.0 b.gate.0 && eqb a.pin b.pin
 
-one_pin_decided : (a b : PinRef) → Decides (is_one_pin a b) (a ≡ b)
+pub one_pin_decided : (a b : PinRef) → Decides (is_one_pin a b) (a ≡ b)
 one_pin_decided a b = (
   λ is.
       let both = and_parts (eqb a.gate.0 b.gate.0) (eqb a.pin b.pin) is in

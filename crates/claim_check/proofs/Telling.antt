@@ -1,159 +1,178 @@
--- Which flaw is told: of one stage, and of all stages.
-use Rattle.std.proofs.Common.{◌≡◌, ℕ, ◌<◌, List, length, refl, subst, arith}
+-- Which flaw is told: of one item, of the items of a stage, and of all stages.
+use Rattle.std.proofs.Common.{◌≡◌, ◌≢◌, ⊎_elim, ℕ, true, ◌+◌, ◌<◌, ◌≤◌, ◌↔◌, List, length, refl, sym, subst, arith}
+use Rattle.std.specs.Prelude.{Option, Some, None, is_some}
+use Rattle.std.proofs.lemmas.Bool.{cases_eq, cases_lt}
 use Rattle.pd_base.specs.Route.{Route}
-use Rattle.pd_base.specs.declared.fault.Direction.{Direction}
 use Rattle.netlist.specs.Circuit.{Circuit}
 use Rattle.netlist.specs.Waves.{Delays}
 use Rattle.runs.specs.declared.run.ListedPath.{ListedPath}
 use Rattle.runs.specs.declared.run.Run.{Run}
-use Rattle.runs.specs.declared.run.Verdict.{Verdict}
-use Rattle.good_runs.specs.Faults.{IsNumber}
+use Rattle.good_runs.specs.Faults.{IsNumber, routes_of, verdict_for}
+use Rattle.good_runs.proofs.Numbers.{number_same}
+use Rattle.claim_check.specs.declared.claim.Flaw.{Flaw}
 use Rattle.claim_check.specs.declared.claim.Reason.{Reason}
-use Rattle.claim_check.specs.declared.claim.Reason.TheVariants.{NotShared, BadTest, WrongExpected}
-use Rattle.claim_check.specs.Flaws.{CountFlaw, FaultFlaw, HasFlaw, IsFirstFlaw, IsToldBefore, BreaksRule, PathFlaw, ProofFlaw, stage_of, turn_of}
-use Rattle.claim_check.specs.Flaws.CountFlaw.{wrong_paths, wrong_tests, wrong_proofs}
-use Rattle.claim_check.specs.Flaws.PathFlaw.{other_path, other_length}
-use Rattle.claim_check.specs.Flaws.ProofFlaw.{no_refutation, not_spent}
-use Rattle.claim_check.specs.Flaws.HasFlaw.{of_counts, of_paths, of_proofs, of_faults}
+use Rattle.claim_check.specs.declared.claim.Reason.TheVariants.{WrongCount, WrongPath, WrongLength, BadRefutation, BadSpent, NotShared, BadTest, WrongExpected}
+use Rattle.claim_check.specs.Flaws.{IsFirstFlaw, IsFirstReason, IsToldBefore, TellsOfItem, TellsOfItems, stage_of}
 use Rattle.claim_check.specs.Flaws.IsToldBefore.{earlier_stage, lesser_item, earlier_reason}
-use Rattle.claim_check.specs.Right.{AreListedRight, AreRightProofs, AreRightVerdicts, HasRightCounts, IsListedRight, IsRightVerdict}
+use Rattle.claim_check.specs.Right.{IsRightAt, IsRightCount, IsRightFaultAt, IsRightPath, IsRightPathAt, IsRightProof, IsRightProofAt, IsRightVerdict}
 
--- In one stage a flaw is told first where no lesser item has one, and its own item none whose reason stands before.
-module _ (Flawed : ℕ → Reason → Type 0) (stage : ℕ) (of_stage : (item : ℕ) (reason : Reason) → Flawed item reason → stage_of reason ≡ stage) where
-  pub first_in_stage : (item : ℕ) (reason : Reason) → Flawed item reason
-      → ((other : ℕ) (other_reason : Reason) → other < item → ¬ Flawed other other_reason)
-      → ((other_reason : Reason) → turn_of other_reason < turn_of reason → ¬ Flawed item other_reason)
-      → IsFirstFlaw Flawed item reason
-  first_in_stage item reason flawed items turns = record { flawed = flawed; none_before = none }
+-- what is told of an item in these words is told of it in those that mean the same
+pub tells_same : (IsRight Is : Reason → Type 0) → ((reason : Reason) → IsRight reason ↔ Is reason) → (found : Option Reason)
+    → TellsOfItem IsRight found → TellsOfItem Is found
+tells_same IsRight Is same None right = λ reason. (same reason).0 (right reason)
+tells_same IsRight Is same (Some reason) first = record {
+  flawed = λ is. first.flawed ((same reason).1 is);
+  before = λ other less. (same other).0 (first.before other less);
+}
+
+-- what is so of the item of a number is so of each item of this number
+pub at_number : {T : Type 0} (items : List T) (number : ℕ) (item : T) → IsNumber items number item → (P : T → Type 0)
+    → P item ↔ ((other : T) → IsNumber items number other → P other)
+at_number items number item is P = (
+  λ holds other its. subst P (number_same items number item other is its) holds,
+  λ each. each item is,
+)
+
+-- all is right of the items up to this number
+abbrev pub IsRightUpTo : (ℕ → Reason → Type 0) → ℕ → Type 0
+IsRightUpTo IsRight most = (item : ℕ) (reason : Reason) → item ≤ most → IsRight item reason
+
+pub right_more : (IsRight : ℕ → Reason → Type 0) (item : ℕ) → IsRightUpTo IsRight item → ((reason : Reason) → IsRight (item + 1) reason)
+    → IsRightUpTo IsRight (item + 1)
+right_more IsRight item before here other reason few =
+    ⊎_elim (λ (less : other < item + 1). before other reason (omega arith))
+    (λ (most : item + 1 ≤ other).
+    let at : item + 1 ≡ other = omega arith in subst (λ (n : ℕ). IsRight n reason) at (here reason))
+    (cases_lt other (item + 1))
+
+-- of the reasons of other stages all is right
+abbrev pub IsOfStage : (ℕ → Reason → Type 0) → ℕ → Type 0
+IsOfStage IsRight stage = (item : ℕ) (reason : Reason) → stage_of reason ≢ stage → IsRight item reason
+
+module _ (IsRight : ℕ → Reason → Type 0) (stage : ℕ) (others : IsOfStage IsRight stage) where
+  -- so a flaw has a reason of the stage
+  pub flaw_stage : (item : ℕ) (reason : Reason) → ¬ IsRight item reason → stage_of reason ≡ stage
+  flaw_stage item reason flawed =
+      ⊎_elim (λ same. same) (λ differs. absurd (flawed (others item reason differs))) (cases_eq (stage_of reason) stage)
+
+  -- the first reason of the next item is the first flaw
+  pub first_at : (item : ℕ) (reason : Reason) → IsRightUpTo IsRight item → IsFirstReason (IsRight (item + 1)) reason
+      → IsFirstFlaw IsRight (item + 1) reason
+  first_at item reason before first = record { flawed = first.flawed; before = by }
     where
-      none : (other : ℕ) (other_reason : Reason) → IsToldBefore other other_reason item reason → ¬ Flawed other other_reason
-      none other other_reason (earlier_stage less) is =
-          let own = of_stage item reason flawed in
-          let its = of_stage other other_reason is in
-          absurd (omega arith)
-      none other other_reason (lesser_item same less) is = items other other_reason less is
-      none other other_reason (earlier_reason same at less) is =
-          turns other_reason less (subst (λ (n : ℕ). Flawed n other_reason) at is)
+      by : (other : ℕ) (other_reason : Reason) → IsToldBefore other other_reason (item + 1) reason → IsRight other other_reason
+      by other other_reason (earlier_stage less) =
+          let own = flaw_stage (item + 1) reason first.flawed in
+          others other other_reason (λ same. absurd (omega arith))
+      by other other_reason (lesser_item same less) = before other other_reason (omega arith)
+      by other other_reason (earlier_reason same at less) =
+          subst (λ (n : ℕ). IsRight n other_reason) (sym at) (first.before other_reason less)
 
--- a flaw of a later stage is not told before
-not_before : {item : ℕ} {reason : Reason} {other : ℕ} {other_reason : Reason} → stage_of reason < stage_of other_reason
-    → IsToldBefore other other_reason item reason → ⊥
-not_before later (earlier_stage less) = absurd (omega arith)
-not_before later (lesser_item same less) = absurd (omega arith)
-not_before later (earlier_reason same at less) = absurd (omega arith)
+-- what is told before is of no later stage
+told_stage : {item : ℕ} {reason : Reason} {other : ℕ} {other_reason : Reason} → IsToldBefore other other_reason item reason
+    → stage_of other_reason ≤ stage_of reason
+told_stage (earlier_stage less) = omega arith
+told_stage (lesser_item same less) = omega arith
+told_stage (earlier_reason same at less) = omega arith
 
--- what is right has no flaw
-pub no_count_flaw : (count : ℕ) (run : Run) → HasRightCounts count run → {item : ℕ} {reason : Reason} → CountFlaw count run item reason → ⊥
-no_count_flaw count run right (wrong_paths other) = other right.paths
-no_count_flaw count run right (wrong_tests other) = other right.tests
-no_count_flaw count run right (wrong_proofs other) = other right.proofs
+-- what is right of each kind of item says nothing of other stages
+pub counts_only : (first_count : ℕ) (run : Run) → IsOfStage (IsRightCount first_count run) 1
+counts_only first_count run item WrongCount differs = absurd (differs refl)
+counts_only first_count run item reason differs = tt
 
-pub no_path_flaw : (delays : Delays) (first : List Route) (paths : List ListedPath) (item : ℕ)
-    → ((listed : ListedPath) → IsNumber paths item listed → IsListedRight delays first item listed)
-    → {reason : Reason} → PathFlaw delays first paths item reason → ⊥
-no_path_flaw delays first paths item right (other_path listed is other) = other (right listed is).in_place
-no_path_flaw delays first paths item right (other_length listed is other) = other (right listed is).long
+pub paths_only : (delays : Delays) (first : List Route) (paths : List ListedPath) → IsOfStage (IsRightPathAt delays first paths) 2
+paths_only delays first paths item reason differs listed is = by reason differs
+  where
+    by : (other : Reason) → stage_of other ≢ 2 → IsRightPath delays first item listed other
+    by WrongPath differ = absurd (differ refl)
+    by WrongLength differ = absurd (differ refl)
+    by other differ = tt
 
-pub no_proof_flaw : (c : Circuit) (budget : ℕ) (run : Run) → AreRightProofs c budget run → {item : ℕ} {reason : Reason}
-    → ProofFlaw c budget run item reason → ⊥
-no_proof_flaw c budget run right {item} (no_refutation proof is refutes other) = other ((right item proof is).refutes refutes)
-no_proof_flaw c budget run right {item} (not_spent proof is spends other) = other ((right item proof is).spends spends)
+pub proofs_only : (c : Circuit) (budget : ℕ) (run : Run) → IsOfStage (IsRightProofAt c budget run) 3
+proofs_only c budget run item reason differs proof is = by reason differs
+  where
+    by : (other : Reason) → stage_of other ≢ 3 → IsRightProof c run.rules budget (routes_of run) proof other
+    by BadRefutation differ = absurd (differ refl)
+    by BadSpent differ = absurd (differ refl)
+    by other differ = tt
 
--- a right verdict lacks nothing
-pub lacks_none : (c : Circuit) (run : Run) (number : ℕ) (direction : Direction) (path : Route) (verdict : Verdict)
-    → IsRightVerdict c run number direction path verdict → (reason : Reason) → BreaksRule c run number direction path verdict reason → ⊥
-lacks_none c run number direction path verdict right NotShared lacks = lacks right.shares
-lacks_none c run number direction path verdict right BadTest lacks = lacks right.tests
-lacks_none c run number direction path verdict right WrongExpected lacks = lacks right.expects
-lacks_none c run number direction path verdict right reason lacks = absurd lacks
+pub faults_only : (c : Circuit) (run : Run) → IsOfStage (IsRightFaultAt c run) 4
+faults_only c run item reason differs number listed direction is at = by reason differs
+  where
+    by : (other : Reason) → stage_of other ≢ 4
+        → IsRightVerdict c run number direction listed.path (verdict_for listed direction) other
+    by NotShared differ = absurd (differ refl)
+    by BadTest differ = absurd (differ refl)
+    by WrongExpected differ = absurd (differ refl)
+    by other differ = tt
 
-pub no_fault_flaw : (c : Circuit) (run : Run) → AreRightVerdicts c run → {item : ℕ} {reason : Reason} → FaultFlaw c run item reason → ⊥
-no_fault_flaw c run right {item} {reason} flaw =
-    lacks_none c run flaw.number flaw.direction flaw.listed.path flaw.verdict
-    (right flaw.number flaw.listed flaw.direction flaw.verdict flaw.fault.is_fault) reason flaw.lacks
-
--- the stage of each flaw
-pub count_stage : {count : ℕ} {run : Run} {item : ℕ} {reason : Reason} → CountFlaw count run item reason → stage_of reason ≡ 1
-count_stage (wrong_paths other) = refl
-count_stage (wrong_tests other) = refl
-count_stage (wrong_proofs other) = refl
-
-pub path_stage : {delays : Delays} {first : List Route} {paths : List ListedPath} {item : ℕ} {reason : Reason}
-    → PathFlaw delays first paths item reason → stage_of reason ≡ 2
-path_stage (other_path listed is other) = refl
-path_stage (other_length listed is other) = refl
-
-pub proof_stage : {c : Circuit} {budget : ℕ} {run : Run} {item : ℕ} {reason : Reason} → ProofFlaw c budget run item reason
-    → stage_of reason ≡ 3
-proof_stage (no_refutation proof is refutes other) = refl
-proof_stage (not_spent proof is spends other) = refl
-
-lacks_stage : (c : Circuit) (run : Run) (number : ℕ) (direction : Direction) (path : Route) (verdict : Verdict) (reason : Reason)
-    → BreaksRule c run number direction path verdict reason → stage_of reason ≡ 4
-lacks_stage c run number direction path verdict NotShared lacks = refl
-lacks_stage c run number direction path verdict BadTest lacks = refl
-lacks_stage c run number direction path verdict WrongExpected lacks = refl
-lacks_stage c run number direction path verdict reason lacks = absurd lacks
-
-pub fault_stage : {c : Circuit} {run : Run} {item : ℕ} {reason : Reason} → FaultFlaw c run item reason → stage_of reason ≡ 4
-fault_stage {c} {run} {item} {reason} flaw =
-    lacks_stage c run flaw.number flaw.direction flaw.listed.path flaw.verdict reason flaw.lacks
-
--- The first flaw of a stage is the first of all where the stages before it have none.
+-- The first flaw of a stage is the first of all where all is right in the stages before it.
 module _ (c : Circuit) (delays : Delays) (budget : ℕ) (first : List Route) (run : Run) where
-  abbrev Flawed : ℕ → Reason → Type 0
-  Flawed = HasFlaw c delays budget first run
+  abbrev pub IsRight : ℕ → Reason → Type 0
+  IsRight = IsRightAt c delays budget first run
 
-  pub tell_counts : (item : ℕ) (reason : Reason) → IsFirstFlaw (CountFlaw (length first) run) item reason → IsFirstFlaw Flawed item reason
-  tell_counts item reason is = record { flawed = of_counts is.flawed; none_before = none }
-    where
-      own : stage_of reason ≡ 1
-      own = count_stage is.flawed
+  -- what is so of all items
+  abbrev AllRight : (ℕ → Reason → Type 0) → Type 0
+  AllRight Is = (item : ℕ) (reason : Reason) → Is item reason
 
-      none : (other : ℕ) (other_reason : Reason) → IsToldBefore other other_reason item reason → ¬ Flawed other other_reason
-      none other other_reason before (of_counts flaw) = is.none_before other other_reason before flaw
-      none other other_reason before (of_paths flaw) =
-          let e = own in let its = path_stage flaw in not_before (omega arith) before
-      none other other_reason before (of_proofs flaw) =
-          let e = own in let its = proof_stage flaw in not_before (omega arith) before
-      none other other_reason before (of_faults flaw) =
-          let e = own in let its = fault_stage flaw in not_before (omega arith) before
+  pub tell_counts : (item : ℕ) (reason : Reason) → IsFirstFlaw (IsRightCount (length first) run) item reason → IsFirstFlaw IsRight item reason
+  tell_counts item reason is = record {
+    flawed = λ right. is.flawed right.count;
+    before = λ other other_reason told.
+        let own = flaw_stage (IsRightCount (length first) run) 1 (counts_only (length first) run) item reason is.flawed in
+        let few = told_stage told in record {
+          count = is.before other other_reason told;
+          path = paths_only delays first run.paths other other_reason (λ same. absurd (omega arith));
+          proof = proofs_only c budget run other other_reason (λ same. absurd (omega arith));
+          fault = faults_only c run other other_reason (λ same. absurd (omega arith));
+        };
+  }
 
-  module _ (counts : HasRightCounts (length first) run) where
-    pub tell_paths : (item : ℕ) (reason : Reason) → IsFirstFlaw (PathFlaw delays first run.paths) item reason → IsFirstFlaw Flawed item reason
-    tell_paths item reason is = record { flawed = of_paths is.flawed; none_before = none }
-      where
-        own : stage_of reason ≡ 2
-        own = path_stage is.flawed
+  module _ (counts : AllRight (IsRightCount (length first) run)) where
+    pub tell_paths : (item : ℕ) (reason : Reason) → IsFirstFlaw (IsRightPathAt delays first run.paths) item reason
+        → IsFirstFlaw IsRight item reason
+    tell_paths item reason is = record {
+      flawed = λ right. is.flawed right.path;
+      before = λ other other_reason told.
+          let own = flaw_stage (IsRightPathAt delays first run.paths) 2 (paths_only delays first run.paths) item reason is.flawed in
+          let few = told_stage told in record {
+            count = counts other other_reason;
+            path = is.before other other_reason told;
+            proof = proofs_only c budget run other other_reason (λ same. absurd (omega arith));
+            fault = faults_only c run other other_reason (λ same. absurd (omega arith));
+          };
+    }
 
-        none : (other : ℕ) (other_reason : Reason) → IsToldBefore other other_reason item reason → ¬ Flawed other other_reason
-        none other other_reason before (of_counts flaw) = no_count_flaw (length first) run counts flaw
-        none other other_reason before (of_paths flaw) = is.none_before other other_reason before flaw
-        none other other_reason before (of_proofs flaw) =
-            let e = own in let its = proof_stage flaw in not_before (omega arith) before
-        none other other_reason before (of_faults flaw) =
-            let e = own in let its = fault_stage flaw in not_before (omega arith) before
+    module _ (paths : AllRight (IsRightPathAt delays first run.paths)) where
+      pub tell_proofs : (found : Option Flaw) → TellsOfItems (IsRightProofAt c budget run) found → is_some found ≡ true
+          → TellsOfItems IsRight found
+      tell_proofs None right some = let impossible : ⊥ = cc in absurd impossible
+      tell_proofs (Some flaw) is some = record {
+        flawed = λ right. is.flawed right.proof;
+        before = λ other other_reason told.
+            let own = flaw_stage (IsRightProofAt c budget run) 3 (proofs_only c budget run) flaw.item flaw.reason is.flawed in
+            let few = told_stage told in record {
+              count = counts other other_reason;
+              path = paths other other_reason;
+              proof = is.before other other_reason told;
+              fault = faults_only c run other other_reason (λ same. absurd (omega arith));
+            };
+      }
 
-    module _ (paths : AreListedRight delays first run.paths) where
-      pub tell_proofs : (item : ℕ) (reason : Reason) → IsFirstFlaw (ProofFlaw c budget run) item reason → IsFirstFlaw Flawed item reason
-      tell_proofs item reason is = record { flawed = of_proofs is.flawed; none_before = none }
-        where
-          own : stage_of reason ≡ 3
-          own = proof_stage is.flawed
-
-          none : (other : ℕ) (other_reason : Reason) → IsToldBefore other other_reason item reason → ¬ Flawed other other_reason
-          none other other_reason before (of_counts flaw) = no_count_flaw (length first) run counts flaw
-          none other other_reason before (of_paths flaw) = no_path_flaw delays first run.paths other (paths other) flaw
-          none other other_reason before (of_proofs flaw) = is.none_before other other_reason before flaw
-          none other other_reason before (of_faults flaw) =
-              let e = own in let its = fault_stage flaw in not_before (omega arith) before
-
-      pub tell_faults : AreRightProofs c budget run → (item : ℕ) (reason : Reason) → IsFirstFlaw (FaultFlaw c run) item reason
-          → IsFirstFlaw Flawed item reason
-      tell_faults proofs item reason is = record { flawed = of_faults is.flawed; none_before = none }
-        where
-          none : (other : ℕ) (other_reason : Reason) → IsToldBefore other other_reason item reason → ¬ Flawed other other_reason
-          none other other_reason before (of_counts flaw) = no_count_flaw (length first) run counts flaw
-          none other other_reason before (of_paths flaw) = no_path_flaw delays first run.paths other (paths other) flaw
-          none other other_reason before (of_proofs flaw) = no_proof_flaw c budget run proofs flaw
-          none other other_reason before (of_faults flaw) = is.none_before other other_reason before flaw
+      pub tell_faults : AllRight (IsRightProofAt c budget run) → (found : Option Flaw) → TellsOfItems (IsRightFaultAt c run) found
+          → TellsOfItems IsRight found
+      tell_faults proofs None right = λ item reason. record {
+        count = counts item reason;
+        path = paths item reason;
+        proof = proofs item reason;
+        fault = right item reason;
+      }
+      tell_faults proofs (Some flaw) is = record {
+        flawed = λ right. is.flawed right.fault;
+        before = λ other other_reason told. record {
+          count = counts other other_reason;
+          path = paths other other_reason;
+          proof = proofs other other_reason;
+          fault = is.before other other_reason told;
+        };
+      }

@@ -1,6 +1,7 @@
 pub mod Right
 pub mod Flaws
 pub mod Claims
-pub mod Items
 pub mod Prefixes
+pub mod PrefixNodes
 pub mod FaultsInRows
+pub mod JudgedPaths

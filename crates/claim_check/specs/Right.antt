@@ -1,10 +1,11 @@
--- What is right with a run, stage by stage, in the order in which it is judged: its counts, its listed paths, its proofs, and the
--- verdicts on its faults (this project's own).
-use Rattle.std.specs.Prelude.{◌≡◌, ⊤, ℕ, true, false, List, length, map, count_by}
+-- What is right of a run: by the item of which it is said, a count, a listed path, a proof or a fault by its number, and by the reason that
+-- is told where it is not so. Each rule stands here once; Flaws.antt has which flaw is told (this project's own).
+use Rattle.std.specs.Prelude.{◌≡◌, ⊤, ℕ, ◌+◌, ◌*◌, true, false, List, length, map, count_by}
 use Rattle.pd_base.specs.Route.{Route}
 use Rattle.pd_base.specs.Target.{target_of}
 use Rattle.pd_base.specs.declared.test.Test.{Test}
 use Rattle.pd_base.specs.declared.fault.Direction.{Direction}
+use Rattle.pd_base.specs.declared.fault.Direction.TheVariants.{Rise, Fall}
 use Rattle.pd_base.specs.declared.fault.Kind.TheVariants as kinds
 use Rattle.pd_base.specs.declared.rules.Rules.{Rules}
 use Rattle.netlist.specs.Circuit.{Circuit}
@@ -18,34 +19,33 @@ use Rattle.runs.specs.declared.run.Run.{Run}
 use Rattle.runs.specs.declared.run.Verdict.{Verdict}
 use Rattle.runs.specs.declared.run.Verdict.TheVariants.{Robust, Nonrobust, Untestable, Aborted}
 use Rattle.runs.specs.Verdicts.{verdicts_of}
-use Rattle.good_runs.specs.Faults.{CitesRefutation, IsNumber, IsFault, routes_of}
+use Rattle.good_runs.specs.Faults.{CitesRefutation, IsNumber, routes_of, verdict_for}
 use Rattle.good_runs.specs.GoodRun.{HasNonrobustProof, HasNonrobustTest, HasRobustProof, HasTest, IsGoodRefutation, IsGoodSpent, greatest_cited, is_tested}
+use Rattle.claim_check.specs.declared.claim.Reason.{Reason}
+use Rattle.claim_check.specs.declared.claim.Reason.TheVariants.{WrongCount, WrongPath, WrongLength, BadRefutation, BadSpent, NotShared, BadTest, WrongExpected}
 
--- the run lists so many paths, as many tests as verdicts have, and as many proofs as verdicts cite
-pub record HasRightCounts (first_count : ℕ) (run : Run) : Type 0 where
-  pub paths : length run.paths ≡ first_count
-  pub tests : length run.tests ≡ count_by is_tested (verdicts_of run.paths)
-  pub proofs : length run.proofs ≡ greatest (map greatest_cited (verdicts_of run.paths))
+-- the count of this item is the one that is due: 1 is that of the listed paths, 2 that of the tests, 3 that of the proofs
+pub record IsDueCount (first_count : ℕ) (run : Run) (item : ℕ) : Type 0 where
+  pub paths : item ≡ 1 → length run.paths ≡ first_count
+  pub tests : item ≡ 2 → length run.tests ≡ count_by is_tested (verdicts_of run.paths)
+  pub proofs : item ≡ 3 → length run.proofs ≡ greatest (map greatest_cited (verdicts_of run.paths))
 
--- the listed path of this number is that of this place among the first ones, and has its length
-pub record IsListedRight (delays : Delays) (first : List Route) (number : ℕ) (listed : ListedPath) : Type 0 where
-  pub in_place : IsNumber first number listed.path
-  pub long : listed.length ≡ length_of delays listed.path
+-- what is right of a count, where so many paths are to be listed
+abbrev pub IsRightCount : ℕ → Run → ℕ → Reason → Type 0
+IsRightCount first_count run item WrongCount = IsDueCount first_count run item
+IsRightCount first_count run item reason = ⊤
 
--- each listed path is that of its place among the first ones, and has its length
-abbrev pub AreListedRight : Delays → List Route → List ListedPath → Type 0
-AreListedRight delays first paths =
-    (number : ℕ) (listed : ListedPath) → IsNumber paths number listed → IsListedRight delays first number listed
+-- of the listed path of this number: it is that of its place among the first ones, and has its length
+abbrev pub IsRightPath : Delays → List Route → ℕ → ListedPath → Reason → Type 0
+IsRightPath delays first number listed WrongPath = IsNumber first number listed.path
+IsRightPath delays first number listed WrongLength = listed.length ≡ length_of delays listed.path
+IsRightPath delays first number listed reason = ⊤
 
--- the proof is a refutation, or a tree that spent the budget, whichever it says it is
-pub record IsRightProof (c : Circuit) (rules : Rules) (budget : ℕ) (routes : List Route) (proof : Proof) : Type 0 where
-  pub refutes : proof.spent ≡ false → IsGoodRefutation c rules budget routes proof
-  pub spends : proof.spent ≡ true → IsGoodSpent c rules budget routes proof
-
--- each proof is what it says it is
-abbrev pub AreRightProofs : Circuit → ℕ → Run → Type 0
-AreRightProofs c budget run =
-    (number : ℕ) (proof : Proof) → IsNumber run.proofs number proof → IsRightProof c run.rules budget (routes_of run) proof
+-- of a proof: it is a refutation, or a tree that spent the budget, whichever it says it is
+abbrev pub IsRightProof : Circuit → Rules → ℕ → List Route → Proof → Reason → Type 0
+IsRightProof c rules budget routes proof BadRefutation = proof.spent ≡ false → IsGoodRefutation c rules budget routes proof
+IsRightProof c rules budget routes proof BadSpent = proof.spent ≡ true → IsGoodSpent c rules budget routes proof
+IsRightProof c rules budget routes proof reason = ⊤
 
 -- the verdict cites the proofs that it has to
 abbrev pub CitesItsProofs : Run → ℕ → Direction → Route → Verdict → Type 0
@@ -74,21 +74,37 @@ ItsTestExpectsRight c run (Nonrobust test proof) = ExpectsRight c run.tests test
 ItsTestExpectsRight c run (Untestable proof) = ⊤
 ItsTestExpectsRight c run (Aborted robust nonrobust) = ⊤
 
--- the verdict on a fault is backed by its proofs and its test
-pub record IsRightVerdict (c : Circuit) (run : Run) (number : ℕ) (direction : Direction) (path : Route) (verdict : Verdict) : Type 0 where
-  pub shares : CitesItsProofs run number direction path verdict
-  pub tests : HasItsTest c run number direction path verdict
-  pub expects : ItsTestExpectsRight c run verdict
+-- of the verdict on the fault of a path of this number: it is backed by its proofs and its test
+abbrev pub IsRightVerdict : Circuit → Run → ℕ → Direction → Route → Verdict → Reason → Type 0
+IsRightVerdict c run number direction path verdict NotShared = CitesItsProofs run number direction path verdict
+IsRightVerdict c run number direction path verdict BadTest = HasItsTest c run number direction path verdict
+IsRightVerdict c run number direction path verdict WrongExpected = ItsTestExpectsRight c run verdict
+IsRightVerdict c run number direction path verdict reason = ⊤
 
--- each verdict is backed by its proofs and its test
-abbrev pub AreRightVerdicts : Circuit → Run → Type 0
-AreRightVerdicts c run =
-    (number : ℕ) (listed : ListedPath) (direction : Direction) (verdict : Verdict) → IsFault run number listed direction verdict
-    → IsRightVerdict c run number direction listed.path verdict
+-- the number of a fault: two for each listed path, that of the rising transition first
+pub data IsFaultNumber (path_number : ℕ) : Direction → ℕ → Type 0 where
+  rise : (item : ℕ) → item + 1 ≡ 2 * path_number → IsFaultNumber path_number Rise item
+  fall : (item : ℕ) → item ≡ 2 * path_number → IsFaultNumber path_number Fall item
 
--- the counts, the listed paths, the proofs and the verdicts are right, where these are the first paths
-pub record IsRightRun (c : Circuit) (delays : Delays) (budget : ℕ) (first : List Route) (run : Run) : Type 0 where
-  pub counts : HasRightCounts (length first) run
-  pub paths : AreListedRight delays first run.paths
-  pub proofs : AreRightProofs c budget run
-  pub verdicts : AreRightVerdicts c run
+-- what is right of the listed path of this number, if there is one
+abbrev pub IsRightPathAt : Delays → List Route → List ListedPath → ℕ → Reason → Type 0
+IsRightPathAt delays first paths item reason =
+    (listed : ListedPath) → IsNumber paths item listed → IsRightPath delays first item listed reason
+
+-- of the proof of this number
+abbrev pub IsRightProofAt : Circuit → ℕ → Run → ℕ → Reason → Type 0
+IsRightProofAt c budget run item reason =
+    (proof : Proof) → IsNumber run.proofs item proof → IsRightProof c run.rules budget (routes_of run) proof reason
+
+-- of the verdict on the fault of this number
+abbrev pub IsRightFaultAt : Circuit → Run → ℕ → Reason → Type 0
+IsRightFaultAt c run item reason =
+    (number : ℕ) (listed : ListedPath) (direction : Direction) → IsNumber run.paths number listed → IsFaultNumber number direction item
+    → IsRightVerdict c run number direction listed.path (verdict_for listed direction) reason
+
+-- what is right of each item of this number, where these are the first paths
+pub record IsRightAt (c : Circuit) (delays : Delays) (budget : ℕ) (first : List Route) (run : Run) (item : ℕ) (reason : Reason) : Type 0 where
+  pub count : IsRightCount (length first) run item reason
+  pub path : IsRightPathAt delays first run.paths item reason
+  pub proof : IsRightProofAt c budget run item reason
+  pub fault : IsRightFaultAt c run item reason

@@ -1,15 +1,14 @@
 // A run, judged from the netlist and the delays alone.
-ghost use Rattle.std.specs.Prelude.{◌≡◌, ◌↔◌, ◌≤◌, All, IfOk, MatchOption, Ok, length};
+ghost use Rattle.std.specs.Prelude.{◌≡◌, ◌↔◌, ◌≤◌, All, IfOk, Ok, length};
 ghost use Rattle.pd_base.specs.declared.limits.TheConstants.{MOST_PATHS};
 ghost use Rattle.delay_annotation.specs.Annotation.{delays_of, Fits};
 ghost use Rattle.netlist.specs.Paths.{IsPath};
 ghost use Rattle.runs.specs.Lawful.{IsLawfulRun};
 ghost use Rattle.good_runs.specs.GoodRun.{IsGoodRun};
 ghost use Rattle.good_runs.specs.Promises.{AllKeepPromises};
-ghost use Rattle.claim_check.specs.Claims.{TellsOfRun};
-ghost use Rattle.claim_check.specs.Flaws.{HasFlaw, IsFirstFlaw};
-ghost use Rattle.claim_check.specs.Items.{claim_of};
-ghost use Rattle.claim_check.specs.Right.{IsRightRun};
+ghost use Rattle.claim_check.specs.Claims.{TellsOfRun, claim_of};
+ghost use Rattle.claim_check.specs.Flaws.{TellsOfItems};
+ghost use Rattle.claim_check.specs.Right.{IsRightAt};
 
 use crate::claim::{Claim, Flaw};
 use crate::counts::wrong_count;
@@ -78,8 +77,7 @@ fn first_flaw(
     requires paths { All (IsPath net.now) first.now }
     requires few { length first.now ≤ MOST_PATHS }
     requires lawful { IsLawfulRun net.now run.now }
-    ensures { IfOk result (λ found. MatchOption found (IsRightRun net.now (delays_of net.now delays.now) budget first.now run.now)
-        (λ flaw. IsFirstFlaw (HasFlaw net.now (delays_of net.now delays.now) budget first.now run.now) flaw.item flaw.reason)) }
+    ensures { IfOk result (TellsOfItems (IsRightAt net.now (delays_of net.now delays.now) budget first.now run.now)) }
 {
     // so its paths have few steps
     let _ = net.sources();

@@ -4,7 +4,7 @@ ghost use Rattle.std.specs.Prelude.{◌≡◌, ◌↔◌, IsTrue, Some};
 ghost use Rattle.pd_base.specs.Target.{target_of};
 ghost use Rattle.good_runs.specs.Faults.{CitesSpent, routes_of};
 ghost use Rattle.good_runs.specs.GoodRun.{HasNonrobustProof, HasRobustProof};
-ghost use Rattle.claim_check.specs.Items.{SaysSpentOn};
+ghost use Rattle.claim_check.specs.FaultsInRows.{SaysSpentOn};
 ghost use Rattle.claim_check.specs.Prefixes.{IsLeastRefutation};
 ghost use Rattle.claim_check.specs.Right.{CitesItsProofs};
 

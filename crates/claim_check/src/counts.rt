@@ -1,11 +1,11 @@
 // The counts of a run: its listed paths, its tests, its proofs.
-ghost use Rattle.std.specs.Prelude.{◌≡◌, ◌≤◌, ◌<◌, ◌^◌, ◌∷◌, [], count_by, length, map, max, IfNone, MatchOption};
+ghost use Rattle.std.specs.Prelude.{◌≡◌, ◌≤◌, ◌<◌, ◌^◌, ◌∷◌, [], count_by, length, map, max, IfNone};
 ghost use Rattle.pd_base.specs.declared.limits.TheConstants.{MOST_PATHS};
 ghost use Rattle.netlist.specs.Greatest.{greatest};
 ghost use Rattle.runs.specs.Verdicts.{verdicts_of};
 ghost use Rattle.good_runs.specs.GoodRun.{greatest_cited, is_tested};
-ghost use Rattle.claim_check.specs.Flaws.{CountFlaw, IsFirstFlaw};
-ghost use Rattle.claim_check.specs.Right.{HasRightCounts};
+ghost use Rattle.claim_check.specs.Flaws.{TellsOfItems};
+ghost use Rattle.claim_check.specs.Right.{IsRightCount};
 
 use crate::claim::{Flaw, Reason};
 use runs::{ListedPath, Run, Verdict};
@@ -13,8 +13,7 @@ use runs::{ListedPath, Run, Verdict};
 // The first wrong count of a run that is to list so many paths.
 pub(crate) fn wrong_count(first_count: usize, run: &Run) -> Option<Flaw>
     requires { first_count ≤ MOST_PATHS }
-    ensures counts { MatchOption result (HasRightCounts first_count run.now)
-        (λ flaw. IsFirstFlaw (CountFlaw first_count run.now) flaw.item flaw.reason) }
+    ensures counts { TellsOfItems (IsRightCount first_count run.now) result }
     ensures few { IfNone result (length run.now.proofs < 2 ^ 32) }
 {
     let paths = run.paths.as_slice();

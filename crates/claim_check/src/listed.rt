@@ -1,11 +1,10 @@
 // The listed paths of a run beside the first paths of the circuit.
-ghost use Rattle.std.specs.Prelude.{◌≡◌, ◌≢◌, ◌↔◌, ◌≤◌, All, IsTrue, MatchOption, length};
+ghost use Rattle.std.specs.Prelude.{◌≡◌, ◌<◌, ◌+◌, ◌↔◌, ◌≤◌, All, IsTrue, length};
 ghost use Rattle.pd_base.specs.declared.limits.TheConstants.{MOST_PATHS};
 ghost use Rattle.delay_annotation.specs.Annotation.{delays_of, Fits};
-ghost use Rattle.netlist.specs.Paths.{IsPath, IsPrefix, length_of};
-ghost use Rattle.claim_check.specs.Flaws.{IsFirstFlaw, PathFlaw};
-ghost use Rattle.claim_check.specs.Right.{AreListedRight};
-ghost use Rattle.claim_check.specs.Items.{IsWrongListed};
+ghost use Rattle.netlist.specs.Paths.{IsPath};
+ghost use Rattle.claim_check.specs.Flaws.{TellsOfItem, TellsOfItems};
+ghost use Rattle.claim_check.specs.Right.{IsRightPath, IsRightPathAt};
 
 use crate::claim::{Flaw, Reason};
 use delay_annotation::Delays;
@@ -25,11 +24,10 @@ pub(crate) fn wrong_path(
     requires first { All (IsPath net.now) first.now }
     requires one_each { length paths.now ≡ length first.now }
     requires few { length first.now ≤ MOST_PATHS }
-    ensures { MatchOption result (AreListedRight (delays_of net.now delays.now) first.now paths.now)
-        (λ flaw. IsFirstFlaw (PathFlaw (delays_of net.now delays.now) first.now paths.now) flaw.item flaw.reason) }
+    ensures { TellsOfItems (IsRightPathAt (delays_of net.now delays.now) first.now paths.now) result }
 {
     for row in 0..paths.len() {
-        if let Some(reason) = wrong_listed(net, delays, &first[row], &paths[row]) {
+        if let Some(reason) = wrong_listed(net, delays, first, row, &paths[row]) {
             return Some(Flaw {
                 item: row as u32 + 1,
                 reason,
@@ -39,13 +37,20 @@ pub(crate) fn wrong_path(
     None
 }
 
-// What is wrong with a listed path, in whose place this path is due.
-fn wrong_listed(net: &Netlist, delays: &Delays, path: &Path, listed: &ListedPath) -> Option<Reason>
+// What is wrong with the listed path in a row.
+fn wrong_listed(
+    net: &Netlist,
+    delays: &Delays,
+    first: &[Path],
+    row: usize,
+    listed: &ListedPath,
+) -> Option<Reason>
     requires fits { Fits net.now delays.now }
-    requires prefix { IsPrefix net.now path.now }
-    ensures { MatchOption result ((listed.now.path ≡ path.now) × (listed.now.length ≡ length_of (delays_of net.now delays.now) listed.now.path))
-        (IsWrongListed (delays_of net.now delays.now) path.now listed.now) }
+    requires first { All (IsPath net.now) first.now }
+    requires row { row < length first.now }
+    ensures { TellsOfItem (IsRightPath (delays_of net.now delays.now) first.now (row + 1) listed.now) result }
 {
+    let path = &first[row];
     if !is_same_path(path, &listed.path) {
         return Some(Reason::WrongPath);
     }

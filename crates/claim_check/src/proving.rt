@@ -1,4 +1,5 @@
 // The proofs of a run, one by one: whether each is a refutation of the prefix that it names, or a tree that spent the budget on the path.
+// One judge of trees serves for all of them.
 ghost use Rattle.std.specs.Prelude.{◌≡◌, ◌<◌, ◌≤◌, ◌↔◌, ◌^◌, All, IfOk, IsTrue, MatchOption, None, Some, length, if◌then◌else◌};
 ghost use Rattle.pd_base.specs.Target.{target_of};
 ghost use Rattle.pd_base.specs.Route.{Route};
@@ -6,17 +7,18 @@ ghost use Rattle.netlist.specs.Paths.{IsPath, prefix_of};
 ghost use Rattle.tree_laws.specs.Refutations.{IsRefutation};
 ghost use Rattle.good_runs.specs.Faults.{routes_of};
 ghost use Rattle.good_runs.specs.GoodRun.{IsGoodRefutation, IsGoodSpent};
-ghost use Rattle.claim_check.specs.Flaws.{IsFirstFlaw, ProofFlaw};
-ghost use Rattle.claim_check.specs.Items.{IsFirstPrefix, IsWrongProof};
-ghost use Rattle.claim_check.specs.Prefixes.{AreTreeNodes};
-ghost use Rattle.claim_check.specs.Right.{AreRightProofs, IsRightProof};
+ghost use Rattle.claim_check.specs.Flaws.{TellsOfItem, TellsOfItems};
+ghost use Rattle.claim_check.specs.JudgedPaths.{IsPathTold};
+ghost use Rattle.claim_check.specs.Prefixes.{AreTreeNodes, IsFirstPrefix};
+ghost use Rattle.claim_check.specs.Right.{IsRightProof, IsRightProofAt};
 
 use crate::claim::{Flaw, Reason};
+use crate::ends::last_lines;
 use crate::numbered::numbered;
 use crate::prefix_tree::PrefixTree;
 use netlist::Netlist;
-use pd_base::{OutOfMemory, Path, Rules};
-use refutation_check::{TreeCheck, check_spent, check_tree};
+use pd_base::{OutOfMemory, Path};
+use refutation_check::{TreeCheck, TreeJudge};
 use runs::{Proof, Run};
 use std::alloc::Global;
 
@@ -32,22 +34,35 @@ pub(crate) fn wrong_proof(
     requires routes { paths.now ≡ routes_of run.now }
     requires paths { All (IsPath net.now) paths.now }
     requires nodes { AreTreeNodes paths.now prefixes.now }
-    requires whole { length prefixes.now.rows ≡ length paths.now }
     requires few { length run.now.proofs < 2 ^ 32 }
-    ensures { IfOk result (λ found. MatchOption found (AreRightProofs net.now budget run.now)
-        (λ flaw. IsFirstFlaw (ProofFlaw net.now budget run.now) flaw.item flaw.reason)) }
+    ensures { IfOk result (TellsOfItems (IsRightProofAt net.now budget run.now)) }
+{
+    // a netlist knows itself as a circuit
+    let _ = net.sources();
+    let ends = last_lines(alloc, net, paths)?;
+    let mut judge = TreeJudge::new(alloc, net, &run.rules, ends.as_slice())?;
+    wrong_by(&mut judge, alloc, budget, run, paths, prefixes)
+}
+
+// The same by a judge that is made for the run's rules and these paths.
+fn wrong_by(
+    judge: &mut TreeJudge,
+    alloc: Global,
+    budget: u32,
+    run: &Run,
+    paths: &[Path],
+    prefixes: &PrefixTree,
+) -> Result<Option<Flaw>, OutOfMemory>
+    requires rules { judge.old.rules ≡ run.now.rules }
+    requires routes { paths.now ≡ routes_of run.now }
+    requires paths { All (IsPathTold judge.old.net judge.old.ends) paths.now }
+    requires nodes { AreTreeNodes paths.now prefixes.now }
+    requires few { length run.now.proofs < 2 ^ 32 }
+    ensures { IfOk result (TellsOfItems (IsRightProofAt judge.old.net budget run.now)) }
 {
     let proofs = run.proofs.as_slice();
     for place in 0..proofs.len() {
-        if let Some(reason) = wrong_in(
-            alloc,
-            net,
-            &run.rules,
-            budget,
-            paths,
-            prefixes,
-            &proofs[place],
-        )? {
+        if let Some(reason) = wrong_in(judge, alloc, budget, paths, prefixes, &proofs[place])? {
             return Ok(Some(Flaw {
                 item: place as u32 + 1,
                 reason,
@@ -59,25 +74,23 @@ pub(crate) fn wrong_proof(
 
 // What is wrong with a proof.
 fn wrong_in(
+    judge: &mut TreeJudge,
     alloc: Global,
-    net: &Netlist,
-    rules: &Rules,
     budget: u32,
     paths: &[Path],
     prefixes: &PrefixTree,
     proof: &Proof,
 ) -> Result<Option<Reason>, OutOfMemory>
-    requires paths { All (IsPath net.now) paths.now }
+    requires paths { All (IsPathTold judge.old.net judge.old.ends) paths.now }
     requires nodes { AreTreeNodes paths.now prefixes.now }
-    requires whole { length prefixes.now.rows ≡ length paths.now }
-    ensures { IfOk result (λ found. MatchOption found (IsRightProof net.now rules.now budget paths.now proof.now)
-        (IsWrongProof net.now rules.now budget paths.now proof.now)) }
+    ensures same { judge.new ≡ judge.old }
+    ensures tells { IfOk result (TellsOfItem (IsRightProof judge.old.net judge.old.rules budget paths.now proof.now)) }
 {
     if proof.spent {
-        let good = is_good_spent(alloc, net, rules, budget, paths, proof)?;
+        let good = is_good_spent(judge, budget, paths, proof)?;
         return Ok(unless(good, Reason::BadSpent));
     }
-    let good = is_good_refutation(alloc, net, rules, budget, paths, prefixes, proof)?;
+    let good = is_good_refutation(judge, alloc, budget, paths, prefixes, proof)?;
     Ok(unless(good, Reason::BadRefutation))
 }
 
@@ -90,28 +103,18 @@ fn unless(good: bool, reason: Reason) -> Option<Reason>
 
 // Whether a proof names a listed path and all its steps, and its tree spent the budget on it.
 fn is_good_spent(
-    alloc: Global,
-    net: &Netlist,
-    rules: &Rules,
+    judge: &mut TreeJudge,
     budget: u32,
     paths: &[Path],
     proof: &Proof,
 ) -> Result<bool, OutOfMemory>
-    requires { All (IsPath net.now) paths.now }
-    ensures { IfOk result (λ good. IsTrue good ↔ IsGoodSpent net.now rules.now budget paths.now proof.now) }
+    requires { All (IsPathTold judge.old.net judge.old.ends) paths.now }
+    ensures same { judge.new ≡ judge.old }
+    ensures good { IfOk result (λ good. IsTrue good ↔ IsGoodSpent judge.old.net judge.old.rules budget paths.now proof.now) }
 {
     match numbered(paths, proof.path) {
         Some(path) if proof.steps as usize == path.steps().len() => {
-            let check = check_spent(
-                alloc,
-                net,
-                rules,
-                path,
-                proof.dir,
-                proof.kind,
-                budget,
-                &proof.tree,
-            )?;
+            let check = judge.check_spent(path, proof.dir, proof.kind, budget, &proof.tree)?;
             Ok(check == TreeCheck::Yes)
         }
         _ => Ok(false),
@@ -120,23 +123,20 @@ fn is_good_spent(
 
 // Whether a proof names a prefix of a listed path and of none before it, and its tree refutes that within the budget.
 fn is_good_refutation(
+    judge: &mut TreeJudge,
     alloc: Global,
-    net: &Netlist,
-    rules: &Rules,
     budget: u32,
     paths: &[Path],
     prefixes: &PrefixTree,
     proof: &Proof,
 ) -> Result<bool, OutOfMemory>
-    requires paths { All (IsPath net.now) paths.now }
+    requires paths { All (IsPathTold judge.old.net judge.old.ends) paths.now }
     requires nodes { AreTreeNodes paths.now prefixes.now }
-    requires whole { length prefixes.now.rows ≡ length paths.now }
-    ensures { IfOk result (λ good. IsTrue good ↔ IsGoodRefutation net.now rules.now budget paths.now proof.now) }
+    ensures same { judge.new ≡ judge.old }
+    ensures good { IfOk result (λ good. IsTrue good ↔ IsGoodRefutation judge.old.net judge.old.rules budget paths.now proof.now) }
 {
     match path_of_new_prefix(paths, prefixes, proof) {
-        Some(path) if proof.tree.splits() <= budget => refutes_prefix(
-            alloc, net, rules, path, proof,
-        ),
+        Some(path) if proof.tree.splits() <= budget => refutes_prefix(judge, alloc, path, proof),
         _ => Ok(false),
     }
 }
@@ -148,7 +148,6 @@ fn path_of_new_prefix<'p>(
     proof: &Proof,
 ) -> Option<&'p Path>
     requires nodes { AreTreeNodes paths.now prefixes.now }
-    requires whole { length prefixes.now.rows ≡ length paths.now }
     ensures { MatchOption result ((path : Route) → ¬ IsFirstPrefix paths.now proof.now path)
         (λ path. IsFirstPrefix paths.now proof.now path.now) }
 {
@@ -162,26 +161,18 @@ fn path_of_new_prefix<'p>(
 
 // Whether a proof's tree refutes its kind and direction for the first steps of a path.
 fn refutes_prefix(
+    judge: &mut TreeJudge,
     alloc: Global,
-    net: &Netlist,
-    rules: &Rules,
     path: &Path,
     proof: &Proof,
 ) -> Result<bool, OutOfMemory>
-    requires path { IsPath net.now path.now }
+    requires path { IsPathTold judge.old.net judge.old.ends path.now }
     requires steps { proof.now.steps ≤ length path.now.steps }
-    ensures { IfOk result (λ refutes. IsTrue refutes
-        ↔ IsRefutation net.now rules.now (target_of (prefix_of proof.now.steps path.now) proof.now.dir proof.now.kind) proof.now.tree) }
+    ensures same { judge.new ≡ judge.old }
+    ensures refutes { IfOk result (λ refutes. IsTrue refutes
+        ↔ IsRefutation judge.old.net judge.old.rules (target_of (prefix_of proof.now.steps path.now) proof.now.dir proof.now.kind) proof.now.tree) }
 {
     let prefix = Path::new(alloc, path.source(), &path.steps()[..proof.steps as usize])?;
-    let check = check_tree(
-        alloc,
-        net,
-        rules,
-        &prefix,
-        proof.dir,
-        proof.kind,
-        &proof.tree,
-    )?;
+    let check = judge.check_tree(&prefix, proof.dir, proof.kind, &proof.tree)?;
     Ok(check == TreeCheck::Yes)
 }

@@ -1,23 +1,24 @@
 -- What words ask for that a command is given.
-use Rattle.std.proofs.Common.{◌≡◌, ◌*◌, ◌-◌, ◌≤◌, ◌&&◌, ℕ, true, List, [], ◌∷◌, Option, Some, None, Result, Ok, Err, length, get_or, take, drop, leb, option_map, sym, ap, subst, ◌∙◌, inl, inr, arith}
+use Rattle.std.proofs.Common.{◌≡◌, ◌*◌, ◌-◌, ◌≤◌, ◌&&◌, ℕ, true, List, [], ◌∷◌, Option, Some, None, Result, Ok, Err, length, get_or, take, drop, leb, option_map, refl, sym, ap, subst, ◌∙◌, inl, inr, arith}
 use Rattle.std.specs.Prelude.{if◌then◌else◌, unwrap_or}
 use Rattle.std.proofs.lemmas.Bool.{and_parts, cases_Bool, leb-true}
 use Rattle.std.proofs.lemmas.List.{take_all, length-map}
 use Rattle.command_line.specs.Commands.{bytes_of_words}
-use Rattle.command_line.specs.Options.{is_within, number_or}
+use Rattle.command_line.specs.Options.{is_at_most, is_within, number_or}
 use Rattle.command_line.specs.Taken.{HasTexts, IsFaultOf}
-use Rattle.command_line.specs.Words.{Given, GivesWords, HasLawfulNumbers, HasMakeNumbers, AreAccepted, asked_call, budget_asked, call_asked, call_behind, call_given, call_reason, call_with, command_form, command_named, first_place, first_same, none_given, paths_asked, product_reason, reason_or, stages_spelled, texts_of_words, then_taken, unless_refused, words_outcome, words_taken}
+use Rattle.command_line.specs.Words.{Given, GivesWords, HasLawfulNumbers, HasMakeNumbers, HasRunNumbers, AreAccepted, asked_call, budget_asked, call_asked, call_behind, call_given, call_reason, call_with, command_form, command_named, first_place, first_same, none_given, paths_asked, product_reason, reason_or, run_call, run_reason, stages_spelled, texts_of_words, time_reason, time_spelled, then_taken, unless_refused, words_outcome, words_taken}
 use Rattle.command_line.specs.declared.command_name.CommandName.{CommandName}
-use Rattle.command_line.specs.declared.command_name.CommandName.TheVariants.{Gen, Make}
+use Rattle.command_line.specs.declared.command_name.CommandName.TheVariants.{Gen, Check, Replay, Make}
 use Rattle.command_line.specs.declared.form.CommandForm.{CommandForm}
 use Rattle.command_line.specs.declared.number_option.NumberOption.TheVariants.{Paths, Budget}
 use Rattle.command_line.specs.declared.parsing.Parsed.{Parsed}
-use Rattle.command_line.specs.declared.reading.TheConstants.{DEFAULT_BUDGET, DEFAULT_PATHS, MOST_PRODUCT}
+use Rattle.command_line.specs.declared.reading.TheConstants.{DEFAULT_BUDGET, DEFAULT_PATHS, MOST_PRODUCT, REPLAY_FILES}
 use Rattle.command_line.specs.declared.fault.WordsFault.{WordsFault}
 use Rattle.command_line.specs.declared.fault.WordsFault.TheVariants.{Refused, NoMemory}
 use Rattle.command_line.specs.declared.refusal.WordsRefusal.{WordsRefusal}
-use Rattle.command_line.specs.declared.refusal.WordsRefusal.TheVariants.{Stages}
+use Rattle.command_line.specs.declared.refusal.WordsRefusal.TheVariants.{Stages, Time}
 use Rattle.command_line.specs.declared.stages.TheConstants.{MOST_STAGES}
+use Rattle.command_line.specs.declared.time.TheConstants.{MOST_TIME}
 use Rattle.command_line.proofs.Accepting.{all_positional, values_hold}
 use Rattle.command_line.proofs.Numbers.{number_within}
 use denote.Ref.{Bor}
@@ -83,6 +84,11 @@ all_texts_there name given words parsed taken has =
     sym (length-map parsed.positional.items (λ word. word.now)) ∙ ap length has.positional
     ∙ length-map given.positional (λ word. word.text) ∙ all_positional (command_form name) words first_place none_given given taken
 
+-- no reason, and so no first one
+no_first : {A : Type 0} (first second : Option A) → reason_or first second ≡ None → first ≡ None
+no_first None second none = refl
+no_first (Some first) second none = absurd cc
+
 -- no reason, and so no second one
 no_second : {A : Type 0} (first second : Option A) → reason_or first second ≡ None → second ≡ None
 no_second None second none = none
@@ -108,12 +114,20 @@ few_stages (Some stages) none =
       | inr outside ↦ let bad = rw outside at none in absurd cc
     ]
 
--- the numbers are within their limits
-pub lawful_numbers : (name : CommandName) (given : Given) (words : List (List ℕ))
-    → words_taken (command_form name) first_place none_given words ≡ Ok given
-    → call_reason name given ≡ None → HasLawfulNumbers (call_given name given)
-lawful_numbers Gen given words taken none =
-    let values = values_hold (command_form Gen) words first_place none_given given taken (record { paths = tt; budget = tt }) in
+-- a time that is not refused
+small_time : (found : Option ℕ) → (if is_at_most MOST_TIME found then None else Some Time) ≡ None → unwrap_or found 0 ≤ MOST_TIME
+small_time None none = absurd cc
+small_time (Some time) none =
+    elim (cases_Bool (leb time MOST_TIME)) [
+      | inl small ↦ leb-true time MOST_TIME small
+      | inr over ↦ let bad = rw over at none in absurd cc
+    ]
+
+-- the numbers that are asked for of a run
+run_numbers : (form : CommandForm) (given : Given) (words : List (List ℕ)) → words_taken form first_place none_given words ≡ Ok given
+    → run_reason given ≡ None → HasRunNumbers (run_call (texts_of_words given.positional) (paths_asked given) (budget_asked given))
+run_numbers form given words taken none =
+    let values = values_hold form words first_place none_given given taken (record { paths = tt; budget = tt }) in
     let paths = number_within Paths DEFAULT_PATHS given.paths values.paths (record { least = omega arith; greatest = omega arith }) in
     let budget = number_within Budget DEFAULT_BUDGET given.budget values.budget (record { least = omega arith; greatest = omega arith }) in
     let product = no_second (first_same given.positional) (product_reason (paths_asked given * budget_asked given)) none in
@@ -124,4 +138,15 @@ lawful_numbers Gen given words taken none =
       small_budget = budget.greatest;
       product = small_product (paths_asked given * budget_asked given) product;
     }
+
+-- the numbers are within their limits
+pub lawful_numbers : (name : CommandName) (given : Given) (words : List (List ℕ))
+    → words_taken (command_form name) first_place none_given words ≡ Ok given
+    → call_reason name given ≡ None → HasLawfulNumbers (call_given name given)
+lawful_numbers Gen given words taken none = run_numbers (command_form Gen) given words taken none
+lawful_numbers Check given words taken none = run_numbers (command_form Check) given words taken none
+lawful_numbers Replay given words taken none =
+    let texts = texts_of_words given.positional in
+    let text = get_or texts REPLAY_FILES [] in
+    record { small_time = small_time (time_spelled text) (no_first (time_reason text) _ none) }
 lawful_numbers Make given words taken none = few_stages (stages_spelled (get_or (texts_of_words given.positional) 0 [])) none

@@ -5,6 +5,7 @@ pub mod MakeWords
 pub mod Matches
 pub mod Beginnings
 pub mod Numbers
+pub mod PlacedWords
 pub mod WordKinds
 pub mod Accepting
 pub mod Asking

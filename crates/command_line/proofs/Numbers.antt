@@ -36,38 +36,53 @@ spelled_is most text is =
     (and_from (leb 1 (length text)) (leb (length text) most) (le-leb 1 (length text) is.some_digit)
     (le-leb (length text) most is.few_digits))
 
--- so few digits fit in 32 bits
-small : (most : ℕ) (text : List ℕ) → most ≤ 9 → IsSpelled most text → digits_value 10 text < 2 ^ 32
-small most text fits is =
-    let short : length text ≤ 9 = let few = is.few_digits in omega arith in
-    let few = digits_value_short numerals text 9 is.digits short in
-    omega (arith, few)
+-- digits whose greatest number fits in so many bits
+small : (bits limit : ℕ) (text : List ℕ) → 10 ^ limit ≤ 2 ^ bits → IsSpelled limit text → digits_value 10 text < 2 ^ bits
+small bits limit text fits is =
+    let few = digits_value_short numerals text limit is.digits is.few_digits in
+    omega (arith, few, fits)
 
--- what std reads of a text without a plus sign that is no longer than a number may be
-pub read : {E : Type 0} (most : ℕ) (text : List ℕ) (result : Result ℕ E) → most ≤ 9 → ParsesUnsigned 32 10 text result
-    → get_or text 0 0 ≢ 43 → length text ≤ most → result_ok result ≡ number_spelled most text
-read {E} most text result fits parses no_plus few = by_result result (parse_plain numerals 32 text result parses no_plus)
+-- a text that may spell a number of at most so many digits
+abbrev pub MaySpell : ℕ → List ℕ → Type 0
+MaySpell most text = (get_or text 0 0 ≢ 43) × (length text ≤ most)
+
+-- what std reads of such a text
+pub read : {E : Type 0} (bits limit most : ℕ) (text : List ℕ) (result : Result ℕ E) → 10 ^ limit ≤ 2 ^ bits → most ≤ limit
+    → ParsesUnsigned bits 10 text result → MaySpell most text → result_ok result ≡ number_spelled most text
+read {E} bits limit most text result fits short parses may = by_result result (parse_plain numerals bits text result parses may.0)
   where
     by_result : (answer : Result ℕ E)
-        → OkIff answer ((all_ascii_digits text ≡ true) × (0 < length text) × (digits_value 10 text < 2 ^ 32)) (digits_value 10 text)
+        → OkIff answer ((all_ascii_digits text ≡ true) × (0 < length text) × (digits_value 10 text < 2 ^ bits)) (digits_value 10 text)
         → result_ok answer ≡ number_spelled most text
     by_result (Ok value) known =
         let some : 1 ≤ length text = let above = known.0.1 in omega arith in
-        let is = spelled_is most text (record { digits = known.0.0; some_digit = some; few_digits = few }) in
+        let is = spelled_is most text (record { digits = known.0.0; some_digit = some; few_digits = may.1 }) in
         rw is (ap Some known.1)
     by_result (Err error) known =
         elim (cases_Bool (is_number most text)) [
           | inl is ↦
               let spelled = is_spelled most text is in
               let some : 0 < length text = let above = spelled.some_digit in omega arith in
-              absurd (known (spelled.digits, some, small most text fits spelled))
+              let few : length text ≤ limit = let within = spelled.few_digits in omega arith in
+              let wide : IsSpelled limit text = record { digits = spelled.digits; some_digit = spelled.some_digit; few_digits = few } in
+              absurd (known (spelled.digits, some, small bits limit text fits wide))
           | inr other ↦ rw other refl
         ]
 
 -- a text that begins with a plus sign spells no number
-pub plus_first : (most : ℕ) (text : List ℕ) → get_or text 0 0 ≡ 43 → number_spelled most text ≡ None
+plus_first : (most : ℕ) (text : List ℕ) → get_or text 0 0 ≡ 43 → number_spelled most text ≡ None
 plus_first most [] is = absurd (omega arith)
 plus_first most (first ∷ later) is = rw is refl
+
+-- nor does another that may spell none
+pub spells_none : (most : ℕ) (text : List ℕ) → (MaySpell most text → ⊥) → number_spelled most text ≡ None
+spells_none most text never =
+    elim (cases_Bool (is_number most text)) [
+      | inl is ↦
+          let no_plus : get_or text 0 0 ≢ 43 = λ same. let none = plus_first most text same in let bad = rw is at none in absurd cc in
+          absurd (never (no_plus, (is_spelled most text is).few_digits))
+      | inr other ↦ rw other refl
+    ]
 
 -- a value of an option: it spells a number from 1 to the greatest
 pub record IsValueOf (option : NumberOption) (text : List ℕ) : Type 0 where

@@ -39,6 +39,11 @@ abbrev pub is_within : ℕ → Option ℕ → Bool
 is_within greatest None = false
 is_within greatest (Some value) = leb 1 value && leb value greatest
 
+-- a number that is no greater
+abbrev pub is_at_most : ℕ → Option ℕ → Bool
+is_at_most greatest None = false
+is_at_most greatest (Some value) = leb value greatest
+
 -- a text that an option may have as its value
 abbrev pub is_value : NumberOption → List ℕ → Bool
 is_value option text = is_within (greatest_value option) (number_spelled MOST_DIGITS text)

@@ -1,22 +1,24 @@
 -- What the words of the command line ask for. The words behind a command's own are read from the left, and the first that may not
 -- stand where it does decides (this project's own). Options and their values stand in Options.antt, the kinds of words in Kinds.antt.
-use Rattle.std.specs.Prelude.{◌≡◌, ◌==◌, ℕ, ◌+◌, ◌*◌, ◌≤◌, true, false, leb, List, [], ◌∷◌, ◌++◌, length, map, Option, None, Some, is_some, unwrap_or, option_map, Result, Ok, Err, slice_index_or, codes, nat_eq, if◌then◌else◌}
+use Rattle.std.specs.Prelude.{◌≡◌, ◌==◌, ℕ, ◌+◌, ◌*◌, ◌≤◌, true, false, leb, List, [], ◌∷◌, ◌++◌, length, map, Option, None, Some, is_some, unwrap_or, option_map, Result, Ok, Err, slice_index_or, take, codes, nat_eq, if◌then◌else◌}
 use Rattle.std.specs.Cmp.Lexicographic.{pointwise}
 use Rattle.pd_base.specs.declared.limits.TheConstants.{MOST_BUDGET, MOST_PATHS}
 use Rattle.command_line.specs.Kinds.{Kind, alone, valued, hyphened, empty, plain, word_kind}
-use Rattle.command_line.specs.Options.{is_value, is_within, number_or, number_spelled}
+use Rattle.command_line.specs.Options.{is_at_most, is_value, is_within, number_or, number_spelled}
 use Rattle.command_line.specs.declared.command_name.CommandName.{CommandName}
-use Rattle.command_line.specs.declared.command_name.CommandName.TheVariants.{Gen, Make}
+use Rattle.command_line.specs.declared.command_name.CommandName.TheVariants.{Gen, Check, Replay, Make}
 use Rattle.command_line.specs.declared.form.CommandForm.{CommandForm}
 use Rattle.command_line.specs.declared.number_option.NumberOption.{NumberOption}
 use Rattle.command_line.specs.declared.number_option.NumberOption.TheVariants.{Paths, Budget}
-use Rattle.command_line.specs.declared.reading.TheConstants.{DEFAULT_BUDGET, DEFAULT_PATHS, MOST_PRODUCT}
+use Rattle.command_line.specs.declared.reading.TheConstants.{DEFAULT_BUDGET, DEFAULT_PATHS, MOST_PRODUCT, REPLAY_FILES}
 use Rattle.command_line.specs.declared.refusal.WordsRefusal.{WordsRefusal}
-use Rattle.command_line.specs.declared.refusal.WordsRefusal.TheVariants.{Command as NoCommand, Repeat, Value, OptionAt, EmptyAt, Count, SameAt, Product, Stages}
+use Rattle.command_line.specs.declared.refusal.WordsRefusal.TheVariants.{Command as NoCommand, Repeat, Value, OptionAt, EmptyAt, Count, SameAt, Product, Time, Stages}
 use Rattle.command_line.specs.declared.stages.TheConstants.{MOST_STAGES, MOST_STAGES_DIGITS}
+use Rattle.command_line.specs.declared.time.TheConstants.{MOST_TIME, MOST_TIME_DIGITS}
 
--- a call of `gen`: its files, how many paths are asked for, and the budget of splits for each search
-pub record GenCall : Type 0 where
+-- What is asked for of a run: its files, how many paths are to be listed, and the budget of splits for each search. `gen` makes the run,
+-- and `check` judges the one that its files spell.
+pub record RunCall : Type 0 where
   pub net : List ℕ
   pub delays : List ℕ
   pub tests : List ℕ
@@ -25,13 +27,24 @@ pub record GenCall : Type 0 where
   pub paths : ℕ
   pub budget : ℕ
 
--- the numbers of a call of `gen` are within their limits
-pub record HasGenNumbers (call : GenCall) : Type 0 where
+-- the numbers that are asked for of a run are within their limits
+pub record HasRunNumbers (call : RunCall) : Type 0 where
   pub some_paths : 1 ≤ call.paths
   pub few_paths : call.paths ≤ MOST_PATHS
   pub some_budget : 1 ≤ call.budget
   pub small_budget : call.budget ≤ MOST_BUDGET
   pub product : call.paths * call.budget ≤ MOST_PRODUCT
+
+-- a call of `replay`: the files that it reads, and the time at which it samples
+pub record ReplayCall : Type 0 where
+  pub net : List ℕ
+  pub delays : List ℕ
+  pub tests : List ℕ
+  pub time : ℕ
+
+-- the number of a call of `replay` is within its limit
+pub record HasReplayNumbers (call : ReplayCall) : Type 0 where
+  pub small_time : call.time ≤ MOST_TIME
 
 -- a call of `make`: how many stages the ladder is to have
 pub record MakeCall : Type 0 where
@@ -44,12 +57,16 @@ pub record HasMakeNumbers (call : MakeCall) : Type 0 where
 
 -- what is asked for, by command
 pub data Call : Type 0 where
-  gen : GenCall → Call
+  gen : RunCall → Call
+  check : RunCall → Call
+  replay : ReplayCall → Call
   make : MakeCall → Call
 
 -- the numbers of a call are within their limits
 abbrev pub HasLawfulNumbers : Call → Type 0
-HasLawfulNumbers (gen call) = HasGenNumbers call
+HasLawfulNumbers (gen call) = HasRunNumbers call
+HasLawfulNumbers (check call) = HasRunNumbers call
+HasLawfulNumbers (replay call) = HasReplayNumbers call
 HasLawfulNumbers (make call) = HasMakeNumbers call
 
 -- a positional word, and its place; the command stands at place 1
@@ -171,12 +188,17 @@ product_reason product = if leb product MOST_PRODUCT then None else Some (Produc
 abbrev pub command_named : List ℕ → Option CommandName
 command_named word =
     if pointwise nat_eq word (codes "gen") then Some Gen
+    else if pointwise nat_eq word (codes "check") then Some Check
+    else if pointwise nat_eq word (codes "replay") then Some Replay
     else if pointwise nat_eq word (codes "make") then Some Make
     else None
 
--- what a command takes behind its own word: `gen` the names of five files and the options, `make` the number of stages
+-- what a command takes behind its own word: `gen` and `check` the names of five files and the options, `replay` the names of three files
+-- and a time, `make` the number of stages
 abbrev pub command_form : CommandName → CommandForm
 command_form Gen = record { has_options = true; positional = 5 }
+command_form Check = record { has_options = true; positional = 5 }
+command_form Replay = record { has_options = false; positional = 4 }
 command_form Make = record { has_options = false; positional = 1 }
 
 -- how many paths are asked for
@@ -187,9 +209,17 @@ paths_asked given = number_or DEFAULT_PATHS given.paths
 abbrev pub budget_asked : Given → ℕ
 budget_asked given = number_or DEFAULT_BUDGET given.budget
 
--- why words that may stand where they do are no call of `gen`: two names are equal, or the product is over its limit
-abbrev pub gen_reason : Given → Option WordsRefusal
-gen_reason given = reason_or (first_same given.positional) (product_reason (paths_asked given * budget_asked given))
+-- why words that may stand where they do ask for no run: two names are equal, or the product is over its limit
+abbrev pub run_reason : Given → Option WordsRefusal
+run_reason given = reason_or (first_same given.positional) (product_reason (paths_asked given * budget_asked given))
+
+-- the time that a text spells
+abbrev pub time_spelled : List ℕ → Option ℕ
+time_spelled text = number_spelled MOST_TIME_DIGITS text
+
+-- why a text is no time, if it is none
+abbrev pub time_reason : List ℕ → Option WordsRefusal
+time_reason text = if is_at_most MOST_TIME (time_spelled text) then None else Some Time
 
 -- the number of stages that a text spells
 abbrev pub stages_spelled : List ℕ → Option ℕ
@@ -203,14 +233,21 @@ stages_reason text = if is_within MOST_STAGES (stages_spelled text) then None el
 abbrev pub texts_of_words : List PlacedWord → List (List ℕ)
 texts_of_words words = map (λ word. word.text) words
 
+-- why words that may stand where they do are no call of `replay`: the one behind the names is no time, or two names are equal
+abbrev pub replay_reason : Given → Option WordsRefusal
+replay_reason given =
+    reason_or (time_reason (slice_index_or (texts_of_words given.positional) REPLAY_FILES [])) (first_same (take REPLAY_FILES given.positional))
+
 -- why words that may stand where they do are no call of the command
 abbrev pub call_reason : CommandName → Given → Option WordsRefusal
-call_reason Gen given = gen_reason given
+call_reason Gen given = run_reason given
+call_reason Check given = run_reason given
+call_reason Replay given = replay_reason given
 call_reason Make given = stages_reason (slice_index_or (texts_of_words given.positional) 0 [])
 
--- the call of `gen` with these five names, for so many paths and with this budget
-abbrev pub gen_call : List (List ℕ) → ℕ → ℕ → GenCall
-gen_call names paths budget = record {
+-- what is asked for of a run with these five names, for so many paths and with this budget
+abbrev pub run_call : List (List ℕ) → ℕ → ℕ → RunCall
+run_call names paths budget = record {
   net = slice_index_or names 0 [];
   delays = slice_index_or names 1 [];
   tests = slice_index_or names 2 [];
@@ -220,13 +257,24 @@ gen_call names paths budget = record {
   budget = budget;
 }
 
+-- the call of `replay` with these three names, and this time
+abbrev pub replay_call : List (List ℕ) → ReplayCall
+replay_call texts = record {
+  net = slice_index_or texts 0 [];
+  delays = slice_index_or texts 1 [];
+  tests = slice_index_or texts 2 [];
+  time = unwrap_or (time_spelled (slice_index_or texts REPLAY_FILES [])) 0;
+}
+
 -- the call of `make` with this number of stages
 abbrev pub make_call : List ℕ → MakeCall
 make_call text = record { stages = unwrap_or (stages_spelled text) 0 }
 
 -- the call of a command with these positional words and these values of the options
 abbrev pub call_with : CommandName → List (List ℕ) → Option (List ℕ) → Option (List ℕ) → Call
-call_with Gen names paths budget = gen (gen_call names (number_or DEFAULT_PATHS paths) (number_or DEFAULT_BUDGET budget))
+call_with Gen names paths budget = gen (run_call names (number_or DEFAULT_PATHS paths) (number_or DEFAULT_BUDGET budget))
+call_with Check names paths budget = check (run_call names (number_or DEFAULT_PATHS paths) (number_or DEFAULT_BUDGET budget))
+call_with Replay texts paths budget = replay (replay_call texts)
 call_with Make texts paths budget = make (make_call (slice_index_or texts 0 []))
 
 -- the call that these words give

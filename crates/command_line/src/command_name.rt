@@ -8,6 +8,8 @@ use crate::form::CommandForm;
 #[derive(Clone, Copy)]
 pub(crate) enum CommandName {
     Gen,
+    Check,
+    Replay,
     Make,
 }
 
@@ -17,9 +19,13 @@ impl CommandName {
         ensures { result ≡ command_form self }
     {
         match self {
-            CommandName::Gen => CommandForm {
+            CommandName::Gen | CommandName::Check => CommandForm {
                 has_options: true,
                 positional: 5,
+            },
+            CommandName::Replay => CommandForm {
+                has_options: false,
+                positional: 4,
             },
             CommandName::Make => CommandForm {
                 has_options: false,
@@ -35,6 +41,12 @@ pub(crate) fn command_named(word: &str) -> Option<CommandName>
 {
     if word == "gen" {
         return Some(CommandName::Gen);
+    }
+    if word == "check" {
+        return Some(CommandName::Check);
+    }
+    if word == "replay" {
+        return Some(CommandName::Replay);
     }
     if word == "make" {
         return Some(CommandName::Make);

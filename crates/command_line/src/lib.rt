@@ -17,8 +17,9 @@ mod same;
 mod stages;
 mod taken;
 mod taking;
+mod time;
 
-pub use command::{Command, GenCommand, MakeCommand};
+pub use command::{Command, MakeCommand, ReplayCommand, RunCommand};
 pub use fault::WordsFault;
 pub use number_option::NumberOption;
 pub use reading::read_words;

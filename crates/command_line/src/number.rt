@@ -1,5 +1,5 @@
 // Numbers among words.
-ghost use Rattle.std.specs.Prelude.{◌≡◌, ◌≤◌};
+ghost use Rattle.std.specs.Prelude.{◌≡◌, ◌≢◌, ◌≤◌, ◌↔◌, true, length, slice_index_or};
 ghost use Rattle.command_line.specs.Options.{number_spelled};
 
 /// The most digits of an option's value.
@@ -10,11 +10,28 @@ pub(crate) fn number(text: &str, most_digits: usize) -> Option<u32>
     requires { most_digits ≤ 9 }
     ensures { result ≡ number_spelled most_digits text.now }
 {
-    if text.starts_with('+') {
-        return None;
+    if may_spell(text, most_digits) {
+        text.parse::<u32>().ok()
+    } else {
+        None
     }
-    if text.len() > most_digits {
-        return None;
+}
+
+// The same, of more digits.
+pub(crate) fn long_number(text: &str, most_digits: usize) -> Option<u64>
+    requires { most_digits ≤ 19 }
+    ensures { result ≡ number_spelled most_digits text.now }
+{
+    if may_spell(text, most_digits) {
+        text.parse::<u64>().ok()
+    } else {
+        None
     }
-    text.parse::<u32>().ok()
+}
+
+// Whether a text may spell a number of at most so many digits: it is no longer, and no plus sign, which std would pass over, stands in front.
+fn may_spell(text: &str, most_digits: usize) -> bool
+    ensures { (result ≡ true) ↔ ((slice_index_or text.now 0 0 ≢ 43) × (length text.now ≤ most_digits)) }
+{
+    !text.starts_with('+') && text.len() <= most_digits
 }

@@ -1,9 +1,9 @@
 // From the words of the command line to the command that they ask for.
 ghost use Rattle.std.specs.Prelude.{◌≡◌, ◌*◌, ℕ, List, [], ◌∷◌, Ok, length, slice_index_or, option_map, IfOk, IfErr, OnOk};
-ghost use Rattle.command_line.specs.Commands.{bytes_of_words, call_of, gen_call_of, make_call_of};
+ghost use Rattle.command_line.specs.Commands.{bytes_of_words, call_of, make_call_of, replay_call_of, run_call_of};
 ghost use Rattle.command_line.specs.Options.{number_or};
 ghost use Rattle.command_line.specs.Taken.{IsFaultOf, given_of};
-ghost use Rattle.command_line.specs.Words.{AreAccepted, HasLawfulNumbers, asked_call, call_reason, call_with, command_form, gen_call, gen_reason, make_call, product_reason, words_outcome};
+ghost use Rattle.command_line.specs.Words.{AreAccepted, HasLawfulNumbers, asked_call, call_reason, call_with, command_form, make_call, product_reason, replay_call, replay_reason, run_call, run_reason, words_outcome};
 
 use crate::command_name::{CommandName, command_named};
 use crate::number::{MOST_DIGITS, number};
@@ -12,7 +12,8 @@ use crate::same::same_among;
 use crate::stages::{stages_reason, stages_spelled};
 use crate::taken::Taken;
 use crate::taking::taken_words;
-use crate::{Command, GenCommand, MakeCommand, WordsFault, WordsRefusal};
+use crate::time::{time_reason, time_spelled};
+use crate::{Command, MakeCommand, ReplayCommand, RunCommand, WordsFault, WordsRefusal};
 use std::alloc::Global;
 
 /// How many paths are asked for where no word says otherwise.
@@ -24,9 +25,12 @@ pub const DEFAULT_BUDGET: u32 = 1_000;
 /// The most that the number of paths times the budget may be.
 pub const MOST_PRODUCT: u64 = 4_000_000;
 
+/// How many files `replay` reads. Their names stand before the time.
+pub const REPLAY_FILES: usize = 3;
+
 /// The command that the words ask for, or the first reason why they are refused, or want of memory. The words are those behind the
-/// program's own name: `gen NET DELAYS TESTS REPORT PROOFS [--paths N] [--budget N]`, the options in any place behind `gen`, or
-/// `make N`.
+/// program's own name: `gen NET DELAYS TESTS REPORT PROOFS [--paths N] [--budget N]`, the options in any place behind `gen`, `check`
+/// with the same words behind it, `replay NET DELAYS TESTS TIME`, or `make N`.
 pub fn read_words<'a>(alloc: Global, words: &'a [&'a str]) -> Result<Command<'a>, WordsFault>
     ensures asked { IfOk result (λ command. asked_call (bytes_of_words words.entry.now) ≡ Ok (call_of command)) }
     ensures fault { IfErr result (IsFaultOf (asked_call (bytes_of_words words.entry.now))) }
@@ -77,8 +81,9 @@ fn call_reason(name: CommandName, taken: &Taken) -> Option<WordsRefusal>
     ensures { result ≡ call_reason name (given_of taken.now) }
 {
     match name {
-        CommandName::Gen => gen_reason(taken),
-        CommandName::Make => stages_reason(taken.first()),
+        CommandName::Gen | CommandName::Check => run_reason(taken),
+        CommandName::Replay => replay_reason(taken),
+        CommandName::Make => stages_reason(taken.text_at(0)),
     }
 }
 
@@ -89,18 +94,30 @@ fn command_with<'a>(name: CommandName, parsed: &Parsed<'a>) -> Command<'a>
         (option_map (λ text. text.now) parsed.now.paths) (option_map (λ text. text.now) parsed.now.budget) }
 {
     match name {
-        CommandName::Gen => Command::Gen(gen_command(parsed)),
+        CommandName::Gen => Command::Gen(run_command(parsed)),
+        CommandName::Check => Command::Check(run_command(parsed)),
+        CommandName::Replay => Command::Replay(replay_command(parsed)),
         CommandName::Make => Command::Make(make_command(parsed)),
     }
 }
 
-// Why words that may stand where they do are refused all the same: two names are equal, or the product is over its limit.
-fn gen_reason(taken: &Taken) -> Option<WordsRefusal>
-    ensures { result ≡ gen_reason (given_of taken.now) }
+// Why words that may stand where they do ask for no run: two names are equal, or the product is over its limit.
+fn run_reason(taken: &Taken) -> Option<WordsRefusal>
+    ensures { result ≡ run_reason (given_of taken.now) }
 {
     let paths = number_or(taken.paths, DEFAULT_PATHS);
     let budget = number_or(taken.budget, DEFAULT_BUDGET);
     same_among(taken.positional.as_slice()).or_else(|| product_reason(paths, budget))
+}
+
+// Why words that may stand where they do are no call of `replay`: the last is no time, or two names are equal.
+fn replay_reason(taken: &Taken) -> Option<WordsRefusal>
+    ensures { result ≡ replay_reason (given_of taken.now) }
+{
+    match time_reason(taken.text_at(REPLAY_FILES)) {
+        None => same_among(taken.front(REPLAY_FILES)),
+        reason => reason,
+    }
 }
 
 // The number that this text spells, or the default where there is none.
@@ -123,15 +140,15 @@ fn product_reason(paths: u32, budget: u32) -> Option<WordsRefusal>
     }
 }
 
-// The call of `gen` with these words, each name in the place of its role.
-fn gen_command<'a>(parsed: &Parsed<'a>) -> GenCommand<'a>
+// What these words ask for of a run, each name in the place of its role.
+fn run_command<'a>(parsed: &Parsed<'a>) -> RunCommand<'a>
     requires { length parsed.now.positional.items ≡ 5 }
-    ensures { gen_call_of result ≡ gen_call (bytes_of_words parsed.now.positional.items)
+    ensures { run_call_of result ≡ run_call (bytes_of_words parsed.now.positional.items)
         (number_or DEFAULT_PATHS (option_map (λ text. text.now) parsed.now.paths))
         (number_or DEFAULT_BUDGET (option_map (λ text. text.now) parsed.now.budget)) }
 {
     let names = parsed.positional.as_slice();
-    GenCommand {
+    RunCommand {
         net: names[0],
         delays: names[1],
         tests: names[2],
@@ -139,6 +156,20 @@ fn gen_command<'a>(parsed: &Parsed<'a>) -> GenCommand<'a>
         proofs: names[4],
         paths: number_or(parsed.paths, DEFAULT_PATHS),
         budget: number_or(parsed.budget, DEFAULT_BUDGET),
+    }
+}
+
+// The call of `replay` with these words.
+fn replay_command<'a>(parsed: &Parsed<'a>) -> ReplayCommand<'a>
+    requires { length parsed.now.positional.items ≡ 4 }
+    ensures { replay_call_of result ≡ replay_call (bytes_of_words parsed.now.positional.items) }
+{
+    let words = parsed.positional.as_slice();
+    ReplayCommand {
+        net: words[0],
+        delays: words[1],
+        tests: words[2],
+        time: time_spelled(words[REPLAY_FILES]).unwrap_or(0),
     }
 }
 

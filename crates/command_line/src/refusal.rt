@@ -20,6 +20,8 @@ pub enum WordsRefusal {
     SameAt(usize, usize),
     /// The number of paths times the budget, this product, is over its limit.
     Product(u64),
+    /// The time is none that `replay` takes.
+    Time,
     /// The number of stages is none that `make` takes.
     Stages,
 }

@@ -1,6 +1,6 @@
 // What the words of a command gave so far, read from the left, and how one word more is taken.
-ghost use Rattle.std.specs.Prelude.{◌≡◌, [], option_map, slice_index_or};
-ghost use Rattle.command_line.specs.Taken.{TakesAs, given_of};
+ghost use Rattle.std.specs.Prelude.{◌≡◌, [], option_map, slice_index_or, take};
+ghost use Rattle.command_line.specs.Taken.{TakesAs, given_of, words_placed};
 ghost use Rattle.command_line.specs.Words.{missing_reason, none_given, option_due, option_taken, positional_taken, texts_of_words, value_given, value_taken, word_taken};
 
 use crate::form::CommandForm;
@@ -62,14 +62,22 @@ impl<'a> Taken<'a> {
         }
     }
 
-    // The first positional word, without bytes where there is none.
-    pub(crate) fn first(&self) -> &'a str
-        ensures { result.now ≡ slice_index_or (texts_of_words (given_of self.now).positional) 0 [] }
+    // The positional word at this index, without bytes where there is none.
+    pub(crate) fn text_at(&self, index: usize) -> &'a str
+        ensures { result.now ≡ slice_index_or (texts_of_words (given_of self.now).positional) index [] }
     {
-        match self.positional.as_slice() {
-            [word, ..] => word.text,
-            [] => "",
+        match self.positional.get(index) {
+            Some(word) => word.text,
+            None => "",
         }
+    }
+
+    // The first so many positional words, or all where they are fewer.
+    pub(crate) fn front(&self, count: usize) -> &[Positional<'a>]
+        ensures { words_placed result.now ≡ take count (given_of self.now).positional }
+    {
+        let words = self.positional.as_slice();
+        &words[..count.min(words.len())]
     }
 
     // Why no further word may be missing, if one is.

@@ -1,7 +1,7 @@
 -- The command `gen`: its stages, what it refuses, and what it gives. Where a call ends with status 0, its three files hold the
 -- texts of one good run: it lists the first paths by nonincreasing length, each once, with one verdict for each transition, and each
 -- test, refutation and spent budget is one; what its verdicts promise is said in Promises.antt of good_runs (this project's own).
-use Rattle.std.specs.Prelude.{◌≡◌, ℕ, ◌<◌, ◌≤◌, List, [], ◌∷◌, length}
+use Rattle.std.specs.Prelude.{◌≡◌, ℕ, List, [], ◌∷◌, ◌++◌}
 use Rattle.pd_base.specs.declared.rules.Rules.TheVariants.{One}
 use Rattle.netlist.specs.Circuit.{Circuit}
 use Rattle.netlist.specs.Waves.{Delays}
@@ -17,58 +17,18 @@ use Rattle.verdict_report.specs.PlainTexts.{HasPlainNames}
 use Rattle.verdict_report.specs.ReportText.{report_text}
 use Rattle.verdict_report.specs.ProofsText.{proofs_text}
 use Rattle.verdict_report.specs.Summary.{summary_text}
-use Rattle.command_line.specs.Words.{GenCall}
-use Rattle.calls.specs.declared.delays_refusal.DelaysRefusal.{DelaysRefusal}
-use Rattle.calls.specs.declared.role.Role.{Role}
+use Rattle.command_line.specs.Words.{RunCall}
 use Rattle.calls.specs.declared.role.Role.TheVariants as role
 use Rattle.calls.specs.declared.refusal.Refusal.{Refusal}
-use Rattle.calls.specs.declared.refusal.Refusal.TheVariants as refused
-use Rattle.calls.specs.Work.{Work, Stage, Read, Require, WithinLimit, SpellsCircuit, SpellsDelays, ShortPathText, ShortTestText, Due, due_file, Products}
+use Rattle.calls.specs.Work.{Work, Stage, Due, due_file, Products}
+use Rattle.call_inputs.specs.InputStages.{RefusesBoth, RefusesNet, input_stages, short_stages}
+use Rattle.call_inputs.specs.Sizes.{HasShortTexts}
 use Rattle.commands.specs.declared.preparing.Generated.{Generated}
 use Rattle.commands.specs.declared.preparing.ToldRun.{ToldRun}
-use Rattle.commands.specs.declared.judging.TheConstants.{INPUT_LIMIT}
-use Rattle.commands.specs.declared.sizes.TheConstants.{MOST_PATH_TEXT, MOST_TEST_TEXT}
-use Rattle.commands.specs.Reasons.{HasNoCircuitFor, HasNoDelaysFor}
-use Rattle.commands.specs.Sizes.{path_text_product, test_text_product}
 
 -- NET is read, and has to have a circuit; then DELAYS is read, and has to give delays; then the texts have to be short
-abbrev pub gen_stages : GenCall → List Stage
-gen_stages call =
-    Read role.Net call.net ∷ Require (WithinLimit role.Net) ∷ Require SpellsCircuit
-    ∷ Read role.Delays call.delays ∷ Require (WithinLimit role.Delays) ∷ Require SpellsDelays
-    ∷ Require ShortPathText ∷ Require ShortTestText ∷ []
-
--- of this input the text has more bytes than the limit
-pub record IsOverLimit (input : Role) (text : List ℕ) (of : Role) : Type 0 where
-  pub of_role : of ≡ input
-  pub over : INPUT_LIMIT < length text
-
--- the text has a circuit, and this is not what DELAYS gives delays to, for this reason
-pub record HasNoDelays (net delays : List ℕ) (reason : DelaysRefusal) : Type 0 where
-  pub circuit : Circuit
-  pub has : HasCircuit net circuit
-  pub none : HasNoDelaysFor circuit delays reason
-
--- the text has a circuit, whose product is this one, and over its limit
-pub record IsOverProduct (net : List ℕ) (product_of : Circuit → ℕ) (limit product : ℕ) : Type 0 where
-  pub circuit : Circuit
-  pub has : HasCircuit net circuit
-  pub is : product ≡ product_of circuit
-  pub over : limit < product
-
--- what gen refuses once NET is read
-abbrev pub RefusesNet : List ℕ → Refusal → Type 0
-RefusesNet net (refused.TooLong of) = IsOverLimit role.Net net of
-RefusesNet net (refused.Netlist reason) = HasNoCircuitFor net reason
-RefusesNet net refusal = ⊥
-
--- what gen refuses for so many paths once both inputs are read
-abbrev pub RefusesBoth : ℕ → List ℕ → List ℕ → Refusal → Type 0
-RefusesBoth paths net delays (refused.TooLong of) = IsOverLimit role.Delays delays of
-RefusesBoth paths net delays (refused.Delays reason) = HasNoDelays net delays reason
-RefusesBoth paths net delays (refused.PathText product) = IsOverProduct net (path_text_product paths) MOST_PATH_TEXT product
-RefusesBoth paths net delays (refused.TestText product) = IsOverProduct net (test_text_product paths) MOST_TEST_TEXT product
-RefusesBoth paths net delays refusal = ⊥
+abbrev pub gen_stages : RunCall → List Stage
+gen_stages call = input_stages call.net call.delays ++ short_stages
 
 -- what gen refuses for so many paths of the inputs that were read so far
 abbrev pub RefusesGen : ℕ → List (List ℕ) → Refusal → Type 0
@@ -77,27 +37,27 @@ RefusesGen paths (net ∷ delays ∷ []) refusal = RefusesBoth paths net delays 
 RefusesGen paths inputs refusal = ⊥
 
 -- the files that are written for a circuit and a run
-abbrev pub tests_due : GenCall → Circuit → Run → Due
+abbrev pub tests_due : RunCall → Circuit → Run → Due
 tests_due call c run = due_file role.Tests call.tests (tests_text c run.tests)
 
-abbrev pub report_due : GenCall → Circuit → Run → Due
+abbrev pub report_due : RunCall → Circuit → Run → Due
 report_due call c run = due_file role.Report call.report (report_text c run.paths)
 
-abbrev pub proofs_due : GenCall → Run → Due
+abbrev pub proofs_due : RunCall → Run → Due
 proofs_due call run = due_file role.Proofs call.proofs (proofs_text run.rules run.proofs)
 
 -- these, in the order in which they are written
-abbrev pub run_files : GenCall → Circuit → Run → List Due
+abbrev pub run_files : RunCall → Circuit → Run → List Due
 run_files call c run = tests_due call c run ∷ report_due call c run ∷ proofs_due call run ∷ []
 
 -- the files that are written for a circuit and a run, and the line on out
-abbrev pub gen_products : GenCall → Circuit → Run → Products
+abbrev pub gen_products : RunCall → Circuit → Run → Products
 gen_products call c run = record { files = run_files call c run; out = summary_text run }
 
 -- the products are the texts of one good run under rules One, for the paths and the budget that are asked for, which the files can
 -- spell: its tests are numbered in the order of the report, and each proof where it is first named; its verdicts keep their promises,
 -- and each refutation stands at its shortest prefix
-pub record GivesProductsOf (call : GenCall) (c : Circuit) (delays : Delays) (products : Products) : Type 0 where
+pub record GivesProductsOf (call : RunCall) (c : Circuit) (delays : Delays) (products : Products) : Type 0 where
   pub run : Run
   pub rules : run.rules ≡ One
   pub good : IsGoodRun c delays call.paths call.budget run
@@ -107,14 +67,13 @@ pub record GivesProductsOf (call : GenCall) (c : Circuit) (delays : Delays) (pro
   pub texts : products ≡ gen_products call c run
 
 -- the texts are short, and the products are those of a good run
-pub record GivesShort (call : GenCall) (c : Circuit) (delays : Delays) (products : Products) : Type 0 where
-  pub path_text : path_text_product call.paths c ≤ MOST_PATH_TEXT
-  pub test_text : test_text_product call.paths c ≤ MOST_TEST_TEXT
+pub record GivesShort (call : RunCall) (c : Circuit) (delays : Delays) (products : Products) : Type 0 where
+  pub short : HasShortTexts call.paths c
   pub products_of_run : GivesProductsOf call c delays products
 
 -- NET has this circuit, DELAYS gives these delays to its pins, the texts are short, and the products are those of a good run for
 -- them
-pub record GivesRun (call : GenCall) (net delay_file : List ℕ) (products : Products) : Type 0 where
+pub record GivesRun (call : RunCall) (net delay_file : List ℕ) (products : Products) : Type 0 where
   pub circuit : Circuit
   pub has : HasCircuit net circuit
   pub delays : Delays
@@ -122,12 +81,12 @@ pub record GivesRun (call : GenCall) (net delay_file : List ℕ) (products : Pro
   pub short : GivesShort call circuit delays products
 
 -- what gen gives for its two inputs
-abbrev pub GivesGen : GenCall → List (List ℕ) → Products → Type 0
+abbrev pub GivesGen : RunCall → List (List ℕ) → Products → Type 0
 GivesGen call (net ∷ delays ∷ []) products = GivesRun call net delays products
 GivesGen call inputs products = ⊥
 
 -- the command with its names and numbers
-abbrev pub gen_work : GenCall → Work
+abbrev pub gen_work : RunCall → Work
 gen_work call = record { stages = gen_stages call; Refuses = RefusesGen call.paths; Gives = GivesGen call }
 
 -- a run that the three files can spell, of a circuit whose names call for no quotes
@@ -136,9 +95,9 @@ pub record CanBeWritten (c : Circuit) (run : Run) : Type 0 where
   pub names : HasPlainNames c
 
 -- the products that are written for a circuit and a run with its summary
-abbrev pub told_products : GenCall → Circuit → ToldRun → Products
+abbrev pub told_products : RunCall → Circuit → ToldRun → Products
 told_products call c told = record { files = run_files call c told.run; out = told.summary.items }
 
 -- those that are written for what a call made
-abbrev pub generated_products : GenCall → Generated → Products
+abbrev pub generated_products : RunCall → Generated → Products
 generated_products call generated = told_products call generated.net generated.told

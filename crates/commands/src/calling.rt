@@ -18,10 +18,19 @@ use std::alloc::Global;
 /// nonrobust one does where its side pins have settled, too; the refutation of an untestable fault excludes every pair of vectors; an
 /// aborted fault spent its budget; and a nonrobust or aborted one tells why no robust test was found (`gen_work` in specs/Gen.antt).
 ///
-/// Inputs of more than 33,554,432 bytes are refused, and so are a netlist that has no circuit, a delay file that gives its pins
+/// NET or DELAYS of more than 33,554,432 bytes are refused, other files that are read over 268,435,456 bytes, and so are a netlist that has no circuit, a delay file that gives its pins
 /// no delays, and a circuit whose texts might grow too long.
 ///
-/// `make N` does the same work on a ladder of N stages, with a delay of 1 at each pin, and prints one line that counts the verdicts of a
+/// `check NET DELAYS TESTS REPORT PROOFS` reads all five files and writes none. At status 0, and only then, out has the word `good`: the
+/// last three spell one run, which is good for NET and DELAYS and for as many paths and the budget as are asked for, judged from NET and
+/// DELAYS alone; so its verdicts promise what those of `gen` do. Status 1 tells the first line of a file that lacks its form, or else the
+/// first flaw of the run (`check_work` in specs/Check.antt of check_command).
+///
+/// `replay NET DELAYS TESTS TIME` reads these three files and writes none. At status 0 out has a line for each test of TESTS: its number,
+/// what each observed line has at TIME under the test's pair and the delays, and `same` or `differs`, by whether these are the bits that
+/// the test expects (`replay_work` in specs/Replay.antt of replay_command).
+///
+/// `make N` does the work of `gen` on a ladder of N stages, with a delay of 1 at each pin, and prints one line that counts the verdicts of a
 /// good run (`make_work` in specs/Make.antt). No words but refused ones, failed writes on out and want of memory keep it from status 0.
 ///
 /// Only the files of the command are read or written. Where the status isn't 0, a line on err says why.

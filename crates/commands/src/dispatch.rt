@@ -9,8 +9,10 @@ ghost use Rattle.commands.specs.Commands.{asked_work, work_of, words_ending};
 use crate::generating::generate;
 use crate::making::make;
 use calls::{Ending, Refusal};
+use check_command::check;
 use command_line::{Command, WordsFault, read_words};
 use pd_io::{Files, Sink};
+use replay_command::replay;
 use std::alloc::Global;
 
 /// Does the work of the command that the words ask for, and tells how it ended.
@@ -42,6 +44,8 @@ fn perform_command<F: Files, O: Sink>(
 {
     match command {
         Command::Gen(command) => generate(alloc, command, files, out),
+        Command::Check(command) => check(alloc, command, files, out),
+        Command::Replay(command) => replay(alloc, command, files, out),
         Command::Make(command) => make(alloc, command, out),
     }
 }

@@ -1,8 +1,8 @@
 // The command `gen`: what it prepared is written, the three files in their order and then the summary on out.
 ghost use Rattle.std.specs.Prelude.{[], ◌∷◌, OnOk, IfErr};
 ghost use Rattle.pd_io.specs.Seen.{files_seen, seen};
-ghost use Rattle.command_line.specs.Commands.{gen_call_of};
-ghost use Rattle.command_line.specs.Words.{HasGenNumbers};
+ghost use Rattle.command_line.specs.Commands.{run_call_of};
+ghost use Rattle.command_line.specs.Words.{HasRunNumbers};
 ghost use Rattle.calls.specs.Calls.{Performs};
 ghost use Rattle.calls.specs.Outputs.{AreUnwritten, FailsToWrite};
 ghost use Rattle.calls.specs.Writing.{AreWhole, Writes};
@@ -11,7 +11,7 @@ ghost use Rattle.runs.specs.Lawful.{AreLawfulProofs};
 
 use crate::preparing::{Generated, prepare_gen};
 use calls::{Ending, Role, print, write_file};
-use command_line::GenCommand;
+use command_line::RunCommand;
 use netlist::Netlist;
 use pattern_writer::TestsPieces;
 use pd_io::{Files, Sink};
@@ -23,12 +23,12 @@ use verdict_report::{ProofsPieces, ReportPieces};
 /// file is begun.
 pub(crate) fn generate<F: Files, O: Sink>(
     alloc: Global,
-    command: &GenCommand,
+    command: &RunCommand,
     files: &mut F,
     out: &mut O,
 ) -> Ending
-    requires { HasGenNumbers (gen_call_of command.now) }
-    ensures { Performs (gen_work (gen_call_of command.now)) result
+    requires { HasRunNumbers (run_call_of command.now) }
+    ensures { Performs (gen_work (run_call_of command.now)) result
         (seen F.Files O.Sink files.old out.old) (seen F.Files O.Sink files.new out.new) }
 {
     match prepare_gen(alloc, command, files) {
@@ -40,13 +40,13 @@ pub(crate) fn generate<F: Files, O: Sink>(
 // Writes the files, and then the summary on out.
 fn write_products<F: Files, O: Sink>(
     alloc: Global,
-    command: &GenCommand,
+    command: &RunCommand,
     generated: &Generated,
     files: &mut F,
     out: &mut O,
 ) -> Ending
     requires { CanBeWritten generated.now.net generated.now.told.run }
-    ensures { Writes (generated_products (gen_call_of command.now) generated.now) result
+    ensures { Writes (generated_products (run_call_of command.now) generated.now) result
         (seen F.Files O.Sink files.old out.old) (seen F.Files O.Sink files.new out.new) }
 {
     match write_files(alloc, command, &generated.net, &generated.told.run, files) {
@@ -58,15 +58,15 @@ fn write_products<F: Files, O: Sink>(
 // Writes the files of a run in their order, up to the first that is not written.
 fn write_files<F: Files>(
     alloc: Global,
-    command: &GenCommand,
+    command: &RunCommand,
     net: &Netlist,
     run: &Run,
     files: &mut F,
 ) -> Result<(), Ending>
     requires { CanBeWritten net.now run.now }
-    ensures whole { OnOk result (AreWhole (run_files (gen_call_of command.now) net.now run.now)
+    ensures whole { OnOk result (AreWhole (run_files (run_call_of command.now) net.now run.now)
         (files_seen F.Files files.old) (files_seen F.Files files.new)) }
-    ensures unwritten { IfErr result (λ ending. AreUnwritten (run_files (gen_call_of command.now) net.now run.now) ending
+    ensures unwritten { IfErr result (λ ending. AreUnwritten (run_files (run_call_of command.now) net.now run.now) ending
         (files_seen F.Files files.old) (files_seen F.Files files.new)) }
 {
     write_tests(alloc, command, net, run, files)?;
@@ -77,15 +77,15 @@ fn write_files<F: Files>(
 // Writes the tests file.
 fn write_tests<F: Files>(
     alloc: Global,
-    command: &GenCommand,
+    command: &RunCommand,
     net: &Netlist,
     run: &Run,
     files: &mut F,
 ) -> Result<(), Ending>
     requires { CanBeWritten net.now run.now }
-    ensures whole { OnOk result (AreWhole (tests_due (gen_call_of command.now) net.now run.now ∷ [])
+    ensures whole { OnOk result (AreWhole (tests_due (run_call_of command.now) net.now run.now ∷ [])
         (files_seen F.Files files.old) (files_seen F.Files files.new)) }
-    ensures unwritten { IfErr result (λ ending. FailsToWrite (tests_due (gen_call_of command.now) net.now run.now) ending
+    ensures unwritten { IfErr result (λ ending. FailsToWrite (tests_due (run_call_of command.now) net.now run.now) ending
         (files_seen F.Files files.old) (files_seen F.Files files.new)) }
 {
     let tests = TestsPieces {
@@ -98,15 +98,15 @@ fn write_tests<F: Files>(
 // Writes the report.
 fn write_report<F: Files>(
     alloc: Global,
-    command: &GenCommand,
+    command: &RunCommand,
     net: &Netlist,
     run: &Run,
     files: &mut F,
 ) -> Result<(), Ending>
     requires { CanBeWritten net.now run.now }
-    ensures whole { OnOk result (AreWhole (report_due (gen_call_of command.now) net.now run.now ∷ [])
+    ensures whole { OnOk result (AreWhole (report_due (run_call_of command.now) net.now run.now ∷ [])
         (files_seen F.Files files.old) (files_seen F.Files files.new)) }
-    ensures unwritten { IfErr result (λ ending. FailsToWrite (report_due (gen_call_of command.now) net.now run.now) ending
+    ensures unwritten { IfErr result (λ ending. FailsToWrite (report_due (run_call_of command.now) net.now run.now) ending
         (files_seen F.Files files.old) (files_seen F.Files files.new)) }
 {
     let report = ReportPieces {
@@ -119,14 +119,14 @@ fn write_report<F: Files>(
 // Writes the proofs file.
 fn write_proofs<F: Files>(
     alloc: Global,
-    command: &GenCommand,
+    command: &RunCommand,
     run: &Run,
     files: &mut F,
 ) -> Result<(), Ending>
     requires { AreLawfulProofs run.now.proofs }
-    ensures whole { OnOk result (AreWhole (proofs_due (gen_call_of command.now) run.now ∷ [])
+    ensures whole { OnOk result (AreWhole (proofs_due (run_call_of command.now) run.now ∷ [])
         (files_seen F.Files files.old) (files_seen F.Files files.new)) }
-    ensures unwritten { IfErr result (λ ending. FailsToWrite (proofs_due (gen_call_of command.now) run.now) ending
+    ensures unwritten { IfErr result (λ ending. FailsToWrite (proofs_due (run_call_of command.now) run.now) ending
         (files_seen F.Files files.old) (files_seen F.Files files.new)) }
 {
     let proofs = ProofsPieces {

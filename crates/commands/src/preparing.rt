@@ -3,8 +3,8 @@ ghost use Rattle.std.specs.Prelude.{◌≡◌, ◌≤◌, IfErr, IfOk};
 ghost use Rattle.pd_base.specs.declared.limits.TheConstants.{MOST_PATHS};
 ghost use Rattle.pd_base.specs.declared.rules.Rules.TheVariants.{One};
 ghost use Rattle.pd_io.specs.Seen.{files_seen};
-ghost use Rattle.command_line.specs.Commands.{gen_call_of};
-ghost use Rattle.command_line.specs.Words.{HasGenNumbers};
+ghost use Rattle.command_line.specs.Commands.{run_call_of};
+ghost use Rattle.command_line.specs.Words.{HasRunNumbers};
 ghost use Rattle.calls.specs.Preparing.{Prepares};
 ghost use Rattle.delay_annotation.specs.Annotation.{Fits, delays_of};
 ghost use Rattle.commands.specs.Judging.{FailsShort};
@@ -15,10 +15,9 @@ ghost use Rattle.prefix_sensitize.specs.Walks.{IsBudget};
 ghost use Rattle.netlist.specs.Lawful.{IsCircuit};
 ghost use Rattle.runs.specs.Lawful.{IsLawfulRun};
 
-use crate::judging::{delays_from, netlist_from};
-use crate::sizes::{sizes_of, try_path_text, try_test_text};
+use call_inputs::{delays_from, netlist_from, require_short_texts};
 use calls::Ending;
-use command_line::GenCommand;
+use command_line::RunCommand;
 use delay_annotation::Delays;
 use netlist::Netlist;
 use path_lister::first_paths;
@@ -51,11 +50,11 @@ pub(crate) struct Generated {
 /// too long; and makes a good run and its summary. Nothing is written.
 pub(crate) fn prepare_gen<F: Files>(
     alloc: Global,
-    command: &GenCommand,
+    command: &RunCommand,
     files: &mut F,
 ) -> Result<Generated, Ending>
-    requires { HasGenNumbers (gen_call_of command.now) }
-    ensures prepares { Prepares (generated_products (gen_call_of command.now)) (gen_work (gen_call_of command.now)) result
+    requires { HasRunNumbers (run_call_of command.now) }
+    ensures prepares { Prepares (generated_products (run_call_of command.now)) (gen_work (run_call_of command.now)) result
         (files_seen F.Files files.old) (files_seen F.Files files.new) }
     ensures writable { IfOk result (λ generated. CanBeWritten generated.net generated.told.run) }
 {
@@ -68,36 +67,34 @@ pub(crate) fn prepare_gen<F: Files>(
 // A good run, if its texts can't grow too long.
 fn short_run(
     alloc: Global,
-    command: &GenCommand,
+    command: &RunCommand,
     net: &Netlist,
     delays: &Delays,
 ) -> Result<ToldRun, Ending>
     requires circuit { IsCircuit net.now }
     requires fits { Fits net.now delays.now }
-    requires numbers { HasGenNumbers (gen_call_of command.now) }
-    ensures gives { IfOk result (λ told. GivesShort (gen_call_of command.now) net.now (delays_of net.now delays.now)
-        (told_products (gen_call_of command.now) net.now told)) }
+    requires numbers { HasRunNumbers (run_call_of command.now) }
+    ensures gives { IfOk result (λ told. GivesShort (run_call_of command.now) net.now (delays_of net.now delays.now)
+        (told_products (run_call_of command.now) net.now told)) }
     ensures lawful { IfOk result (λ told. IsLawfulRun net.now told.run) }
     ensures fails { IfErr result (FailsShort command.now.paths net.now) }
 {
-    let sizes = sizes_of(net, command.paths);
-    try_path_text(sizes)?;
-    try_test_text(sizes)?;
+    require_short_texts(net, command.paths)?;
     Ok(told_run(alloc, command, net, delays)?)
 }
 
 // A good run for the paths and the budget that are asked for, with its summary.
 fn told_run(
     alloc: Global,
-    command: &GenCommand,
+    command: &RunCommand,
     net: &Netlist,
     delays: &Delays,
 ) -> Result<ToldRun, OutOfMemory>
     requires circuit { IsCircuit net.now }
     requires fits { Fits net.now delays.now }
-    requires numbers { HasGenNumbers (gen_call_of command.now) }
-    ensures gives { IfOk result (λ told. GivesProductsOf (gen_call_of command.now) net.now (delays_of net.now delays.now)
-        (told_products (gen_call_of command.now) net.now told)) }
+    requires numbers { HasRunNumbers (run_call_of command.now) }
+    ensures gives { IfOk result (λ told. GivesProductsOf (run_call_of command.now) net.now (delays_of net.now delays.now)
+        (told_products (run_call_of command.now) net.now told)) }
     ensures lawful { IfOk result (λ told. IsLawfulRun net.now told.run) }
 {
     let run = run_of(alloc, net, delays, command.paths, command.budget)?;

@@ -1,7 +1,9 @@
 pub mod Applying
 pub mod Completeness
+pub mod FirstOnce
 pub mod Growing
 pub mod LeastPairs
 pub mod Numbers
+pub mod PathsInOrder
 pub mod Promising
 pub mod Verdicts

@@ -8,19 +8,19 @@ use Rattle.good_runs.specs.Faults.{IsNumber}
 
 module _ {T : Type 0} where
   -- a longer list has what the list has
-  get_kept : (items more : List T) (place : ℕ) (item : T) → slice_get items place ≡ Some item
+  pub get_kept : (items more : List T) (place : ℕ) (item : T) → slice_get items place ≡ Some item
       → slice_get (items ++ more) place ≡ Some item
   get_kept [] more place item found = absurd (none-some item found)
   get_kept (first ∷ items) more zero item found = found
   get_kept (first ∷ items) more (suc place) item found = get_kept items more place item found
 
   -- an item stands behind those before it
-  get_at : (items : List T) (item : T) (more : List T) → slice_get (items ++ item ∷ more) (length items) ≡ Some item
+  pub get_at : (items : List T) (item : T) (more : List T) → slice_get (items ++ item ∷ more) (length items) ≡ Some item
   get_at [] item more = refl
   get_at (first ∷ items) item more = get_at items item more
 
   -- what stands in a pushed list stood there before, or was pushed
-  get_of_push : (items : List T) (pushed item : T) (place : ℕ) → slice_get (items ++ pushed ∷ []) place ≡ Some item
+  pub get_of_push : (items : List T) (pushed item : T) (place : ℕ) → slice_get (items ++ pushed ∷ []) place ≡ Some item
       → (slice_get items place ≡ Some item) ⊎ ((place ≡ length items) × (pushed ≡ item))
   get_of_push [] pushed item zero found = inr (refl, same_Some pushed item found)
   get_of_push [] pushed item (suc place) found = absurd (none-some item found)

@@ -1,16 +1,19 @@
 -- A visit of a place: how the search goes on where the place is shut out, and where a trial has failed there.
-use Rattle.std.proofs.Common.{◌≡◌, ◌≤◌, List, [], ◌∷◌, ◌++◌, length, reverse, Option, Some, None, true, false, refl, sym, ap, ◌∙◌, subst, arith}
-use Rattle.std.specs.Prelude.{is_some}
+use Rattle.std.proofs.Common.{◌≡◌, ℕ, ◌<◌, ◌≤◌, List, [], ◌∷◌, ◌++◌, length, take, reverse, Option, Some, None, Result, Ok, Err, true, false, refl, sym, ap, ◌∙◌, subst, arith}
+use Rattle.std.specs.Prelude.{is_some, IfOk}
 use Rattle.std.proofs.lemmas.Bool.{false≢true}
-use Rattle.std.proofs.lemmas.List.{length_push}
+use Rattle.std.proofs.lemmas.List.{length_push, length-take}
 use Rattle.pd_base.specs.Pair.{Vectors}
 use Rattle.pd_base.specs.Target.{Target}
-use Rattle.netlist.specs.Circuit.{Circuit}
+use Rattle.netlist.specs.Circuit.{Circuit, source_count}
 use Rattle.netlist.specs.Paths.{IsPrefix}
+use Rattle.state_sets.specs.FourStates.{four_states}
+use Rattle.state_sets.specs.States.{IsWithin}
 use Rattle.runs.specs.declared.tree.Node.TheVariants.{Closed}
 use Rattle.implication.specs.Clients.{IsRestored}
-use Rattle.implication.specs.Moves.{risen}
-use Rattle.implication.specs.Standing.{Standing}
+use Rattle.implication.specs.declared.assumption.Beginning.{Beginning}
+use Rattle.implication.specs.Moves.{risen, back_at}
+use Rattle.implication.specs.Standing.{Standing, IsOpenIn, IsOpenFrom}
 use Rattle.justify.specs.declared.desk.Desk.{Desk}
 use Rattle.justify.specs.declared.growing.Growth.{Growth}
 use Rattle.justify.specs.declared.growing.Place.{Place}
@@ -18,13 +21,13 @@ use Rattle.justify.specs.declared.task.Task.{Task}
 use Rattle.justify.specs.Choices.{AreSingle}
 use Rattle.justify.specs.Desks.{IsDesk}
 use Rattle.justify.specs.Growths.{IsEntered, IsShut, IsGrowing, IsExtended}
-use Rattle.justify.specs.Nodes.{StandsAtNode}
-use Rattle.justify.specs.Searches.{IsSearching, SearchGoesOn, AddsNode, IsVisit, IsGrowthOf}
+use Rattle.tree_scopes.specs.Nodes.{StandsAtNode}
+use Rattle.justify.specs.Searches.{IsSearching, SearchGoesOn, AddsNode, AddsClosed, IsNodeVisit, IsVisit, IsGrowthOf}
 use Rattle.justify.specs.Tasks.{task_target}
 use Rattle.justify.specs.Tests.{IsFitTest}
 use Rattle.justify.specs.Trying.{HasFailed, FailsAtNode, IsTrialOf}
-use Rattle.justify.specs.UnderWay.{IsSameSetting}
-use Rattle.justify.proofs.SameNodes.{same_restored, stays_at_node}
+use Rattle.tree_scopes.specs.Settings.{IsSameSetting}
+use Rattle.justify.proofs.SameNodes.{same_restored, stays_at_node, failed_stays}
 use Rattle.justify.proofs.Placing.{IsNext, next_place}
 use Rattle.justify.proofs.Visits.{growing_same, reverse_push, reverse_none, shut_under_way, shut_growing, entered_at_node, last_under_way, extended_growing, extended_by_one, extended_left}
 
@@ -36,6 +39,24 @@ module _ (task : Task) (old : Standing) (desk : Desk) (growth : Growth) (place :
   next : IsNext old.net old.rules target task.budget old.assumptions place (reverse growth.places.items) growth.nodes.items growth.splits
   next = next_place old.net old.rules target task.budget old.assumptions place (reverse growth.places.items) growth.nodes.items growth.splits
       searching.growing
+
+  -- the scope can go back to the mark of the place, and its set can be assumed there
+  pub next_late : (n : ℕ) → n ≤ length task.path.now.steps → n ≤ place.mark.at
+  next_late n few = let e = next.here.longer in let f = length-take place.mark.at old.assumptions in omega (arith, few, e, f)
+
+  pub next_at_mark : place.mark.at ≤ length old.assumptions
+  next_at_mark = next.at_mark
+
+  pub next_at_source : place.source.0 < source_count old.net
+  next_at_source = next.here.in_circuit
+
+  pub next_within : IsWithin 4 place.set
+  next_within = next.here.within
+
+  pub next_open : IsOpenIn four_states (back_at old place.mark.at)
+  next_open =
+      let P : Option Beginning → Type 0 = λ b. IsOpenFrom four_states old.net old.rules b (take place.mark.at old.assumptions) in
+      subst P (sym searching.under_way.beginning) next.here.left_open
 
   module _ (new : Standing) (shut : IsShut place old new) (later : old.closings ≤ new.closings) where
     pub shut_goes_on : SearchGoesOn task old new desk
@@ -67,6 +88,14 @@ module _ (task : Task) (old : Standing) (desk : Desk) (growth : Growth) (place :
           next new shut after.nodes.items nodes);
     }
 
+    -- a visit that added a closed leaf
+    pub shut_visited : {E : Type 0} (after : Growth) (result : Result (Option Vectors) E) → IfOk result (AddsClosed growth after)
+        → IfOk result (IsVisit task old new growth after)
+    shut_visited after (Err error) closed = tt
+    shut_visited after (Ok test) closed =
+        let P : Option Vectors → Type 0 = λ t. IsVisit task old new growth after t in
+        subst P (sym closed.none) (shut_adds after closed.nodes closed.places closed.splits)
+
   module _ (new : Standing) (entered : IsEntered place old new) where
     same_net : new.net ≡ old.net
     same_net = ap (λ (s : Standing). s.net) entered.now
@@ -95,9 +124,6 @@ module _ (task : Task) (old : Standing) (desk : Desk) (growth : Growth) (place :
         later = let e = ap (λ (s : Standing). s.closings) entered.now in let f = restored.later in omega (arith, e, f);
       }
 
-      pub last_node : StandsAtNode target last
-      last_node = stays_at_node target new last (same_restored new last restored) entered_node
-
       pub failed_adds : HasFailed target last → risen new.closings ≤ last.closings → (after : Growth)
           → IsExtended target last task.budget growth after → AddsNode task old last growth after
       failed_adds failed counted after extended = record {
@@ -107,17 +133,14 @@ module _ (task : Task) (old : Standing) (desk : Desk) (growth : Growth) (place :
         growing = extended_growing target task.budget old searching.under_way place growth after next new entered last restored failed extended;
       }
 
--- what a trial found, by whether it is a test
-pub trial_none : (target : Target) (first last : Standing) (answer : Option Vectors) → is_some answer ≡ false → IsTrialOf target first last answer
-    → FailsAtNode target first last
-trial_none target first last None none fails = fails
-trial_none target first last (Some pair) none fit = absurd (false≢true (sym none))
-
-pub visit_some : (task : Task) (old new last : Standing) (before after : Growth) (answer : Option Vectors) → is_some answer ≡ true
-    → new.net ≡ old.net → IsTrialOf (task_target task) new last answer → IsVisit task old last before after answer
-visit_some task old new last before after (Some pair) some same fit =
-    let P : Circuit → Type 0 = λ c. IsFitTest c (task_target task) pair in subst P same fit
-visit_some task old new last before after None some same fails = absurd (false≢true some)
+      -- a visit of the open node there
+      pub node_visited : {E : Type 0} (after : Growth) (result : Result (Option Vectors) E) → IfOk result (IsNodeVisit task new last growth after)
+          → IfOk result (IsVisit task old last growth after)
+      node_visited after (Err error) visited = tt
+      node_visited after (Ok (Some pair)) fit =
+          let P : Circuit → Type 0 = λ c. IsFitTest c target pair in subst P same_net fit
+      node_visited after (Ok None) adds =
+          failed_adds (failed_stays target new last (same_restored new last restored) adds.fails.failed) adds.fails.counted after adds.extended
 
 -- the next place is taken off the list
 pub searching_popped : (task : Task) (standing : Standing) (desk : Desk) (before after : Growth) (place : Place)
@@ -174,7 +197,7 @@ grown_some task first old new before after growth None some same adds = absurd (
 
 -- where a trial has failed, some source of the support has two states
 pub two_where_failed : (target : Target) (standing : Standing) → HasFailed target standing → ¬ AreSingle target standing
-two_where_failed target standing failed single =
+two_where_failed aim standing failed single =
     failed.two (λ source support. single source support failed.hull failed.labels)
 
 -- what goes on from where the setting was the same, and no count has fallen, goes on from there

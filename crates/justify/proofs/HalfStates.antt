@@ -1,4 +1,4 @@
--- The halves of a split: whether a set of the four states has some state of a half, and what it has where no split has both.
+-- The halves of a split: what a set of the four states has where no split has both.
 use Rattle.std.proofs.Common.{◌≡◌, ◌≢◌, ◌<◌, ◌^◌, ◌↔◌, Bool, true, false, not, refl, sym, ap, ap₂, ◌∙◌, eqb, lit≤}
 use Rattle.std.specs.Prelude.{IsTrue, bit_and}
 use Rattle.state_sets.specs.declared.state.State.{State}
@@ -9,22 +9,6 @@ use Rattle.state_sets.specs.Starts.{IsInHalf}
 use Rattle.state_laws.proofs.SourceStates.{state_of_parts}
 use Rattle.hulls.proofs.Sets.{has_both, both_have, has_some, some_not_none, cut_within, ne_tells, ne_told}
 use Rattle.tree_laws.specs.Spent.{HasInHalf}
-
--- a set has some state of a half if what it shares with the half is not empty
-pub shares_half : (set states cut : StateSet) (steadiness second : Bool) (r : Bool)
-    → ((state : State) → Has 4 states state ↔ ((state.0 < 4) × IsInHalf four_states steadiness second state))
-    → states.0 < 2 ^ 4 → cut.0 ≡ bit_and set.0 states.0 → r ≡ not (eqb cut.0 0)
-    → IsTrue r ↔ HasInHalf set steadiness second
-shares_half set states cut steadiness second r states_are small is_cut is = (
-  λ yes.
-      let some : cut ≢ no_states = λ none. ne_tells r cut.0 0 is yes (ap (λ (s : StateSet). s.0) none) in
-      let found = has_some 4 cut (lit≤ tt) (cut_within 4 set states cut is_cut small) some in
-      let both = both_have 4 set states found.0 cut is_cut found.1 in
-      (found.0, both.0, ((states_are found.0).0 both.1).1),
-  λ found.
-      let has = has_both 4 set states found.0 cut is_cut found.1 ((states_are found.0).1 (found.1.in_range, found.2)) in
-      ne_told r cut.0 0 is (λ e. some_not_none 4 cut found.0 has (ap (λ n. record { 0 = n }) e)),
-)
 
 -- a bit that is not both values on a set is one value on it
 one_value : (steadiness : Bool) (set : StateSet) (both : HasInHalf set steadiness false → HasInHalf set steadiness true → ⊥)

@@ -1,21 +1,5 @@
-mod Finding
-mod Spreading
-mod Numbers
-mod RankedCones
-mod ConeLists
-mod ConeScans
-mod Joining
-mod ConePass
-mod StepStates
-mod Judged
-mod Taking
-mod Behind
-pub mod Cones
-mod LeastState
 mod Assumed
-mod Assuming
 mod Resting
-mod Nodes
 mod SameNodes
 mod Trials
 mod TriedSources

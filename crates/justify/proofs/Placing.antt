@@ -1,9 +1,10 @@
 -- The places of a tree that grows on a scope: the next one is gone to, and a node there makes places of its halves.
-use Rattle.std.proofs.Common.{◌≡◌, ℕ, ◌+◌, ◌<◌, ◌≤◌, ◌↔◌, ⊎_elim, Bool, true, false, List, [], ◌∷◌, ◌++◌, length, take, sym, ap, ◌∙◌, subst, arith}
+use Rattle.std.proofs.Common.{◌≡◌, ℕ, ◌+◌, ◌<◌, ◌≤◌, ◌↔◌, ⊎_elim, Bool, true, false, suc, List, [], ◌∷◌, ◌++◌, length, take, drop, map, get_or, sym, ap, ◌∙◌, subst, arith}
 use Rattle.std.specs.List.{Contains}
-use Rattle.std.proofs.lemmas.List.{take-take, take_all, length_push}
+use Rattle.std.proofs.lemmas.List.Kept.{AllPairs-cons}
+use Rattle.std.proofs.lemmas.List.{take-take, take_all, length_push, length-take}
 use Rattle.std.proofs.Math.Seq.{take-append_seam}
-use Rattle.std.proofs.lemmas.List.Elements.{Contains-push_cases}
+use Rattle.std.proofs.lemmas.List.Elements.{All-cons, Contains-push_cases}
 use Rattle.pd_base.specs.Target.{Target}
 use Rattle.pd_base.specs.declared.ids.LineId.{LineId}
 use Rattle.pd_base.specs.declared.rules.Rules.{Rules}
@@ -31,11 +32,11 @@ use Rattle.implication.specs.declared.scope.ScopeMark.{ScopeMark}
 use Rattle.implication.specs.declared.assumption.Assumption.TheVariants.{Assumed}
 use Rattle.implication.specs.Assumptions.{entered_pins, left_of, ClosesUnder}
 use Rattle.implication.specs.Moves.{with_assumed}
-use Rattle.justify.specs.Nodes.{beginning_of, AllowAsNode}
-use Rattle.justify.proofs.Assuming.{may_assumed, entered_assumed, assumed_cases}
+use Rattle.tree_scopes.specs.Nodes.{beginning_of, AllowAsNode}
+use Rattle.tree_scopes.proofs.Assuming.{may_assumed, entered_assumed, assumed_cases}
 use Rattle.justify.specs.declared.choosing.Split.{Split}
 use Rattle.justify.specs.declared.growing.Place.{Place}
-use Rattle.justify.specs.Growths.{IsHalfPlace, AllowAsNodeWith, IsPlace, AreStacked, IsGrowing}
+use Rattle.justify.specs.Growths.{IsHalfPlace, AllowAsNodeWith, IsPlace, DueTree, AreStacked, IsGrowing}
 
 -- a set assumed of a source is what the place says
 pub node_assumed : (c : Circuit) (rules : Rules) (target : Target) (list : List Assumption) (source : LineId) (set : StateSet) (halves : List Half)
@@ -83,27 +84,66 @@ module _ (c : Circuit) (rules : Rules) (target : Target) where
 
   -- places stay where they are when the list goes on
   pub stacked_longer : (old new : List Assumption) → take (length old) new ≡ old → length old ≤ length new
-      → (places : List Place) (above : List (List Half)) → AreStacked c rules target old places above
-      → AreStacked c rules target new places above
-  stacked_longer old new front longer [] [] stacked = tt
-  stacked_longer old new front longer [] (halves ∷ above) stacked = absurd stacked
-  stacked_longer old new front longer (place ∷ places) [] stacked = absurd stacked
-  stacked_longer old new front longer (place ∷ places) (halves ∷ above) stacked =
-      let within : place.mark.at ≤ length old = stacked.0 in
-      let same : take place.mark.at old ≡ take place.mark.at new =
-      ap (take place.mark.at) (sym front) ∙ take-take place.mark.at (length old) new within in
-      let P : List Assumption → Type 0 = λ list. IsPlace c rules target list place halves in
-      let Q : List Assumption → Type 0 = λ list. AreStacked c rules target list places above in
-      (omega (arith, within, longer), subst P same stacked.1, subst Q same stacked.2)
+      → (due : List DueTree) → AreStacked c rules target old due → AreStacked c rules target new due
+  stacked_longer old new front longer due stacked = record {
+    reached = λ k d inside. let within = stacked.reached k d inside in omega (arith, within, longer);
+    falling = stacked.falling;
+    each = λ k d inside.
+        let tree = get_or due k d in
+        let same : take tree.place.mark.at old ≡ take tree.place.mark.at new =
+        ap (take tree.place.mark.at) (sym front) ∙ take-take tree.place.mark.at (length old) new (stacked.reached k d inside) in
+        let P : List Assumption → Type 0 = λ list. IsPlace c rules target list tree.place tree.halves in
+        subst P same (stacked.each k d inside);
+  }
+
+  pub stacked_none : (list : List Assumption) → AreStacked c rules target list []
+  stacked_none list = record {
+    reached = λ k d inside. absurd (omega (arith, inside));
+    falling = λ i j d less inside. absurd (omega (arith, inside));
+    each = λ k d inside. absurd (omega (arith, inside));
+  }
+
+  -- one more tree is due before those that are due as the assumptions stood at its mark
+  pub stacked_more : (list : List Assumption) (tree : DueTree) (due : List DueTree) → tree.place.mark.at ≤ length list
+      → IsPlace c rules target (take tree.place.mark.at list) tree.place tree.halves
+      → AreStacked c rules target (take tree.place.mark.at list) due → AreStacked c rules target list (tree ∷ due)
+  stacked_more list tree due at_mark here stacked =
+      let n = length-take tree.place.mark.at list in
+      let long : length (take tree.place.mark.at list) ≡ tree.place.mark.at = omega (arith, n, at_mark) in
+      let others : AreStacked c rules target list due =
+      stacked_longer (take tree.place.mark.at list) list (ap (λ m. take m list) long) (omega (arith, long, at_mark)) due stacked in
+      record {
+        reached = All-cons (λ (t : DueTree). t.place.mark.at ≤ length list) tree due at_mark others.reached;
+        falling = AllPairs-cons (λ (t later : DueTree). later.place.mark.at ≤ t.place.mark.at) tree due
+            (λ k d inside. let within = stacked.reached k d inside in omega (arith, within, long)) stacked.falling;
+        each = All-cons (λ (t : DueTree). IsPlace c rules target (take t.place.mark.at list) t.place t.halves) tree due here others.each;
+      }
+
+  -- the trees behind the next one are due as the assumptions stood at its mark
+  pub stacked_behind : (list : List Assumption) (tree : DueTree) (due : List DueTree) → AreStacked c rules target list (tree ∷ due)
+      → AreStacked c rules target (take tree.place.mark.at list) due
+  stacked_behind list tree due stacked = record {
+    reached = λ k d inside.
+        let lower = stacked.falling 0 (suc k) d (omega arith) (omega (arith, inside)) in
+        let n = length-take tree.place.mark.at list in let at = stacked.reached 0 d (omega arith) in
+        omega (arith, lower, n, at);
+    falling = λ i j d less inside. stacked.falling (suc i) (suc j) d (omega (arith, less)) (omega (arith, inside));
+    each = λ k d inside.
+        let other = get_or due k d in
+        let lower : other.place.mark.at ≤ tree.place.mark.at = stacked.falling 0 (suc k) d (omega arith) (omega (arith, inside)) in
+        let P : List Assumption → Type 0 = λ xs. IsPlace c rules target xs other.place other.halves in
+        subst P (sym (take-take other.place.mark.at tree.place.mark.at list lower)) (stacked.each (suc k) d (omega (arith, inside)));
+  }
 
   -- the next place, and the others
   pub record IsNext (budget : ℕ) (assumptions : List Assumption) (place : Place) (places : List Place) (nodes : List Node) (splits : ℕ) : Type 0 where
     pub halves : List Half
-    pub above : List (List Half)
+    pub due : List DueTree
+    pub left : map (λ (tree : DueTree). tree.place) due ≡ places
     pub at_mark : place.mark.at ≤ length assumptions
     pub here : IsPlace c rules target (take place.mark.at assumptions) place halves
-    pub stacked : AreStacked c rules target (take place.mark.at assumptions) places above
-    pub grows : Grows c rules target nodes (halves ∷ above)
+    pub stacked : AreStacked c rules target (take place.mark.at assumptions) due
+    pub grows : Grows c rules target nodes (halves ∷ map (λ (tree : DueTree). tree.halves) due)
     pub counted : split_count nodes ≡ splits
     pub within : splits ≤ budget
     pub waits : Contains nodes Waiting → splits ≡ budget
@@ -111,22 +151,28 @@ module _ (c : Circuit) (rules : Rules) (target : Target) where
   pub next_place : (budget : ℕ) (assumptions : List Assumption) (place : Place) (places : List Place) (nodes : List Node) (splits : ℕ)
       → IsGrowing c rules target budget assumptions (place ∷ places) nodes splits
       → IsNext budget assumptions place places nodes splits
-  next_place budget assumptions place places nodes splits growing = by growing.above growing.stacked growing.grows
+  next_place budget assumptions place places nodes splits growing = by growing.due growing.left growing.stacked growing.grows
     where
-      by : (above : List (List Half)) → AreStacked c rules target assumptions (place ∷ places) above
-          → Grows c rules target nodes above → IsNext budget assumptions place places nodes splits
-      by [] stacked grows = absurd stacked
-      by (halves ∷ above) stacked grows = record {
-        halves = halves;
-        above = above;
-        at_mark = stacked.0;
-        here = stacked.1;
-        stacked = stacked.2;
-        grows = grows;
-        counted = growing.counted;
-        within = growing.within;
-        waits = growing.waits;
-      }
+      by : (due : List DueTree) → map (λ (tree : DueTree). tree.place) due ≡ place ∷ places → AreStacked c rules target assumptions due
+          → Grows c rules target nodes (map (λ (tree : DueTree). tree.halves) due) → IsNext budget assumptions place places nodes splits
+      by [] left stacked grows = cc
+      by (tree ∷ due) left stacked grows =
+          let first : tree.place ≡ place = ap (λ (xs : List Place). get_or xs 0 place) left in
+          let At : Place → Type 0 = λ p. p.mark.at ≤ length assumptions in
+          let Here : Place → Type 0 = λ p. IsPlace c rules target (take p.mark.at assumptions) p tree.halves in
+          let Behind : Place → Type 0 = λ p. AreStacked c rules target (take p.mark.at assumptions) due in
+          record {
+            halves = tree.halves;
+            due = due;
+            left = ap (λ (xs : List Place). drop 1 xs) left;
+            at_mark = subst At first (stacked.reached 0 tree (omega arith));
+            here = subst Here first (stacked.each 0 tree (omega arith));
+            stacked = subst Behind first (stacked_behind assumptions tree due stacked);
+            grows = grows;
+            counted = growing.counted;
+            within = growing.within;
+            waits = growing.waits;
+          }
 
   module _ (budget : ℕ) (assumptions : List Assumption) (place : Place) (places : List Place) (nodes : List Node) (splits : ℕ)
       (next : IsNext budget assumptions place places nodes splits) where
@@ -142,17 +188,21 @@ module _ (c : Circuit) (rules : Rules) (target : Target) where
     pub next_node : AllowAsNode c rules target at_node next.halves
     next_node = node_assumed c rules target before place.source place.set next.halves next.here.node
 
-    stacked_after : AreStacked c rules target at_node places next.above
+    stacked_after : AreStacked c rules target at_node next.due
     stacked_after = stacked_longer before at_node (assumed_front before place.source place.set) (assumed_longer before place.source place.set)
-        places next.above next.stacked
+        next.due next.stacked
+
+    abbrev others : List (List Half)
+    others = map (λ (tree : DueTree). tree.halves) next.due
 
     -- a closed leaf there
     pub growing_closed : ClosesAtNode c rules target next.halves
         → IsGrowing c rules target budget before places (nodes ++ Closed ∷ []) splits
     growing_closed closes = record {
-      above = next.above;
+      due = next.due;
+      left = next.left;
       stacked = next.stacked;
-      grows = grows_by_closed c rules target nodes next.halves next.above next.grows closes;
+      grows = grows_by_closed c rules target nodes next.halves others next.grows closes;
       counted = splits_with_closed nodes ∙ next.counted;
       within = next.within;
       waits = λ has. ⊎_elim next.waits (λ (same : Closed ≡ Waiting). cc) (Contains-push_cases nodes Closed Waiting has);
@@ -162,9 +212,10 @@ module _ (c : Circuit) (rules : Rules) (target : Target) where
       -- a leaf that waits
       pub growing_waiting : splits ≡ budget → IsGrowing c rules target budget at_node places (nodes ++ Waiting ∷ []) splits
       growing_waiting spent = record {
-        above = next.above;
+        due = next.due;
+        left = next.left;
         stacked = stacked_after;
-        grows = grows_by_waiting c rules target nodes next.halves next.above next.grows hull is_open;
+        grows = grows_by_waiting c rules target nodes next.halves others next.grows hull is_open;
         counted = splits_with_waiting nodes ∙ next.counted;
         within = next.within;
         waits = λ has. spent;
@@ -199,15 +250,21 @@ module _ (c : Circuit) (rules : Rules) (target : Target) where
             let all_second : at_node ≡ take second.mark.at at_node = sym (take_all second.mark.at at_node (omega (arith, two))) in
             let above_first = below next.halves split.steadiness split.source.0 false in
             let above_second = below next.halves split.steadiness split.source.0 true in
+            let tree_first : DueTree = record { place = first; halves = above_first } in
+            let tree_second : DueTree = record { place = second; halves = above_second } in
             let P : List Assumption → Type 0 = λ list. IsPlace c rules target list first above_first in
             let Q : List Assumption → Type 0 = λ list. IsPlace c rules target list second above_second in
-            let R : List Assumption → Type 0 = λ list. AreStacked c rules target list places next.above in
-            let S : List Assumption → Type 0 = λ list. AreStacked c rules target list (second ∷ places) (above_second ∷ next.above) in
-            let stacked_second : S at_node = (omega (arith, two), subst Q all_second (half_at second true in_second), subst R all_second stacked_after) in
+            let R : List Assumption → Type 0 = λ list. AreStacked c rules target list next.due in
+            let S : List Assumption → Type 0 = λ list. AreStacked c rules target list (tree_second ∷ next.due) in
+            let stacked_second : S at_node =
+            stacked_more at_node tree_second next.due (omega (arith, two)) (subst Q all_second (half_at second true in_second))
+            (subst R all_second stacked_after) in
             record {
-              above = above_first ∷ above_second ∷ next.above;
-              stacked = (omega (arith, one), subst P all_first (half_at first false in_first), subst S all_first stacked_second);
-              grows = grows_by_split c rules target nodes next.halves next.above next.grows split.steadiness split.source.0 due;
+              due = tree_first ∷ tree_second ∷ next.due;
+              left = ap (λ (xs : List Place). first ∷ second ∷ xs) next.left;
+              stacked = stacked_more at_node tree_first (tree_second ∷ next.due) (omega (arith, one)) (subst P all_first (half_at first false in_first))
+                  (subst S all_first stacked_second);
+              grows = grows_by_split c rules target nodes next.halves others next.grows split.steadiness split.source.0 due;
               counted = let e = splits_with_split nodes split.steadiness split.source.0 in let f = next.counted in omega (arith, e, f);
               within = omega (arith, less);
               waits = λ has. ⊎_elim

@@ -16,10 +16,11 @@ use Rattle.implication.specs.declared.assumption.Assumption.{Assumption}
 use Rattle.implication.specs.Assumptions.{entered_pins}
 use Rattle.implication.specs.Clients.{IsRestored}
 use Rattle.implication.specs.Standing.{Standing, IsHullFrom, IsLabels, IsOpenFrom}
-use Rattle.justify.specs.Nodes.{StandsAtNode, AllowAsNode}
+use Rattle.tree_scopes.specs.Nodes.{StandsAtNode, AllowAsNode}
 use Rattle.justify.specs.Tests.{IsFitTest}
 use Rattle.justify.specs.Trying.{HasFailed, IsTrialOf, HasLeast, IsSingle}
-use Rattle.justify.proofs.Resting.{there_too, counted_before}
+use Rattle.tree_scopes.proofs.Labels.{there_too}
+use Rattle.justify.proofs.Resting.{counted_before}
 
 -- the same circuit, rules, beginning, assumptions and conflict
 pub record IsSameNode (first last : Standing) : Type 0 where

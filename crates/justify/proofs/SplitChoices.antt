@@ -12,7 +12,7 @@ use Rattle.implication.specs.Standing.{Standing}
 use Rattle.justify.specs.declared.choosing.Split.{Split}
 use Rattle.justify.specs.Choices.{SplitsAt, IsUsefulSplit}
 use Rattle.justify.specs.Desks.{AreInSupport}
-use Rattle.justify.specs.KeptCones.{AreConeSources}
+use Rattle.test_judging.specs.KeptCones.{AreConeSources}
 use Rattle.justify.proofs.TriedSources.{cone_in_support}
 
 pub useful_at : (target : Target) (standing : Standing) (source : LineId) → IsInSupport standing.net target.path source.0 → (found : Option Split)

@@ -21,24 +21,22 @@ use Rattle.implication.specs.Assumptions.{entered_pins, IsLetBy}
 use Rattle.implication.specs.Clients.{IsRestored}
 use Rattle.implication.specs.Moves.{back_at}
 use Rattle.implication.specs.Standing.{Standing, IsOpenIn, end_of_scope, end_from}
-use Rattle.justify.specs.Nodes.{beginning_of}
-use Rattle.justify.proofs.Resting.{open_under}
+use Rattle.tree_scopes.specs.Nodes.{beginning_of}
+use Rattle.tree_scopes.proofs.Entered.{pins_of_entered}
+use Rattle.tree_scopes.proofs.Labels.{open_under}
 use Rattle.justify.specs.declared.desk.Desk.{Desk}
 use Rattle.justify.specs.declared.growing.Growth.{Growth}
 use Rattle.justify.specs.declared.growing.Place.{Place}
 use Rattle.justify.specs.Growths.{AllowAsNodeWith, IsPlace, IsGrowing, root_place}
-use Rattle.justify.specs.UnderWay.{IsUnderWay, IsSameSetting}
+use Rattle.tree_scopes.specs.Settings.{IsSameSetting}
+use Rattle.justify.specs.UnderWay.{IsUnderWay}
 use Rattle.justify.specs.Desks.{IsDeskFor, IsDesk}
-use Rattle.justify.specs.KeptCones.{KeptCone, IsConeFor, IsConeAt}
+use Rattle.test_judging.specs.KeptCones.{KeptCone, IsConeFor, IsConeAt}
 use Rattle.justify.specs.Scoping.{IsStart}
+use Rattle.justify.proofs.Placing.{stacked_none, stacked_more}
 use Rattle.justify.proofs.Visits.{free_at, growing_same}
 
--- the pins of steps that were entered are the steps
-entered_all : (steps : List PinRef) → entered_pins (map (λ step. Entered step) steps) ≡ steps
-entered_all [] = refl
-entered_all (step ∷ steps) = ap (λ (rest : List PinRef). step ∷ rest) (entered_all steps)
-
--- and let every line be in every state
+-- pins that were entered let every line be in every state
 let_all : (count line : ℕ) (state : State) (steps : List PinRef) → All (IsLetBy count line state) (map (λ step. Entered step) steps)
 let_all count line state [] = All-nil (IsLetBy count line state)
 let_all count line state (step ∷ steps) =
@@ -66,7 +64,7 @@ module _ (target : Target) (standing : Standing) (start : IsStart target standin
   start_length = start_long
 
   start_entered : entered_pins standing.assumptions ≡ target.path.steps
-  start_entered = ap entered_pins start.entered ∙ entered_all target.path.steps
+  start_entered = ap entered_pins start.entered ∙ pins_of_entered target.path.steps
 
   pub start_end : end_of_scope standing ≡ end_of standing.net target.path
   start_end =
@@ -132,13 +130,13 @@ module _ (target : Target) (standing : Standing) (start : IsStart target standin
 
       root_growing : IsGrowing standing.net standing.rules target budget standing.assumptions (root ∷ []) [] 0
       root_growing = record {
-        above = [] ∷ [];
-        stacked = (
-          omega (arith, at),
-          (let P : List Assumption → Type 0 = λ list. IsPlace standing.net standing.rules target list root [] in
-              subst P (sym (take_all mark.at standing.assumptions (omega (arith, at)))) is_root),
-          tt,
-        );
+        due = (record { place = root; halves = [] }) ∷ [];
+        left = refl;
+        stacked =
+            stacked_more standing.net standing.rules target standing.assumptions (record { place = root; halves = [] }) [] (omega (arith, at))
+            (let P : List Assumption → Type 0 = λ list. IsPlace standing.net standing.rules target list root [] in
+            subst P (sym (take_all mark.at standing.assumptions (omega (arith, at)))) is_root)
+            (stacked_none standing.net standing.rules target (take mark.at standing.assumptions));
         grows = grows_from_root standing.net standing.rules target;
         counted = refl;
         within = omega arith;

@@ -29,27 +29,12 @@ use Rattle.implication.specs.Clients.{ExtendsStanding}
 use Rattle.implication.specs.Moves.{with_assumed, risen}
 use Rattle.implication.specs.Standing.{Standing, IsLabels}
 use Rattle.justify.specs.declared.trial.Tried.{Tried}
-use Rattle.justify.specs.Nodes.{beginning_of, StandsAtNode, AllowAsNode}
-use Rattle.justify.specs.LeastStates.{least_of}
+use Rattle.tree_scopes.specs.Nodes.{beginning_of, StandsAtNode, AllowAsNode}
+use Rattle.test_judging.proofs.Taking.{least_is_taken}
 use Rattle.justify.specs.Trying.{CanTry, IsWithinTrial, IsHeldIn, EndsTrial, HasFailed, IsSingle, GivesTest}
-use Rattle.justify.proofs.Assuming.{may_assumed, entered_assumed}
-use Rattle.justify.proofs.LeastState.{least_is_least}
-use Rattle.justify.proofs.Nodes.{hull_at_node}
-use Rattle.justify.proofs.Resting.{there_too, labels_under, open_under}
-
--- a set has one least state
-least_once : (set : StateSet) (a b : State) → IsLeast 4 set a → IsLeast 4 set b → a ≡ b
-least_once set a b first second =
-    let one = first.least b second.has in let two = second.least a first.has in
-    let same : a.0 ≡ b.0 = omega (arith, one, two) in
-    ap (λ n. record { 0 = n }) same
-
--- the least state of a label that has some state is that of the least number
-least_there : (labels : List StateSet) (source : ℕ) (state : State) → (label_at labels source).0 < 2 ^ 4 → IsLeast 4 (label_at labels source) state
-    → state ≡ least_of (label_at labels source)
-least_there labels source state within least =
-    least_once (label_at labels source) state (least_of (label_at labels source)) least
-    (least_is_least (label_at labels source) within (some_not_none 4 (label_at labels source) state least.has))
+use Rattle.tree_scopes.proofs.Assuming.{may_assumed, entered_assumed}
+use Rattle.tree_scopes.proofs.Nodes.{hull_at_node}
+use Rattle.tree_scopes.proofs.Labels.{there_too, labels_under, open_under}
 
 module _ (target : Target) (first : Standing) where
   abbrev begun : Beginning
@@ -70,13 +55,11 @@ module _ (target : Target) (first : Standing) where
       entered = ap entered_pins more ∙ entered_assumed 4 now.assumptions tried.source set ∙ before.entered;
       lets = λ labels is_labels line state in_range may least.
           let P : List Assumption → Type 0 = λ list. MayUnder four_states first.net first.rules begun list line state in
-          let under = labels_under four_states first begun labels node.beginning is_labels in
           let in_set : line ≡ tried.source.0 → Has 4 set state =
           λ here.
           let Q : ℕ → Type 0 = λ l. IsInSupport first.net target.path l → IsLeast 4 (label_at labels l) state in
           let at_source : Q tried.source.0 = subst Q here least in
-          let same = least_there labels tried.source.0 state (label_within 4 first.net labels under.rest.labelling tried.source.0)
-          (at_source is.in_support) ∙ sym (is.least labels is_labels) in
+          let same = least_is_taken (label_at labels tried.source.0) state tried.state (at_source is.in_support) (is.least labels is_labels) in
           let R : State → Type 0 = λ s. Has 4 set s in
           subst R (sym same) (only_has 4 set tried.state only is.in_range) in
           subst P (sym more)

@@ -23,16 +23,16 @@ use Rattle.state_laws.proofs.FanIns.{fan_in_in_circuit}
 use Rattle.tree_laws.specs.Spent.{IsInSupport}
 use Rattle.implication.specs.Standing.{Standing, IsLabels, TellsLabels}
 use Rattle.justify.specs.declared.trial.Tried.{Tried}
-use Rattle.justify.specs.Blamed.{AreBlamed}
-use Rattle.justify.specs.ConeStates.{state_in, AreFourStates, HasSourceStates, HasConeStates, IsReadFrom}
+use Rattle.search_hints.specs.Blamed.{AreBlamed}
+use Rattle.test_judging.specs.ConeStates.{state_in, AreFourStates, HasSourceStates, HasConeStates, IsReadFrom}
 use Rattle.justify.specs.declared.desk.Desk.{Desk}
 use Rattle.justify.specs.Desks.{IsDesk, IsSameDesk, AreInSupport}
-use Rattle.justify.specs.Drafts.{Prepared, IsJustifierOf}
-use Rattle.justify.specs.FoundLines.{HasMark}
-use Rattle.justify.specs.KeptCones.{KeptCone, AreConeSources, IsConeFor, IsConeAt}
-use Rattle.justify.specs.LeastStates.{least_of}
-use Rattle.justify.specs.Nodes.{beginning_of, StandsAtNode}
-use Rattle.justify.specs.Taken.{AreLeast}
+use Rattle.search_hints.specs.Drafts.{Prepared, IsJustifierOf}
+use Rattle.test_judging.specs.FoundLines.{HasMark}
+use Rattle.test_judging.specs.KeptCones.{KeptCone, AreConeSources, IsConeFor, IsConeAt}
+use Rattle.test_judging.specs.LeastStates.{IsTakenOf}
+use Rattle.tree_scopes.specs.Nodes.{beginning_of, StandsAtNode}
+use Rattle.test_judging.specs.Taken.{AreLeast}
 use Rattle.justify.specs.Tests.{IsFitTest}
 use Rattle.justify.proofs.Resting.{label_is}
 use Rattle.justify.specs.Trying.{CanTry, HasLeastLabel, AreTriedIn, HasLeast, GivesTest}
@@ -78,7 +78,9 @@ all_tried target standing sources states tried are support least four long k d i
     record {
       in_support = here;
       in_range = subst Q (sym each.1) (four entry.source.0 (record { 0 = 0 }) (omega (arith, within, long)));
-      least = λ labels is. each.1 ∙ least entry.source.0 here labels is;
+      least = λ labels is.
+          let T : State → Type 0 = λ state. IsTakenOf (label_at labels entry.source.0) state in
+          subst T (sym each.1) (least entry.source.0 here labels is);
     }
 
 -- so are sources that still have these as their least states
@@ -212,15 +214,17 @@ taken_least target standing node kept sources cone same answers tells states tak
     let there = subst P (sym same) ((cone.exactly source).1 (support.is_source, support.in_fan_in)) in
     let within = support.is_source in
     let line : source < line_count standing.net = omega (arith, within) in
-    taken source there ∙ ap least_of (label_is standing (beginning_of target) node.beginning source (label_at answers source) within
-    (tells.0, tells.1, tells.2 source line) labels is)
+    let T : StateSet → Type 0 = λ set. IsTakenOf set (state_in states source) in
+    subst T (label_is standing (beginning_of target) node.beginning source (label_at answers source) within
+    (tells.0, tells.1, tells.2 source line) labels is) (taken source there)
 
 -- and they stay so where the states of sources are kept
 pub kept_least : (target : Target) (standing : Standing) (first later : List State)
     → ((source : ℕ) → source < source_count standing.net → state_in later source ≡ state_in first source)
     → HasLeast target standing first → HasLeast target standing later
 kept_least target standing first later kept least source support labels is =
-    kept source support.is_source ∙ least source support labels is
+    let T : State → Type 0 = λ state. IsTakenOf (label_at labels source) state in
+    subst T (sym (kept source support.is_source)) (least source support labels is)
 
 pub kept_desk : (c : Circuit) (path : Route) (old new : Desk) → IsSameDesk old new → IsDesk c path old → IsDesk c path new
 kept_desk c path old new same is =

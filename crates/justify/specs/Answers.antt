@@ -1,5 +1,5 @@
 -- What a search may answer (this project's own).
-use Rattle.std.specs.Prelude.{⊤, ℕ, ◌+◌, ◌*◌, ◌-◌, ◌^◌, ◌≤◌, ◌⊎◌, Bool, true, false, count_by}
+use Rattle.std.specs.Prelude.{◌≡◌, ⊤, ℕ, ◌+◌, ◌*◌, ◌-◌, ◌^◌, ◌≤◌, ◌⊎◌, Bool, true, false, count_by, Result, Ok}
 use Rattle.pd_base.specs.Target.{Target}
 use Rattle.pd_base.specs.declared.rules.Rules.{Rules}
 use Rattle.netlist.specs.Circuit.{Circuit}
@@ -35,3 +35,13 @@ abbrev pub CountsConflicts : ℕ → Found → Standing → Standing → Type 0
 CountsConflicts budget (Test pair) old new = ⊤
 CountsConflicts budget (Refuted tree) old new = HasCounted (count_by is_closed tree) old new
 CountsConflicts budget (Spent tree) old new = HasCounted (2 * budget + 1) old new
+
+-- it is a test for the target
+abbrev pub IsTestFor : Circuit → Target → Found → Type 0
+IsTestFor c target (Test pair) = IsFitTest c target pair
+IsTestFor c target (Refuted tree) = ⊥
+IsTestFor c target (Spent tree) = ⊥
+
+-- what a search has ended with, or a test in its place
+abbrev pub IsOutcomeOf : {E : Type 0} → Circuit → Target → Result Found E → Found → Type 0
+IsOutcomeOf c target ended found = (ended ≡ Ok found) ⊎ IsTestFor c target found

@@ -6,9 +6,9 @@ use Rattle.netlist.specs.Circuit.{Circuit, source_count, line_count}
 use Rattle.netlist.specs.Paths.{end_of}
 use Rattle.tree_laws.specs.Spent.{IsInSupport}
 use Rattle.justify.specs.declared.desk.Desk.{Desk}
-use Rattle.justify.specs.ConeStates.{state_in, AreFourStates}
-use Rattle.justify.specs.KeptCones.{IsConeFor, IsConeAt}
-use Rattle.justify.specs.Drafts.{IsJustifierOf}
+use Rattle.test_judging.specs.ConeStates.{state_in, AreFourStates}
+use Rattle.test_judging.specs.KeptCones.{IsConeFor, IsConeAt}
+use Rattle.search_hints.specs.Drafts.{IsJustifierOf}
 
 -- the desk is made for searches on this circuit
 pub record IsDeskFor (c : Circuit) (desk : Desk) : Type 0 where

@@ -1,6 +1,7 @@
--- Which tree a search ends with (this project's own).
-use Rattle.std.specs.Prelude.{◌≡◌, List}
+-- What a search ends with (this project's own).
+use Rattle.std.specs.Prelude.{◌≡◌, List, Option, Some, None, Result, Ok, Err}
 use Rattle.std.specs.List.{Contains}
+use Rattle.pd_base.specs.Pair.{Vectors}
 use Rattle.runs.specs.declared.tree.Node.{Node}
 use Rattle.runs.specs.declared.tree.Node.TheVariants.{Waiting}
 use Rattle.justify.specs.declared.answer.Found.{Found}
@@ -11,3 +12,15 @@ abbrev pub IsEnd : List Node → Found → Type 0
 IsEnd nodes (Test pair) = ⊥
 IsEnd nodes (Refuted tree) = (tree ≡ nodes) × (Contains nodes Waiting → ⊥)
 IsEnd nodes (Spent tree) = (tree ≡ nodes) × Contains nodes Waiting
+
+-- the test that a growth found, or the tree of these nodes where it found none
+abbrev pub IsAnswerOf : {E : Type 0} → Result (Option Vectors) E → List Node → Found → Type 0
+IsAnswerOf (Ok (Some pair)) nodes found = found ≡ Test pair
+IsAnswerOf (Ok None) nodes found = IsEnd nodes found
+IsAnswerOf (Err error) nodes found = ⊥
+
+-- the test that was found later, or what was found before where there is none
+abbrev pub IsReplacedBy : {E : Type 0} → Result (Option Vectors) E → Found → Found → Type 0
+IsReplacedBy (Ok (Some pair)) before after = after ≡ Test pair
+IsReplacedBy (Ok None) before after = after ≡ before
+IsReplacedBy (Err error) before after = ⊥

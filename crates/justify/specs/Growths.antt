@@ -1,5 +1,5 @@
 -- The growth of a tree on a scope (this project's own).
-use Rattle.std.specs.Prelude.{◌≡◌, ⊤, ℕ, ◌+◌, ◌<◌, ◌≤◌, ◌↔◌, Bool, true, false, List, [], ◌∷◌, ◌++◌, length, take, Contains}
+use Rattle.std.specs.Prelude.{◌≡◌, ℕ, ◌+◌, ◌<◌, ◌≤◌, ◌↔◌, Bool, true, false, List, [], ◌∷◌, ◌++◌, length, take, map, All, AllPairs, Contains}
 use Rattle.pd_base.specs.Target.{Target}
 use Rattle.pd_base.specs.declared.ids.LineId.{LineId}
 use Rattle.pd_base.specs.declared.rules.Rules.{Rules}
@@ -20,7 +20,7 @@ use Rattle.implication.specs.declared.scope.ScopeMark.{ScopeMark}
 use Rattle.implication.specs.Assumptions.{entered_pins, MayUnder, ClosesUnder}
 use Rattle.implication.specs.Standing.{Standing, IsOpenIn, IsEmptiedIn}
 use Rattle.implication.specs.Moves.{with_assumed, grown, back_at, risen}
-use Rattle.justify.specs.Nodes.{beginning_of, AllowSame}
+use Rattle.tree_scopes.specs.Nodes.{beginning_of, AllowSame}
 use Rattle.justify.specs.declared.choosing.Split.{Split}
 use Rattle.justify.specs.declared.growing.Growth.{Growth}
 use Rattle.justify.specs.declared.growing.Place.{Place}
@@ -76,22 +76,24 @@ pub record IsPlace (c : Circuit) (rules : Rules) (target : Target) (assumptions 
   pub within : IsWithin 4 place.set
   pub node : AllowAsNodeWith c rules target assumptions place.source place.set halves
 
--- these places, the next one first, are such below these halves, each at its mark in the assumptions that stand at the mark before
-abbrev pub AreStacked : Circuit → Rules → Target → List Assumption → List Place → List (List Half) → Type 0
-AreStacked c rules target assumptions [] [] = ⊤
-AreStacked c rules target assumptions [] (halves ∷ above) = ⊥
-AreStacked c rules target assumptions (place ∷ places) [] = ⊥
-AreStacked c rules target assumptions (place ∷ places) (halves ∷ above) =
-    (place.mark.at ≤ length assumptions)
-    × IsPlace c rules target (take place.mark.at assumptions) place halves
-    × AreStacked c rules target (take place.mark.at assumptions) places above
+-- a place at which a tree is due, and the halves below which the tree is
+pub record DueTree : Type 0 where
+  pub place : Place
+  pub halves : List Half
+
+-- Trees are due at all of these places, each place as the assumptions stood at its mark, and no later one has a later mark.
+pub record AreStacked (c : Circuit) (rules : Rules) (target : Target) (assumptions : List Assumption) (due : List DueTree) : Type 0 where
+  pub reached : All (λ tree. tree.place.mark.at ≤ length assumptions) due
+  pub falling : AllPairs (λ tree later. later.place.mark.at ≤ tree.place.mark.at) due
+  pub each : All (λ tree. IsPlace c rules target (take tree.place.mark.at assumptions) tree.place tree.halves) due
 
 -- a tree has grown to these nodes, with these places left, the next one first
 pub record IsGrowing (c : Circuit) (rules : Rules) (target : Target) (budget : ℕ) (assumptions : List Assumption)
     (places : List Place) (nodes : List Node) (splits : ℕ) : Type 0 where
-  pub above : List (List Half)
-  pub stacked : AreStacked c rules target assumptions places above
-  pub grows : Grows c rules target nodes above
+  pub due : List DueTree
+  pub left : map (λ tree. tree.place) due ≡ places
+  pub stacked : AreStacked c rules target assumptions due
+  pub grows : Grows c rules target nodes (map (λ tree. tree.halves) due)
   pub counted : split_count nodes ≡ splits
   pub within : splits ≤ budget
   pub waits : Contains nodes Waiting → splits ≡ budget

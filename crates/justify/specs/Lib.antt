@@ -1,12 +1,4 @@
 pub mod Tasks
-pub mod FoundLines
-pub mod KeptCones
-pub mod ConeStates
-pub mod LeastStates
-pub mod Taken
-pub mod Judged
-pub mod Blamed
-pub mod Nodes
 pub mod Tests
 pub mod Trying
 pub mod Choices
@@ -17,4 +9,3 @@ pub mod Scoping
 pub mod Answers
 pub mod Ends
 pub mod Searches
-pub mod Drafts

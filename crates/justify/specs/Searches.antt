@@ -1,7 +1,8 @@
 -- A search that is under way on a scope, and what a visit of a place makes of it (this project's own).
-use Rattle.std.specs.Prelude.{◌≡◌, ◌+◌, ◌*◌, ◌-◌, ◌≤◌, List, [], length, reverse, Option, Some, None}
+use Rattle.std.specs.Prelude.{◌≡◌, ◌+◌, ◌*◌, ◌-◌, ◌≤◌, List, [], ◌∷◌, ◌++◌, length, reverse, Option, Some, None}
 use Rattle.pd_base.specs.Pair.{Vectors}
 use Rattle.netlist.specs.Paths.{IsPrefix}
+use Rattle.runs.specs.declared.tree.Node.TheVariants.{Closed}
 use Rattle.implication.specs.Moves.{risen}
 use Rattle.implication.specs.Standing.{Standing}
 use Rattle.justify.specs.declared.desk.Desk.{Desk}
@@ -10,10 +11,12 @@ use Rattle.justify.specs.declared.growing.Place.{Place}
 use Rattle.justify.specs.declared.task.Task.{Task}
 use Rattle.justify.specs.Answers.{HasCounted}
 use Rattle.justify.specs.Desks.{IsDesk}
-use Rattle.justify.specs.Growths.{IsGrowing}
+use Rattle.justify.specs.Growths.{IsGrowing, IsExtended}
 use Rattle.justify.specs.Tasks.{task_target}
 use Rattle.justify.specs.Tests.{IsFitTest}
-use Rattle.justify.specs.UnderWay.{IsUnderWay, IsSameSetting}
+use Rattle.justify.specs.Trying.{FailsAtNode}
+use Rattle.tree_scopes.specs.Settings.{IsSameSetting}
+use Rattle.justify.specs.UnderWay.{IsUnderWay}
 
 -- The task's path is one of the circuit, what was entered stands, the desk is the path's, and the tree has grown so far, with these
 -- places left, the next one first.
@@ -36,6 +39,23 @@ pub record AddsNode (task : Task) (old new : Standing) (before after : Growth) :
   pub one_more : length after.nodes.items ≡ length before.nodes.items + 1
   pub left : 2 * (task.budget - after.splits) + length after.places.items ≤ 2 * (task.budget - before.splits) + length before.places.items
   pub growing : IsGrowing new.net new.rules (task_target task) task.budget new.assumptions (reverse after.places.items) after.nodes.items after.splits
+
+-- a closed leaf is one node more, and no test was found
+pub record AddsClosed (before after : Growth) (test : Option Vectors) : Type 0 where
+  pub none : test ≡ None
+  pub nodes : after.nodes.items ≡ before.nodes.items ++ Closed ∷ []
+  pub places : after.places.items ≡ before.places.items
+  pub splits : after.splits ≡ before.splits
+
+-- no pair that was tried at an open node is a test, and it became a leaf that waits, or a split
+pub record ExtendsTree (task : Task) (old new : Standing) (before after : Growth) : Type 0 where
+  pub fails : FailsAtNode (task_target task) old new
+  pub extended : IsExtended (task_target task) new task.budget before after
+
+-- what a visit of an open node finds: a test, or none
+abbrev pub IsNodeVisit : Task → Standing → Standing → Growth → Growth → Option Vectors → Type 0
+IsNodeVisit task old new before after (Some pair) = IsFitTest old.net (task_target task) pair
+IsNodeVisit task old new before after None = ExtendsTree task old new before after
 
 -- what a visit finds: a test, or one node more
 abbrev pub IsVisit : Task → Standing → Standing → Growth → Growth → Option Vectors → Type 0

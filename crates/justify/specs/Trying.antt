@@ -21,17 +21,17 @@ use Rattle.implication.specs.Assumptions.{entered_pins, MayUnder, ClosesUnder}
 use Rattle.implication.specs.Moves.{risen}
 use Rattle.implication.specs.Standing.{Standing, IsLabels, IsOpenIn}
 use Rattle.justify.specs.declared.trial.Tried.{Tried}
-use Rattle.justify.specs.Nodes.{beginning_of, AllowAsNode}
-use Rattle.justify.specs.ConeStates.{state_in}
-use Rattle.justify.specs.LeastStates.{least_of}
-use Rattle.justify.specs.FoundLines.{HasMark}
+use Rattle.tree_scopes.specs.Nodes.{beginning_of, AllowAsNode}
+use Rattle.test_judging.specs.ConeStates.{state_in}
+use Rattle.test_judging.specs.LeastStates.{IsTakenOf}
+use Rattle.test_judging.specs.FoundLines.{HasMark}
 use Rattle.justify.specs.Tests.{IsFitTest}
 
 -- the source is in the support of the path, and the state is the least one of its label
 pub record CanTry (target : Target) (standing : Standing) (tried : Tried) : Type 0 where
   pub in_support : IsInSupport standing.net target.path tried.source.0
   pub in_range : tried.state.0 < 4
-  pub least : (labels : List StateSet) → IsLabels four_states standing labels → tried.state ≡ least_of (label_at labels tried.source.0)
+  pub least : (labels : List StateSet) → IsLabels four_states standing labels → IsTakenOf (label_at labels tried.source.0) tried.state
 
 -- what lines may be in under the first assumptions, and sources of the support only in the least states of these labels, they may be
 -- in under the later ones too
@@ -113,7 +113,7 @@ pub record HasLeastLabel (standing : Standing) (marks : List Bool) (tried : Trie
   pub is_source : tried.source.0 < source_count standing.net
   pub marked : HasMark marks tried.source.0
   pub in_range : tried.state.0 < 4
-  pub least : (labels : List StateSet) → IsLabels four_states standing labels → tried.state ≡ least_of (label_at labels tried.source.0)
+  pub least : (labels : List StateSet) → IsLabels four_states standing labels → IsTakenOf (label_at labels tried.source.0) tried.state
 
 -- these sources were tried, each in its state by this list, and no others
 pub record AreTriedIn (sources : List LineId) (states : List State) (tried : List Tried) : Type 0 where
@@ -123,4 +123,4 @@ pub record AreTriedIn (sources : List LineId) (states : List State) (tried : Lis
 -- at each source of the support the state is the least one of the label as the scope stands
 abbrev pub HasLeast : Target → Standing → List State → Type 0
 HasLeast target standing states = (source : ℕ) → IsInSupport standing.net target.path source
-    → (labels : List StateSet) → IsLabels four_states standing labels → state_in states source ≡ least_of (label_at labels source)
+    → (labels : List StateSet) → IsLabels four_states standing labels → IsTakenOf (label_at labels source) (state_in states source)

@@ -5,17 +5,11 @@ use Rattle.pd_base.specs.Target.{Target}
 use Rattle.implication.specs.declared.assumption.Assumption.{Assumption}
 use Rattle.implication.specs.declared.assumption.Assumption.TheVariants.{Entered}
 use Rattle.implication.specs.Standing.{Standing}
-use Rattle.justify.specs.Nodes.{beginning_of}
+use Rattle.tree_scopes.specs.Nodes.{beginning_of}
 
 -- the pins of a path as entered one after another
 abbrev pub entered_steps : Route → List Assumption
 entered_steps path = map (λ step. Entered step) path.steps
-
--- the engine is made for the same circuit and rules, and tells the same lines
-pub record IsSameSetting (old new : Standing) : Type 0 where
-  pub net : new.net ≡ old.net
-  pub rules : new.rules ≡ old.rules
-  pub ends : new.ends ≡ old.ends
 
 -- while it goes on: what was entered still is, and no conflict stands
 pub record IsUnderWay (target : Target) (standing : Standing) : Type 0 where

@@ -3,7 +3,7 @@ use pd_base::Pair;
 use runs::Tree;
 
 /// What a search found for a path, a transition and a kind of test.
-#[derive(Debug, Drop)]
+#[derive(Drop)]
 pub enum Found {
     /// A pair of vectors that meets the conditions. Sources outside the support of the path are 0 under both vectors.
     Test(Pair),
@@ -11,4 +11,16 @@ pub enum Found {
     Refuted(Tree),
     /// A tree of cases that spent the budget: it has exactly so many splits, and a pair was tried and failed at each open node.
     Spent(Tree),
+}
+
+impl Found {
+    // Whether it refutes the conditions.
+    pub(crate) fn is_refuted(&self) -> bool {
+        matches!(self, Found::Refuted(_))
+    }
+
+    // Whether the budget was spent.
+    pub(crate) fn is_spent(&self) -> bool {
+        matches!(self, Found::Spent(_))
+    }
 }

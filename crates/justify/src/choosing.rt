@@ -1,10 +1,10 @@
-// The choice of a split. Any source of the support will do whose label has a state of each half: the one that frontier.rt leads to, else
+// The choice of a split. Any source of the support will do whose label has a state of each half: the one that is led to, else
 // the first one that can be split, by its last value if it has both.
 ghost use Rattle.std.specs.Prelude.{◌≡◌, ◌<◌, IfSome, IfNone};
 ghost use Rattle.netlist.specs.Circuit.{source_count};
 ghost use Rattle.implication.specs.Scopes.{standing};
 ghost use Rattle.justify.specs.Tasks.{task_target};
-ghost use Rattle.justify.specs.Nodes.{StandsAtNode};
+ghost use Rattle.tree_scopes.specs.Nodes.{StandsAtNode};
 ghost use Rattle.justify.specs.Desks.{IsDesk};
 ghost use Rattle.justify.specs.Choices.{IsUsefulSplit, AreSingle, SplitsAt, IsSingleAt};
 

@@ -3,17 +3,16 @@
 // after.
 ghost use Rattle.std.specs.Prelude.{◌≡◌, ◌<◌, IfOk};
 ghost use Rattle.netlist.specs.Circuit.{line_count};
-ghost use Rattle.justify.specs.ConeStates.{AreFourStates};
+ghost use Rattle.test_judging.specs.ConeStates.{AreFourStates};
 ghost use Rattle.justify.specs.Desks.{IsDeskFor, IsSameDesk};
 
-use crate::blaming::Blame;
-use crate::cone::Cone;
-use crate::justifier::Justifier;
 use crate::trial::Tried;
 use netlist::Netlist;
 use pd_base::OutOfMemory;
+use search_hints::{Blame, Justifier};
 use state_sets::{Algebra, FourStates, State, StateSet, every_state};
 use std::alloc::Global;
+use test_judging::Cone;
 
 /// The buffers of searches on one netlist. One desk serves them all, one after another.
 #[derive(Drop)]

@@ -1,17 +1,46 @@
-// The end of a search without a test: the nodes make one tree, which refutes if no leaf waits.
-ghost use Rattle.std.specs.Prelude.{◌≡◌, ◌<◌, ◌^◌, ◌↔◌, IsTrue, length};
+// The end of a search: a test, or the tree that its nodes make, which refutes if no leaf waits.
+ghost use Rattle.std.specs.Prelude.{◌≡◌, ◌<◌, ◌^◌, ◌↔◌, IfOk, IfNone, IsTrue, length};
 ghost use Rattle.std.specs.List.{Contains};
 ghost use Rattle.runs.specs.declared.tree.Node.{Node};
 ghost use Rattle.runs.specs.declared.tree.Node.TheVariants.{Waiting};
 ghost use Rattle.runs.specs.Trees.{IsTree};
-ghost use Rattle.justify.specs.Ends.{IsEnd};
+ghost use Rattle.justify.specs.Ends.{IsEnd, IsAnswerOf, IsReplacedBy};
 
 use crate::Found;
 use crate::growing::Growth;
+use pd_base::{OutOfMemory, Pair};
 use runs::{Node, Tree};
 
+// The answer of a search that grew a tree: the test that was found, or else the tree, which then is whole.
+pub(crate) fn answer(
+    growth: Growth,
+    grown: Result<Option<Pair>, OutOfMemory>,
+) -> Result<Found, OutOfMemory>
+    requires whole { IfOk grown (λ test. IfNone test (IsTree growth.nodes.items)) }
+    requires few { IfOk grown (λ test. IfNone test (length growth.nodes.items < 2 ^ 31)) }
+    ensures { IfOk result (IsAnswerOf grown growth.nodes.items) }
+{
+    match grown? {
+        Some(pair) => Ok(Found::Test(pair)),
+        None => Ok(end(growth)),
+    }
+}
+
+// What was found, or the test that was found later, if one was.
+pub(crate) fn or_test(
+    found: Found,
+    later: Result<Option<Pair>, OutOfMemory>,
+) -> Result<Found, OutOfMemory>
+    ensures { IfOk result (IsReplacedBy later found) }
+{
+    match later? {
+        Some(pair) => Ok(Found::Test(pair)),
+        None => Ok(found),
+    }
+}
+
 // The answer of a search whose tree is whole.
-pub(crate) fn end(growth: Growth) -> Found
+fn end(growth: Growth) -> Found
     requires whole { IsTree growth.nodes.items }
     requires few { length growth.nodes.items < 2 ^ 31 }
     ensures { IsEnd growth.nodes.items result }

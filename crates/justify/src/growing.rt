@@ -4,11 +4,11 @@ ghost use Rattle.tree_laws.specs.Growing.{split_node};
 ghost use Rattle.justify.specs.Growths.{root_place, IsSplitAt, IsHalfPlace};
 
 use crate::choosing::Split;
-use crate::frontier::Frontier;
 use hulls::half_states;
 use implication::ScopeMark;
 use pd_base::{LineId, OutOfMemory};
 use runs::Node;
+use search_hints::Frontier;
 use state_sets::{FourStates, StateSet, every_state};
 use std::alloc::Global;
 

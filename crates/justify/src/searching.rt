@@ -8,7 +8,7 @@ ghost use Rattle.implication.specs.Standing.{IsOpenIn};
 ghost use Rattle.implication.specs.Moves.{start_at};
 ghost use Rattle.implication.specs.Scopes.{IsSameScope, standing};
 ghost use Rattle.implication.specs.Clients.{IsRestored};
-ghost use Rattle.justify.specs.Answers.{IsFound, CountsConflicts};
+ghost use Rattle.justify.specs.Answers.{IsFound, CountsConflicts, IsOutcomeOf};
 ghost use Rattle.justify.specs.Desks.{IsDeskFor, IsDesk};
 ghost use Rattle.justify.specs.Scoping.{IsStart};
 ghost use Rattle.justify.specs.Searches.{IsSearching, SearchGoesOn, IsGrowthOf};
@@ -17,18 +17,17 @@ ghost use Rattle.justify.specs.Tests.{IsFitTest};
 
 use crate::Found;
 use crate::desk::Desk;
-use crate::ending::end;
+use crate::ending::{answer, or_test};
 use crate::growing::Growth;
-use crate::justifier::Effort;
-use crate::picking::Sight;
-use crate::read_states::{take_least, take_preferred};
 use crate::task::Task;
 use crate::trying::judge_states;
 use crate::visiting::visit;
 use implication::{Scope, Setting};
 use pd_base::{Direction, Kind, OutOfMemory, Pair, Path};
+use search_hints::{Effort, Sight};
 use state_sets::FourStates;
 use std::alloc::Global;
+use test_judging::{take_least, take_preferred};
 
 /// Searches for a test of a kind for a path and a transition, on a scope that has begun with these and has entered the path's pins.
 /// The answer is a test, a tree of cases that refutes the conditions with at most so many splits as the budget, or a tree that spent
@@ -56,9 +55,7 @@ pub fn search<S: Setting>(
     ensures restored { IsRestored (standing scope.old) (standing scope.new) }
 {
     let mut desk = Desk::new(alloc, scope.net())?;
-    let found = search_at(alloc, scope, &mut desk, path, dir, kind, budget);
-    drop(desk);
-    found
+    search_at(alloc, scope, &mut desk, path, dir, kind, budget)
 }
 
 /// The same at a desk that was made for the scope's netlist: but for the vectors of a test it costs the cone of the path's end, and not
@@ -96,18 +93,7 @@ pub fn search_at<S: Setting>(
     let mark = scope.mark();
     let ended = find(alloc, scope, &task, desk);
     scope.back_to(mark);
-    let found = ended?;
-    desk.justifier.learn(kind, is_refuted(&found));
-    let again = propose_again(alloc, scope, &task, desk, &found)?;
-    match again {
-        Some(pair) => Ok(Found::Test(pair)),
-        None => Ok(found),
-    }
-}
-
-// Whether a search ended in a refutation.
-fn is_refuted(found: &Found) -> bool {
-    matches!(found, Found::Refuted(_))
+    conclude(alloc, scope, &task, desk, ended)
 }
 
 // The same, and leaves what was assumed.
@@ -128,15 +114,9 @@ fn find<S: Setting>(
     ensures counted { IfOk result (λ found. CountsConflicts task.now.budget found (standing scope.old) (standing scope.new)) }
 {
     desk.cone.set_end(scope.net(), scope.last_line());
-    let proposed = propose(alloc, scope, task, desk)?;
-    if let Some(pair) = proposed {
-        return Ok(Found::Test(pair));
-    }
-    let mut growth = Growth::new(alloc, scope.mark(), task.path.source())?;
-    let test = grow(alloc, scope, task, desk, &mut growth)?;
-    match test {
+    match propose(alloc, scope, task, desk)? {
         Some(pair) => Ok(Found::Test(pair)),
-        None => Ok(end(growth)),
+        None => split_cases(alloc, scope, task, desk),
     }
 }
 
@@ -165,8 +145,26 @@ fn propose<S: Setting>(
     justify_lines(alloc, scope, task, desk, Effort::Little)
 }
 
-// A test that is found by more decisions where the budget of a nonrobust search was spent. A robust one that is not found costs its
-// fault the better verdict alone, and is not looked for again.
+// What comes of a search in the end: what it found, or a test that is found where its budget was spent.
+fn conclude<S: Setting>(
+    alloc: Global,
+    scope: &Scope<FourStates, S>,
+    task: &Task,
+    desk: &mut Desk,
+    ended: Result<Found, OutOfMemory>,
+) -> Result<Found, OutOfMemory>
+    requires prefix { IsPrefix (standing scope.now).net task.now.path.now }
+    requires desk { IsDesk (standing scope.now).net task.now.path.now desk.old }
+    ensures desk { IsDesk (standing scope.now).net task.now.path.now desk.new }
+    ensures found { IfOk result (IsOutcomeOf (standing scope.now).net (task_target task.now) ended) }
+{
+    let found = ended?;
+    let again = propose_again(alloc, scope, task, desk, &found);
+    or_test(found, again)
+}
+
+// Learns from what was found; and a test that is found by more decisions where the budget of a nonrobust search was spent. A robust one
+// that is not found costs its fault the better verdict alone, and is not looked for again.
 fn propose_again<S: Setting>(
     alloc: Global,
     scope: &Scope<FourStates, S>,
@@ -179,7 +177,8 @@ fn propose_again<S: Setting>(
     ensures desk { IsDesk (standing scope.now).net task.now.path.now desk.new }
     ensures test { IfOk result (λ pair. IfSome pair (IsFitTest (standing scope.now).net (task_target task.now))) }
 {
-    if task.kind == Kind::Nonrobust && matches!(found, Found::Spent(_)) {
+    desk.justifier.learn(task.kind, found.is_refuted());
+    if task.kind == Kind::Nonrobust && found.is_spent() {
         justify_lines(alloc, scope, task, desk, Effort::Much)
     } else {
         Ok(None)
@@ -216,6 +215,28 @@ fn justify_lines<S: Setting>(
         desk.states.as_mut_slice(),
     );
     judge_states(alloc, scope, task, desk)
+}
+
+// Grows a tree of cases from its root, until a test is found or the tree is whole.
+fn split_cases<S: Setting>(
+    alloc: Global,
+    scope: &mut Scope<FourStates, S>,
+    task: &Task,
+    desk: &mut Desk,
+) -> Result<Found, OutOfMemory>
+    requires prefix { IsPrefix (standing scope.old).net task.now.path.now }
+    requires start { IsStart (task_target task.now) (standing scope.old) }
+    requires left_open { IsOpenIn four_states (standing scope.old) }
+    requires budget { task.now.budget ≤ MOST_BUDGET }
+    requires desk { IsDesk (standing scope.old).net task.now.path.now desk.old }
+    ensures scope { IsSameScope scope.old scope.new }
+    ensures goes_on { SearchGoesOn task.now (standing scope.old) (standing scope.new) desk.new }
+    ensures found { IfOk result (IsFound (standing scope.old).net (standing scope.old).rules (task_target task.now) task.now.budget) }
+    ensures counted { IfOk result (λ found. CountsConflicts task.now.budget found (standing scope.old) (standing scope.new)) }
+{
+    let mut growth = Growth::new(alloc, scope.mark(), task.path.source())?;
+    let grown = grow(alloc, scope, task, desk, &mut growth);
+    answer(growth, grown)
 }
 
 // Visits place after place until a test is found, or no place is left.

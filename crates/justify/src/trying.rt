@@ -5,23 +5,21 @@ ghost use Rattle.netlist.specs.Circuit.{line_count};
 ghost use Rattle.netlist.specs.Paths.{IsPrefix};
 ghost use Rattle.implication.specs.Scopes.{IsSameScope, standing};
 ghost use Rattle.implication.specs.Clients.{IsRestored};
-ghost use Rattle.justify.specs.ConeStates.{AreFourStates};
+ghost use Rattle.test_judging.specs.ConeStates.{AreFourStates};
 ghost use Rattle.justify.specs.Tasks.{task_target};
-ghost use Rattle.justify.specs.Nodes.{StandsAtNode};
+ghost use Rattle.tree_scopes.specs.Nodes.{StandsAtNode};
 ghost use Rattle.justify.specs.Desks.{IsDesk, HasSameStates, AreInSupport};
 ghost use Rattle.justify.specs.Tests.{IsFitTest};
 ghost use Rattle.justify.specs.Trying.{CanTry, HasLeastLabel, AreTriedIn, HasLeast, FailsAtNode, IsTrialOf};
 
 use crate::desk::Desk;
-use crate::judging::{Judgement, judge};
-use crate::least_states::least;
-use crate::read_states::{read_test, take_least};
 use crate::task::Task;
 use crate::trial::{Tried, closes};
 use implication::{Scope, Setting};
 use pd_base::{LineId, OutOfMemory, Pair};
 use state_sets::{FourStates, State};
 use std::alloc::Global;
+use test_judging::{Judgement, judge, least, read_test, take_least};
 
 // Tries the node at which the scope stands. A test is the answer; else there is none, the node's trial has failed, and a conflict was
 // counted. The scope is afterwards as before, also where memory runs out, which is the one error; and the desk still serves.

@@ -31,7 +31,7 @@ use Rattle.prefix_sensitize.specs.AlongPaths.{ClosesFrom, IsAtPin, LeadsAlong}
 use Rattle.prefix_sensitize.specs.Entering.{IsSameBeginning}
 use Rattle.prefix_sensitize.specs.PathOrder.{ShareSteps}
 use Rattle.prefix_sensitize.proofs.RoutePrefixes.{shorter_prefix}
-use Rattle.prefix_sensitize.proofs.Told.{gate_told}
+use Rattle.tree_scopes.proofs.Told.{gate_told}
 
 -- the pins of entries that are all pins
 pins_of_entered : (steps : List PinRef) → entered_pins (map Entered steps) ≡ steps

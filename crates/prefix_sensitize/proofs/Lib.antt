@@ -5,7 +5,6 @@ mod PathOrderShares
 mod PathOrderSteps
 pub mod Prefixes
 mod EndLines
-mod Told
 mod AlongPaths
 mod Descents
 mod RoutePrefixes
@@ -26,7 +25,6 @@ mod GoodRuns
 mod LawfulRuns
 mod ListedPaths
 mod Naming
-mod Filling
 mod Renumbering
 mod Rows
 mod BothKinds

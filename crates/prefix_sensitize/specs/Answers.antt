@@ -7,7 +7,8 @@ use Rattle.pd_base.specs.declared.test.Test.{Test}
 use Rattle.pd_base.specs.declared.fault.Direction.{Direction}
 use Rattle.pd_base.specs.declared.fault.Kind.{Kind}
 use Rattle.pd_base.specs.declared.fault.Kind.TheVariants as kinds
-use Rattle.netlist.specs.Circuit.{Circuit, source_count, line_count, observed_lines}
+use Rattle.netlist.specs.Circuit.{Circuit, source_count, observed_lines}
+use Rattle.test_judging.specs.Judges.{IsJudgeOf}
 use Rattle.runs.specs.declared.run.Proof.{Proof}
 use Rattle.runs.specs.declared.run.Verdict.{Verdict}
 use Rattle.runs.specs.declared.run.Verdict.TheVariants.{Robust, Nonrobust, Untestable, Aborted}
@@ -92,9 +93,9 @@ named_in written = record { tests = length written.tests; proofs = length writte
 abbrev pub written_by : Writer → Written
 written_by writer = record { tests = writer.tests.items; cited = writer.numbering.cited }
 
--- the writer has room for the circuit, and gives numbers to the proofs of these searches
+-- the writer judges pairs for the circuit, and gives numbers to the proofs of these searches
 pub record IsWriterFor (c : Circuit) (searches : Searches) (writer : Writer) : Type 0 where
-  pub room : writer.scratch ≡ line_count c
+  pub judge : IsJudgeOf c writer.judge
   pub found : writer.found.items ≡ searches.proofs
   pub numbers : writer.numbering.found ≡ length searches.proofs
 

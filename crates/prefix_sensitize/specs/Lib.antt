@@ -13,5 +13,4 @@ pub mod Searches
 pub mod Numbering
 pub mod Answers
 pub mod Listed
-pub mod Expected
 pub mod Readiness

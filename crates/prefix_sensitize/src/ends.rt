@@ -1,11 +1,12 @@
 // The last lines of the listed paths, within whose fan-in all searches stay.
 ghost use Rattle.std.specs.Prelude.{◌≡◌, IfOk, All};
-ghost use Rattle.netlist.specs.Paths.{IsPath, IsPrefix, end_of};
+ghost use Rattle.netlist.specs.Paths.{IsPath};
 ghost use Rattle.prefix_sensitize.specs.Ends.{ends_of};
 
 use netlist::Netlist;
 use pd_base::{LineId, OutOfMemory, Path};
 use std::alloc::Global;
+use test_judging::end_of;
 
 // The last line of each path.
 pub(crate) fn ends_of(
@@ -21,15 +22,4 @@ pub(crate) fn ends_of(
         ends.push(end_of(net, path))?;
     }
     Ok(ends)
-}
-
-// The last line of a path.
-fn end_of(net: &Netlist, path: &Path) -> LineId
-    requires { IsPrefix net.now path.now }
-    ensures { result ≡ record { 0 = end_of net.now path.now } }
-{
-    match path.steps() {
-        [] => path.source(),
-        [_front @ .., step] => net.line_of(step.gate),
-    }
 }

@@ -8,7 +8,6 @@ mod all_outcomes;
 mod course;
 mod descent;
 mod ends;
-mod expected;
 mod listing;
 mod numbering;
 mod outcome;

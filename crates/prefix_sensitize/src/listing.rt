@@ -10,7 +10,6 @@ ghost use Rattle.prefix_sensitize.specs.Listed.{AreAllOutcomes, ArePathsAnswered
 ghost use Rattle.prefix_sensitize.specs.Searches.{AreBothOutcomesFrom, AreFaultOutcomes, AreSearches, Searches};
 
 use crate::all_outcomes::{AllOutcomes, BothOutcomes, FaultOutcomes};
-use crate::expected::with_expected_bits;
 use crate::verdicts::Writer;
 use delay_annotation::Delays;
 use netlist::Netlist;
@@ -18,6 +17,7 @@ use path_model::length;
 use pd_base::{Direction, Items, OutOfMemory, Path, Rules};
 use runs::{ListedPath, Run};
 use std::alloc::Global;
+use test_judging::with_expected_bits;
 
 /// The run that these searches make: each listed path with its length and a verdict for each direction. A proof gets its number where
 /// it is first cited, and one that nobody cites is left out.

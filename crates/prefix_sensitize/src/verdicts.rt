@@ -1,10 +1,11 @@
 // Gives the verdicts: each fault gets its test, or the numbers of the proofs that it needs, fault by fault in the order of the report.
 ghost use Rattle.std.specs.Prelude.{◌≡◌, ◌+◌, ◌-◌, ◌<◌, ◌^◌, ◌↔◌, [], length, IfOk, IsTrue, All};
 ghost use Rattle.pd_base.specs.Target.{target_of};
-ghost use Rattle.netlist.specs.Circuit.{line_count, source_count};
+ghost use Rattle.netlist.specs.Circuit.{source_count};
 ghost use Rattle.netlist.specs.Conditions.{Meets};
 ghost use Rattle.netlist.specs.Lawful.{IsCircuit};
 ghost use Rattle.netlist.specs.Paths.{IsPrefix};
+ghost use Rattle.test_judging.specs.Judges.{IsJudgeOf};
 ghost use Rattle.good_runs.specs.Faults.{HasProof};
 ghost use Rattle.prefix_sensitize.specs.Outcomes.{IsOutcome, IsTestPair};
 ghost use Rattle.prefix_sensitize.specs.Searches.{AreFaultOutcomes, AreSearches, Searches};
@@ -15,16 +16,16 @@ use crate::all_outcomes::FaultOutcomes;
 use crate::numbering::{Numbering, cited_proofs};
 use crate::outcome::Outcome;
 use netlist::Netlist;
-use path_model::{Scratch, meets};
 use pd_base::{Direction, Items, Kind, OutOfMemory, Pair, Path, Test};
 use runs::{Proof, Verdict};
 use std::alloc::Global;
+use test_judging::ConeJudge;
 
 /// What is written of a run so far, and the proofs that were found.
 #[derive(Drop)]
 pub(crate) struct Writer {
     alloc: Global,
-    scratch: Scratch,
+    judge: ConeJudge,
     /// The proofs, in the order of finding.
     pub(crate) found: Vec<Proof>,
     /// The numbers of those that were cited.
@@ -41,17 +42,19 @@ impl Writer {
         found: Vec<Proof>,
     ) -> Result<Writer, OutOfMemory>
         ensures nothing { IfOk result (λ writer. written_by writer ≡ record { tests = []; cited = [] }) }
-        ensures room { IfOk result (λ writer. writer.scratch ≡ line_count net.now) }
+        ensures judge { IfOk result (λ writer. IsJudgeOf net.now writer.judge) }
         ensures found { IfOk result (λ writer. writer.found ≡ found) }
         ensures numbers { IfOk result (λ writer. writer.numbering.found ≡ length found.items) }
         ensures circuit { IfOk result (λ _. IsCircuit net.now) }
     {
         // a netlist is a circuit
         let _ = net.sources();
+        let numbering = Numbering::new(alloc, found.len())?;
+        let judge = ConeJudge::new(alloc, net)?;
         Ok(Writer {
             alloc,
-            scratch: Scratch::new(alloc, net)?,
-            numbering: Numbering::new(alloc, found.len())?,
+            judge,
+            numbering,
             found,
             tests: Vec::new(alloc),
         })
@@ -138,7 +141,7 @@ impl Writer {
         // a netlist is a circuit
         let _ = net.sources();
         let refuted = !self.found[proof].spent;
-        if is_robust(net, path, dir, refuted, &pair, &mut self.scratch) {
+        if is_robust(net, path, dir, refuted, &pair, &mut self.judge) {
             let test = add_test(self.alloc, &mut self.tests, number, dir, Kind::Robust, pair)?;
             return Ok(Verdict::Robust { test });
         }
@@ -163,11 +166,12 @@ impl Writer {
     {
         let Writer {
             alloc,
-            scratch: _,
+            judge,
             found,
             numbering,
             tests,
         } = self;
+        drop(judge);
         let proofs = cited_proofs(alloc, numbering.cited(), found)?;
         Ok((tests, proofs))
     }
@@ -181,19 +185,19 @@ fn is_robust(
     dir: Direction,
     refuted: bool,
     pair: &Pair,
-    scratch: &mut Scratch,
+    judge: &mut ConeJudge,
 ) -> bool
     requires prefix { IsPrefix net.now path.now }
     requires refuted { IsTrue refuted → ¬ Meets net.now (target_of path.now dir Kind.Robust) pair.now }
     requires bits { length pair.now.first ≡ source_count net.now }
-    requires scratch { scratch.old ≡ line_count net.now }
+    requires judge { IsJudgeOf net.now judge.old }
     ensures robust { IsTrue result ↔ Meets net.now (target_of path.now dir Kind.Robust) pair.now }
-    ensures scratch { scratch.new ≡ scratch.old }
+    ensures judge { IsJudgeOf net.now judge.new }
 {
     if refuted {
         return false;
     }
-    meets(net, path, dir, Kind::Robust, pair, scratch)
+    judge.meets(net, path, dir, Kind::Robust, pair)
 }
 
 // Adds a test under the next number. It expects no bits yet.

@@ -1,7 +1,5 @@
-pub mod States
-pub mod Narrows
-pub mod Walking
-pub mod Told
-pub mod Checking
-pub mod Ends
-pub mod Trying
+mod Checking
+mod Roots
+mod Spending
+mod Trying
+mod Walking

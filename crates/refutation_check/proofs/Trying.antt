@@ -1,128 +1,159 @@
--- The trial of a node: sources are cut to their least states, source by source, and undoing leads back.
-use Rattle.std.proofs.Common.{◌≡◌, ◌≢◌, ℕ, ◌+◌, ◌<◌, ◌^◌, ◌↔◌, ⊎_elim, Bool, false, List, None, length, refl, sym, ap, ◌∙◌, subst, arith}
-use Rattle.std.specs.Prelude.{IsTrue, slice_index_or}
-use Rattle.std.proofs.lemmas.Bool.{cases_eq, false≢true}
-use Rattle.std.proofs.lemmas.List.{get_or-set_same, get_or-set_other}
-use Rattle.pd_base.specs.declared.ids.PinRef.{PinRef}
-use Rattle.pd_base.specs.declared.fault.Kind.{Kind}
-use Rattle.netlist.specs.Circuit.{Circuit}
+-- The trial of a node at which a scope stands without a conflict: a pair of vectors that has at each source the least state of the hull, of
+-- which the judgement within the cone of the path's end tells whether it meets the conditions. Its states lie in the hull where it does,
+-- so that the trial does not close; and where it does not, the trial closes.
+use Rattle.std.proofs.Common.{◌≡◌, ℕ, ◌<◌, ◌↔◌, true, false, List, [], get_or, None, refl, sym, subst, arith}
+use Rattle.std.specs.List.{All, Contains}
+use Rattle.std.specs.Prelude.{IsTrue}
+use Rattle.std.proofs.lemmas.Bool.{false≢true}
+use Rattle.std.proofs.lemmas.List.Elements.{Contains-get_or}
+use Rattle.pd_base.specs.Target.{Target}
+use Rattle.pd_base.specs.Pair.{Vectors}
+use Rattle.pd_base.specs.declared.ids.LineId.{LineId}
+use Rattle.netlist.specs.Circuit.{Circuit, source_count, line_count}
+use Rattle.netlist.specs.Conditions.{Meets}
+use Rattle.netlist.specs.Lawful.{IsCircuit}
+use Rattle.netlist.specs.Paths.{IsPrefix, end_of}
+use Rattle.netlist.specs.Pins.{IsInFanIn}
+use Rattle.netlist.specs.Pins.IsInFanIn.{end_itself}
+use Rattle.path_laws.proofs.StepCounts.{line_after_in_circuit}
 use Rattle.state_sets.specs.declared.state.State.{State}
 use Rattle.state_sets.specs.declared.state.StateSet.{StateSet}
-use Rattle.state_sets.specs.States.{Has, AreWithin, both_sets, no_states}
 use Rattle.state_sets.specs.FourStates.{four_states}
+use Rattle.state_sets.specs.LineStates.{state_under}
 use Rattle.state_sets.specs.Labellings.{label_at}
-use Rattle.state_sets.specs.Starts.{IsLeast}
-use Rattle.state_sets.specs.Hulls.{HasNoEmptySet}
-use Rattle.hulls.proofs.Sets.{has_both, both_have, has_some, some_not_none}
-use Rattle.hulls.specs.Boards.{OnBoard}
-use Rattle.hulls.specs.Settling.{MaySettle, IsShrunk, IsCutTo}
-use Rattle.hulls.proofs.Changing.{shrunk_none, shrunk_on, some_left}
-use Rattle.hulls.proofs.Narrowed.{awake_of_rest, rests_all}
-use Rattle.refutation_check.specs.Trials.{IsQuiet, IsTried, IsLeastAlone}
+use Rattle.state_sets.specs.Starts.{IsInHalf, IsLeast}
+use Rattle.state_sets.specs.Hulls.{IsNarrowingOf, HasNoEmptySet}
+use Rattle.state_laws.specs.declared.half.Half.{Half}
+use Rattle.state_laws.specs.Nodes.{MayBe, IsNodeHull, ClosesAtNode}
+use Rattle.state_laws.specs.Steadied.{KeepsRules}
+use Rattle.state_laws.proofs.FanIns.{fan_in_in_circuit}
+use Rattle.state_laws.proofs.Hulls.{hull_once}
+use Rattle.state_laws.proofs.Pairs.{kept_at_node}
+use Rattle.tree_laws.specs.Spent.{IsOpen}
+use Rattle.tree_laws.proofs.Trials.{TakesLeast, trial_stays_open}
+use Rattle.tree_laws.proofs.Trying.{open_has_no_empty_set, open_if_no_test}
+use Rattle.good_runs.proofs.LeastPairs.{least_pair, takes_least}
+use Rattle.implication.specs.Standing.{Standing, IsLabels, IsTold, TellsLabels}
+use Rattle.tree_scopes.specs.Nodes.{beginning_of}
+use Rattle.tree_scopes.proofs.Labels.{labels_under}
+use Rattle.tree_scopes.proofs.Nodes.{hull_at_node, closes_under}
+use Rattle.test_judging.specs.ConeStates.{state_in, HasSourceStates, AreAllowed}
+use Rattle.test_judging.specs.Judged.{IsJudgedAt}
+use Rattle.test_judging.specs.KeptCones.{AreConeSources}
+use Rattle.test_judging.specs.LeastStates.{IsTakenOf}
+use Rattle.test_judging.proofs.Taking.{least_is_taken}
+use Rattle.test_judging.specs.declared.judging.Judgement.TheVariants.{IsTest}
+use Rattle.refutation_check.specs.Walks.{IsScopeAt, IsNodeBy, IsOpenNode}
 
-module _ (line : ℕ) (old new : OnBoard) (within : line < length old.labels) (set least : StateSet) (is : set ≡ label_at old.labels line)
-    (exactly : (state : State) → Has 4 least state ↔ IsLeast 4 set state) (c : Circuit) (cut : IsCutTo 4 c None line least old new) where
-  label_new : label_at new.labels line ≡ both_sets (label_at old.labels line) least
-  label_new = ap (λ (l : List StateSet). label_at l line) cut.labels
-      ∙ get_or-set_same old.labels line (both_sets (label_at old.labels line) least) no_states within
+-- the sources of a cone are lines
+pub sources_within : (c : Circuit) (end : ℕ) (sources seen : List LineId) → seen ≡ sources → AreConeSources c end sources
+    → (n : ℕ) → n ≡ line_count c → All (λ source. source.0 < n) seen
+sources_within c end sources seen same are n is k d inside =
+    let P : List LineId → Type 0 = λ list. Contains list (get_or seen k d) in
+    let found = (are.exactly (get_or seen k d).0).0 (subst P same (Contains-get_or seen k d inside)) in
+    let within = found.0 in omega (arith, within, is)
 
-  pub least_alone : IsLeastAlone line old.labels new.labels
-  least_alone = record {
-    here = λ state. (
-      (λ has. subst (λ (s : StateSet). IsLeast 4 s state) is
-          ((exactly state).0 (both_have 4 (label_at old.labels line) least state (label_at new.labels line)
-          (ap (λ (s : StateSet). s.0) label_new) has).1)),
-      (λ is_least. has_both 4 (label_at old.labels line) least state (label_at new.labels line) (ap (λ (s : StateSet). s.0) label_new)
-          is_least.has ((exactly state).1 (subst (λ (s : StateSet). IsLeast 4 s state) (sym is) is_least))),
-    );
-    others = λ other away. ap (λ (l : List StateSet). label_at l other) cut.labels
-        ∙ get_or-set_other old.labels line other (both_sets (label_at old.labels line) least) no_states away;
-  }
+-- a node at which a scope stands without a conflict is open, and does not close
+pub node_of : (target : Target) (halves : List Half) (standing : Standing) → IsScopeAt target halves standing → standing.conflict ≡ None
+    → IsOpenNode target halves standing
+node_of target halves standing at free = subst (IsNodeBy target halves standing) free at.is_node
 
-  pub least_left : HasNoEmptySet c old.labels → least.0 < 2 ^ 4 → least ≢ no_states → HasNoEmptySet c new.labels
-  least_left some small not_none =
-      let found = has_some 4 least (omega arith) small not_none in
-      some_left c None 4 line least old new cut some
-      (some_not_none 4 (label_at new.labels line) found.0
-      ((least_alone.here found.0).1 (subst (λ (s : StateSet). IsLeast 4 s found.0) is ((exactly found.0).0 found.1))))
+pub node_open : (target : Target) (halves : List Half) (standing : Standing) → IsOpenNode target halves standing
+    → ¬ ClosesAtNode standing.net standing.rules target halves
+node_open target halves standing node closes =
+    node.left_open (closes_under standing.net standing.rules target standing.assumptions node.entered halves node.allows closes)
 
--- before the first source
-tried_none : (cone : List Bool) (line : ℕ) (set : StateSet) → IsTried 0 cone line set set
-tried_none cone line set = record { source = λ tried. absurd (let t = tried.0 in omega arith); other = λ not. refl }
+-- the hull there, as the scope has it
+pub hull_of : (target : Target) (halves : List Half) (standing : Standing) → IsScopeAt target halves standing → IsOpenNode target halves standing
+    → (hull : List StateSet) → IsLabels four_states standing hull → IsNodeHull standing.net standing.rules target halves hull
+hull_of target halves standing at node hull labels =
+    hull_at_node standing.net standing.rules target standing.assumptions node.entered halves node.allows hull
+    (labels_under four_states standing (beginning_of target) hull at.beginning labels)
 
-module _ (source : ℕ) (cone : List Bool) (old mid new : List StateSet) where
-  -- a source in the cone more
-  tried_more : IsTrue (slice_index_or cone source false) → IsLeastAlone source mid new
-      → ((line : ℕ) → IsTried source cone line (label_at old line) (label_at mid line))
-      → (line : ℕ) → IsTried (source + 1) cone line (label_at old line) (label_at new line)
-  tried_more marked least before line = ⊎_elim
-      (λ (here : line ≡ source). subst (λ (n : ℕ). IsTried (source + 1) cone n (label_at old n) (label_at new n)) (sym here) (record {
-        source = λ tried state.
-            subst (λ (s : StateSet). Has 4 (label_at new source) state ↔ IsLeast 4 s state)
-            ((before source).other (λ earlier. let e = earlier.0 in omega arith)) (least.here state);
-        other = λ not. absurd (not (omega arith, marked));
-      }))
-      (λ (away : line ≢ source). subst (IsTried (source + 1) cone line (label_at old line)) (sym (least.others line away)) (record {
-        source = λ tried. (before line).source ((let t = tried.0 in omega arith), tried.1);
-        other = λ not. (before line).other (λ tried. not ((let t = tried.0 in omega arith), tried.1));
-      }))
-      (cases_eq line source)
+module _ (target : Target) (halves : List Half) (standing : Standing) (at : IsScopeAt target halves standing) (free : standing.conflict ≡ None)
+    (circuit : IsCircuit standing.net) (is : IsPrefix standing.net target.path) (hull : List StateSet)
+    (labels : IsLabels four_states standing hull) where
+  node : IsOpenNode target halves standing
+  node = node_of target halves standing at free
 
-  -- and one outside
-  tried_skip : slice_index_or cone source false ≡ false
-      → ((line : ℕ) → IsTried source cone line (label_at old line) (label_at mid line))
-      → (line : ℕ) → IsTried (source + 1) cone line (label_at old line) (label_at mid line)
-  tried_skip unmarked before line = ⊎_elim
-      (λ (here : line ≡ source). subst (λ (n : ℕ). IsTried (source + 1) cone n (label_at old n) (label_at mid n)) (sym here) (record {
-        source = λ tried. absurd (false≢true (sym unmarked ∙ tried.1));
-        other = λ not. (before source).other (λ earlier. let e = earlier.0 in omega arith);
-      }))
-      (λ (away : line ≢ source). record {
-        source = λ tried. (before line).source ((let t = tried.0 in omega arith), tried.1);
-        other = λ not. (before line).other (λ tried. not ((let t = tried.0 in omega arith), tried.1));
-      })
-      (cases_eq line source)
+  is_hull : IsNodeHull standing.net standing.rules target halves hull
+  is_hull = hull_of target halves standing at node hull labels
 
--- the sources below this one were cut
-pub record TriedUpTo (c : Circuit) (cone : List Bool) (source : ℕ) (old new : OnBoard) : Type 0 where
-  pub tried : (line : ℕ) → IsTried source cone line (label_at old.labels line) (label_at new.labels line)
-  pub shrunk : IsShrunk 4 c None old new
-  pub some : HasNoEmptySet c new.labels
+  none_empty : HasNoEmptySet standing.net hull
+  none_empty =
+      open_has_no_empty_set standing.net standing.rules target halves hull is_hull (node_open target halves standing node)
 
-pub up_to_none : (c : Circuit) (cone : List Bool) (board : OnBoard) → AreWithin 4 board.labels → HasNoEmptySet c board.labels
-    → TriedUpTo c cone 0 board board
-up_to_none c cone board within some = record {
-  tried = λ line. tried_none cone line (label_at board.labels line);
-  shrunk = shrunk_none c None 4 board within;
-  some = some;
-}
+  -- the pair that has the least state at each source
+  abbrev tried : Vectors
+  tried = least_pair standing.net hull
 
-module _ (c : Circuit) (cone : List Bool) (source : ℕ) (old mid : OnBoard) (before : TriedUpTo c cone source old mid) where
-  pub up_to_more : IsTrue (slice_index_or cone source false) → (new : OnBoard) → IsLeastAlone source mid.labels new.labels
-      → IsShrunk 4 c None mid new → HasNoEmptySet c new.labels → TriedUpTo c cone (source + 1) old new
-  up_to_more marked new least shrunk some = record {
-    tried = tried_more source cone old.labels mid.labels new.labels marked least before.tried;
-    shrunk = shrunk_on c None 4 old mid new before.shrunk shrunk;
-    some = some;
-  }
+  least_at : (source : ℕ) → source < source_count standing.net → IsLeast 4 (label_at hull source) (state_under standing.net tried source)
+  least_at source within =
+      takes_least standing.net hull (record { source = record { 0 = source }; steps = [] }) is_hull.rest.labelling none_empty source
+      (record { is_source = within; in_fan_in = end_itself })
 
-  pub up_to_skip : slice_index_or cone source false ≡ false → TriedUpTo c cone (source + 1) old mid
-  up_to_skip unmarked = record {
-    tried = tried_skip source cone old.labels mid.labels mid.labels unmarked before.tried;
-    shrunk = before.shrunk;
-    some = before.some;
-  }
+  takes : TakesLeast standing.net target.path hull tried
+  takes source support = least_at source support.is_source
 
--- a board that had settled is ready to be settled again
-pub ready_again : (c : Circuit) (kind : Kind) (steps : List PinRef) (old mid : OnBoard) → IsQuiet c kind steps old
-    → IsShrunk 4 c None old mid → HasNoEmptySet c mid.labels → MaySettle four_states c kind steps mid
-ready_again c kind steps old mid quiet shrunk some = record {
-  of = record {
-    lines = shrunk.lines ∙ quiet.ready.of.lines;
-    gates = ap (length {A = Bool}) shrunk.inside ∙ quiet.ready.of.gates;
-  };
-  labelling = record { one_each = shrunk.lines ∙ quiet.ready.of.lines; within = shrunk.within };
-  some = some;
-  awake = awake_of_rest four_states c kind steps old mid shrunk.inside shrunk.wakes
-      (rests_all four_states c kind steps old quiet.rests quiet.ready.awake);
-}
+  -- its states are such as lines may be in
+  keeps : KeepsRules standing.net standing.rules target.path.source.0 tried
+  keeps other within differs =
+      (is_hull.rest.among other (state_under standing.net tried other) (least_at other within).has).start.other within differs
+
+  lie : All (λ half. IsInHalf four_states half.steadiness half.second (state_under standing.net tried half.source)) halves
+  lie k d inside =
+      let half = get_or halves k d in
+      (is_hull.rest.among half.source (state_under standing.net tried half.source)
+      (least_at half.source (at.on_sources k d inside)).has).cut k d inside refl
+
+  -- where it meets the conditions, the node is not open
+  met_not_open : Meets standing.net target tried → (other : List StateSet) → IsOpen standing.net standing.rules target halves other → ⊥
+  met_not_open meets other open_there =
+      let same : hull ≡ other =
+      hull_once four_states standing.net (IsNarrowingOf standing.net target.kind target.path.steps)
+      (MayBe four_states standing.net standing.rules target halves) hull is_hull other open_there.is_hull in
+      trial_stays_open standing.net circuit standing.rules target is halves hull tried takes meets keeps lie
+      (subst (IsOpen standing.net standing.rules target halves) (sym same) open_there).trial
+
+  -- the judgement of the pairs that have the least states of the scope's labels is one of this pair
+  module _ (answers : List StateSet) (tells : TellsLabels 4 standing hull answers)
+      (told : (line : ℕ) → IsInFanIn standing.net (end_of standing.net target.path) line → IsTold standing line)
+      (states : List State)
+      (least : (source : ℕ) → source < source_count standing.net → IsInFanIn standing.net (end_of standing.net target.path) source
+      → IsTakenOf (label_at answers source) (state_in states source)) where
+    has_states : HasSourceStates standing.net (end_of standing.net target.path) states tried
+    has_states source within further =
+        let inside : source < line_count standing.net = omega (arith, within) in
+        let seen : label_at answers source ≡ label_at hull source = (tells source inside).told (told source further) in
+        let T : StateSet → Type 0 = λ set. IsTakenOf set (state_in states source) in
+        least_is_taken (label_at hull source) (state_under standing.net tried source) (state_in states source) (least_at source within)
+        (subst T seen (least source within further))
+
+    -- where it meets the conditions, its states lie in the labels
+    allowed : Meets standing.net target tried → AreAllowed standing.net (end_of standing.net target.path) answers tried
+    allowed meets line further =
+        let within = is.source in
+        let inside : line < line_count standing.net =
+        fan_in_in_circuit standing.net (end_of standing.net target.path) circuit.reads_lines
+        (line_after_in_circuit standing.net circuit target.path.source.0 target.path.steps (omega (arith, within)) is.connects) line further in
+        (tells line inside).contains (state_under standing.net tried line)
+        (kept_at_node standing.net circuit standing.rules target is tried meets keeps halves lie hull is_hull line inside)
+
+    pub test_not_open : IsJudgedAt standing.net target answers states IsTest
+        → IsTrue false ↔ ((other : List StateSet) × IsOpen standing.net standing.rules target halves other)
+    test_not_open judged = (
+      λ never. absurd (false≢true never),
+      λ open_there. absurd (met_not_open (judged tried has_states).1 open_there.0 open_there.1),
+    )
+
+    pub failed_open : ((pair : Vectors) → HasSourceStates standing.net (end_of standing.net target.path) states pair
+        → AreAllowed standing.net (end_of standing.net target.path) answers pair → ¬ Meets standing.net target pair)
+        → IsTrue true ↔ ((other : List StateSet) × IsOpen standing.net standing.rules target halves other)
+    failed_open judged = (
+      λ yes. (
+        hull,
+        open_if_no_test standing.net circuit standing.rules target is halves hull is_hull tried takes
+            (λ meets. judged tried has_states (allowed meets) meets) none_empty,
+      ),
+      λ open_there. refl,
+    )

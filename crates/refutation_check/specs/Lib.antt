@@ -1,4 +1,5 @@
 pub mod Walks
+pub mod Entering
 pub mod Trials
-pub mod Judged
+pub mod Judges
 pub mod Answers

@@ -1,142 +1,111 @@
-// Whether a tree shows that a budget was spent.
-ghost use Rattle.std.specs.Prelude.{◌≡◌, ◌<◌, ◌↔◌, [], List, length, Contains, IfOk, IsTrue};
-ghost use Rattle.pd_base.specs.Target.{Target, target_of};
-ghost use Rattle.pd_base.specs.declared.rules.Rules.{Rules};
-ghost use Rattle.pd_base.specs.declared.fault.Direction.{Direction};
-ghost use Rattle.netlist.specs.Circuit.{line_count};
+// Whether a tree shows that a budget was spent: what is asked of each node, on a scope that walks over it. How many splits it has is asked
+// in judge.rt.
+ghost use Rattle.std.specs.Prelude.{◌≡◌, ◌↔◌, [], List, None, IfOk, IsTrue};
 ghost use Rattle.netlist.specs.Paths.{IsPrefix, end_of};
 ghost use Rattle.state_laws.specs.declared.half.Half.{Half};
-ghost use Rattle.hulls.specs.Conditions.{IsEnteredOn};
-ghost use Rattle.tree_laws.specs.Spent.{IsSpent};
-ghost use Rattle.tree_laws.specs.Bounds.{IsBelowBound};
+ghost use Rattle.implication.specs.Scopes.{IsSameScope, standing};
+ghost use Rattle.implication.specs.Standing.{IsTold};
+ghost use Rattle.implication.specs.declared.assumption.Origin.TheVariants.{Begun};
 ghost use Rattle.tree_laws.specs.Faults.{IsRightInSpent};
-ghost use Rattle.refutation_check.specs.Walks.{IsWalkUnder, IsNearer};
-ghost use Rattle.refutation_check.specs.Judged.{IsNode, MarksSupport};
-ghost use Rattle.refutation_check.specs.Answers.{TellsOfSpent};
+ghost use Rattle.tree_scopes.specs.Settings.{IsSameSetting};
+ghost use Rattle.refutation_check.specs.Answers.{TellsOfNodes, IsIdleOn};
+ghost use Rattle.refutation_check.specs.Trials.{asked_target, IsTrialRoomFor, IsTrialRoomAt};
+ghost use Rattle.refutation_check.specs.Walks.{IsScopeAt};
 
 use crate::TreeCheck;
-use crate::judging::{Split, is_due, is_open};
-use crate::walk::Walk;
-use hulls::{Conditions, NarrowScratch, enter_all, launch};
-use logic_values::support;
-use netlist::Netlist;
-use pd_base::{Direction, Kind, LineId, OutOfMemory, Path, Rules};
+use crate::asked::Asked;
+use crate::due::{Split, is_due};
+use crate::entering::enter_all;
+use crate::trial::{TrialRoom, is_open};
+use crate::walk::{Pending, pass};
+use implication::{Engine, Scope, Setting};
+use pd_base::OutOfMemory;
 use runs::{Node, Tree};
-use state_sets::Labels;
-use std::alloc::Global;
+use state_sets::FourStates;
+use test_judging::end_of;
 
-/// Whether a tree shows that a budget was spent on a path and a transition under the conditions of a kind of test, under these rules.
-/// No(0) where it has more or fewer splits than the budget, or no open leaf. Else No names the first node in preorder that is at
-/// fault: a closed leaf whose node does not close; an open leaf or a split whose node closes, or whose trial does not; a split on a
-/// source outside the support, or on one that has no state of some half in the hull. After Yes the budget is below four to the power
-/// of one less than the number of sources in the support, or below two to that power where the other sources are held steady. It fails only
-/// where memory runs out, of which it takes some bytes for each line and each gate, and for each half above a node.
-pub fn check_spent(
-    alloc: Global,
-    net: &Netlist,
-    rules: &Rules,
-    path: &Path,
-    dir: Direction,
-    kind: Kind,
-    budget: u32,
+// Whether each node of a tree is as a tree asks that spent its budget, on an engine on which no scope is open.
+pub(crate) fn spends<S: Setting>(
+    engine: &mut Engine<FourStates, S>,
+    pending: &mut Vec<Pending>,
+    room: &mut TrialRoom,
+    asked: &Asked,
     tree: &Tree,
 ) -> Result<TreeCheck, OutOfMemory>
-    requires { IsPrefix net.now path.now }
-    ensures tells { IfOk result (TellsOfSpent net.now rules.now (target_of path.now dir kind) budget tree.now) }
-    ensures exactly { IfOk result (λ check.
-        (check ≡ TreeCheck.Yes) ↔ IsSpent net.now rules.now (target_of path.now dir kind) budget tree.now) }
-    ensures bound { result ≡ Ok TreeCheck.Yes → IsBelowBound net.now rules.now path.now budget }
+    requires idle { engine.old.beginning ≡ None }
+    requires prefix { IsPrefix engine.old.net asked.now.path.now }
+    requires told { IsTold engine.old (end_of engine.old.net asked.now.path.now) }
+    requires room { IsTrialRoomFor engine.old.net room.old }
+    ensures idle { IsIdleOn engine.old engine.new }
+    ensures room { IsTrialRoomFor engine.old.net room.new }
+    ensures tells { IfOk result (TellsOfNodes (IsRightInSpent engine.old.net engine.old.rules (asked_target asked.now)) tree.now) }
 {
-    if tree.splits() != budget || !has_open(tree.nodes()) {
-        return Ok(TreeCheck::No(0));
-    }
-    let mut conditions = Conditions::new(alloc, net, kind)?;
-    enter_all(&mut conditions, net, path);
-    let cone = cone_of(alloc, net, path)?;
-    let mut labels = Labels::full(alloc, net)?;
-    launch(&mut labels, net, rules, path.source(), dir);
-    let mut scratch = NarrowScratch::new(alloc, net)?;
-    let mut walk = Walk::new(alloc, net, labels, &conditions, &mut scratch)?;
+    let path = asked.path;
+    let mut scope = Scope::begin(engine, path.source(), asked.dir, asked.kind);
+    enter_all(&mut scope, path);
+    let net = scope.net();
+    room.cone.set_end(net, end_of(net, path));
+    walk_spent(&mut scope, pending, room, asked, tree)
+}
+
+// The same on a scope that stands at the root.
+fn walk_spent<S: Setting>(
+    scope: &mut Scope<FourStates, S>,
+    pending: &mut Vec<Pending>,
+    room: &mut TrialRoom,
+    asked: &Asked,
+    tree: &Tree,
+) -> Result<TreeCheck, OutOfMemory>
+    requires begun { scope.old.origin ≡ Begun }
+    requires prefix { IsPrefix (standing scope.old).net asked.now.path.now }
+    requires told { IsTold (standing scope.old) (end_of (standing scope.old).net asked.now.path.now) }
+    requires root { IsScopeAt (asked_target asked.now) [] (standing scope.old) }
+    requires room { IsTrialRoomAt (standing scope.old).net asked.now.path.now room.old }
+    ensures scope { IsSameScope scope.old scope.new }
+    ensures setting { IsSameSetting (standing scope.old) (standing scope.new) }
+    ensures room { IsTrialRoomAt (standing scope.old).net asked.now.path.now room.new }
+    ensures tells { IfOk result (TellsOfNodes (IsRightInSpent (standing scope.old).net (standing scope.old).rules (asked_target asked.now)) tree.now) }
+{
+    pending.clear();
     for (place, node) in tree.nodes().iter().enumerate() {
-        if !is_right_at(
-            net,
-            &conditions,
-            cone.as_slice(),
-            *node,
-            &mut walk,
-            &mut scratch,
-        ) {
+        if !is_right_at(scope, asked, room, *node) {
             return Ok(TreeCheck::No(place as u32));
         }
-        walk.pass(net, *node)?;
+        pass(scope, pending, *node)?;
     }
     Ok(TreeCheck::Yes)
 }
 
-// Whether a node is as a spent tree asks. Where it is, the board of the walk then has its hull, or labels of which nothing is left.
-fn is_right_at(
-    net: &Netlist,
-    conditions: &Conditions,
-    cone: &[bool],
+// Whether a node is as a spent tree asks.
+fn is_right_at<S: Setting>(
+    scope: &Scope<FourStates, S>,
+    asked: &Asked,
+    room: &mut TrialRoom,
     node: Node,
-    walk: &mut Walk,
-    scratch: &mut NarrowScratch,
 ) -> bool
-    requires conditions { IsEnteredOn net.now conditions.now }
-    requires cone { length cone.now ≡ line_count net.now }
-    requires walk { IsWalkUnder net.now conditions.now.kind conditions.now.steps walk.old }
-    ensures nearer { IsNearer net.now conditions.now.kind conditions.now.steps walk.old walk.new }
-    ensures rests { IsTrue result → walk.new.board.waiting ≡ [] }
-    ensures right { (rules : Rules) (target : Target) (halves : List Half)
-        → IsNode net.now rules target conditions.now.kind conditions.now.steps halves walk.old
-        → MarksSupport net.now target.path cone.now → IsTrue result ↔ IsRightInSpent net.now rules target halves node }
+    requires prefix { IsPrefix (standing scope.now).net asked.now.path.now }
+    requires told { IsTold (standing scope.now) (end_of (standing scope.now).net asked.now.path.now) }
+    requires room { IsTrialRoomAt (standing scope.now).net asked.now.path.now room.old }
+    ensures room { IsTrialRoomAt (standing scope.now).net asked.now.path.now room.new }
+    ensures right { (halves : List Half) → IsScopeAt (asked_target asked.now) halves (standing scope.now)
+        → IsTrue result ↔ IsRightInSpent (standing scope.now).net (standing scope.now).rules (asked_target asked.now) halves node }
 {
     match node {
-        Node::Closed => walk.closes(net, conditions, scratch),
-        Node::Waiting => is_open(net, conditions, cone, walk, scratch),
+        Node::Closed => scope.conflict().is_some(),
+        Node::Waiting => scope.conflict().is_none() && is_open(scope, asked, room),
         Node::Value(source) => {
             let split = Split {
                 source,
                 steadiness: false,
             };
-            is_due(net, conditions, cone, walk, scratch, split)
+            is_due(scope, asked, room, split)
         }
         Node::Steadiness(source) => {
             let split = Split {
                 source,
                 steadiness: true,
             };
-            is_due(net, conditions, cone, walk, scratch, split)
+            is_due(scope, asked, room, split)
         }
-    }
-}
-
-// Whether some leaf is open.
-fn has_open(nodes: &[Node]) -> bool
-    ensures { IsTrue result ↔ Contains nodes.now Node.Waiting }
-{
-    nodes.contains(&Node::Waiting)
-}
-
-// Which lines stand in the transitive fan-in of a path's end, by line number.
-fn cone_of(alloc: Global, net: &Netlist, path: &Path) -> Result<Vec<bool>, OutOfMemory>
-    requires { IsPrefix net.now path.now }
-    ensures lines { IfOk result (λ cone. length cone.items ≡ line_count net.now) }
-    ensures exactly { IfOk result (λ cone. MarksSupport net.now path.now cone.items) }
-{
-    let mut cone = vec![in alloc; false; net.lines() as usize]?;
-    support(net, end_of(net, path), cone.as_mut_slice());
-    Ok(cone)
-}
-
-// The last line of a path.
-fn end_of(net: &Netlist, path: &Path) -> LineId
-    requires { IsPrefix net.now path.now }
-    ensures end { result.0 ≡ end_of net.now path.now }
-    ensures line { result.0 < line_count net.now }
-{
-    match path.steps().last() {
-        Some(step) => net.line_of(step.gate),
-        None => path.source(),
     }
 }

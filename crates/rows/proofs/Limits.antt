@@ -4,6 +4,7 @@ use Rattle.pd_base.specs.declared.limits.TheConstants.{MOST_BUDGET, MOST_PATHS}
 use Rattle.command_line.specs.declared.number.TheConstants.{MOST_DIGITS}
 use Rattle.command_line.specs.declared.reading.TheConstants.{DEFAULT_BUDGET, DEFAULT_PATHS, MOST_PRODUCT}
 use Rattle.command_line.specs.declared.stages.TheConstants.{MOST_STAGES as MOST_STAGES_ASKED, MOST_STAGES_DIGITS}
+use Rattle.command_line.specs.declared.time.TheConstants.{MOST_TIME, MOST_TIME_DIGITS}
 use Rattle.text_pieces.specs.declared.limits.TheConstants.{MOST_BYTES as MOST_CLAIM_BYTES}
 use Rattle.ladder.specs.declared.building.TheConstants.{MOST_STAGES as MOST_STAGES_BUILT}
 use Rattle.pd_io.specs.declared.named.TheConstants.{MOST_AT_ONCE}
@@ -15,9 +16,9 @@ use Rattle.delay_annotation.specs.declared.reading.TheConstants.{MOST_BYTES as M
 use Rattle.delay_replay.specs.declared.gate.TheConstants.{MOST_CHANGES}
 use Rattle.delay_replay.specs.declared.line_waves.TheConstants.{MOST_CHANGES_OF_ALL}
 use Rattle.delay_replay.specs.declared.wave.TheConstants.{LATEST_CHANGE}
-use Rattle.commands.specs.declared.judging.TheConstants.{INPUT_LIMIT}
+use Rattle.call_inputs.specs.declared.judging.TheConstants.{INPUT_LIMIT}
 use Rattle.commands.specs.declared.making.TheConstants.{LADDER_BUDGET, LADDER_PATHS}
-use Rattle.commands.specs.declared.sizes.TheConstants.{MOST_PATH_TEXT, MOST_TEST_TEXT, STEP_BYTES}
+use Rattle.call_inputs.specs.declared.sizes.TheConstants.{MOST_PATH_TEXT, MOST_TEST_TEXT, STEP_BYTES}
 
 -- of circuits
 most_lines : MOST_LINES ≡ 262144
@@ -89,6 +90,12 @@ default_paths = refl
 
 default_budget : DEFAULT_BUDGET ≡ 1000
 default_budget = refl
+
+most_time : MOST_TIME ≡ 9999999999
+most_time = refl
+
+most_time_digits : MOST_TIME_DIGITS ≡ 10
+most_time_digits = refl
 
 input_limit : INPUT_LIMIT ≡ 33554432
 input_limit = refl

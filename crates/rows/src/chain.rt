@@ -4,11 +4,13 @@ use crate::table::call_on;
 use row_answers::Trouble;
 use std::alloc::{AllocError, Global};
 
-/// A call that asks for so many paths of the chain under unit delays: its status, and what err and out took.
-pub fn call(alloc: Global, paths: &str) -> Result<String, Trouble> {
+/// A call that asks for so many paths of the chain under unit delays: its status, and what err and out took. The row: the command and the
+/// number of paths. The call finds no files but NET and DELAYS.
+pub fn call(alloc: Global, row: &str) -> Result<String, Trouble> {
+    let (command, paths) = row.split_once(' ').ok_or(Trouble::NoRow)?;
     let net = text_of(alloc)?;
     let words = [
-        "gen", "net", "delays", "tests", "report", "proofs", "--paths", paths,
+        command, "net", "delays", "tests", "report", "proofs", "--paths", paths,
     ];
     call_on(alloc, net.as_str(), &words)
 }

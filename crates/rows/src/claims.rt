@@ -9,8 +9,8 @@ use row_answers::{Trouble, spelled_out};
 use std::alloc::Global;
 use verdict_report::{TextFault, read_proofs, read_report};
 
-/// The most bytes of a text that a row may have.
-pub const MOST_BYTES: usize = 65_536;
+// The most bytes of a text that a row may have.
+const MOST_BYTES: usize = 65_536;
 
 /// How many tests, paths or proofs such a file has, a proofs file with its version; or the first line that lacks its form.
 /// Another word is none of a row.

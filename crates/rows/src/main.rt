@@ -1,13 +1,12 @@
 //! Plays rows and prints what came of each: what a netlist's text says, values, delays, paths and tests, waves, hulls and trees of
-//! cases, searches; what is read of the files of a run, and how it is judged; and whole calls over files and streams in memory. The rows
-//! are this crate's stdin; what they have to print, its stdout, was worked out by hand. In the end it is the program `pdfgen` once more,
-//! for words that are refused (the file `args`): it ends with their status (the file `status`), and writes nothing more on out. Stands on
-//! row_answers, search_answers, pattern_writer, verdict_report, claim_check and commands, and is no part of the product.
+//! cases, searches; what is read of the files of a run; and whole calls over files and streams in memory. The rows are this crate's stdin;
+//! what they have to print, its stdout, was worked out by hand. In the end it is the program `pdfgen` once more, for words that are refused
+//! (the file `args`): it ends with their status (the file `status`), and writes nothing more on out. Stands on row_answers, search_answers,
+//! pattern_writer, verdict_report and commands, and is no part of the product.
 #![tactic(auto)]
 
 mod chain;
 mod claims;
-mod judging;
 mod questions;
 mod row;
 mod searches;
@@ -82,10 +81,10 @@ fn answer(
 ) -> Result<String, Trouble> {
     match row {
         Row::Call(words) => called(alloc, table, words),
+        Row::Unfailing(words) => called_unfailing(alloc, table, words),
         Row::BareCall => table.call(&[]),
         Row::Wide(buffers) => wide::call(alloc, buffers),
-        Row::Chain(paths) => chain::call(alloc, paths),
-        Row::Judge(limits) => subject.judge(alloc, table.claimed(), limits),
+        Row::Chain(row) => chain::call(alloc, row),
         Row::Ask(word, rest) => subject.answer(alloc, word, rest),
         _ => Ok(String::new(alloc)),
     }
@@ -95,4 +94,10 @@ fn answer(
 fn called(alloc: Global, table: &mut Table, words: &str) -> Result<String, Trouble> {
     let words: Vec<&str> = words.split(' ').collect(alloc)?;
     table.call(words.as_slice())
+}
+
+// The same over files and streams whose calls never fail.
+fn called_unfailing(alloc: Global, table: &Table, words: &str) -> Result<String, Trouble> {
+    let words: Vec<&str> = words.split(' ').collect(alloc)?;
+    table.call_unfailing(words.as_slice())
 }

@@ -30,12 +30,12 @@ pub enum Row<'a> {
     BareCall,
     /// A call with these words, single spaces between.
     Call(&'a str),
+    /// The same over files and streams whose calls never fail.
+    Unfailing(&'a str),
     /// A call on a netlist of one source and so many buffers of it, all observed.
     Wide(u32),
-    /// A call for so many paths of a chain of a thousand buffers, each with a name of a hundred bytes.
+    /// A call of `gen` or `check` for so many paths of a chain of a thousand buffers, each with a name of a hundred bytes.
     Chain(&'a str),
-    /// The files TESTS, REPORT and PROOFS are judged as a run of the last netlist, for so many paths and a budget.
-    Judge(&'a str),
     /// A word of the rows about netlists, and what stands behind it.
     Ask(&'a str, &'a str),
 }
@@ -59,9 +59,9 @@ impl<'a> Row<'a> {
             "show" => Ok(Row::Show(rest)),
             "fail" => failure(rest),
             "call" => Ok(Row::Call(rest)),
+            "unfailing" => Ok(Row::Unfailing(rest)),
             "wide" => Ok(Row::Wide(number_of(rest)?)),
             "chain" => Ok(Row::Chain(rest)),
-            "judge" => Ok(Row::Judge(rest)),
             _ => Ok(Row::Ask(word, rest)),
         }
     }

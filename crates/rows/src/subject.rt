@@ -1,6 +1,5 @@
 // What rows about netlists speak of, and the rows that say so. A row is a word, a space, and what the word asks for; `\n` stands
 // there for LF, and so on. A question is to the last netlist and its delays.
-use crate::judging::{Claimed, judged};
 use crate::questions::asked;
 use netlist::Netlist;
 use row_answers::{Trouble, read, spelled_out};
@@ -55,13 +54,6 @@ impl Subject {
                 }
             }
         }
-    }
-
-    /// Whether these files are those of a good run of the last netlist, for the number of paths and the budget of a row.
-    pub fn judge(&self, alloc: Global, claimed: Claimed<'_>, row: &str) -> Result<String, Trouble> {
-        let net = self.net.as_ref().ok_or(Trouble::NoRow)?;
-        let delays = self.delays.as_ref().map(|text| text.as_str());
-        judged(alloc, net, delays, claimed, row)
     }
 
     // Takes a row that only says what later rows speak of. Tells whether it is one.

@@ -1,8 +1,7 @@
 // What stands between two calls: the files that a call finds, and what is to fail in the next one.
-use crate::judging::Claimed;
 use crate::row::Object;
 use commands::run;
-use pd_io::{MemoryFiles, MemorySink};
+use pd_io::{Files, MemoryFiles, MemorySink, Sink, SteadyFiles, SteadySink};
 use row_answers::{Trouble, shown, spelled_out};
 use std::alloc::{AllocError, Global};
 use std::collections::BTreeMap;
@@ -54,29 +53,30 @@ impl Table {
         Ok(())
     }
 
-    /// The files of a run. A file that is absent counts as empty.
-    pub fn claimed(&self) -> Claimed<'_> {
-        Claimed {
-            tests: self.text("tests"),
-            report: self.text("report"),
-            proofs: self.text("proofs"),
-        }
-    }
-
-    // The text under a name.
-    fn text(&self, name: &str) -> &[u8] {
-        match self.held.get(name) {
-            Some(text) => text.as_bytes(),
-            None => b"",
-        }
-    }
-
     /// A call with these words: what came of it, line by line.
     pub fn call(&mut self, words: &[&str]) -> Result<String, Trouble> {
         let mut files = self.files()?;
         let mut came = self.call_over(words, &mut files)?;
         self.add_changed(&mut came, &files)?;
         Ok(came)
+    }
+
+    /// A call with these words over files and streams whose calls never fail: its status, and what err and out took.
+    pub fn call_unfailing(&self, words: &[&str]) -> Result<String, Trouble> {
+        let mut files = self.steady_files()?;
+        let mut out = SteadySink::new(self.alloc);
+        let mut err = SteadySink::new(self.alloc);
+        let status = status_of(self.alloc, words, &mut files, &mut out, &mut err);
+        came_of(self.alloc, status, err.bytes(), out.bytes())
+    }
+
+    // The same files, as those whose calls never fail.
+    fn steady_files(&self) -> Result<SteadyFiles, Trouble> {
+        let mut files = SteadyFiles::new(self.alloc);
+        for (name, text) in self.held.iter() {
+            files.put(name.as_str(), text.as_bytes())?;
+        }
+        Ok(files)
     }
 
     // A call over these files: its status, and what err and out took.
@@ -164,9 +164,14 @@ fn told(
     err: &mut MemorySink,
 ) -> Result<String, Trouble> {
     let status = status_of(alloc, words, files, out, err);
+    came_of(alloc, status, err.bytes(), out.bytes())
+}
+
+// What came of a call with this status, where err and out took these bytes.
+fn came_of(alloc: Global, status: u8, err: &[u8], out: &[u8]) -> Result<String, Trouble> {
     let mut came = format!(in alloc; "  status {status}\n")?;
-    add_taken(alloc, &mut came, "err", err.bytes())?;
-    add_taken(alloc, &mut came, "out", out.bytes())?;
+    add_taken(alloc, &mut came, "err", err)?;
+    add_taken(alloc, &mut came, "out", out)?;
     Ok(came)
 }
 
@@ -195,12 +200,12 @@ fn add_line(came: &mut String, name: &str, shown: &str) -> Result<(), AllocError
 }
 
 // The status of a call. It promises nothing, so that what is printed is not proved over again under the contract of `run`.
-fn status_of(
+fn status_of<F: Files, O: Sink, E: Sink>(
     alloc: Global,
     words: &[&str],
-    files: &mut MemoryFiles,
-    out: &mut MemorySink,
-    err: &mut MemorySink,
+    files: &mut F,
+    out: &mut O,
+    err: &mut E,
 ) -> u8 {
     run(alloc, words, files, out, err).number()
 }

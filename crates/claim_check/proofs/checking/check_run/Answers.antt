@@ -8,8 +8,7 @@ use Rattle.netlist.specs.Order.{AreFirst}
 use Rattle.good_runs.specs.GoodRun.{IsGoodRun}
 use Rattle.claim_check.specs.declared.claim.Claim.{Claim}
 use Rattle.claim_check.specs.declared.claim.Claim.TheVariants.{Holds}
-use Rattle.claim_check.specs.Claims.{TellsOfRun}
-use Rattle.claim_check.specs.Items.{claim_of}
+use Rattle.claim_check.specs.Claims.{TellsOfRun, claim_of}
 use Rattle.claim_check.proofs.Claiming.{claim_exact, claim_promises, claim_tells}
 use Rattle.claim_check.proofs.checking.check_run.Goals as goal
 

@@ -1,13 +1,15 @@
 -- The first steps of a path make a prefix.
 use Rattle.std.proofs.Common.{◌≡◌, take, sym, ap, subst, ◌∙◌}
 use Rattle.pd_base.specs.Route.{Route}
-use Rattle.netlist.specs.Paths.{IsPrefix, prefix_of}
+use Rattle.netlist.specs.Paths.{IsPrefix, end_of, prefix_of}
+use Rattle.implication.specs.Standing.{IsToldBy}
 use Rattle.path_laws.proofs.Prefixes.{prefix_is_prefix, prefix_of-is_prefix}
+use Rattle.claim_check.proofs.PathsTold.{prefix_told}
 use Rattle.claim_check.proofs.proving.refutes_prefix.Goals as goal
 
-pub check_tree-requires : goal.check_tree-requires
-check_tree-requires c =
-    let net = c.args.net.now in
+pub check_tree-requires-clause-prefix : goal.check_tree-requires-clause-prefix
+check_tree-requires-clause-prefix c =
+    let net = c.args.judge.now.net in
     let path = c.args.path.now in
     let steps = c.args.proof.now.steps in
     let made = c.in_ok-prefix.ensures in
@@ -17,4 +19,18 @@ check_tree-requires c =
     let parts : own ≡ prefix_of steps path =
     λ i. record { source = source i; steps = taken i } in
     let same : c.in_ok-prefix.prefix ≡ prefix_of steps path = made ∙ parts in
-    subst (IsPrefix net) (sym same) (prefix_is_prefix net (prefix_of steps path) path (prefix_of-is_prefix steps path) c.requires.path.prefix)
+    subst (IsPrefix net) (sym same) (prefix_is_prefix net (prefix_of steps path) path (prefix_of-is_prefix steps path) c.requires.path.is_path.prefix)
+
+pub check_tree-requires-clause-told : goal.check_tree-requires-clause-told
+check_tree-requires-clause-told c =
+    let made = c.args.judge.now in
+    let path = c.args.path.now in
+    let steps = c.args.proof.now.steps in
+    let source = c.source.ensures in
+    let taken = ap (take steps) c.steps.ensures in
+    let own : Route = record { source = c.source.result; steps = take steps c.steps.result.now } in
+    let parts : own ≡ prefix_of steps path =
+    λ i. record { source = source i; steps = taken i } in
+    let same : c.in_ok-prefix.prefix ≡ prefix_of steps path = c.in_ok-prefix.ensures ∙ parts in
+    let P : Route → Type 0 = λ route. IsToldBy made.net made.ends (end_of made.net route) in
+    subst P (sym same) (prefix_told made.net made.ends path steps c.requires.path)

@@ -1,46 +1,30 @@
--- Proof by proof.
-use Rattle.std.proofs.Common.{◌≡◌, List, length, refl, ap, subst, arith}
-use Rattle.std.specs.Prelude.{slice_get, Some}
-use Rattle.std.proofs.lemmas.Option.{MatchOption-at_none, MatchOption-at_some, slice_get_read}
-use Rattle.pd_base.specs.Route.{Route}
-use Rattle.runs.specs.declared.run.Proof.{Proof}
-use Rattle.good_runs.proofs.Numbers.{number_within}
-use Rattle.claim_check.specs.Items.{IsWrongProof}
-use Rattle.claim_check.specs.Right.{IsRightProof}
-use Rattle.claim_check.proofs.ProofFlaws.{first_proof_flaw, right_proofs_more}
+-- The judge is made for the ends of the listed paths.
+use Rattle.std.proofs.Common.{All, IfOk, sym, ap, ◌∙◌, subst, List, Some, refl}
+use Rattle.pd_base.specs.declared.ids.LineId.{LineId}
+use Rattle.refutation_check.specs.Judges.{MadeFor}
+use Rattle.claim_check.specs.JudgedPaths.{IsPathTold}
+use Rattle.claim_check.specs.Flaws.{TellsOfItems}
+use Rattle.claim_check.specs.Right.{IsRightProofAt}
+use Rattle.claim_check.proofs.PathsTold.{last_in_circuit, paths_told}
 use Rattle.claim_check.proofs.proving.wrong_proof.Goals as goal
 
-pub returns-in-Some : goal.returns-in-Some
-returns-in-Some c =
-    let net = c.args.net.now in
-    let run = c.args.run.now in
-    let list = c.as_slice-proofs.result.now in
-    let proof = c.index-proofs-place.result in
-    let read = slice_get_read list (length list) c.loop-place.place proof refl (omega arith) c.index-proofs-place.is in
-    let there = subst (λ (proofs : List Proof). slice_get proofs c.loop-place.place ≡ Some proof) c.as_slice-proofs.ensures read in
-    let P : List Route → Type 0 = λ routes. IsWrongProof net run.rules c.args.budget routes proof c.in-Some.reason in
-    let wrong =
-    MatchOption-at_some (IsRightProof net run.rules c.args.budget c.args.paths.now proof)
-    (IsWrongProof net run.rules c.args.budget c.args.paths.now proof) c.in-Some.reason c.in-Some.is c.in_ok-reason.ensures in
-    first_proof_flaw net c.args.budget run c.loop-place.place proof there c.loop-place.invariant c.in-Some.reason
-    (subst P c.requires.routes wrong)
+pub new-requires : goal.new-requires
+new-requires c =
+    last_in_circuit c.args.net.now c.args.paths.now c.requires.paths c.sources.ensures.circuit c.as_slice.result.now
+    (c.as_slice.ensures.value ∙ c.in_ok-ends.ensures)
 
-pub loop-place-preserved : goal.loop-place-preserved
-loop-place-preserved c =
-    let net = c.args.net.now in
-    let run = c.args.run.now in
-    let list = c.as_slice-proofs.result.now in
-    let proof = c.index-proofs-place.result in
-    let read = slice_get_read list (length list) c.loop-place.place proof refl (omega arith) c.index-proofs-place.is in
-    let there = subst (λ (proofs : List Proof). slice_get proofs c.loop-place.place ≡ Some proof) c.as_slice-proofs.ensures read in
-    let P : List Route → Type 0 = λ routes. IsRightProof net run.rules c.args.budget routes proof in
-    let right =
-    MatchOption-at_none (IsRightProof net run.rules c.args.budget c.args.paths.now proof)
-    (IsWrongProof net run.rules c.args.budget c.args.paths.now proof) c.in_default.is c.in_ok-reason.ensures in
-    right_proofs_more net c.args.budget run c.loop-place.place proof there c.loop-place.invariant (subst P c.requires.routes right)
+pub wrong_by-requires-clause-paths : goal.wrong_by-requires-clause-paths
+wrong_by-requires-clause-paths c =
+    let net = c.args.net.now in let lines = c.as_slice.result.now in
+    let P : MadeFor → Type 0 = λ made. All (IsPathTold made.net made.ends) c.args.paths.now in
+    let Q : List LineId → Type 0 = λ list. All (IsPathTold net (Some list)) c.args.paths.now in
+    subst P (sym c.in_ok-judge.ensures)
+    (subst Q (sym (c.as_slice.ensures.value ∙ c.in_ok-ends.ensures)) (paths_told net c.args.paths.now c.requires.paths _ refl))
+
+pub wrong_by-requires-clause-rules : goal.wrong_by-requires-clause-rules
+wrong_by-requires-clause-rules c = ap (λ (made : MadeFor). made.rules) c.in_ok-judge.ensures
 
 pub returns : goal.returns
-returns c = λ number proof is.
-    let few = number_within c.args.run.now.proofs number proof is in
-    let long = ap length c.as_slice-proofs.ensures in
-    c.loop-place.invariant number proof is (omega arith)
+returns c =
+    let P : MadeFor → Type 0 = λ made. IfOk c.wrong_by.result (TellsOfItems (IsRightProofAt made.net c.args.budget c.args.run.now)) in
+    subst P c.in_ok-judge.ensures c.wrong_by.ensures

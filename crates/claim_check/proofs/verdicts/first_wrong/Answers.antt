@@ -1,17 +1,22 @@
--- Row by row.
-use Rattle.std.proofs.Common.{◌≡◌, ◌+◌, List, length, refl, sym, ap, subst, arith}
-use Rattle.std.specs.Prelude.{slice_get, Some}
+-- Row by row, the rising transition first.
+use Rattle.std.proofs.Common.{◌≡◌, ◌+◌, ◌*◌, ℕ, List, length, refl, sym, ap, subst, arith}
+use Rattle.std.specs.Prelude.{slice_get, None, Some}
 use Rattle.std.proofs.lemmas.List.{length-map}
 use Rattle.std.proofs.lemmas.Option.{slice_get_read}
 use Rattle.pd_base.specs.Route.{Route}
+use Rattle.pd_base.specs.declared.fault.Direction.TheVariants.{Rise, Fall}
 use Rattle.netlist.specs.Paths.{IsPath, IsPrefix}
 use Rattle.runs.specs.declared.run.ListedPath.{ListedPath}
 use Rattle.good_runs.proofs.Numbers.{all_at_number, number_of_place, number_within}
-use Rattle.claim_check.proofs.FaultFlaws.{all_right, first_fault_flaw, none_up_to_row, up_to_row_more}
+use Rattle.claim_check.specs.Flaws.{IsFirstFlaw}
+use Rattle.claim_check.specs.Right.{IsFaultNumber, IsRightFaultAt}
+use Rattle.claim_check.specs.Right.IsFaultNumber.{rise, fall}
+use Rattle.claim_check.proofs.RowFaults.{fault_told, most_number, no_faults_yet}
+use Rattle.claim_check.proofs.Telling.{IsRightUpTo, faults_only, first_at, right_more}
 use Rattle.claim_check.proofs.verdicts.first_wrong.Goals as goal
 
 pub loop-row-init : goal.loop-row-init
-loop-row-init c = record { right = none_up_to_row c.args.net.now c.args.run.now; room = c.requires.room }
+loop-row-init c = record { right = no_faults_yet c.args.net.now c.args.run.now; room = c.requires.room }
 
 pub fault_in_row-rise-requires-clause-path : goal.fault_in_row-rise-requires-clause-path
 fault_in_row-rise-requires-clause-path c =
@@ -26,8 +31,8 @@ fault_in_row-fall-requires-clause-path c =
     let there = slice_get_read paths (length paths) c.loop-row.row path refl (omega arith) c.index-paths-row-in-loop-row.is in
     subst (λ (routes : List Route). slice_get routes c.loop-row.row ≡ Some path) c.requires.routes there
 
-pub wrong_in_row-requires-clause-rise_path : goal.wrong_in_row-requires-clause-rise_path
-wrong_in_row-requires-clause-rise_path c =
+pub wrong_fault-requires-clause-prefix : goal.wrong_fault-requires-clause-prefix
+wrong_fault-requires-clause-prefix c =
     let paths = c.args.paths.now in
     let net = c.args.net.now in
     let there = slice_get_read paths (length paths) c.loop-row.row c.index-paths-row.result refl (omega arith) c.index-paths-row.is in
@@ -36,8 +41,8 @@ wrong_in_row-requires-clause-rise_path c =
     (number_of_place paths c.loop-row.row c.index-paths-row.result there) in
     subst (IsPrefix net) (sym c.fault_in_row-rise.ensures.path) is.prefix
 
-pub wrong_in_row-requires-clause-fall_path : goal.wrong_in_row-requires-clause-fall_path
-wrong_in_row-requires-clause-fall_path c =
+pub wrong_fault-requires-in-loop-row-clause-prefix : goal.wrong_fault-requires-in-loop-row-clause-prefix
+wrong_fault-requires-in-loop-row-clause-prefix c =
     let paths = c.args.paths.now in
     let net = c.args.net.now in
     let path = c.index-paths-row-in-loop-row.result in
@@ -47,20 +52,58 @@ wrong_in_row-requires-clause-fall_path c =
 
 pub returns-in-Some : goal.returns-in-Some
 returns-in-Some c =
-    first_fault_flaw c.args.net.now c.args.run.now c.loop-row.row c.in-Some.flaw.item c.in-Some.flaw.reason c.loop-row.invariant.right
-    c.in-Some.ensures.wrong
+    let net = c.args.net.now in
+    let run = c.args.run.now in
+    let row = c.loop-row.row in
+    let at : 2 * row + 1 + 1 ≡ 2 * (row + 1) = omega arith in
+    let number : IsFaultNumber (row + 1) Rise (2 * row + 1) = rise (2 * row + 1) at in
+    first_at (IsRightFaultAt net run) 4 (faults_only net run) (2 * row) c.in-Some.reason c.loop-row.invariant.right
+    (fault_told net run row Rise c.fault_in_row-rise.result c.fault_in_row-rise.ensures.fault (2 * row + 1) number (Some c.in-Some.reason)
+    c.in-Some.ensures.wrong)
+
+pub returns-in-Some-wrong_fault : goal.returns-in-Some-wrong_fault
+returns-in-Some-wrong_fault c =
+    let net = c.args.net.now in
+    let run = c.args.run.now in
+    let row = c.loop-row.row in
+    let at : 2 * row + 1 + 1 ≡ 2 * (row + 1) = omega arith in
+    let first : IsFaultNumber (row + 1) Rise (2 * row + 1) = rise (2 * row + 1) at in
+    let second : IsFaultNumber (row + 1) Fall (2 * row + 1 + 1) = fall (2 * row + 1 + 1) at in
+    let right =
+    right_more (IsRightFaultAt net run) (2 * row) c.loop-row.invariant.right
+    (fault_told net run row Rise c.fault_in_row-rise.result c.fault_in_row-rise.ensures.fault (2 * row + 1) first None
+    c.in_default.ensures.wrong) in
+    let same : 2 * row + 1 + 1 ≡ 2 * row + 2 = omega arith in
+    subst (λ (item : ℕ). IsFirstFlaw (IsRightFaultAt net run) item c.in-Some-wrong_fault.reason) same
+    (first_at (IsRightFaultAt net run) 4 (faults_only net run) (2 * row + 1) c.in-Some-wrong_fault.reason right
+    (fault_told net run row Fall c.fault_in_row-fall.result c.fault_in_row-fall.ensures.fault (2 * row + 1 + 1) second
+    (Some c.in-Some-wrong_fault.reason) c.in-Some-wrong_fault.ensures.wrong))
 
 pub loop-row-preserved : goal.loop-row-preserved
-loop-row-preserved c = record {
-  right = up_to_row_more c.args.net.now c.args.run.now c.loop-row.row c.loop-row.invariant.right c.in_default.ensures.wrong;
-  room = c.wrong_in_row.ensures.room;
-}
+loop-row-preserved c =
+    let net = c.args.net.now in
+    let run = c.args.run.now in
+    let row = c.loop-row.row in
+    let at : 2 * row + 1 + 1 ≡ 2 * (row + 1) = omega arith in
+    let first : IsFaultNumber (row + 1) Rise (2 * row + 1) = rise (2 * row + 1) at in
+    let second : IsFaultNumber (row + 1) Fall (2 * row + 1 + 1) = fall (2 * row + 1 + 1) at in
+    let right =
+    right_more (IsRightFaultAt net run) (2 * row) c.loop-row.invariant.right
+    (fault_told net run row Rise c.fault_in_row-rise.result c.fault_in_row-rise.ensures.fault (2 * row + 1) first None
+    c.in_default.ensures.wrong) in
+    let both =
+    right_more (IsRightFaultAt net run) (2 * row + 1) right
+    (fault_told net run row Fall c.fault_in_row-fall.result c.fault_in_row-fall.ensures.fault (2 * row + 1 + 1) second None
+    c.in_default-wrong_fault.ensures.wrong) in
+    record {
+      right = subst (IsRightUpTo (IsRightFaultAt net run)) at both;
+      room = c.wrong_fault-in-loop-row.ensures.room;
+    }
 
 pub returns : goal.returns
-returns c =
-    all_right c.args.net.now c.args.run.now c.loop-row.row c.loop-row.invariant.right
-    (λ number listed is.
+returns c = λ item reason number listed direction is at.
     let few = number_within c.args.run.now.paths number listed is in
+    let most = most_number at in
     let long = ap length c.requires.routes in
     let same = length-map c.args.run.now.paths (λ (l : ListedPath). l.path) in
-    omega arith)
+    c.loop-row.invariant.right item reason (omega arith) number listed direction is at

@@ -5,5 +5,11 @@ use Rattle.commands.proofs.dispatch.perform_command.Goals as goal
 pub returns-in-Gen : goal.returns-in-Gen
 returns-in-Gen g c = rw c.in-Gen.is c.generate.ensures
 
+pub returns-in-Check : goal.returns-in-Check
+returns-in-Check g c = rw c.in-Check.is c.check.ensures
+
+pub returns-in-Replay : goal.returns-in-Replay
+returns-in-Replay g c = rw c.in-Replay.is c.replay.ensures
+
 pub returns-in-Make : goal.returns-in-Make
 returns-in-Make g c = rw c.in-Make.is (c.make.ensures (files_seen g.F.Files c.args.files.now))

@@ -1,6 +1,6 @@
 -- The run is good and lawful, and the summary is its own.
 use Rattle.std.proofs.Common.{List, ℕ}
-use Rattle.command_line.specs.Commands.{gen_call_of}
+use Rattle.command_line.specs.Commands.{run_call_of}
 use Rattle.commands.specs.Gen.{run_files}
 use Rattle.calls.specs.Work.{Products}
 use Rattle.good_runs.proofs.Promising.{good_run_keeps}
@@ -14,5 +14,5 @@ returns-clause-gives c = record {
   lawful = c.in_ok-run.ensures.lawful;
   promises = good_run_keeps c.args.net.now c.requires.circuit _ _ _ c.in_ok-run.run' c.in_ok-run.ensures.good;
   shortest = c.in_ok-run.ensures.shortest;
-  texts = λ i. record { files = run_files (gen_call_of c.args.command.now) c.args.net.now c.in_ok-run.run'; out = c.in_ok-summary.ensures i };
+  texts = λ i. record { files = run_files (run_call_of c.args.command.now) c.args.net.now c.in_ok-run.run'; out = c.in_ok-summary.ensures i };
 }

@@ -2,7 +2,7 @@ use Rattle.std.proofs.Common.{refl, sym, ap, ◌∙◌, subst, length}
 use Rattle.std.proofs.lemmas.List.{with_items_is}
 use Rattle.netlist.specs.Circuit.{Circuit, line_count}
 use Rattle.implication.specs.Scopes.{standing}
-use Rattle.justify.specs.Drafts.{IsJustifierOf}
+use Rattle.search_hints.specs.Drafts.{IsJustifierOf}
 use Rattle.justify.proofs.SplitChoices.{read_in_support}
 use Rattle.justify.proofs.TriedSources.{support_within, desk_again}
 use Rattle.justify.proofs.searching.justify_lines.Goals as goal

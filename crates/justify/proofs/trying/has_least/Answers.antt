@@ -2,9 +2,10 @@ use Rattle.std.proofs.Common.{◌≡◌, ◌<◌, sym, ap, ◌∙◌, subst, ari
 use Rattle.std.proofs.lemmas.Bool.{eqb-true}
 use Rattle.netlist.specs.Circuit.{source_count}
 use Rattle.state_sets.specs.declared.state.State.{State}
+use Rattle.state_sets.specs.declared.state.StateSet.{StateSet}
 use Rattle.implication.specs.Scopes.{standing}
-use Rattle.justify.specs.LeastStates.{least_of}
-use Rattle.justify.specs.Nodes.{beginning_of}
+use Rattle.test_judging.specs.LeastStates.{IsTakenOf}
+use Rattle.tree_scopes.specs.Nodes.{beginning_of}
 use Rattle.justify.specs.Tasks.{task_target}
 use Rattle.justify.proofs.Resting.{label_is}
 use Rattle.justify.proofs.trying.has_least.Goals as goal
@@ -21,6 +22,10 @@ returns-then-marked g c = λ yes.
       is_source = within;
       marked = c.if-marked.true;
       in_range = subst P (sym is) c.least.ensures.in_range;
-      least = λ labels labelled. is ∙ c.least.ensures.least ∙ ap least_of (label_is now (beginning_of (task_target c.args.task.now))
-          c.requires.node.beginning c.args.entry.source.0 c.label.result within (c.label.ensures.told c.requires.node.free) labels labelled);
+      least = λ labels labelled.
+          let T : StateSet → Type 0 = λ set. IsTakenOf set c.args.entry.state in
+          let U : State → Type 0 = λ state. IsTakenOf c.label.result state in
+          subst T (label_is now (beginning_of (task_target c.args.task.now))
+          c.requires.node.beginning c.args.entry.source.0 c.label.result within (c.label.ensures.told c.requires.node.free) labels labelled)
+          (subst U (sym is) c.least.ensures);
     }

@@ -4,7 +4,7 @@ use Rattle.std.proofs.lemmas.Grind.{common_steps}
 use Rattle.std.proofs.lemmas.List.{with_items_is}
 use Rattle.state_sets.specs.declared.state.State.{State}
 use Rattle.implication.specs.Scopes.{standing}
-use Rattle.justify.specs.ConeStates.{state_in}
+use Rattle.test_judging.specs.ConeStates.{state_in}
 use Rattle.justify.specs.Tasks.{task_target}
 use Rattle.justify.proofs.SplitChoices.{read_in_support}
 use Rattle.justify.proofs.TriedSources.{support_within, taken_least, kept_least}

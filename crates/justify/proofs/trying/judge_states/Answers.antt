@@ -4,7 +4,7 @@ use Rattle.netlist.specs.Circuit.{Circuit, source_count}
 use Rattle.netlist.specs.Paths.{IsPrefix}
 use Rattle.state_sets.specs.declared.state.State.{State}
 use Rattle.implication.specs.Scopes.{standing}
-use Rattle.justify.specs.ConeStates.{state_in}
+use Rattle.test_judging.specs.ConeStates.{state_in}
 use Rattle.justify.specs.Tasks.{task_target}
 use Rattle.justify.proofs.TriedSources.{in_cone_within, side_within, desk_again, kept_desk, read_at, sources_within, judged_fits}
 use Rattle.justify.proofs.trying.judge_states.Goals as goal

@@ -6,8 +6,8 @@ use Rattle.pd_base.specs.declared.ids.LineId.{LineId}
 use Rattle.state_sets.specs.declared.state.State.{State}
 use Rattle.implication.specs.Scopes.{standing}
 use Rattle.justify.specs.declared.trial.Tried.{Tried}
-use Rattle.justify.specs.ConeStates.{AreFourStates}
-use Rattle.justify.specs.KeptCones.{AreConeSources}
+use Rattle.test_judging.specs.ConeStates.{AreFourStates}
+use Rattle.test_judging.specs.KeptCones.{AreConeSources}
 use Rattle.justify.specs.Tasks.{task_target}
 use Rattle.justify.specs.Trying.{CanTry, HasLeast, GivesTest}
 use Rattle.justify.proofs.SplitChoices.{read_in_support}

@@ -5,7 +5,7 @@ use Rattle.pd_base.specs.declared.ids.LineId.{LineId}
 use Rattle.state_sets.specs.declared.state.State.{State}
 use Rattle.implication.specs.Scopes.{standing}
 use Rattle.justify.specs.declared.trial.Tried.{Tried}
-use Rattle.justify.specs.ConeStates.{AreFourStates}
+use Rattle.test_judging.specs.ConeStates.{AreFourStates}
 use Rattle.justify.specs.Desks.{AreInSupport}
 use Rattle.justify.specs.Tasks.{task_target}
 use Rattle.justify.specs.Trying.{CanTry, HasLeast}

@@ -15,7 +15,7 @@ loop-path-preserved c =
     let last : Route → LineId = λ route. record { 0 = end_of net route } in
     c.in_ok-push.ensures.items
     ∙ ap (λ (ends : List LineId). ends ++ c.end_of.result ∷ []) c.loop-path.invariant
-    ∙ ap (λ (end : LineId). ends_of net (take c.loop-path.path-index paths) ++ end ∷ []) (c.end_of.ensures ∙ ap last c.path-item.is)
+    ∙ ap (λ (end : LineId). ends_of net (take c.loop-path.path-index paths) ++ end ∷ []) (c.end_of.ensures.end ∙ ap last c.path-item.is)
     ∙ sym (map_more last paths c.loop-path.path-index path c.loop-path-test.true)
 
 pub returns : goal.returns

@@ -1,28 +1,37 @@
 -- What is asked of each kind of node.
-use Rattle.std.proofs.Common.{sym, subst}
+use Rattle.std.proofs.Common.{◌↔◌, Bool, List, sym, subst}
+use Rattle.std.specs.Prelude.{IsTrue}
+use Rattle.pd_base.specs.Target.{Target}
+use Rattle.state_laws.specs.declared.half.Half.{Half}
 use Rattle.runs.specs.declared.tree.Node.{Node}
-use Rattle.refutation_check.proofs.Told.{TellsOfNode, judged_closes}
+use Rattle.implication.specs.Scopes.{standing}
+use Rattle.implication.specs.Standing.{Standing}
+use Rattle.tree_laws.specs.Faults.{IsRightInSpent}
+use Rattle.refutation_check.specs.Trials.{asked_target}
+use Rattle.refutation_check.specs.Walks.{IsScopeAt}
+use Rattle.refutation_check.proofs.Spending.{closes_told}
 use Rattle.refutation_check.proofs.spent.is_right_at.Goals as goal
 
-pub returns-in-Closed-clause-right : goal.returns-in-Closed-clause-right
-returns-in-Closed-clause-right c =
-    subst (λ (node : Node). TellsOfNode c.args.net.now c.args.conditions.now.kind c.args.conditions.now.steps c.args.walk.now
-    c.args.cone.now node c.closes.result) (sym c.in-Closed.is)
-    (λ rules target halves node is_cone.
-    judged_closes c.args.net.now rules target halves c.closes.result c.closes.new.self.board.labels
-    (c.closes.ensures.judged rules target halves node))
+-- what is told of a node at which the scope stands
+abbrev TellsOf : Target → Standing → Bool → Node → Type 0
+TellsOf target standing r node =
+    (halves : List Half) → IsScopeAt target halves standing → IsTrue r ↔ IsRightInSpent standing.net standing.rules target halves node
 
-pub returns-in-Waiting-clause-right : goal.returns-in-Waiting-clause-right
-returns-in-Waiting-clause-right c =
-    subst (λ (node : Node). TellsOfNode c.args.net.now c.args.conditions.now.kind c.args.conditions.now.steps c.args.walk.now
-    c.args.cone.now node c.is_open.result) (sym c.in-Waiting.is) c.is_open.ensures.open
+pub returns-in-Closed-clause-right : goal.returns-in-Closed-clause-right
+returns-in-Closed-clause-right g c =
+    let target = asked_target c.args.asked.now in let now = standing c.args.scope.now in
+    subst (TellsOf target now c.is_some.result) (sym c.in-Closed.is)
+    (λ halves at. closes_told target halves now at c.conflict.result c.conflict.ensures.none c.conflict.ensures.some c.is_some.result c.is_some.ensures)
+
+pub returns-then-is_none-clause-right : goal.returns-then-is_none-clause-right
+returns-then-is_none-clause-right g c =
+    subst (TellsOf (asked_target c.args.asked.now) (standing c.args.scope.now) c.is_open.result) (sym c.in-Waiting.is) c.is_open.ensures.open
 
 pub returns-in-Value-clause-right : goal.returns-in-Value-clause-right
-returns-in-Value-clause-right c =
-    subst (λ (node : Node). TellsOfNode c.args.net.now c.args.conditions.now.kind c.args.conditions.now.steps c.args.walk.now
-    c.args.cone.now node c.is_due.result) (sym c.in-Value.is) c.is_due.ensures.due
+returns-in-Value-clause-right g c =
+    subst (TellsOf (asked_target c.args.asked.now) (standing c.args.scope.now) c.is_due.result) (sym c.in-Value.is) c.is_due.ensures.due
 
 pub returns-in-Steadiness-clause-right : goal.returns-in-Steadiness-clause-right
-returns-in-Steadiness-clause-right c =
-    subst (λ (node : Node). TellsOfNode c.args.net.now c.args.conditions.now.kind c.args.conditions.now.steps c.args.walk.now
-    c.args.cone.now node c.is_due-in-Steadiness.result) (sym c.in-Steadiness.is) c.is_due-in-Steadiness.ensures.due
+returns-in-Steadiness-clause-right g c =
+    subst (TellsOf (asked_target c.args.asked.now) (standing c.args.scope.now) c.is_due-in-Steadiness.result) (sym c.in-Steadiness.is)
+    c.is_due-in-Steadiness.ensures.due

@@ -1,52 +1,51 @@
--- Row by row.
-use Rattle.std.proofs.Common.{◌≡◌, ◌+◌, ◌≤◌, ℕ, List, length, refl, sym, ap, subst, ◌∙◌, arith}
-use Rattle.std.specs.Prelude.{slice_get, sum_by, Some}
-use Rattle.std.proofs.lemmas.List.{length_push}
-use Rattle.std.proofs.lemmas.List.Sums.{sum_by_push}
-use Rattle.std.proofs.lemmas.Option.{slice_get_read}
-use Rattle.pd_base.specs.declared.ids.PinRef.{PinRef}
-use Rattle.pd_base.specs.Route.{Route}
+-- Path by path.
+use Rattle.std.proofs.Common.{◌≡◌, ◌+◌, ◌≤◌, ℕ, List, [], ◌∷◌, ◌++◌, length, take, refl, sym, ap, subst, ◌∙◌, arith}
+use Rattle.std.specs.Prelude.{sum_by}
+use Rattle.std.proofs.lemmas.List.{take_all, take_more}
 use Rattle.netlist.specs.declared.limits.TheConstants.{MOST_LEVELS}
-use Rattle.good_runs.proofs.Numbers.{all_at_number, number_of_place}
-use Rattle.claim_check.specs.Prefixes.{AddsRow, IsBranch}
-use Rattle.claim_check.proofs.Adding.{branch_there, row_added}
+use Rattle.pd_base.specs.Route.{Route}
+use Rattle.claim_check.specs.declared.prefix_tree.Prefix.{Prefix}
+use Rattle.claim_check.specs.Prefixes.{Nodes}
+use Rattle.claim_check.specs.PrefixNodes.{IsTreeOf}
+use Rattle.claim_check.proofs.GrowingTree.{no_tree, tree_nodes}
 use Rattle.claim_check.proofs.prefix_tree.PrefixTree.new.Goals as goal
 
-pub add_row-requires-clause-there : goal.add_row-requires-clause-there
-add_row-requires-clause-there c = λ some.
+pub loop-path-preserved : goal.loop-path-preserved
+loop-path-preserved c =
     let paths = c.args.paths.now in
-    let tree = c.loop-row.prefixes in
-    let path = c.index-paths-row.result in
-    let listed = slice_get_read paths (length paths) c.loop-row.row path refl (omega arith) c.index-paths-row.is in
-    let P : ℕ → Type 0 = λ row. IsBranch paths row path c.branch_of-branch.result.row c.branch_of-branch.result.shared in
-    branch_there paths path c.branch_of-branch.result.row c.branch_of-branch.result.shared tree c.loop-row.invariant.are
-    (subst P (sym c.loop-row.invariant.so_many) (c.branch_of-branch.ensures)) some
-
-pub loop-row-preserved : goal.loop-row-preserved
-loop-row-preserved c =
-    let paths = c.args.paths.now in
-    let old = c.loop-row.prefixes in
-    let new = c.add_row.new.self in
-    let path = c.index-paths-row.result in
-    let from = c.branch_of-branch.result.row in
-    let shared = c.branch_of-branch.result.shared in
-    let here = c.loop-row.invariant.so_many in
-    let listed = slice_get_read paths (length paths) c.loop-row.row path refl (omega arith) c.index-paths-row.is in
-    let P : ℕ → Type 0 = λ row. IsBranch paths row path from shared in
-    let Q : ℕ → Type 0 = λ row. slice_get paths row ≡ Some path in
-    let R : List PinRef → Type 0 = λ steps. AddsRow (length steps + 1) from shared old new in
-    let S : Route → Type 0 = λ route. length route.steps ≤ MOST_LEVELS in
-    let adds = subst R c.steps.ensures c.in_ok-add_row.ensures in
-    let short = all_at_number S paths (c.loop-row.row + 1) path c.requires.short (number_of_place paths c.loop-row.row path listed) in
-    let long = adds.long in
-    let count = adds.count in
-    let room = c.loop-row.invariant.room in
-    let few = c.loop-row.invariant.few in
-    let sums = ap (sum_by (length {A = ℕ})) adds.rows ∙ sum_by_push (length {A = ℕ}) old.rows adds.row in
+    let at = c.loop-path.path-index in
+    let path = c.path-item.result in
+    let more : take (at + 1) paths ≡ take at paths ++ path ∷ [] =
+    take_more paths at path c.loop-path-test.true ∙ ap (λ (p : Route). take at paths ++ p ∷ []) (sym c.path-item.is) in
+    let P : List Route → Type 0 = λ routes. IsTreeOf routes c.add_path.new.prefixes.keys c.add_path.new.self in
+    let short = c.requires.short at path c.loop-path-test.true in
+    let Q : Route → Type 0 = λ route. length route.steps ≤ MOST_LEVELS in
+    let few = subst Q (sym c.path-item.is) short in
+    let sums = c.in_ok-add_path.ensures.room in
+    let room = c.loop-path.invariant.room in
     record {
-      are = row_added paths path from shared old new c.loop-row.invariant.are (subst Q (sym here) listed)
-          (subst P (sym here) (c.branch_of-branch.ensures)) adds;
-      so_many = ap length adds.rows ∙ length_push old.rows adds.row ∙ ap (λ (n : ℕ). n + 1) here;
+      tree = subst P (sym more) (c.in_ok-add_path.ensures.tree (take at paths) c.loop-path.invariant.tree);
+      room = omega arith;
+      few = c.in_ok-add_path.ensures.few;
+    }
+
+pub returns : goal.returns
+returns c =
+    let paths = c.args.paths.now in
+    let P : List Route → Type 0 = λ routes. IsTreeOf routes c.loop-path.prefixes.keys c.loop-path.tree in
+    tree_nodes paths c.loop-path.prefixes.keys c.loop-path.tree
+    (subst P (take_all c.loop-path.path-index paths c.loop-path-test.false) c.loop-path.invariant.tree)
+
+pub loop-path-init : goal.loop-path-init
+loop-path-init c =
+    let rows = c.in_ok-with_capacity.ensures in
+    let keys = c.new-prefixes.ensures.empty in
+    let nodes : Nodes = record { rows = c.in_ok-with_capacity.field-0; before = c.in_ok-with_capacity-2.field-0.items; count = 0 } in
+    let P : List Prefix → Type 0 = λ prefixes. IsTreeOf [] prefixes nodes in
+    let sums = ap (sum_by (length {A = ℕ})) rows in
+    let long = ap length keys in
+    record {
+      tree = subst P (sym keys) (no_tree nodes rows c.in_ok-with_capacity-2.ensures.items refl);
       room = omega arith;
       few = omega arith;
     }

@@ -1,6 +1,6 @@
 -- The states stay, and so does the number of what is liked.
 use Rattle.std.proofs.Common.{◌≡◌, length}
-use Rattle.justify.specs.ConeStates.{AreFourStates}
+use Rattle.test_judging.specs.ConeStates.{AreFourStates}
 use Rattle.justify.proofs.desk.Desk.keep.Given as goal
 
 abbrev pub invariant-loop-line : goal.invariant-loop-line

@@ -1,0 +1,5 @@
+pub mod InputJudging
+pub mod InputStages
+pub mod Reasons
+pub mod Sizes
+pub mod SpelledTests

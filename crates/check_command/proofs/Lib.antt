@@ -1,0 +1,5 @@
+pub mod AgreeingDelays
+pub mod CheckLaws
+pub mod CheckStages
+pub mod OneRun
+pub mod SpelledRuns

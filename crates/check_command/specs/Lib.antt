@@ -1,0 +1,3 @@
+pub mod Check
+pub mod Checking
+pub mod SpelledRuns

@@ -1,0 +1,106 @@
+-- What a call of gen left that was done: under its five names, and in the run of its three texts.
+use Rattle.std.proofs.Common.{◌≡◌, ⊎_elim, ℕ, ◌<◌, ◌≤◌, List, [], ◌++◌, Option, None, Some, length, refl, sym, ap, subst, ◌∙◌}
+use Rattle.std.proofs.lemmas.Bool.{cases_lt}
+use Rattle.pd_io.specs.Folder.{bytes_at, Contents, Folder}
+use Rattle.pd_io.specs.Telling.{Tells}
+use Rattle.netlist.specs.Circuit.{Circuit}
+use Rattle.netlist.specs.Waves.{Delays}
+use Rattle.runs.specs.declared.run.Run.{Run}
+use Rattle.runs.specs.Lawful.{IsLawfulRun}
+use Rattle.good_runs.specs.GoodRun.{IsGoodRun}
+use Rattle.bench_reader.specs.Circuits.{HasCircuit}
+use Rattle.delay_annotation.specs.DelayFile.{HasDelays}
+use Rattle.pattern_writer.specs.TestsText.{tests_text}
+use Rattle.verdict_report.specs.ProofsText.{proofs_text}
+use Rattle.verdict_report.specs.ReportText.{report_text}
+use Rattle.command_line.specs.Words.{RunCall}
+use Rattle.calls.specs.declared.role.Role.{Role}
+use Rattle.calls.specs.declared.role.Role.TheVariants as role
+use Rattle.calls.specs.declared.refusal.Refusal.TheVariants.{TooLong}
+use Rattle.calls.specs.Passing.{Pass}
+use Rattle.calls.specs.Work.{names_read, Products}
+use Rattle.calls.specs.Writing.{put_all}
+use Rattle.call_inputs.specs.declared.judging.TheConstants.{INPUT_LIMIT}
+use Rattle.call_inputs.specs.InputStages.{IsOverLimit}
+use Rattle.call_inputs.specs.Sizes.{HasShortTexts}
+use Rattle.commands.specs.Gen.{gen_stages, gen_work, GivesGen, GivesRun, run_files}
+use Rattle.commands.specs.LaterCalls.{HasNamesApart, IsLeftBy}
+use Rattle.commands.proofs.FilesLeft.{delays_left, net_left, proofs_left, report_left, tests_left}
+
+-- an input that is not over its limit is within it
+not_over : (input : Role) (text : List ℕ) → ¬ IsOverLimit INPUT_LIMIT input text input → length text ≤ INPUT_LIMIT
+not_over input text none =
+    ⊎_elim (λ (over : INPUT_LIMIT < length text). absurd (none (record { of_role = refl; over = over }))) (λ within. within)
+    (cases_lt INPUT_LIMIT (length text))
+
+-- NET and DELAYS stand there still, and the texts of a good run for them
+pub record LeftFiles (call : RunCall) (left : Folder) : Type 0 where
+  pub net : List ℕ
+  pub delay_file : List ℕ
+  pub net_within : length net ≤ INPUT_LIMIT
+  pub delays_within : length delay_file ≤ INPUT_LIMIT
+  pub circuit : Circuit
+  pub has : HasCircuit net circuit
+  pub delays : Delays
+  pub has_delays : HasDelays circuit delay_file delays
+  pub short : HasShortTexts call.paths circuit
+  pub run : Run
+  pub good : IsGoodRun circuit delays call.paths call.budget run
+  pub lawful : IsLawfulRun circuit run
+  pub net_is : bytes_at left.held call.net ≡ net
+  pub delays_is : bytes_at left.held call.delays ≡ delay_file
+  pub tests_is : bytes_at left.held call.tests ≡ tests_text circuit run.tests
+  pub report_is : bytes_at left.held call.report ≡ report_text circuit run.paths
+  pub proofs_is : bytes_at left.held call.proofs ≡ proofs_text run.rules run.proofs
+
+module _ (call : RunCall) (apart : HasNamesApart call) where
+  -- gen wrote its products over what was held before
+  abbrev WroteOver : Products → Folder → Folder → Type 0
+  WroteOver products before after =
+      after ≡ record { held = put_all before.held products.files; asked = before.asked ++ names_read (gen_stages call) }
+
+  files_of : (before left : Folder) (net delay_file : List ℕ) (products : Products) → net ≡ bytes_at before.held call.net
+      → delay_file ≡ bytes_at before.held call.delays → length net ≤ INPUT_LIMIT → length delay_file ≤ INPUT_LIMIT → GivesRun call net delay_file products
+      → WroteOver products before left → LeftFiles call left
+  files_of before left net delay_file products is_net is_delays net_within delays_within gives wrote =
+      let given = gives.short.products_of_run in
+      let c = gives.circuit in
+      let tests = tests_text c given.run.tests in
+      let report = report_text c given.run.paths in
+      let proofs = proofs_text given.run.rules given.run.proofs in
+      let held : left.held ≡ put_all before.held (run_files call c given.run) =
+      ap (λ (f : Folder). f.held) wrote ∙ ap (λ (p : Products). put_all before.held p.files) given.texts in
+      record {
+        net = net;
+        delay_file = delay_file;
+        net_within = net_within;
+        delays_within = delays_within;
+        circuit = c;
+        has = gives.has;
+        delays = gives.delays;
+        has_delays = gives.has_delays;
+        short = gives.short.short;
+        run = given.run;
+        good = given.good;
+        lawful = given.lawful;
+        net_is = ap (λ (h : Contents). bytes_at h call.net) held ∙ net_left before.held call apart tests report proofs ∙ sym is_net;
+        delays_is = ap (λ (h : Contents). bytes_at h call.delays) held ∙ delays_left before.held call apart tests report proofs ∙ sym is_delays;
+        tests_is = ap (λ (h : Contents). bytes_at h call.tests) held ∙ tests_left before.held call apart tests report proofs;
+        report_is = ap (λ (h : Contents). bytes_at h call.report) held ∙ report_left before.held call apart tests report proofs;
+        proofs_is = ap (λ (h : Contents). bytes_at h call.proofs) held ∙ proofs_left before.held call apart tests report proofs;
+      }
+
+  files_told : (folder : Option Folder) (left : Folder) (inputs : List (List ℕ)) (products : Products)
+      → Pass (gen_work call) folder (gen_stages call) [] inputs → GivesGen call inputs products
+      → Tells folder (Some left) (WroteOver products) → LeftFiles call left
+  files_told None left inputs products passed gives wrote = absurd wrote
+  files_told (Some before) left inputs products (net, is_net, (net_size, (circuit, (delays, is_delays, (delays_size, (spells_delays, (path_text, (test_text, all))))))))
+      gives wrote =
+      files_of before left net delays products is_net is_delays
+      (not_over role.Net net (net_size (TooLong role.Net) refl)) (not_over role.Delays delays (delays_size (TooLong role.Delays) refl))
+      (subst (λ (read : List (List ℕ)). GivesGen call read products) all gives) wrote
+
+  pub files_left : (left : Folder) → IsLeftBy (gen_work call) left → LeftFiles call left
+  files_left left it =
+      files_told it.old.files.folder left it.done.inputs it.done.products it.done.passed it.done.gives
+      (subst (λ (folder : Option Folder). Tells it.old.files.folder folder (WroteOver it.done.products)) it.told it.done.files)

@@ -1,0 +1,74 @@
+-- What gen wrote, check accepts, as long as the five names hold what they held when gen was done.
+use Rattle.std.proofs.Common.{◌≡◌, ◌≤◌, ℕ, List, [], length, Some, sym, subst, ◌∙◌, arith}
+use Rattle.pd_io.specs.Folder.{bytes_at, Folder}
+use Rattle.netlist.specs.Lawful.{IsCircuit}
+use Rattle.bench_reader.specs.Circuits.{HasCircuit}
+use Rattle.bench_reader.proofs.LawfulCircuits.{is_circuit}
+use Rattle.delay_annotation.specs.DelayFile.{HasDelays}
+use Rattle.text_pieces.specs.declared.limits.TheConstants.{MOST_BYTES}
+use Rattle.pattern_writer.specs.TestsText.{tests_text}
+use Rattle.verdict_report.specs.ProofsText.{proofs_text}
+use Rattle.verdict_report.specs.ReportText.{report_text}
+use Rattle.command_line.specs.Words.{HasRunNumbers, RunCall}
+use Rattle.calls.specs.Calls.{HasAcceptedInputs}
+use Rattle.call_inputs.specs.declared.judging.TheConstants.{INPUT_LIMIT}
+use Rattle.check_command.specs.Check.{check_work}
+use Rattle.check_command.specs.SpelledRuns.{SpellsRun}
+use Rattle.commands.specs.Gen.{gen_work}
+use Rattle.commands.specs.LaterCalls.{HasNamesApart, HaveKept, IsLeftBy, run_names}
+use Rattle.check_command.proofs.CheckLaws.{good_run_is_accepted, AreReadable}
+use Rattle.commands.proofs.GenLeft.{files_left, LeftFiles}
+use Rattle.commands.proofs.GoodTexts.{readable_texts, spelled_run}
+
+module _ (call : RunCall) (numbers : HasRunNumbers call) (left later : Folder) (kept : HaveKept (run_names call) left later)
+    (it : LeftFiles call left) where
+  -- so under each name stands what gen left there
+  net_is : bytes_at later.held call.net ≡ it.net
+  net_is = kept 0 [] (omega arith) ∙ it.net_is
+
+  delays_are : bytes_at later.held call.delays ≡ it.delay_file
+  delays_are = kept 1 [] (omega arith) ∙ it.delays_is
+
+  tests_are : bytes_at later.held call.tests ≡ tests_text it.circuit it.run.tests
+  tests_are = kept 2 [] (omega arith) ∙ it.tests_is
+
+  report_is : bytes_at later.held call.report ≡ report_text it.circuit it.run.paths
+  report_is = kept 3 [] (omega arith) ∙ it.report_is
+
+  proofs_are : bytes_at later.held call.proofs ≡ proofs_text it.run.rules it.run.proofs
+  proofs_are = kept 4 [] (omega arith) ∙ it.proofs_is
+
+  circuit_is : IsCircuit it.circuit
+  circuit_is = is_circuit it.net it.circuit it.has
+
+  -- none of the three texts is too long to be read
+  are_readable : AreReadable call later
+  are_readable =
+      let short = readable_texts it.circuit circuit_is call numbers it.delay_file it.delays it.has_delays it.run it.good it.lawful it.short in
+      record {
+        tests_within = subst (λ (bytes : List ℕ). length bytes ≤ MOST_BYTES) (sym tests_are) short.tests;
+        report_within = subst (λ (bytes : List ℕ). length bytes ≤ MOST_BYTES) (sym report_is) short.report;
+        proofs_within = subst (λ (bytes : List ℕ). length bytes ≤ MOST_BYTES) (sym proofs_are) short.proofs;
+      }
+
+  -- and the three texts spell the run
+  spell : SpellsRun it.circuit (bytes_at later.held call.tests) (bytes_at later.held call.report) (bytes_at later.held call.proofs) it.run
+  spell =
+      let spells = spelled_run it.circuit circuit_is call numbers it.delay_file it.delays it.has_delays it.run it.good it.lawful in
+      record {
+        tests_are = record { lawful = spells.tests_are.lawful; is_text = tests_are };
+        report_is = record { lawful = spells.report_is.lawful; is_text = report_is };
+        proofs_are = record { lawful = spells.proofs_are.lawful; is_text = proofs_are };
+      }
+
+  accepted : HasAcceptedInputs (check_work call) (Some later)
+  accepted =
+      good_run_is_accepted call later it.circuit (subst (λ (bytes : List ℕ). HasCircuit bytes it.circuit) (sym net_is) it.has) it.delays
+      (subst (λ (bytes : List ℕ). HasDelays it.circuit bytes it.delays) (sym delays_are) it.has_delays) it.run spell it.good
+      (subst (λ (bytes : List ℕ). length bytes ≤ INPUT_LIMIT) (sym net_is) it.net_within)
+      (subst (λ (bytes : List ℕ). length bytes ≤ INPUT_LIMIT) (sym delays_are) it.delays_within) it.short are_readable
+
+-- gen was done, and the five names hold what they held then: check accepts its inputs
+pub gen_then_check : (call : RunCall) → HasRunNumbers call → HasNamesApart call → (left later : Folder) → IsLeftBy (gen_work call) left
+    → HaveKept (run_names call) left later → HasAcceptedInputs (check_work call) (Some later)
+gen_then_check call numbers apart left later done kept = accepted call numbers left later kept (files_left call apart left done)

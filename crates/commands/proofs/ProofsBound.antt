@@ -1,0 +1,124 @@
+-- How long a proofs file of a call is at most.
+use Rattle.std.proofs.Common.{◌≡◌, ◌≤◌, ◌<◌, ◌+◌, ◌*◌, ℕ, Bool, true, false, cond, List, [], ◌∷◌, length, map, codes, decimal, length-append, refl, sym, ap, ◌∙◌, arith, All}
+use Rattle.std.specs.List.{AllByRecursion}
+use Rattle.std.proofs.lemmas.Fmt.{length-decimal-le}
+use Rattle.std.proofs.lemmas.List.Elements.{recursion_from_All}
+use Rattle.std.proofs.lemmas.List.Sums.{sum_by-cons}
+use Rattle.std.proofs.lemmas.Nat.{mul-le}
+use Rattle.pd_base.specs.declared.limits.TheConstants.{MOST_PATHS}
+use Rattle.pd_base.specs.declared.rules.Rules.{Rules}
+use Rattle.pd_base.specs.declared.rules.Rules.TheVariants.{One, Two}
+use Rattle.netlist.specs.Circuit.{Circuit, source_count}
+use Rattle.netlist.specs.Lawful.{IsCircuit}
+use Rattle.runs.specs.declared.run.Proof.{Proof}
+use Rattle.runs.specs.declared.tree.Node.{Node}
+use Rattle.runs.specs.declared.tree.Node.TheVariants.{Closed, Waiting, Value, Steadiness}
+use Rattle.runs.specs.Lawful.{IsLawfulProof, IsOnSource}
+use Rattle.runs.specs.Trees.{is_split, split_count, IsTree}
+use Rattle.tree_laws.proofs.Ending.{nodes_and_splits}
+use Rattle.text_pieces.specs.declared.limits.TheConstants.{MOST_BYTES}
+use Rattle.text_pieces.specs.Tokens.{direction_word, kind_word, line, space}
+use Rattle.text_pieces.specs.LineFiles.{lines_text}
+use Rattle.verdict_report.specs.ProofsText.{claim_word, node_text, proof_text, proofs_form, proofs_text, version_line}
+use Rattle.command_line.specs.declared.reading.TheConstants.{MOST_PRODUCT}
+use Rattle.commands.proofs.TextBounds.{bytes_of, direction_length, joined_length, kind_within, line_length, lines_within}
+
+-- a line for each proof, and four proofs for each path
+proofs_product : (paths budget : ℕ) → paths ≤ MOST_PATHS → paths * budget ≤ MOST_PRODUCT → 4 * paths * (10 * budget + 50) ≤ 162000000
+proofs_product paths budget few product = omega arith
+
+claim_within : (spent : Bool) → length (claim_word spent) ≤ 7
+claim_within true = omega arith
+claim_within false = omega arith
+
+version_length : (rules : Rules) → length (version_line rules) ≡ 15
+version_length One = refl
+version_length Two = refl
+
+-- a list of nodes has so many splits as that behind the first, and one more where this is one
+splits_first : (node : Node) (nodes : List Node) → split_count (node ∷ nodes) ≡ cond (is_split node) 1 0 + split_count nodes
+splits_first node nodes = sum_by-cons (λ n. cond (is_split n) 1 0) node nodes
+
+module _ (c : Circuit) (circuit : IsCircuit c) where
+  source_digits : (source : ℕ) → source < source_count c → length (decimal source) ≤ 6
+  source_digits source within =
+      let lines = circuit.few_lines in
+      length-decimal-le 6 source (omega arith) (omega arith) (omega arith)
+
+  -- two bytes for each node, and six more for each split
+  nodes_within : (nodes : List Node) → AllByRecursion (IsOnSource c) nodes → bytes_of (map node_text nodes) ≤ 2 * length nodes + 6 * split_count nodes
+  nodes_within [] on = omega arith
+  nodes_within (Closed ∷ nodes) on = omega (arith, splits_first Closed nodes, nodes_within nodes on.1)
+  nodes_within (Waiting ∷ nodes) on = omega (arith, splits_first Waiting nodes, nodes_within nodes on.1)
+  nodes_within (Value source ∷ nodes) on =
+      omega (arith, splits_first (Value source) nodes, nodes_within nodes on.1, length-append (codes "V") (decimal source), source_digits source on.0)
+  nodes_within (Steadiness source ∷ nodes) on =
+      omega (arith, splits_first (Steadiness source) nodes, nodes_within nodes on.1, length-append (codes "H") (decimal source), source_digits source on.0)
+
+  -- ten bytes for each split, and two for the leaf that there is one more
+  tree_within : (nodes : List Node) → IsTree nodes → AllByRecursion (IsOnSource c) nodes → bytes_of (map node_text nodes) ≤ 10 * split_count nodes + 2
+  tree_within nodes tree on =
+      let count : length nodes ≡ 2 * split_count nodes + 1 =
+      ap length tree.1 ∙ nodes_and_splits tree.0 ∙ ap (λ (ns : List Node). 2 * split_count ns + 1) (sym tree.1) in
+      omega (arith, nodes_within nodes on, count)
+
+  module _ (budget : ℕ) where
+    -- a proof that a proofs file may list, whose tree has no more splits than the budget
+    pub record IsShortProof (proof : Proof) : Type 0 where
+      pub lawful : IsLawfulProof proof
+      pub on_sources : All (IsOnSource c) proof.tree
+      pub whole : IsTree proof.tree
+      pub few_splits : split_count proof.tree ≤ budget
+
+    proof_line_within : (number : ℕ) (proof : Proof) → number < 100000 → IsShortProof proof
+        → length (line (proof_text number proof)) ≤ 10 * budget + 50
+    proof_line_within number proof few is =
+        let own = length-decimal-le 5 number (omega arith) (omega arith) (omega arith) in
+        let path = length-decimal-le 5 proof.path (omega arith) (omega (arith, is.lawful.path.within)) (omega (arith, is.lawful.path.within)) in
+        let steps = length-decimal-le 4 proof.steps (omega arith) (omega (arith, is.lawful.steps)) (omega (arith, is.lawful.steps)) in
+        let splits = is.few_splits in
+        omega (
+          arith,
+          line_length (proof_text number proof),
+          joined_length space (decimal number) (claim_word proof.spent ∷ kind_word proof.kind ∷ direction_word proof.dir ∷ decimal proof.path
+              ∷ decimal proof.steps ∷ map node_text proof.tree),
+          own,
+          claim_within proof.spent,
+          kind_within proof.kind,
+          direction_length proof.dir,
+          path,
+          steps,
+          tree_within proof.tree is.whole (recursion_from_All (IsOnSource c) proof.tree is.on_sources),
+          splits,
+        )
+
+    -- such proofs, numbered on from this number
+    record AreFewProofs (number : ℕ) (proofs : List Proof) : Type 0 where
+      few : number + length proofs ≤ 40001
+      each : AllByRecursion IsShortProof proofs
+
+    next_proof : (number : ℕ) (proof : Proof) (proofs : List Proof) → AreFewProofs number (proof ∷ proofs)
+        → (length (line (proof_text number proof)) ≤ 10 * budget + 50) × AreFewProofs (number + 1) proofs
+    next_proof number proof proofs are =
+        let few = are.few in (
+          proof_line_within number proof (omega arith) are.each.0,
+          record { few = omega arith; each = are.each.1 },
+        )
+
+    -- the proofs of so many paths, four for each, where the product of paths and budget is within its limit
+    pub proofs_within : (paths : ℕ) (rules : Rules) (proofs : List Proof) → paths ≤ MOST_PATHS → paths * budget ≤ MOST_PRODUCT
+        → All IsShortProof proofs → length proofs ≤ 4 * paths → length (proofs_text rules proofs) ≤ MOST_BYTES
+    proofs_within paths rules proofs few product each four_each =
+        let lines = lines_within (proofs_form IsLawfulProof) (10 * budget + 50) AreFewProofs next_proof 1 proofs
+        (record { few = omega arith; each = recursion_from_All IsShortProof proofs each }) in
+        let all : length proofs * (10 * budget + 50) ≤ 4 * paths * (10 * budget + 50) =
+        mul-le (length proofs) (10 * budget + 50) (4 * paths) (10 * budget + 50) four_each (omega arith) in
+        omega (
+          arith,
+          length-append (line (version_line rules)) (lines_text (proofs_form IsLawfulProof) 1 proofs),
+          line_length (version_line rules),
+          version_length rules,
+          lines,
+          all,
+          proofs_product paths budget few product,
+        )

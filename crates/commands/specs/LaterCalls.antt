@@ -1,0 +1,40 @@
+-- What a call of `gen` left behind, as calls of other commands find it later (this project's own).
+use Rattle.std.specs.Prelude.{◌≡◌, ◌≢◌, ℕ, List, [], ◌∷◌, All, AllPairs, Some}
+use Rattle.pd_io.specs.Folder.{bytes_at, Folder}
+use Rattle.pd_io.specs.Seen.{Outside}
+use Rattle.command_line.specs.Words.{ReplayCall, RunCall}
+use Rattle.calls.specs.Work.{Work}
+use Rattle.calls.specs.Passing.{Pass}
+use Rattle.calls.specs.Calls.{IsDone}
+use Rattle.call_inputs.specs.InputStages.{input_stages}
+use Rattle.replay_command.specs.Replay.{replay_work}
+
+-- the names of the files of a run, in the order of the words
+abbrev pub run_names : RunCall → List (List ℕ)
+run_names call = call.net ∷ call.delays ∷ call.tests ∷ call.report ∷ call.proofs ∷ []
+
+-- no two of them are the same
+abbrev pub HasNamesApart : RunCall → Type 0
+HasNamesApart call = AllPairs (λ a b. a ≢ b) (run_names call)
+
+-- this work was done, and the files told then that they held this
+pub record IsLeftBy (work : Work) (left : Folder) : Type 0 where
+  pub old : Outside
+  pub new : Outside
+  pub done : IsDone work old new
+  pub told : new.files.folder ≡ Some left
+
+-- one name holds now what another one held then
+abbrev pub HoldsAs : Folder → List ℕ → Folder → List ℕ → Type 0
+HoldsAs now name then other = bytes_at now.held name ≡ bytes_at then.held other
+
+-- these names hold what they held
+abbrev pub HaveKept : List (List ℕ) → Folder → Folder → Type 0
+HaveKept names then now = All (λ name. HoldsAs now name then name) names
+
+-- a call of `replay` finds in NET what such a call of `gen` found there, in TESTS what that call wrote, and accepts NET and DELAYS
+pub record FindsTests (call : RunCall) (left : Folder) (replay : ReplayCall) (now : Folder) : Type 0 where
+  pub net : HoldsAs now replay.net left call.net
+  pub tests : HoldsAs now replay.tests left call.tests
+  pub inputs : List (List ℕ)
+  pub accepted : Pass (replay_work replay) (Some now) (input_stages replay.net replay.delays) [] inputs

@@ -1,6 +1,0 @@
-use Rattle.std.proofs.Common.{◌≡◌}
-use Rattle.justify.specs.Drafts.{HasGate}
-use Rattle.justify.proofs.decisions.Decisions.resolve.Given as goal
-
-abbrev pub invariant-loop-conflicts : goal.invariant-loop-conflicts
-invariant-loop-conflicts l = (l.self ≡ l.initial.self) × HasGate l.region.net.now l.settled

@@ -1,7 +1,0 @@
--- The cut is at a line of the circuit.
-use Rattle.std.proofs.Common.{◌<◌}
-use Rattle.netlist.specs.Circuit.{line_count}
-use Rattle.justify.proofs.frontier.descend.Given as goal
-
-abbrev pub invariant-loop : goal.invariant-loop
-invariant-loop l = l.cut.line.0 < line_count l.sight.net.now

@@ -1,9 +1,0 @@
--- What the cone keeps is of the circuit.
-use Rattle.netlist.specs.Paths.{end_of}
-use Rattle.justify.proofs.Cones.{cone_in}
-use Rattle.justify.proofs.justifier.Justifier.propose.Goals as goal
-
-pub decide-found-requires-clause-cone : goal.decide-found-requires-clause-cone
-decide-found-requires-clause-cone c =
-    let net = c.args.sight.now.net.now in
-    cone_in net (end_of net c.args.path.now) c.args.cone.now c.requires.cone_for c.requires.cone_at

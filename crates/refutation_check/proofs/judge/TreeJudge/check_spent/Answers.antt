@@ -1,0 +1,55 @@
+-- What is told of the nodes of a tree with so many splits and an open leaf tells whether it spent the budget.
+use Rattle.std.proofs.Common.{List, IfOk, sym, ◌∙◌, subst}
+use Rattle.std.specs.List.{Contains}
+use Rattle.std.proofs.lemmas.Bool.{false≢true}
+use Rattle.std.proofs.lemmas.Result.{IfOk-weaker}
+use Rattle.pd_base.specs.Target.{target_of}
+use Rattle.runs.specs.declared.tree.Node.{Node}
+use Rattle.runs.specs.declared.tree.Node.TheVariants.{Waiting}
+use Rattle.tree_laws.specs.Faults.{IsRightInSpent}
+use Rattle.tree_laws.specs.Faults.IsFaultOfSpent.{other_splits, none_open}
+use Rattle.tree_laws.proofs.Bound.{spent_below_bound}
+use Rattle.tree_laws.proofs.Faults.{fault_spent_not}
+use Rattle.refutation_check.specs.Answers.{TellsOfNodes, TellsOfSpent}
+use Rattle.refutation_check.specs.Judges.{MadeFor}
+use Rattle.refutation_check.proofs.Checking.{spent_of_nodes, spent_exactly}
+use Rattle.refutation_check.proofs.judge.TreeJudge.check_spent.Goals as goal
+use Rattle.refutation_check.proofs.judge.TreeJudge.check_spent.Goals.{then-splits-budget-via-then-splits-budget, then-splits-budget-via-else-splits-budget+then-not-has_open}
+
+pub returns-then-splits-budget-clause-tells : goal.returns-then-splits-budget-clause-tells
+returns-then-splits-budget-clause-tells c =
+    elim c.then-splits-budget.branch [
+      | then-splits-budget-via-then-splits-budget w ↦ other_splits (λ e. w.if-splits-budget.true (c.splits.ensures ∙ e))
+      | then-splits-budget-via-else-splits-budget+then-not-has_open w ↦ none_open (λ has. false≢true (sym w.if-not-has_open.true
+          ∙ w.has_open.ensures.1 (subst (λ (nodes : List Node). Contains nodes Waiting) (sym w.nodes.ensures.nodes) has)))
+    ]
+
+pub returns-then-splits-budget-clause-exactly : goal.returns-then-splits-budget-clause-exactly
+returns-then-splits-budget-clause-exactly c =
+    let m = c.args.self.now in let target = target_of c.args.path.now c.args.dir c.args.kind in (
+      λ e. cc,
+      λ all. absurd (fault_spent_not m.net m.rules target c.args.budget c.args.tree.now 0 (returns-then-splits-budget-clause-tells c) all),
+    )
+
+pub returns-clause-tells : goal.returns-clause-tells
+returns-clause-tells c =
+    let i = c.self.inside in let target = target_of c.args.path.now c.args.dir c.args.kind in let tree = c.args.tree.now in
+    let P : MadeFor → Type 0 = λ m. IfOk c.spends.result (TellsOfSpent m.net m.rules target c.args.budget tree) in
+    subst P c.self.view_is
+    (IfOk-weaker c.spends.result (TellsOfNodes (IsRightInSpent i.engine.net i.engine.rules target) tree)
+    (TellsOfSpent i.engine.net i.engine.rules target c.args.budget tree)
+    (λ check nodes. spent_of_nodes i.engine.net i.engine.rules target c.args.budget tree (sym c.splits.ensures ∙ c.if-splits-budget.false)
+    (subst (λ (all : List Node). Contains all Waiting) c.nodes.ensures.nodes (c.has_open.ensures.0 c.if-not-has_open.false)) check nodes)
+    c.spends.ensures.tells)
+
+pub returns-clause-exactly : goal.returns-clause-exactly
+returns-clause-exactly c =
+    let m = c.args.self.now in let target = target_of c.args.path.now c.args.dir c.args.kind in let tree = c.args.tree.now in
+    IfOk-weaker c.spends.result (TellsOfSpent m.net m.rules target c.args.budget tree) _
+    (λ check tells. spent_exactly m.net m.rules target c.args.budget tree check tells) (returns-clause-tells c)
+
+pub returns-clause-bound : goal.returns-clause-bound
+returns-clause-bound c = λ yes.
+    let m = c.args.self.now in let target = target_of c.args.path.now c.args.dir c.args.kind in let tree = c.args.tree.now in
+    spent_below_bound m.net m.rules target c.args.budget tree c.requires.prefix
+    (subst (λ result. IfOk result (TellsOfSpent m.net m.rules target c.args.budget tree)) yes (returns-clause-tells c))

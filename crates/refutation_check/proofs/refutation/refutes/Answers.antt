@@ -1,0 +1,29 @@
+-- The scope is at the root, and what is told of the nodes there is told under the engine's setting.
+use Rattle.std.proofs.Common.{Some, IfOk, refl, ◌∙◌, subst₂}
+use Rattle.pd_base.specs.Target.{target_of}
+use Rattle.pd_base.specs.declared.rules.Rules.{Rules}
+use Rattle.netlist.specs.Circuit.{Circuit}
+use Rattle.tree_laws.specs.Faults.{IsRightInRefutation}
+use Rattle.refutation_check.specs.Answers.{TellsOfNodes}
+use Rattle.refutation_check.proofs.refutation.refutes.Goals as goal
+
+pub walk_refutation-requires-clause-root : goal.walk_refutation-requires-clause-root
+walk_refutation-requires-clause-root g c =
+    let target = target_of c.args.prefix.now c.args.dir c.args.kind in
+    record {
+      target = target;
+      at = c.enter_all.ensures.root target refl
+          (c.begin-scope.ensures.begun.beginning
+          ∙ (λ i. Some (record { source = c.source.ensures i; direction = c.args.dir; kind = c.args.kind })));
+    }
+
+pub returns-clause-tells : goal.returns-clause-tells
+returns-clause-tells g c =
+    let target = target_of c.args.prefix.now c.args.dir c.args.kind in
+    let begun = c.begin-scope.ensures.begun in let setting = c.enter_all.ensures.setting in
+    let at = c.enter_all.ensures.root target refl
+    (begun.beginning ∙ (λ i. Some (record { source = c.source.ensures i; direction = c.args.dir; kind = c.args.kind }))) in
+    let P : Circuit → Rules → Type 0 =
+    λ n rules. IfOk c.walk_refutation.result (TellsOfNodes (IsRightInRefutation n rules target) c.args.tree.now) in
+    subst₂ P (setting.net ∙ begun.net) (setting.rules ∙ begun.rules)
+    (c.walk_refutation.ensures.tells target at)

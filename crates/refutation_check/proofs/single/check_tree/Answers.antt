@@ -1,0 +1,27 @@
+-- The judge is made for the end of the prefix.
+use Rattle.std.proofs.Common.{◌≡◌, ◌↔◌, IfOk, subst}
+use Rattle.pd_base.specs.Pair.{Vectors}
+use Rattle.pd_base.specs.Target.{target_of}
+use Rattle.netlist.specs.Conditions.{Meets}
+use Rattle.state_laws.specs.Steadied.{steadied}
+use Rattle.tree_laws.specs.Refutations.{IsRefutation}
+use Rattle.refutation_check.specs.declared.answer.TreeCheck.TheVariants.{Yes}
+use Rattle.refutation_check.specs.Judges.{MadeFor}
+use Rattle.refutation_check.proofs.Checking.{of_every, told_at_end}
+use Rattle.refutation_check.proofs.single.check_tree.Goals as goal
+
+pub check_tree-requires-clause-told : goal.check_tree-requires-clause-told
+check_tree-requires-clause-told c =
+    told_at_end c.in_ok-judge.judge c.args.net.now c.args.rules.now c.end_of.result c.args.prefix.now c.in_ok-judge.ensures c.end_of.ensures.end
+
+pub returns-clause-exactly : goal.returns-clause-exactly
+returns-clause-exactly c =
+    let P : MadeFor → Type 0 = λ m. IfOk c.check_tree.result (λ check.
+    (check ≡ Yes) ↔ IsRefutation m.net m.rules (target_of c.args.prefix.now c.args.dir c.args.kind) c.args.tree.now) in
+    subst P c.in_ok-judge.ensures c.check_tree.ensures.exactly
+
+pub returns-clause-steadied : goal.returns-clause-steadied
+returns-clause-steadied c =
+    let P : MadeFor → Type 0 = λ m. (pair : Vectors) → Meets m.net (target_of c.args.prefix.now c.args.dir c.args.kind) pair
+    → Meets m.net (target_of c.args.prefix.now c.args.dir c.args.kind) (steadied m.net c.args.prefix.now.source.0 pair) in
+    of_every c.check_tree.result _ (λ check. subst P c.in_ok-judge.ensures c.check_tree.ensures.steadied)

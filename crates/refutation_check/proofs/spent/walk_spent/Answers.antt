@@ -1,0 +1,106 @@
+-- The nodes are tried in preorder, with the scope at each.
+use Rattle.std.proofs.Common.{◌∙◌, List, Option, get_or, refl, sym, subst, subst₂}
+use Rattle.pd_base.specs.declared.ids.LineId.{LineId}
+use Rattle.std.proofs.lemmas.Bool.{false≢true}
+use Rattle.netlist.specs.Circuit.{Circuit, source_count}
+use Rattle.netlist.specs.Paths.{IsPrefix, end_of}
+use Rattle.runs.specs.declared.tree.Node.{Node}
+use Rattle.runs.specs.declared.tree.Node.TheVariants.{Closed}
+use Rattle.runs.specs.Trees.{IsTree}
+use Rattle.implication.specs.Scopes.{standing}
+use Rattle.implication.specs.Standing.{IsToldBy}
+use Rattle.tree_laws.specs.Halves.{halves_of}
+use Rattle.tree_laws.specs.Faults.{IsRightInSpent, IsFirstFaultOf}
+use Rattle.refutation_check.specs.declared.answer.TreeCheck.TheVariants.{Yes}
+use Rattle.refutation_check.specs.Answers.{TellsOfNodes}
+use Rattle.refutation_check.specs.Trials.{asked_target, IsTrialRoomAt}
+use Rattle.refutation_check.specs.Walks.{IsOn}
+use Rattle.refutation_check.proofs.Checking.{checked_none, checked_walk, checked_right, checked_fault, checked_more, checked_all, spends_there, spent_on}
+use Rattle.refutation_check.proofs.Walking.{same_itself, same_twice}
+use Rattle.refutation_check.proofs.spent.walk_spent.Goals as goal
+
+pub loop-place-init : goal.loop-place-init
+loop-place-init g c =
+    let old = standing c.args.scope.now in
+    record {
+      scope = record { engine = refl; origin = refl };
+      setting = same_itself old;
+      room = c.requires.room;
+      checked = checked_none (IsRightInSpent old.net old.rules (asked_target c.args.asked.now)) (asked_target c.args.asked.now)
+          c.nodes-node-items.result.now old c.clear.new.self.items c.requires.root c.clear.ensures.items;
+    }
+
+pub returns-then-not-is_right_at-clause-tells : goal.returns-then-not-is_right_at-clause-tells
+returns-then-not-is_right_at-clause-tells g c =
+    let old = standing c.args.scope.now in let now = standing c.loop-place.scope in
+    let items = c.nodes-node-items.result.now in let place = c.loop-place.place in let inv = c.loop-place.invariant in
+    let target = asked_target c.args.asked.now in let Is = IsRightInSpent old.net old.rules target in
+    let checked = inv.checked in let node = get_or items place Closed in
+    subst (λ (nodes : List Node). IsFirstFaultOf Is nodes place) c.nodes-node-items.ensures.nodes
+    (checked_fault Is target items place now c.loop-place.pending.items checked node Closed c.loop-place-test.true refl
+    (λ right. false≢true (sym c.if-not-is_right_at.true
+    ∙ (checked_right Is target items place now c.loop-place.pending.items checked node c.is_right_at.result
+    (spends_there old now inv.setting node c.is_right_at.result target c.is_right_at.ensures.right)).1 right))
+    (subst IsTree (sym c.nodes-node-items.ensures.nodes) c.nodes-node-items.ensures.tree))
+
+pub is_right_at-requires-clause-prefix : goal.is_right_at-requires-clause-prefix
+is_right_at-requires-clause-prefix g c =
+    let P : Circuit → Type 0 = λ n. IsPrefix n c.args.asked.now.path.now in
+    subst P (sym c.loop-place.invariant.setting.net) c.requires.prefix
+
+pub is_right_at-requires-clause-told : goal.is_right_at-requires-clause-told
+is_right_at-requires-clause-told g c =
+    let setting = c.loop-place.invariant.setting in
+    let P : Circuit → Option (List LineId) → Type 0 = λ n ends. IsToldBy n ends (end_of n c.args.asked.now.path.now) in
+    subst₂ P (sym setting.net) (sym setting.ends) c.requires.told
+
+pub is_right_at-requires-clause-room : goal.is_right_at-requires-clause-room
+is_right_at-requires-clause-room g c =
+    let P : Circuit → Type 0 = λ n. IsTrialRoomAt n c.args.asked.now.path.now c.loop-place.room in
+    subst P (sym c.loop-place.invariant.setting.net) c.loop-place.invariant.room
+
+pub pass-requires-clause-walk : goal.pass-requires-clause-walk
+pass-requires-clause-walk g c =
+    let old = standing c.args.scope.now in let now = standing c.loop-place.scope in
+    let target = asked_target c.args.asked.now in
+    checked_walk (IsRightInSpent old.net old.rules target) target c.nodes-node-items.result.now c.loop-place.place now
+    c.loop-place.pending.items (c.loop-place.invariant.checked)
+
+pub pass-requires-clause-split : goal.pass-requires-clause-split
+pass-requires-clause-split g c =
+    let old = standing c.args.scope.now in let now = standing c.loop-place.scope in
+    let items = c.nodes-node-items.result.now in let place = c.loop-place.place in let inv = c.loop-place.invariant in
+    let target = asked_target c.args.asked.now in let Is = IsRightInSpent old.net old.rules target in
+    let checked = inv.checked in let node = get_or items place Closed in
+    let right = (checked_right Is target items place now c.loop-place.pending.items checked node c.is_right_at.result
+    (spends_there old now inv.setting node c.is_right_at.result target c.is_right_at.ensures.right)).0 c.if-not-is_right_at.false in
+    let P : Circuit → Type 0 = λ n. IsOn (source_count n) node in
+    subst P (sym inv.setting.net) (spent_on old.net old.rules target (halves_of checked.above) node right)
+
+pub loop-place-preserved : goal.loop-place-preserved
+loop-place-preserved g c =
+    let old = standing c.args.scope.now in let now = standing c.loop-place.scope in let next = standing c.pass.new.scope in
+    let items = c.nodes-node-items.result.now in let place = c.loop-place.place in let inv = c.loop-place.invariant in
+    let node = get_or items place Closed in
+    record {
+      scope = record { engine = c.pass.ensures.scope.engine ∙ inv.scope.engine; origin = c.pass.ensures.scope.origin ∙ inv.scope.origin };
+      setting = same_twice old now next inv.setting c.pass.ensures.setting;
+      room = let P : Circuit → Type 0 = λ n. IsTrialRoomAt n c.args.asked.now.path.now c.is_right_at.new.room in
+          subst P inv.setting.net c.is_right_at.ensures.room;
+      checked =
+          let target = asked_target c.args.asked.now in let Is = IsRightInSpent old.net old.rules target in
+          let checked = inv.checked in
+          let right = (checked_right Is target items place now c.loop-place.pending.items checked node c.is_right_at.result
+          (spends_there old now inv.setting node c.is_right_at.result target c.is_right_at.ensures.right)).0 c.if-not-is_right_at.false in
+          checked_more Is target items place now c.loop-place.pending.items checked node Closed next c.pass.new.pending.items
+          c.loop-place-test.true refl right c.in_ok-pass.ensures.passes;
+    }
+
+pub returns-clause-tells : goal.returns-clause-tells
+returns-clause-tells g c =
+    let old = standing c.args.scope.now in
+    let target = asked_target c.args.asked.now in let Is = IsRightInSpent old.net old.rules target in
+    subst (λ (nodes : List Node). TellsOfNodes Is nodes Yes) c.nodes-node-items.ensures.nodes
+    (checked_all Is target c.nodes-node-items.result.now c.loop-place.place (standing c.loop-place.scope) c.loop-place.pending.items
+    c.loop-place.invariant.checked c.loop-place-test.false
+    (subst IsTree (sym c.nodes-node-items.ensures.nodes) c.nodes-node-items.ensures.tree))

@@ -1,0 +1,11 @@
+-- Back to the node above the half that was put off last, and down into that half.
+use Rattle.implication.specs.Scopes.{standing}
+use Rattle.refutation_check.proofs.Walking.{comes_next, goes_round}
+use Rattle.refutation_check.proofs.walk.turn.Goals as goal
+
+pub returns-in-Some-clause-goes : goal.returns-in-Some-clause-goes
+returns-in-Some-clause-goes g c = λ target above walks.
+    goes_round target (standing c.args.scope.now) (standing c.back_to.new.self) (standing c.assume_half.new.scope) above c.in-Some.next
+    c.pop.new.self.items
+    (comes_next target (standing c.args.scope.now) above c.in-Some.next c.pop.new.self.items c.args.pending.now.items c.in-Some.ensures.items walks)
+    c.back_to.ensures.back c.assume_half.ensures.extends (λ halves at. c.assume_half.ensures.below target halves at)

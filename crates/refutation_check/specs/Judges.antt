@@ -1,0 +1,19 @@
+-- What contracts see of a judge of trees: for what it is made (this project's own).
+use Rattle.std.specs.Prelude.{◌≡◌, List, Option, None}
+use Rattle.pd_base.specs.declared.ids.LineId.{LineId}
+use Rattle.pd_base.specs.declared.rules.Rules.{Rules}
+use Rattle.netlist.specs.Circuit.{Circuit}
+use Rattle.implication.specs.Standing.{Standing}
+use Rattle.refutation_check.specs.declared.trial.TrialRoom.{TrialRoom}
+use Rattle.refutation_check.specs.Trials.{IsTrialRoomFor}
+
+-- a circuit, the rules of its trees, and the lines in whose fan-in the paths end that it can judge
+pub record MadeFor : Type 0 where
+  pub net : Circuit
+  pub rules : Rules
+  pub ends : Option (List LineId)
+
+-- no scope is open on its engine, and there is room for trials
+pub record IsJudgeReady (engine : Standing) (trials : TrialRoom) : Type 0 where
+  pub idle : engine.beginning ≡ None
+  pub room : IsTrialRoomFor engine.net trials

@@ -1,0 +1,32 @@
+// The root of a tree: a scope that has begun enters the pins of the tree's prefix.
+ghost use Rattle.std.specs.Prelude.{◌≡◌, [], Some, None};
+ghost use Rattle.pd_base.specs.Target.{Target};
+ghost use Rattle.netlist.specs.Paths.{IsPrefix, end_of};
+ghost use Rattle.implication.specs.Scopes.{IsSameScope, standing};
+ghost use Rattle.implication.specs.Standing.{IsTold};
+ghost use Rattle.tree_scopes.specs.Nodes.{beginning_of};
+ghost use Rattle.tree_scopes.specs.Settings.{IsSameSetting};
+ghost use Rattle.refutation_check.specs.Entering.{IsStartFor};
+ghost use Rattle.refutation_check.specs.Walks.{IsScopeAt};
+
+use implication::{Scope, Setting};
+use pd_base::{Path, Steps};
+use state_sets::FourStates;
+
+// Enters the pins of a prefix one after another, up to the first conflict, which closes the root of every tree for the prefix.
+pub(crate) fn enter_all<S: Setting>(scope: &mut Scope<FourStates, S>, prefix: &Path)
+    requires prefix { IsPrefix (standing scope.old).net prefix.now }
+    requires told { IsTold (standing scope.old) (end_of (standing scope.old).net prefix.now) }
+    requires start { IsStartFor prefix.now (standing scope.old) }
+    ensures scope { IsSameScope scope.old scope.new }
+    ensures setting { IsSameSetting (standing scope.old) (standing scope.new) }
+    ensures root { (target : Target) → target.path ≡ prefix.now → (standing scope.old).beginning ≡ Some (beginning_of target)
+        → IsScopeAt target [] (standing scope.new) }
+{
+    for pin in prefix.steps() {
+        let mut counter = Steps::start(());
+        if scope.enter(*pin, &mut counter).is_err() {
+            return;
+        }
+    }
+}

@@ -1,0 +1,147 @@
+// The judge of trees: one engine within the ends that it is made for, which judges one tree after another. What is asked of the nodes
+// stands in refutation.rt and spent.rt.
+ghost use Rattle.std.specs.Prelude.{◌≡◌, ◌<◌, ◌↔◌, All, Some, Ok, IfOk, Contains, IsTrue};
+ghost use Rattle.pd_base.specs.Target.{target_of};
+ghost use Rattle.pd_base.specs.Pair.{Vectors};
+ghost use Rattle.pd_base.specs.Route.{Route};
+ghost use Rattle.netlist.specs.Circuit.{line_count};
+ghost use Rattle.netlist.specs.Conditions.{Meets};
+ghost use Rattle.netlist.specs.Paths.{IsPrefix, IsPrefixOf, end_of};
+ghost use Rattle.state_laws.specs.Steadied.{steadied};
+ghost use Rattle.implication.specs.Standing.{IsToldBy};
+ghost use Rattle.runs.specs.declared.tree.Node.{Node};
+ghost use Rattle.tree_laws.specs.Refutations.{IsRefutation};
+ghost use Rattle.tree_laws.specs.Spent.{IsSpent};
+ghost use Rattle.tree_laws.specs.Bounds.{IsBelowBound};
+ghost use Rattle.refutation_check.specs.Answers.{TellsOfRefutation, TellsOfSpent};
+
+use crate::TreeCheck;
+use crate::asked::Asked;
+use crate::refutation::refutes;
+use crate::spent::spends;
+use crate::trial::TrialRoom;
+use crate::walk::Pending;
+use implication::{Engine, RuledNetlist};
+use netlist::Netlist;
+use pd_base::{Direction, Kind, LineId, OutOfMemory, Path, Rules};
+use runs::{Node, Tree};
+use state_sets::FourStates;
+use std::alloc::Global;
+use std::marker::Model;
+
+/// A judge of trees of cases for prefixes of paths in one netlist. One serves for any number of trees, one after another: each costs what
+/// the walk over it changes in the cone of its prefix's end, and not the circuit.
+///
+/// Contracts see for what it is made: the circuit, the rules under which the trees were grown, and the lines in whose fan-in the
+/// prefixes end that it can judge.
+// No Debug: it would print the labels of all lines, and all private types within would need it.
+#[derive(Drop)]
+pub struct TreeJudge<'n> {
+    engine: Engine<FourStates, RuledNetlist<'n>>,
+    // the second halves that the walk over a tree has put off
+    pending: Vec<Pending>,
+    room: TrialRoom,
+}
+
+impl<'n> Model for TreeJudge<'n> {
+    ghost use Rattle.refutation_check.specs.Judges.{MadeFor, IsJudgeReady};
+
+    ghost Value = { MadeFor };
+
+    ghost view = { λ j. record { net = j.engine.net; rules = j.engine.rules; ends = j.engine.ends } };
+
+    ghost invariant = { λ j. IsJudgeReady j.engine j.room };
+}
+
+impl<'n> TreeJudge<'n> {
+    /// A judge for trees under these rules, for the prefixes that end in the fan-in of one of these lines. It costs the circuit once, and
+    /// fails only where memory runs out.
+    pub fn new(
+        alloc: Global,
+        net: &'n Netlist,
+        rules: &'n Rules,
+        ends: &[LineId],
+    ) -> Result<TreeJudge<'n>, OutOfMemory>
+        requires { All (λ end. end.0 < line_count net.now) ends.now }
+        ensures { IfOk result (λ judge. judge ≡ record { net = net.now; rules = rules.now; ends = Some ends.now }) }
+    {
+        let room = TrialRoom::new(alloc, net)?;
+        let engine = Engine::within(alloc, RuledNetlist { net, rules }, ends)?;
+        Ok(TreeJudge {
+            engine,
+            pending: Vec::new(alloc),
+            room,
+        })
+    }
+
+    /// Whether a tree refutes the conditions of a kind of test for a prefix and a transition. No names the first node in preorder that is at
+    /// fault: an open leaf, a closed leaf whose node does not close, or a split on a number that is no source. It fails only where memory
+    /// runs out, of which it takes some bytes for each half above a node; the judge serves on, whatever the answer.
+    pub fn check_tree(
+        &mut self,
+        prefix: &Path,
+        dir: Direction,
+        kind: Kind,
+        tree: &Tree,
+    ) -> Result<TreeCheck, OutOfMemory>
+        requires prefix { IsPrefix self.old.net prefix.now }
+        requires told { IsToldBy self.old.net self.old.ends (end_of self.old.net prefix.now) }
+        ensures same { self.new ≡ self.old }
+        ensures tells { IfOk result (TellsOfRefutation self.old.net self.old.rules (target_of prefix.now dir kind) tree.now) }
+        ensures exactly { IfOk result (λ check.
+            (check ≡ TreeCheck.Yes) ↔ IsRefutation self.old.net self.old.rules (target_of prefix.now dir kind) tree.now) }
+
+        // whatever the rules, no pair meets the conditions of a refuted prefix, nor those of a path with this prefix
+        ensures excludes { result ≡ Ok TreeCheck.Yes → (path : Route) → IsPrefix self.old.net path → IsPrefixOf prefix.now path
+            → (pair : Vectors) → ¬ Meets self.old.net (target_of path dir kind) pair }
+        // steadying a pair at the other sources, as rules Two ask, loses no test
+        ensures steadied { (pair : Vectors) → Meets self.old.net (target_of prefix.now dir kind) pair
+            → Meets self.old.net (target_of prefix.now dir kind) (steadied self.old.net prefix.now.source.0 pair) }
+    {
+        // a netlist knows itself as a circuit
+        let _ = self.engine.net().sources();
+        refutes(&mut self.engine, &mut self.pending, prefix, dir, kind, tree)
+    }
+
+    /// Whether a tree shows that a budget was spent on a path and a transition under the conditions of a kind of test. No(0) where it has
+    /// more or fewer splits than the budget, or no open leaf. Else No names the first node in preorder that is at fault: a closed leaf
+    /// whose node does not close; an open leaf or a split whose node closes, or whose trial does not; a split on a source outside the
+    /// support, or on one that has no state of some half in the hull. After Yes the budget is below four to the power of one less than the
+    /// number of sources in the support, or below two to that power where the other sources are held steady. It fails only where memory
+    /// runs out, of which it takes some bytes for each half above a node; the judge serves on, whatever the answer.
+    pub fn check_spent(
+        &mut self,
+        path: &Path,
+        dir: Direction,
+        kind: Kind,
+        budget: u32,
+        tree: &Tree,
+    ) -> Result<TreeCheck, OutOfMemory>
+        requires prefix { IsPrefix self.old.net path.now }
+        requires told { IsToldBy self.old.net self.old.ends (end_of self.old.net path.now) }
+        ensures same { self.new ≡ self.old }
+        ensures tells { IfOk result (TellsOfSpent self.old.net self.old.rules (target_of path.now dir kind) budget tree.now) }
+        ensures exactly { IfOk result (λ check.
+            (check ≡ TreeCheck.Yes) ↔ IsSpent self.old.net self.old.rules (target_of path.now dir kind) budget tree.now) }
+        ensures bound { result ≡ Ok TreeCheck.Yes → IsBelowBound self.old.net self.old.rules path.now budget }
+    {
+        if tree.splits() != budget || !has_open(tree.nodes()) {
+            return Ok(TreeCheck::No(0));
+        }
+        let asked = Asked { path, dir, kind };
+        spends(
+            &mut self.engine,
+            &mut self.pending,
+            &mut self.room,
+            &asked,
+            tree,
+        )
+    }
+}
+
+// Whether some leaf is open.
+fn has_open(nodes: &[Node]) -> bool
+    ensures { IsTrue result ↔ Contains nodes.now Node.Waiting }
+{
+    nodes.contains(&Node::Waiting)
+}

@@ -1,0 +1,77 @@
+// Single trees, each judged by a judge of its own.
+ghost use Rattle.std.specs.Prelude.{◌≡◌, ◌↔◌, Ok, IfOk};
+ghost use Rattle.pd_base.specs.Target.{target_of};
+ghost use Rattle.pd_base.specs.Pair.{Vectors};
+ghost use Rattle.pd_base.specs.Route.{Route};
+ghost use Rattle.netlist.specs.Conditions.{Meets};
+ghost use Rattle.netlist.specs.Paths.{IsPrefix, IsPrefixOf};
+ghost use Rattle.state_laws.specs.Steadied.{steadied};
+ghost use Rattle.tree_laws.specs.Refutations.{IsRefutation};
+ghost use Rattle.tree_laws.specs.Spent.{IsSpent};
+ghost use Rattle.tree_laws.specs.Bounds.{IsBelowBound};
+ghost use Rattle.refutation_check.specs.Answers.{TellsOfRefutation, TellsOfSpent};
+
+use crate::{TreeCheck, TreeJudge};
+use netlist::Netlist;
+use pd_base::{Direction, Kind, OutOfMemory, Path, Rules};
+use runs::Tree;
+use std::alloc::Global;
+use test_judging::end_of;
+
+/// Whether a tree refutes the conditions of a kind of test for a prefix and a transition, under these rules. No names the first node
+/// in preorder that is at fault: an open leaf, a closed leaf whose node does not close, or a split on a number that is no source. It
+/// fails only where memory runs out, of which it takes some bytes for each line and each gate, and for each half above a node. Many trees
+/// on one netlist share a `TreeJudge`.
+pub fn check_tree(
+    alloc: Global,
+    net: &Netlist,
+    rules: &Rules,
+    prefix: &Path,
+    dir: Direction,
+    kind: Kind,
+    tree: &Tree,
+) -> Result<TreeCheck, OutOfMemory>
+    requires { IsPrefix net.now prefix.now }
+    ensures tells { IfOk result (TellsOfRefutation net.now rules.now (target_of prefix.now dir kind) tree.now) }
+    ensures exactly { IfOk result (λ check.
+        (check ≡ TreeCheck.Yes) ↔ IsRefutation net.now rules.now (target_of prefix.now dir kind) tree.now) }
+
+    // whatever the rules, no pair meets the conditions of a refuted prefix, nor those of a path with this prefix
+    ensures excludes { result ≡ Ok TreeCheck.Yes → (path : Route) → IsPrefix net.now path → IsPrefixOf prefix.now path
+        → (pair : Vectors) → ¬ Meets net.now (target_of path dir kind) pair }
+    // steadying a pair at the other sources, as rules Two ask, loses no test
+    ensures steadied { IfOk result (λ check. (pair : Vectors) → Meets net.now (target_of prefix.now dir kind) pair
+        → Meets net.now (target_of prefix.now dir kind) (steadied net.now prefix.now.source.0 pair)) }
+{
+    let ends = [end_of(net, prefix)];
+    let mut judge = TreeJudge::new(alloc, net, rules, &ends)?;
+    judge.check_tree(prefix, dir, kind, tree)
+}
+
+/// Whether a tree shows that a budget was spent on a path and a transition under the conditions of a kind of test, under these rules.
+/// No(0) where it has more or fewer splits than the budget, or no open leaf. Else No names the first node in preorder that is at
+/// fault: a closed leaf whose node does not close; an open leaf or a split whose node closes, or whose trial does not; a split on a
+/// source outside the support, or on one that has no state of some half in the hull. After Yes the budget is below four to the power
+/// of one less than the number of sources in the support, or below two to that power where the other sources are held steady. It fails only
+/// where memory runs out, of which it takes some bytes for each line and each gate, and for each half above a node. Many trees on one
+/// netlist share a `TreeJudge`.
+pub fn check_spent(
+    alloc: Global,
+    net: &Netlist,
+    rules: &Rules,
+    path: &Path,
+    dir: Direction,
+    kind: Kind,
+    budget: u32,
+    tree: &Tree,
+) -> Result<TreeCheck, OutOfMemory>
+    requires { IsPrefix net.now path.now }
+    ensures tells { IfOk result (TellsOfSpent net.now rules.now (target_of path.now dir kind) budget tree.now) }
+    ensures exactly { IfOk result (λ check.
+        (check ≡ TreeCheck.Yes) ↔ IsSpent net.now rules.now (target_of path.now dir kind) budget tree.now) }
+    ensures bound { result ≡ Ok TreeCheck.Yes → IsBelowBound net.now rules.now path.now budget }
+{
+    let ends = [end_of(net, path)];
+    let mut judge = TreeJudge::new(alloc, net, rules, &ends)?;
+    judge.check_spent(path, dir, kind, budget, tree)
+}

@@ -1,0 +1,4 @@
+pub mod Replay
+pub mod ReplayEndings
+pub mod ReplayText
+pub mod TestChanges

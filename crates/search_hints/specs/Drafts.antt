@@ -1,0 +1,60 @@
+-- What a search by decisions on lines keeps of a circuit (this project's own).
+use Rattle.std.specs.Prelude.{◌≡◌, ℕ, ◌<◌, List, [], All}
+use Rattle.pd_base.specs.declared.ids.GateId.{GateId}
+use Rattle.netlist.specs.Circuit.{Circuit, gate_count, line_count, HasGates, HasLines}
+use Rattle.netlist.specs.Lawful.{IsCircuit}
+use Rattle.netlist.specs.Levels.{greatest_level}
+use Rattle.hulls.specs.Conditions.{Entered}
+use Rattle.test_judging.specs.KeptCones.{KeptCone}
+use Rattle.search_hints.specs.declared.decisions.Decision.{Decision}
+use Rattle.search_hints.specs.declared.decisions.Next.{Next}
+use Rattle.search_hints.specs.declared.decisions.Next.TheVariants.{Nothing, Decide, GiveUp}
+use Rattle.search_hints.specs.declared.draft.Settled.{Settled}
+use Rattle.search_hints.specs.declared.draft.Settled.TheVariants.{AtRest, Conflict, Unknown}
+
+-- how many lines and how many gates there is room for
+pub record Sizes : Type 0 where
+  pub lines : ℕ
+  pub gates : ℕ
+
+-- there is room for those of this circuit
+pub record IsSizedFor (c : Circuit) (sizes : Sizes) : Type 0 where
+  pub lines : sizes.lines ≡ line_count c
+  pub gates : sizes.gates ≡ gate_count c
+
+-- what is kept beside the labels is of these lines and gates
+pub record AreKept (sizes : Sizes) (decisions : List Decision) (marks : ℕ) (gates : List GateId) : Type 0 where
+  pub made_on_lines : All (λ decision. decision.line.0 < sizes.lines) decisions
+  pub one_each : marks ≡ sizes.lines
+  pub open_gates : All (λ gate. gate.0 < sizes.gates) gates
+
+-- the gate of a conflict is one of the circuit
+abbrev pub HasGate : Circuit → Settled → Type 0
+HasGate c (Conflict gate) = gate.0 < gate_count c
+HasGate c AtRest = Unit {0}
+HasGate c Unknown = Unit {0}
+
+-- what is decided next is on a line of the circuit
+abbrev pub IsNextIn : Circuit → Next → Type 0
+IsNextIn c (Decide cut) = cut.line.0 < line_count c
+IsNextIn c Nothing = Unit {0}
+IsNextIn c GiveUp = Unit {0}
+
+-- the conditions that are entered, and how many lines and gates there is room for
+pub record Prepared : Type 0 where
+  pub entered : Entered
+  pub sizes : Sizes
+
+-- no step is entered, and there is room for the steps, the lines and the gates of this circuit
+pub record IsJustifierOf (c : Circuit) (prepared : Prepared) : Type 0 where
+  pub circuit : IsCircuit c
+  pub gates : prepared.entered.gates ≡ gate_count c
+  pub room : prepared.entered.room ≡ greatest_level c
+  pub steps : prepared.entered.steps ≡ []
+  pub sizes : IsSizedFor c prepared.sizes
+
+-- a cone's marks are one for each line, and its sources and gates are of this circuit
+pub record IsConeIn (c : Circuit) (cone : KeptCone) : Type 0 where
+  pub marks : cone.found.room ≡ line_count c
+  pub sources : HasLines c cone.sources
+  pub gates : HasGates c cone.gates

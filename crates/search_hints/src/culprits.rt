@@ -1,0 +1,131 @@
+// On which decisions a conflict rests, by the trail: from the last change back, a change of a line that matters is a decision, or
+// comes from the lines of a gate, which then matter too.
+ghost use Rattle.std.specs.Prelude.{◌≡◌, ◌<◌, All, IfOk};
+ghost use Rattle.netlist.specs.Circuit.{gate_count, line_count};
+
+use crate::changes::{Cause, Change};
+use netlist::Netlist;
+use pd_base::{GateId, OutOfMemory};
+use std::alloc::Global;
+use std::marker::Model;
+use test_judging::{FoundLines, find_reads};
+
+// The decisions on which a conflict rests. Contracts see how many lines there are.
+#[derive(Drop)]
+pub(crate) struct Culprits {
+    // The lines that matter.
+    matters: FoundLines,
+    // By place of a decision, whether the conflict rests on it.
+    flags: Vec<bool>,
+}
+
+impl Model for Culprits {
+    ghost use Rattle.std.specs.Prelude.{ℕ};
+
+    ghost Value = { ℕ };
+
+    ghost view = { λ c. c.matters.room };
+}
+
+impl Culprits {
+    // No conflict yet.
+    pub(crate) fn new(alloc: Global, net: &Netlist) -> Result<Culprits, OutOfMemory>
+        ensures { IfOk result (λ c. c ≡ line_count net.now) }
+    {
+        let matters = FoundLines::new(alloc, net.lines() as usize)?;
+        Ok(Culprits {
+            matters,
+            flags: Vec::new(alloc),
+        })
+    }
+
+    // Finds the decisions, of so many, on which the conflict at a gate rests.
+    pub(crate) fn blame(
+        &mut self,
+        net: &Netlist,
+        changes: &[Change],
+        gate: GateId,
+        decisions: usize,
+    ) -> Result<(), OutOfMemory>
+        requires lines { self.old ≡ line_count net.now }
+        requires changes { All (λ change. change.line.0 < line_count net.now) changes.now }
+        requires gate { gate.0 < gate_count net.now }
+        ensures { self.new ≡ self.old }
+    {
+        lower_all(&mut self.flags, decisions)?;
+        self.mark_lines(net, gate);
+        for change in changes.iter().rev() {
+            self.follow(net, change);
+        }
+        self.matters.clear();
+        Ok(())
+    }
+
+    // Follows a change back to its cause, if its line matters.
+    fn follow(&mut self, net: &Netlist, change: &Change)
+        requires lines { self.old ≡ line_count net.now }
+        requires line { change.now.line.0 < line_count net.now }
+        ensures { self.new ≡ self.old }
+    {
+        if !self.matters.marks()[change.line.0 as usize] {
+            return;
+        }
+        match change.cause {
+            Cause::Decision(place) => self.put(place),
+            Cause::Gate(gate) => self.mark_lines(net, gate),
+        }
+    }
+
+    // From now on the lines of a gate matter. A gate past the last has none.
+    fn mark_lines(&mut self, net: &Netlist, gate: GateId)
+        requires { self.old ≡ line_count net.now }
+        ensures { self.new ≡ self.old }
+    {
+        if gate.0 >= net.gates() {
+            return;
+        }
+        let line = net.line_of(gate);
+        self.matters.add(line);
+        find_reads(net, line, &mut self.matters);
+    }
+
+    // The conflict rests on the decision at a place, if there is one.
+    pub(crate) fn put(&mut self, place: usize)
+        ensures { self.new ≡ self.old }
+    {
+        if place < self.flags.len() {
+            self.flags[place] = true;
+        }
+    }
+
+    // Whether the conflict rests on the decision at a place, which is then left out.
+    pub(crate) fn take(&mut self, place: usize) -> bool
+        ensures { self.new ≡ self.old }
+    {
+        if place >= self.flags.len() {
+            return false;
+        }
+        let found = self.flags[place];
+        self.flags[place] = false;
+        found
+    }
+
+    // Adds the places of the decisions on which it rests to a list.
+    pub(crate) fn list(&self, places: &mut Vec<usize>) -> Result<(), OutOfMemory> {
+        for (place, found) in self.flags.iter().enumerate() {
+            if *found {
+                places.push(place)?;
+            }
+        }
+        Ok(())
+    }
+}
+
+// So many flags, all of them down.
+fn lower_all(flags: &mut Vec<bool>, count: usize) -> Result<(), OutOfMemory> {
+    flags.clear();
+    for _ in 0..count {
+        flags.push(false)?;
+    }
+    Ok(())
+}

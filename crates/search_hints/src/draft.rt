@@ -1,0 +1,233 @@
+// A draft: labels of a cone that are cut line by line, narrowed at the gates of the cone, and led back. No contract speaks of the
+// labels, since what is made of them is judged before it is taken.
+ghost use Rattle.std.specs.Prelude.{◌≡◌, ◌<◌, length, All, IfOk, IfSome};
+ghost use Rattle.netlist.specs.Circuit.{gate_count, line_count};
+ghost use Rattle.netlist.specs.Lawful.{IsCircuit};
+ghost use Rattle.search_hints.specs.Drafts.{IsSizedFor, HasGate};
+
+use crate::changes::{Cause, Change};
+use crate::region::{Region, condition_of, is_inside};
+use hulls::{NarrowScratch, Waiting, kept_at};
+use netlist::Netlist;
+use pd_base::{GateId, LineId, OutOfMemory};
+use state_sets::{FourStates, StateSet, every_state};
+use std::alloc::Global;
+use std::marker::Model;
+
+// How many gates are narrowed at most after a cut: more than any cone takes in practice.
+const MOST_NARROWINGS: u32 = 16_777_216;
+
+// What narrowing makes of the labels.
+#[derive(Clone, Copy)]
+pub(crate) enum Settled {
+    // No gate waits, and each line has some state.
+    AtRest,
+    // Narrowing at this gate leaves a line no state.
+    Conflict(GateId),
+    // It took too long.
+    Unknown,
+}
+
+// Labels, with the trail of their changes, and the gates that have to be narrowed again. Contracts see how many lines and gates there
+// are.
+#[derive(Drop)]
+pub(crate) struct Draft {
+    labels: Vec<StateSet>,
+    changes: Vec<Change>,
+    waiting: Waiting,
+    scratch: NarrowScratch,
+}
+
+impl Model for Draft {
+    ghost use Rattle.std.specs.Prelude.{◌<◌, length, All};
+    ghost use Rattle.netlist.specs.Lawful.{IsCircuit};
+    ghost use Rattle.search_hints.specs.Drafts.{Sizes};
+
+    ghost Value = { Sizes };
+
+    ghost view = { λ d. record { lines = length d.labels.items; gates = length d.waiting.inside } };
+
+    ghost invariant = { λ d. All (λ change. change.line.0 < length d.labels.items) d.changes.items };
+}
+
+impl Draft {
+    // All states at each line, and no changes.
+    pub(crate) fn new(alloc: Global, net: &Netlist) -> Result<Draft, OutOfMemory>
+        ensures { IfOk result (IsSizedFor net.now) }
+    {
+        let labels = vec![in alloc; every_state::<FourStates>(); net.lines() as usize]?;
+        let waiting = Waiting::new(alloc, vec![in alloc; true; net.gates() as usize]?)?;
+        let scratch = NarrowScratch::new(alloc, net)?;
+        Ok(Draft {
+            labels,
+            changes: Vec::new(alloc),
+            waiting,
+            scratch,
+        })
+    }
+
+    // The labels, by line number.
+    pub(crate) fn labels(&self) -> &[StateSet]
+        ensures { length result.now ≡ self.now.lines }
+    {
+        self.labels.as_slice()
+    }
+
+    // The changes, from the first on.
+    pub(crate) fn changes(&self) -> &[Change]
+        ensures { All (λ change. change.line.0 < self.now.lines) result.now }
+    {
+        self.changes.as_slice()
+    }
+
+    // How many changes there are.
+    pub(crate) fn mark(&self) -> usize {
+        self.changes.len()
+    }
+
+    // Forgets all changes, and leaves the labels as they are.
+    pub(crate) fn forget(&mut self)
+        ensures { self.new ≡ self.old }
+    {
+        self.changes.clear();
+        self.waiting.clear();
+    }
+
+    // Writes the label of a line. That is no change.
+    pub(crate) fn write(&mut self, line: LineId, set: StateSet)
+        requires { line.0 < self.old.lines }
+        ensures { self.new ≡ self.old }
+    {
+        self.labels[line.0 as usize] = set;
+    }
+
+    // Takes back all changes since there were so many, and lets no gate wait any more.
+    pub(crate) fn undo_to(&mut self, mark: usize)
+        ensures { self.new ≡ self.old }
+    {
+        for _ in mark..self.changes.len() {
+            self.undo_last();
+        }
+        self.waiting.clear();
+    }
+
+    // Takes back the last change, if there is one.
+    fn undo_last(&mut self)
+        ensures { self.new ≡ self.old }
+    {
+        if let Some(change) = self.changes.pop() {
+            self.labels[change.line.0 as usize] = change.old;
+        }
+    }
+
+    // Cuts a label, notes that, and lets the gates of the cone wait that have the line among theirs. Gives what is left.
+    pub(crate) fn cut(
+        &mut self,
+        region: &Region,
+        line: LineId,
+        to: StateSet,
+        cause: Cause,
+    ) -> Result<StateSet, OutOfMemory>
+        requires sized { IsSizedFor region.now.net.now self.old }
+        requires line { line.0 < line_count region.now.net.now }
+        ensures { self.new ≡ self.old }
+    {
+        let old = self.labels[line.0 as usize];
+        let left = old.intersect(to);
+        if left == old {
+            return Ok(left);
+        }
+        self.changes.push(Change { line, old, cause })?;
+        self.labels[line.0 as usize] = left;
+        self.wake(region, line, cause);
+        Ok(left)
+    }
+
+    // Lets the gates of the cone wait that have this line among theirs, but not the one that is being narrowed.
+    fn wake(&mut self, region: &Region, line: LineId, cause: Cause)
+        requires sized { IsSizedFor region.now.net.now self.old }
+        requires line { line.0 < line_count region.now.net.now }
+        ensures { self.new ≡ self.old }
+    {
+        for reader in region.net.fanout(line) {
+            self.ask(region, reader.gate, cause);
+        }
+        if let Some(driver) = region.net.gate_of(line) {
+            self.ask(region, driver, cause);
+        }
+    }
+
+    // Lets a gate of the cone wait, unless it is the cause.
+    fn ask(&mut self, region: &Region, gate: GateId, cause: Cause)
+        requires sized { IsSizedFor region.now.net.now self.old }
+        requires gate { gate.0 < gate_count region.now.net.now }
+        ensures { self.new ≡ self.old }
+    {
+        if !cause.is_gate(gate) && is_inside(region, gate) {
+            self.waiting.add(gate);
+        }
+    }
+
+    // Narrows at the gates that wait, until none does or a line has no state left.
+    pub(crate) fn settle(&mut self, region: &Region) -> Result<Settled, OutOfMemory>
+        requires { IsSizedFor region.now.net.now self.old }
+        ensures same { self.new ≡ self.old }
+        ensures gate { IfOk result (HasGate region.now.net.now) }
+    {
+        for _ in 0..MOST_NARROWINGS {
+            let Some(gate) = self.next() else {
+                return Ok(Settled::AtRest);
+            };
+            if !self.narrow_at(region, gate)? {
+                return Ok(Settled::Conflict(gate));
+            }
+        }
+        Ok(Settled::Unknown)
+    }
+
+    // Takes the first gate that waits, if one does.
+    fn next(&mut self) -> Option<GateId>
+        ensures same { self.new ≡ self.old }
+        ensures gate { IfSome result (λ gate. gate.0 < self.old.gates) }
+    {
+        self.waiting.pop()
+    }
+
+    // Narrows at a gate. Whether each of its lines has a state left.
+    fn narrow_at(&mut self, region: &Region, gate: GateId) -> Result<bool, OutOfMemory>
+        requires sized { IsSizedFor region.now.net.now self.old }
+        requires gate { gate.0 < gate_count region.now.net.now }
+        ensures { self.new ≡ self.old }
+    {
+        let own = LineId(region.net.sources() + gate.0);
+        let given = kept_at::<FourStates>(
+            region.net,
+            self.labels.as_slice(),
+            gate,
+            condition_of(region, gate),
+            &mut self.scratch,
+        );
+        if !self.cut_pins(region, gate)? {
+            return Ok(false);
+        }
+        let left = self.cut(region, own, given, Cause::Gate(gate))?;
+        Ok(left != StateSet::EMPTY)
+    }
+
+    // Cuts the lines that the pins of a gate read to what the scratch keeps there. Whether each of them has a state left.
+    fn cut_pins(&mut self, region: &Region, gate: GateId) -> Result<bool, OutOfMemory>
+        requires circuit { IsCircuit region.now.net.now }
+        requires sized { IsSizedFor region.now.net.now self.old }
+        requires gate { gate.0 < gate_count region.now.net.now }
+        ensures { self.new ≡ self.old }
+    {
+        for (pin, line) in region.net.pins(gate).iter().enumerate() {
+            let kept = self.scratch.kept(pin);
+            let left = self.cut(region, *line, kept, Cause::Gate(gate))?;
+            if left == StateSet::EMPTY {
+                return Ok(false);
+            }
+        }
+        Ok(true)
+    }
+}

@@ -1,0 +1,104 @@
+// Where to split: at the frontier of the labels, that is at what the conditions of the path's steps and the labels that changed since
+// the scope began still leave open, and from there back to a source. A hint alone: what it leads to is tried before it is taken.
+ghost use Rattle.std.specs.Prelude.{◌≡◌, ◌<◌, length, All, IfSome};
+ghost use Rattle.netlist.specs.Circuit.{line_count};
+
+use crate::open_lines::{is_justified, open_side};
+use crate::picking::{Cut, Sight, pick};
+use pd_base::{Kind, LineId, Path};
+use state_sets::StateSet;
+use undo_trail::Note;
+
+/// How many of the path's steps, and of the changes of labels, are known to leave nothing open, at a node and below it.
+#[derive(Clone, Copy)]
+pub struct Frontier {
+    /// So many steps, from the first one on.
+    pub steps: usize,
+    /// So many changes, from the first one on.
+    pub changes: usize,
+}
+
+/// A source at which a split may close what is open, and the frontier there.
+#[derive(Clone, Copy)]
+pub struct Lead {
+    /// Any line, which is a source unless nothing is open.
+    pub source: Option<LineId>,
+    /// How far nothing is open.
+    pub frontier: Frontier,
+}
+
+/// Leads from the first thing that is open to a source: first what the conditions of a kind of tests need at the path's steps, then what
+/// the lines need whose labels have changed, in the order of these changes.
+pub fn follow(
+    sight: &Sight,
+    changes: &[Note<StateSet>],
+    path: &Path,
+    kind: Kind,
+    frontier: Frontier,
+) -> Lead
+    requires { All (λ change. change.index < line_count sight.now.net.now) changes.now }
+{
+    let mut frontier = frontier;
+    if let Some(cut) = open_step(sight, path, kind, &mut frontier) {
+        let source = descend(sight, cut);
+        return Lead { source, frontier };
+    }
+    let source = match open_line(sight, changes, &mut frontier) {
+        Some(cut) => descend(sight, cut),
+        None => None,
+    };
+    Lead { source, frontier }
+}
+
+// What the first step needs that leaves something open.
+fn open_step(sight: &Sight, path: &Path, kind: Kind, frontier: &mut Frontier) -> Option<Cut>
+    ensures { IfSome result (λ cut. cut.line.0 < line_count sight.now.net.now) }
+{
+    let steps = path.steps();
+    for place in frontier.steps..steps.len() {
+        let step = steps[place];
+        if step.gate.0 < sight.net.gates()
+            && let Some(cut) = open_side(sight.net, sight.labels, step, kind)
+        {
+            frontier.steps = place;
+            return Some(cut);
+        }
+    }
+    frontier.steps = steps.len();
+    None
+}
+
+// The first line, in the order of the changes, whose label its gate does not justify, with that label.
+fn open_line(sight: &Sight, changes: &[Note<StateSet>], frontier: &mut Frontier) -> Option<Cut>
+    requires { All (λ change. change.index < line_count sight.now.net.now) changes.now }
+    ensures { IfSome result (λ cut. cut.line.0 < line_count sight.now.net.now) }
+{
+    for place in frontier.changes..changes.len() {
+        let line = LineId(changes[place].index);
+        if let Some(gate) = sight.net.gate_of(line)
+            && !is_justified(sight.net, sight.labels, gate)
+        {
+            frontier.changes = place;
+            return Some(Cut {
+                line,
+                to: sight.labels[line.0 as usize],
+            });
+        }
+    }
+    frontier.changes = changes.len();
+    None
+}
+
+// From a line back to a source, by what is wanted of it.
+fn descend(sight: &Sight, cut: Cut) -> Option<LineId>
+    requires { cut.line.0 < line_count sight.now.net.now }
+{
+    let mut cut = cut;
+    for _ in 0..sight.net.levels() {
+        let Some(gate) = sight.net.gate_of(cut.line) else {
+            return Some(cut.line);
+        };
+        cut = pick(sight, gate, cut.to)?;
+    }
+    Some(cut.line)
+}

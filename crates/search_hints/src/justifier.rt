@@ -1,0 +1,176 @@
+// The private justifier: states for the sources of a cone, found by decisions on any of its lines. What it finds is a proposal, which
+// evaluation judges; so its contracts say that it ends and stays within its room, and no more.
+ghost use Rattle.std.specs.Prelude.{◌≡◌, [], length, IfOk};
+ghost use Rattle.netlist.specs.Circuit.{line_count, HasGates, HasLines};
+ghost use Rattle.netlist.specs.Paths.{IsPrefix, end_of};
+ghost use Rattle.hulls.specs.Conditions.{IsEnteredOn};
+ghost use Rattle.test_judging.specs.KeptCones.{IsConeFor, IsConeAt};
+ghost use Rattle.search_hints.specs.Drafts.{IsJustifierOf, IsSizedFor, IsConeIn};
+
+use crate::decisions::{Decisions, Ended, Order};
+use crate::patience::Patience;
+use crate::picking::Sight;
+use crate::region::Region;
+use hulls::{Conditions, enter_all};
+use netlist::Netlist;
+use pd_base::{Kind, OutOfMemory, Path};
+use state_sets::StateSet;
+use std::alloc::Global;
+use std::marker::Model;
+use test_judging::Cone;
+
+// The most conflicts in one order where a budget was spent.
+const MOST_CONFLICTS: u32 = 300;
+
+/// How much is tried.
+#[derive(Clone, Copy)]
+pub enum Effort {
+    /// As much as pays before any split.
+    Little,
+    /// As much as pays where a budget was spent.
+    Much,
+}
+
+/// Room for searches by decisions on lines. It serves all searches on one netlist. Contracts see the conditions that are entered, and
+/// for how many lines and gates there is room.
+#[derive(Drop)]
+pub struct Justifier {
+    conditions: Conditions,
+    decisions: Decisions,
+    patience: Patience,
+}
+
+impl Model for Justifier {
+    ghost use Rattle.search_hints.specs.Drafts.{Prepared};
+
+    ghost Value = { Prepared };
+
+    ghost view = { λ j. record { entered = j.conditions; sizes = j.decisions } };
+}
+
+impl Justifier {
+    /// Room for the lines, gates and levels of a netlist. It fails only where memory runs out.
+    pub fn new(alloc: Global, net: &Netlist) -> Result<Justifier, OutOfMemory>
+        ensures { IfOk result (IsJustifierOf net.now) }
+    {
+        let conditions = Conditions::new(alloc, net, Kind::Robust)?;
+        let decisions = Decisions::new(alloc, net)?;
+        Ok(Justifier {
+            conditions,
+            decisions,
+            patience: Patience::new(),
+        })
+    }
+
+    /// Learns from a search for tests of a kind whether it ended in a refutation.
+    pub fn learn(&mut self, kind: Kind, is_refuted: bool)
+        ensures { self.new ≡ self.old }
+    {
+        self.patience.learn(kind, is_refuted);
+    }
+
+    /// Looks for states of the cone's sources that justify the labels that all of its lines are seen with, under the conditions of a
+    /// kind at the gates of a path that ends where the cone does. Whether it found some: `labels` then has them, with the states that are
+    /// left where any does. It costs the cone, and what narrowing changes there. It fails only where memory runs out, and still serves
+    /// then.
+    pub fn propose(
+        &mut self,
+        sight: &Sight,
+        cone: &Cone,
+        path: &Path,
+        kind: Kind,
+        effort: Effort,
+    ) -> Result<bool, OutOfMemory>
+        requires of { IsJustifierOf sight.now.net.now self.old }
+        requires cone_for { IsConeFor sight.now.net.now cone.now }
+        requires cone_at { IsConeAt sight.now.net.now (end_of sight.now.net.now path.now) cone.now }
+        requires prefix { IsPrefix sight.now.net.now path.now }
+        ensures { IsJustifierOf sight.now.net.now self.new }
+    {
+        self.conditions.set_kind(kind);
+        enter_all(&mut self.conditions, sight.net, path);
+        let most_conflicts = match effort {
+            Effort::Little => self.patience.conflicts(kind),
+            Effort::Much => MOST_CONFLICTS,
+        };
+        let found = self.decide(sight, cone, most_conflicts);
+        leave_all(&mut self.conditions);
+        found
+    }
+
+    // The same where the conditions are entered.
+    fn decide(
+        &mut self,
+        sight: &Sight,
+        cone: &Cone,
+        most_conflicts: u32,
+    ) -> Result<bool, OutOfMemory>
+        requires sizes { IsSizedFor sight.now.net.now self.old.sizes }
+        requires cone { IsConeIn sight.now.net.now cone.now }
+        requires entered { IsEnteredOn sight.now.net.now self.old.entered }
+        ensures { self.new ≡ self.old }
+    {
+        begin(&mut self.decisions, sight, cone)?;
+        let region = Region {
+            net: sight.net,
+            conditions: &self.conditions,
+            marks: cone.marks(),
+            sources: cone.sources(),
+            liked: sight.liked,
+        };
+        search(&mut self.decisions, &region, most_conflicts)
+    }
+
+    /// The labels that the last call of `propose` came to, by line number; of lines that are not in its cone those of earlier calls.
+    pub fn labels(&self) -> &[StateSet]
+        ensures { length result.now ≡ self.now.sizes.lines }
+    {
+        self.decisions.labels()
+    }
+}
+
+// Copies the labels of the cone's lines, and notes which of its gates are open.
+fn begin(decisions: &mut Decisions, sight: &Sight, cone: &Cone) -> Result<(), OutOfMemory>
+    requires sizes { IsSizedFor sight.now.net.now decisions.old }
+    requires cone { IsConeIn sight.now.net.now cone.now }
+    ensures { decisions.new ≡ decisions.old }
+{
+    decisions.forget();
+    for source in cone.sources() {
+        decisions.write(*source, sight.labels[source.0 as usize]);
+    }
+    for gate in cone.gates() {
+        let line = sight.net.line_of(*gate);
+        decisions.write(line, sight.labels[line.0 as usize]);
+        decisions.note_open(sight.net, *gate)?;
+    }
+    Ok(())
+}
+
+// Decides, the lines of the lowest levels first, and where that takes too many conflicts, those of the highest first.
+fn search(
+    decisions: &mut Decisions,
+    region: &Region,
+    most_conflicts: u32,
+) -> Result<bool, OutOfMemory>
+    requires { IsSizedFor region.now.net.now decisions.old }
+    ensures { decisions.new ≡ decisions.old }
+{
+    match decisions.search(region, Order::LowestFirst, most_conflicts)? {
+        Ended::Justified => Ok(true),
+        Ended::Exhausted => Ok(false),
+        Ended::Unknown => {
+            let ended = decisions.search(region, Order::HighestFirst, most_conflicts)?;
+            Ok(matches!(ended, Ended::Justified))
+        }
+    }
+}
+
+// Leaves all steps.
+fn leave_all(conditions: &mut Conditions)
+    ensures { conditions.new ≡ record conditions.old { steps = [] } }
+{
+    for _ in 0..conditions.steps().len() {
+        conditions.leave();
+    }
+}

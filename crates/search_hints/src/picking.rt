@@ -1,0 +1,245 @@
+// On which pin of a gate to decide, so that its line comes into states that are wanted of it: a line, and the part of its states that
+// is tried first. A hint alone: what it leads to is judged before it is taken.
+ghost use Rattle.std.specs.Prelude.{◌≡◌, ◌<◌, length, IfSome};
+ghost use Rattle.netlist.specs.Circuit.{gate_count, line_count, HasLines};
+
+use netlist::{GateKind, Netlist, Op};
+use pd_base::{GateId, LineId};
+use state_sets::{Algebra, FourStates, StateSet, every_state};
+
+// The states that end at 0.
+pub(crate) const ENDS_AT_0: StateSet = StateSet(0b0101);
+
+// The states that end at 1.
+pub(crate) const ENDS_AT_1: StateSet = StateSet(0b1010);
+
+// The steady states.
+pub(crate) const STEADY: StateSet = StateSet(0b0011);
+
+// A decision: of a line, the states that are tried first.
+#[derive(Clone, Copy)]
+pub(crate) struct Cut {
+    pub(crate) line: LineId,
+    pub(crate) to: StateSet,
+}
+
+/// What is seen of a netlist: the labels of its lines, and what the lines are liked to be in, which is the states with the last value
+/// that they had under the last test, or all. Both have an entry for each line.
+#[derive(Drop)]
+pub struct Sight<'a> {
+    /// The netlist.
+    pub net: &'a Netlist,
+    /// By line, the states that it may be in.
+    pub labels: &'a [StateSet],
+    /// By line, the states that it is liked to be in.
+    pub liked: &'a [StateSet],
+    ghost one_each: { length labels.now ≡ line_count net.now },
+    ghost liked_each: { length liked.now ≡ line_count net.now },
+}
+
+// The states of one set that another one has not.
+pub(crate) fn without(set: StateSet, other: StateSet) -> StateSet {
+    StateSet(set.0 & !other.0)
+}
+
+// The states of which a gate of this kind makes those of a set.
+pub(crate) fn uninverted(kind: GateKind, set: StateSet) -> StateSet {
+    let set = set.intersect(every_state::<FourStates>());
+    if kind.inverts() {
+        FourStates::invert_set(set)
+    } else {
+        set
+    }
+}
+
+// A cut of a line that a pin of the gate reads, towards these states of the gate's line.
+pub(crate) fn pick(sight: &Sight, gate: GateId, states: StateSet) -> Option<Cut>
+    requires { gate.0 < gate_count sight.now.net.now }
+    ensures { IfSome result (λ cut. cut.line.0 < line_count sight.now.net.now) }
+{
+    let kind = sight.net.kind(gate);
+    let pins = sight.net.pins(gate);
+    let wanted = uninverted(kind, states);
+    if let [pin] = pins {
+        return cut_into(sight, *pin, wanted);
+    }
+    let picked = match kind.operation() {
+        Op::And => pick_controlled(sight, pins, wanted, ENDS_AT_0, ENDS_AT_1),
+        Op::Or => pick_controlled(sight, pins, wanted, ENDS_AT_1, ENDS_AT_0),
+        Op::Xor => pick_parity(sight, pins, wanted),
+    };
+    if picked.is_some() {
+        return picked;
+    }
+    pick_any(sight, pins)
+}
+
+// The same where one pin can control the gate: the easiest pin into the controlling states that are wanted, and into the steady ones
+// where that takes no pin anywhere; else all pins into the other states, the hardest one first.
+fn pick_controlled(
+    sight: &Sight,
+    pins: &[LineId],
+    wanted: StateSet,
+    controlling: StateSet,
+    others: StateSet,
+) -> Option<Cut>
+    requires { HasLines sight.now.net.now pins.now }
+    ensures { IfSome result (λ cut. cut.line.0 < line_count sight.now.net.now) }
+{
+    let picked = easiest_into(sight, pins, wanted.intersect(controlling));
+    if picked.is_some() {
+        return picked;
+    }
+    let free = wanted.intersect(others);
+    if free == StateSet::EMPTY {
+        return None;
+    }
+    if without(free, STEADY) == StateSet::EMPTY {
+        return hardest(sight, pins, others.intersect(STEADY));
+    }
+    hardest_into(sight, pins, others)
+}
+
+// The same at a parity: all pins steady, the hardest one first, where that is wanted; else the easiest pin to the final value that its
+// line is liked to have.
+fn pick_parity(sight: &Sight, pins: &[LineId], wanted: StateSet) -> Option<Cut>
+    requires { HasLines sight.now.net.now pins.now }
+    ensures { IfSome result (λ cut. cut.line.0 < line_count sight.now.net.now) }
+{
+    if without(wanted, STEADY) == StateSet::EMPTY {
+        let picked = hardest(sight, pins, STEADY);
+        if picked.is_some() {
+            return picked;
+        }
+    }
+    match easiest(sight, pins, ENDS_AT_0) {
+        Some(cut) => Some(as_liked(sight, cut)),
+        None => easiest(sight, pins, STEADY),
+    }
+}
+
+// The easiest pin into a set, or into its steady states where no pin has states in the set and others.
+fn easiest_into(sight: &Sight, pins: &[LineId], to: StateSet) -> Option<Cut>
+    requires { HasLines sight.now.net.now pins.now }
+    ensures { IfSome result (λ cut. cut.line.0 < line_count sight.now.net.now) }
+{
+    let picked = easiest(sight, pins, to);
+    if picked.is_some() {
+        return picked;
+    }
+    easiest(sight, pins, to.intersect(STEADY))
+}
+
+// The hardest pin, in the same way.
+fn hardest_into(sight: &Sight, pins: &[LineId], to: StateSet) -> Option<Cut>
+    requires { HasLines sight.now.net.now pins.now }
+    ensures { IfSome result (λ cut. cut.line.0 < line_count sight.now.net.now) }
+{
+    let picked = hardest(sight, pins, to);
+    if picked.is_some() {
+        return picked;
+    }
+    hardest(sight, pins, to.intersect(STEADY))
+}
+
+// The cut to what its line is liked to be in, where that leaves the line some states and takes some away.
+fn as_liked(sight: &Sight, cut: Cut) -> Cut
+    requires { cut.line.0 < line_count sight.now.net.now }
+    ensures { result.line ≡ cut.line }
+{
+    match cut_into(sight, cut.line, sight.liked[cut.line.0 as usize]) {
+        Some(liked) => liked,
+        None => cut,
+    }
+}
+
+// Of the pins with states in a set and others: one that is liked to be there, else one of the lowest level.
+fn easiest(sight: &Sight, pins: &[LineId], to: StateSet) -> Option<Cut>
+    requires { HasLines sight.now.net.now pins.now }
+    ensures { IfSome result (λ cut. cut.line.0 < line_count sight.now.net.now) }
+{
+    let mut best: Option<Cut> = None;
+    for line in pins {
+        if let Some(cut) = cut_into(sight, *line, to) {
+            best = Some(match best {
+                Some(other) if !is_easier(sight, cut, other) => other,
+                _ => cut,
+            });
+        }
+    }
+    best
+}
+
+// Of the pins with states in a set and others, one of the highest level.
+fn hardest(sight: &Sight, pins: &[LineId], to: StateSet) -> Option<Cut>
+    requires { HasLines sight.now.net.now pins.now }
+    ensures { IfSome result (λ cut. cut.line.0 < line_count sight.now.net.now) }
+{
+    let mut best: Option<Cut> = None;
+    for line in pins {
+        if let Some(cut) = cut_into(sight, *line, to) {
+            best = Some(match best {
+                Some(other) if sight.net.level(cut.line) <= sight.net.level(other.line) => other,
+                _ => cut,
+            });
+        }
+    }
+    best
+}
+
+// The cut of a line to its states in a set, if it has some of them and others.
+fn cut_into(sight: &Sight, line: LineId, to: StateSet) -> Option<Cut>
+    requires { line.0 < line_count sight.now.net.now }
+    ensures { IfSome result (λ cut. cut.line ≡ line) }
+{
+    let label = sight.labels[line.0 as usize];
+    let inside = label.intersect(to);
+    if inside == StateSet::EMPTY || inside == label {
+        return None;
+    }
+    Some(Cut { line, to: inside })
+}
+
+// Whether a cut is preferred to another one: where its line alone is liked to be in such states, else where it is on a lower level.
+fn is_easier(sight: &Sight, cut: Cut, other: Cut) -> bool
+    requires cut { cut.line.0 < line_count sight.now.net.now }
+    requires other { other.line.0 < line_count sight.now.net.now }
+{
+    let likes = is_liked(sight.liked[cut.line.0 as usize], cut.to);
+    let likes_other = is_liked(sight.liked[other.line.0 as usize], other.to);
+    if likes != likes_other {
+        return likes;
+    }
+    sight.net.level(cut.line) < sight.net.level(other.line)
+}
+
+// Whether a line that is liked to be in some states alone is liked to be in one of these.
+fn is_liked(liked: StateSet, states: StateSet) -> bool {
+    liked != every_state::<FourStates>() && liked.intersect(states) != StateSet::EMPTY
+}
+
+// The first of these lines that has several states: its steady ones, if it has others too, else the least one.
+pub(crate) fn pick_any(sight: &Sight, lines: &[LineId]) -> Option<Cut>
+    requires { HasLines sight.now.net.now lines.now }
+    ensures { IfSome result (λ cut. cut.line.0 < line_count sight.now.net.now) }
+{
+    for line in lines {
+        let label = sight.labels[line.0 as usize];
+        if label.0 & label.0.wrapping_sub(1) != 0 {
+            return Some(Cut {
+                line: *line,
+                to: first_part(label),
+            });
+        }
+    }
+    None
+}
+
+// The steady states of a set that has others too, else its least state.
+fn first_part(set: StateSet) -> StateSet {
+    let steady = set.intersect(STEADY);
+    if steady != StateSet::EMPTY && steady != set {
+        return steady;
+    }
+    StateSet(set.0 & set.0.wrapping_neg())
+}

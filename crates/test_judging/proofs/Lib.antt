@@ -1,0 +1,14 @@
+mod Images
+pub mod Finding
+pub mod Spreading
+mod Numbers
+mod RankedCones
+mod ConeLists
+mod ConeScans
+mod Joining
+mod ConePass
+mod StepStates
+mod Judged
+pub mod Taking
+mod ConeJudging
+mod Filling

@@ -1,0 +1,54 @@
+-- The sources have the states of the pair, and the lines of the gates those that are computed of them.
+use Rattle.std.proofs.Common.{◌≡◌, ◌<◌, List, length, sym, ap, subst, ◌∙◌, arith}
+use Rattle.std.specs.List.{All}
+use Rattle.std.proofs.lemmas.List.{with_items_is}
+use Rattle.pd_base.specs.declared.ids.LineId.{LineId}
+use Rattle.pd_base.specs.declared.ids.GateId.{GateId}
+use Rattle.netlist.specs.Circuit.{HasGates, line_count}
+use Rattle.netlist.specs.Paths.{end_of}
+use Rattle.state_sets.specs.declared.state.State.{State}
+use Rattle.test_judging.specs.ConeStates.{HasConeStates}
+use Rattle.test_judging.specs.Judged.{AreComputed}
+use Rattle.test_judging.specs.Judges.{KeptJudge}
+use Rattle.test_judging.specs.KeptCones.{IsConeAt}
+use Rattle.test_judging.specs.SourceBits.{AreTakenOf}
+use Rattle.test_judging.proofs.ConeJudging.{gates_inside, sources_below, under_pair}
+use Rattle.test_judging.proofs.cone_judge.ConeJudge.take_states.Goals as goal
+
+pub take_pair-requires-clause-bits : goal.take_pair-requires-clause-bits
+take_pair-requires-clause-bits c =
+    let first = c.args.pair.now.first in
+    subst (λ (ls : List LineId). All (λ (source : LineId). source.0 < length first) ls) (sym c.sources.ensures)
+    (sources_below c.args.net.now c.end_of-end.result.0 c.set_end.new.self.sources c.set_end.ensures.cone.sources (length first)
+    (omega (arith, c.requires.bits)))
+
+pub take_pair-requires-clause-places : goal.take_pair-requires-clause-places
+take_pair-requires-clause-places c =
+    let states = c.as_mut_slice-states.result.now in
+    let long : length c.self.inside.states.items ≡ line_count c.args.net.now =
+    ap (λ (j : KeptJudge). length j.states) c.self.view_is ∙ c.requires.judge.states.places in
+    subst (λ (ls : List LineId). All (λ (source : LineId). source.0 < length states) ls) (sym c.sources.ensures)
+    (sources_below c.args.net.now c.end_of-end.result.0 c.set_end.new.self.sources c.set_end.ensures.cone.sources (length states)
+    (omega (arith, ap length c.as_mut_slice-states.ensures.value, long)))
+
+pub compute_all-requires-clause-gates : goal.compute_all-requires-clause-gates
+compute_all-requires-clause-gates c =
+    subst (HasGates c.args.net.now) (sym c.gates.ensures)
+    (gates_inside c.args.net.now c.end_of-end.result.0 c.set_end.new.self.gates c.set_end.ensures.cone.gates)
+
+pub returns-clause-states : goal.returns-clause-states
+returns-clause-states c =
+    let net = c.args.net.now in
+    let path = c.args.path.now in
+    let pair = c.args.pair.now in
+    let computed = c.compute_all.new.states in
+    let long : length c.self.inside.states.items ≡ line_count net =
+    ap (λ (j : KeptJudge). length j.states) c.self.view_is ∙ c.requires.judge.states.places in
+    let cone : IsConeAt net (end_of net path) c.set_end.new.self =
+    subst (λ (l : LineId). IsConeAt net l.0 c.set_end.new.self) c.end_of-end.ensures.end c.set_end.ensures.cone in
+    subst (λ (states : List State). HasConeStates net (end_of net path) states pair)
+    (sym (with_items_is c.self.inside.states computed (c.compute_all.ensures.states.places ∙ sym long ∙ sym c.self.inside.states.ok.0)))
+    (under_pair net c.compute_all.ensures.circuit path c.requires.prefix pair c.set_end.new.self.sources cone.sources c.set_end.new.self.gates cone.gates
+    c.take_pair.new.states computed
+    (subst (λ (ls : List LineId). AreTakenOf pair ls c.take_pair.new.states) c.sources.ensures c.take_pair.ensures.taken)
+    (subst (λ (gs : List GateId). AreComputed net gs c.take_pair.new.states computed) c.gates.ensures c.compute_all.ensures.computed))

@@ -1,0 +1,89 @@
+-- The state of the source, and then those at the sides of one step after another.
+use Rattle.std.proofs.Common.{◌+◌, drop, get_or, sym, ap₂, subst, ◌∙◌, arith}
+use Rattle.std.proofs.lemmas.Bool.{false≢true}
+use Rattle.pd_base.specs.declared.ids.LineId.{LineId}
+use Rattle.netlist.specs.Conditions.{side_condition}
+use Rattle.netlist.specs.Paths.{end_of}
+use Rattle.netlist.specs.Pins.{IsInFanIn}
+use Rattle.state_sets.specs.FourStates.{four_states}
+use Rattle.state_sets.specs.Starts.{IsLaunching}
+use Rattle.state_laws.proofs.FanIns.{leads_in_fan_in}
+use Rattle.test_judging.specs.ConeStates.{state_in}
+use Rattle.test_judging.specs.Judged.{StatesPass, IsFailingSide}
+use Rattle.test_judging.proofs.StepStates.{no_step, IsLeftAt, left_in_fan_in, left_in_circuit, left_more, no_test, failing_in_fan_in, sides_meet, launches_if, launching_if}
+use Rattle.test_judging.proofs.path_states.judge_steps.Goals as goal
+
+pub returns-then-not-launches-clause-within : goal.returns-then-not-launches-clause-within
+returns-then-not-launches-clause-within c =
+    let net = c.args.net.now in
+    let path = c.args.path.now in (
+      subst (λ (l : LineId). IsInFanIn net (end_of net path) l.0) (sym c.source-then-not-launches.ensures)
+          (leads_in_fan_in net path.source.0 path.steps c.requires.prefix.connects),
+      tt,
+    )
+
+pub returns-then-not-launches-clause-judged : goal.returns-then-not-launches-clause-judged
+returns-then-not-launches-clause-judged c = λ pair has meets.
+    let states = c.args.states.now in
+    false≢true (sym c.if-not-launches.true ∙ c.launches.ensures.1
+    (subst (λ (l : LineId). IsLaunching four_states c.args.dir (state_in states l.0)) (sym c.source-2.ensures)
+    (launching_if c.args.net.now c.args.kind c.args.path.now states c.requires.prefix pair has c.args.dir meets.launches)))
+
+pub bounds-states-line : goal.bounds-states-line
+bounds-states-line c =
+    omega (
+      arith,
+      c.requires.states.places,
+      left_in_circuit c.args.net.now c.args.kind c.args.path.now c.args.states.now c.lines.ensures.circuit c.requires.prefix
+          c.loop-step.line.0 (drop c.loop-step.step-index c.steps-step-items.result.now) c.loop-step.invariant,
+    )
+
+pub returns-in-Some-clause-within : goal.returns-in-Some-clause-within
+returns-in-Some-clause-within c =
+    let net = c.args.net.now in
+    let path = c.args.path.now in
+    let states = c.args.states.now in
+    let steps = c.steps-step-items.result.now in
+    let place = c.loop-step.step-index in
+    let asks = c.side_condition-condition.ensures ∙ ap₂ (side_condition c.args.kind) c.kind.ensures c.last-last.ensures in
+    let fails : IsFailingSide c.side_condition-condition.result states (get_or steps place no_step).pin c.pins.result.now c.in-Some.side = c.in-Some.ensures in (
+      left_in_fan_in net c.args.kind path states c.loop-step.line.0 (drop place steps) c.loop-step.invariant,
+      failing_in_fan_in net c.args.kind path states steps place c.loop-step-test.true c.loop-step.line.0 c.loop-step.invariant
+          c.side_condition-condition.result asks c.pins.result.now c.pins.ensures.pins c.in-Some.side fails,
+    )
+
+pub returns-in-Some-clause-judged : goal.returns-in-Some-clause-judged
+returns-in-Some-clause-judged c = λ pair has meets.
+    let net = c.args.net.now in
+    let path = c.args.path.now in
+    let states = c.args.states.now in
+    let steps = c.steps-step-items.result.now in
+    let place = c.loop-step.step-index in
+    let asks = c.side_condition-condition.ensures ∙ ap₂ (side_condition c.args.kind) c.kind.ensures c.last-last.ensures in
+    let fails : IsFailingSide c.side_condition-condition.result states (get_or steps place no_step).pin c.pins.result.now c.in-Some.side = c.in-Some.ensures in
+    no_test net c.args.kind path states steps place c.loop-step-test.true c.loop-step.line.0 c.loop-step.invariant
+    c.side_condition-condition.result asks c.pins.result.now c.pins.ensures.pins c.in-Some.side fails pair has meets.sides
+
+pub loop-step-preserved : goal.loop-step-preserved
+loop-step-preserved c =
+    let net = c.args.net.now in
+    let path = c.args.path.now in
+    let states = c.args.states.now in
+    let steps = c.steps-step-items.result.now in
+    let place = c.loop-step.step-index in
+    let asks = c.side_condition-condition.ensures ∙ ap₂ (side_condition c.args.kind) c.kind.ensures c.last-last.ensures in
+    let pass : StatesPass c.side_condition-condition.result states (get_or steps place no_step).pin c.pins.result.now = c.in_default.ensures in
+    subst (λ (l : LineId). IsLeftAt net c.args.kind path states l.0 (drop (place + 1) steps)) (sym c.line_of-line.ensures.line)
+    (left_more net c.args.kind path states steps place c.loop-step-test.true c.loop-step.line.0 c.loop-step.invariant
+    c.side_condition-condition.result asks c.pins.result.now c.pins.ensures.pins pass)
+
+pub returns-clause-judged : goal.returns-clause-judged
+returns-clause-judged c = λ pair has.
+    let states = c.args.states.now in
+    record {
+      launches = launches_if c.args.net.now c.args.kind c.args.path.now states c.requires.prefix pair has c.args.dir
+          (subst (λ (l : LineId). IsLaunching four_states c.args.dir (state_in states l.0)) c.source-2.ensures
+          (c.launches.ensures.0 c.if-not-launches.false));
+      sides = sides_meet c.args.net.now c.args.kind c.args.path.now states c.steps-step-items.result.now c.loop-step.step-index c.loop-step.line.0
+          c.loop-step-test.false c.loop-step.invariant pair has;
+    }

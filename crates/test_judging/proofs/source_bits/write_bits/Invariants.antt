@@ -1,0 +1,12 @@
+use Rattle.std.proofs.Common.{take}
+use Rattle.state_sets.specs.FourStates.{four_last}
+use Rattle.test_judging.specs.ConeStates.{state_in}
+use Rattle.test_judging.specs.SourceBits.{first_bit, HasBitsAt}
+use Rattle.test_judging.proofs.source_bits.write_bits.Given as goal
+
+-- the bits of the sources before this one are written
+abbrev pub invariant-loop-source : goal.invariant-loop-source
+invariant-loop-source l = record {
+  first : HasBitsAt (λ source. first_bit (state_in l.states source)) (take l.source-index l.sources) l.initial.first l.first;
+  second : HasBitsAt (λ source. four_last (state_in l.states source)) (take l.source-index l.sources) l.initial.second l.second;
+}

@@ -1,0 +1,9 @@
+pub mod FoundLines
+pub mod KeptCones
+pub mod ConeStates
+pub mod LeastStates
+pub mod Taken
+pub mod SourceBits
+pub mod Judged
+pub mod Judges
+pub mod Expected

@@ -1,0 +1,40 @@
+// The state of a gate's line, of the states of the lines that its pins read.
+ghost use Rattle.std.specs.Prelude.{◌≡◌, ◌<◌, map, length, All};
+ghost use Rattle.netlist.specs.declared.op.Op.{Op};
+ghost use Rattle.state_sets.specs.FourStates.{four_states};
+ghost use Rattle.state_sets.specs.StateAlgebra.{joined};
+ghost use Rattle.state_sets.specs.Narrowing.{gate_state};
+ghost use Rattle.test_judging.specs.ConeStates.{state_in, AreFourStates};
+
+use netlist::{GateKind, Op};
+use pd_base::LineId;
+use state_sets::{Algebra, FourStates, State};
+
+/// What a gate makes of the states of its pins.
+pub(crate) fn gate_state(kind: GateKind, pins: &[LineId], states: &[State]) -> State
+    requires pins { All (λ pin. pin.0 < length states.now) pins.now }
+    requires states { AreFourStates states.now }
+    ensures state { result ≡ gate_state four_states kind (map (λ pin. state_in states.now pin.0) pins.now) }
+    ensures in_range { result.0 < four_states.count }
+{
+    let joined = join_pins(kind.operation(), pins, states);
+    if kind.inverts() {
+        FourStates::invert(joined)
+    } else {
+        joined
+    }
+}
+
+// What an operation makes of the states of these pins, joined from the last one on.
+fn join_pins(op: Op, pins: &[LineId], states: &[State]) -> State
+    requires pins { All (λ pin. pin.0 < length states.now) pins.now }
+    requires states { AreFourStates states.now }
+    ensures state { result ≡ joined four_states op (map (λ pin. state_in states.now pin.0) pins.now) }
+    ensures in_range { result.0 < four_states.count }
+{
+    let mut joined = FourStates::unit(op);
+    for pin in (0..pins.len()).rev() {
+        joined = FourStates::join(op, states[pins[pin].0 as usize], joined);
+    }
+    joined
+}
