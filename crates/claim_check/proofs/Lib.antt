@@ -1,6 +1,7 @@
 pub mod Telling
 pub mod NamedTests
 pub mod Rightness
+pub mod Unproved
 pub mod WrongCounts
 pub mod Counting
 pub mod Listing

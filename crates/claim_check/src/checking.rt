@@ -15,7 +15,7 @@ use crate::counts::wrong_count;
 use crate::listed::wrong_path;
 use crate::prefix_tree::PrefixTree;
 use crate::proving::wrong_proof;
-use crate::verdicts::wrong_verdict;
+use crate::verdicts::{wrong_verdict, wrong_without_proofs};
 use delay_annotation::Delays;
 use netlist::Netlist;
 use path_lister::first_paths;
@@ -86,6 +86,10 @@ fn first_flaw(
     }
     if let Some(flaw) = wrong_path(net, delays, first, run.paths.as_slice()) {
         return Ok(Some(flaw));
+    }
+    // where no proof is cited, no prefix is looked up
+    if run.proofs.as_slice().is_empty() {
+        return wrong_without_proofs(alloc, net, run, first);
     }
     let prefixes = PrefixTree::new(alloc, first)?;
     let found = wrong_proof(alloc, net, budget, run, first, &prefixes)?;

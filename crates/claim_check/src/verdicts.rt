@@ -1,7 +1,8 @@
 // The verdicts of a run, fault by fault in the order of the report.
-ghost use Rattle.std.specs.Prelude.{◌≡◌, ◌<◌, ◌^◌, ◌≤◌, None, Some, All, IfOk, length, slice_get};
+ghost use Rattle.std.specs.Prelude.{◌≡◌, ◌<◌, ◌^◌, ◌≤◌, [], None, Some, All, IfOk, length, slice_get};
 ghost use Rattle.pd_base.specs.declared.limits.TheConstants.{MOST_PATHS};
 ghost use Rattle.pd_base.specs.Target.{target_of};
+ghost use Rattle.pd_base.specs.declared.fault.Direction.{Direction};
 ghost use Rattle.netlist.specs.Paths.{IsPath, IsPrefix};
 ghost use Rattle.runs.specs.Lawful.{AreLawfulTests};
 ghost use Rattle.good_runs.specs.Faults.{routes_of, verdict_for};
@@ -57,6 +58,37 @@ pub(crate) fn wrong_verdict(
     let falls = least_of(alloc, run, paths, prefixes, Direction::Fall)?;
     let mut room = room_for(alloc, net, run.tests.as_slice())?;
     Ok(first_wrong(net, run, paths, &rises, &falls, &mut room))
+}
+
+// The same of a run without proofs, of which no refutation applies to a path.
+pub(crate) fn wrong_without_proofs(
+    alloc: Global,
+    net: &Netlist,
+    run: &Run,
+    paths: &[Path],
+) -> Result<Option<Flaw>, OutOfMemory>
+    requires routes { paths.now ≡ routes_of run.now }
+    requires paths { All (IsPath net.now) paths.now }
+    requires few { length paths.now ≤ MOST_PATHS }
+    requires no_proofs { run.now.proofs ≡ [] }
+    requires lawful { AreLawfulTests net.now run.now.tests }
+    ensures { IfOk result (TellsOfItems (IsRightFaultAt net.now run.now)) }
+{
+    let least = no_refutations(alloc, run)?;
+    let mut room = room_for(alloc, net, run.tests.as_slice())?;
+    Ok(first_wrong(net, run, paths, &least, &least, &mut room))
+}
+
+// No refutation for any listed path, where there are no proofs.
+fn no_refutations(alloc: Global, run: &Run) -> Result<Least, OutOfMemory>
+    requires { run.now.proofs ≡ [] }
+    ensures { IfOk result (λ least. (dir : Direction) → AreLeastFor run.now dir least) }
+{
+    let count = run.paths.as_slice().len();
+    Ok(Least {
+        robust: vec![in alloc; None; count]?,
+        nonrobust: vec![in alloc; None; count]?,
+    })
 }
 
 // The refutations of the least numbers for a direction.

@@ -1,5 +1,7 @@
 -- Stage by stage.
 use Rattle.std.proofs.Common.{ℕ, List, length, get_or, refl, sym, ap, subst, ◌∙◌}
+use Rattle.std.proofs.lemmas.Bool.{eqb-true}
+use Rattle.std.proofs.lemmas.List.{nil_from_length}
 use Rattle.std.proofs.lemmas.Result.{IfOk-weaker}
 use Rattle.std.specs.List.{All}
 use Rattle.pd_base.specs.Route.{Route}
@@ -14,6 +16,7 @@ use Rattle.claim_check.specs.Right.{IsRightAt, IsRightFaultAt, IsRightPathAt, Is
 use Rattle.claim_check.proofs.Claiming.{all_name_prefixes, right_if_none}
 use Rattle.claim_check.proofs.Rightness.{routes_are}
 use Rattle.claim_check.proofs.Telling.{tell_counts, tell_faults, tell_paths, tell_proofs}
+use Rattle.claim_check.proofs.Unproved.{proofs_right}
 use Rattle.claim_check.proofs.checking.first_flaw.Goals as goal
 
 pub returns-in-Some : goal.returns-in-Some
@@ -32,6 +35,26 @@ returns-in-Some-wrong_path c =
     let P : List ListedPath → Type 0 = λ paths. IsFirstFlaw (IsRightPathAt delays first paths) flaw.item flaw.reason in
     tell_paths c.args.net.now delays c.args.budget first c.args.run.now c.in_default.ensures.counts flaw.item flaw.reason
     (subst P c.as_slice.ensures c.in-Some-wrong_path.ensures)
+
+pub wrong_without_proofs-requires-clause-routes : goal.wrong_without_proofs-requires-clause-routes
+wrong_without_proofs-requires-clause-routes c =
+    let delays = delays_of c.args.net.now c.args.delays.now in
+    let first = c.args.first.now in
+    let P : List ListedPath → Type 0 = λ paths. (item : ℕ) (reason : Reason) → IsRightPathAt delays first paths item reason in
+    sym (routes_are delays c.args.run.now first c.in_default.ensures.counts (subst P c.as_slice.ensures c.in_default-wrong_path.ensures))
+
+pub returns-then-is_empty : goal.returns-then-is_empty
+returns-then-is_empty c =
+    let net = c.args.net.now in
+    let run = c.args.run.now in
+    let delays = delays_of c.args.net.now c.args.delays.now in
+    let first = c.args.first.now in
+    let P : List ListedPath → Type 0 = λ paths. (item : ℕ) (reason : Reason) → IsRightPathAt delays first paths item reason in
+    let paths = subst P c.as_slice.ensures c.in_default-wrong_path.ensures in
+    let none = sym c.as_slice-2.ensures ∙ nil_from_length _ (eqb-true _ _ (sym c.is_empty.ensures ∙ c.if-is_empty.true)) in
+    IfOk-weaker c.wrong_without_proofs.result (TellsOfItems (IsRightFaultAt net run)) (TellsOfItems (IsRightAt net delays c.args.budget first run))
+    (λ found is. tell_faults net delays c.args.budget first run c.in_default.ensures.counts paths (proofs_right run none net c.args.budget) found is)
+    c.wrong_without_proofs.ensures
 
 pub new-requires-clause-short : goal.new-requires-clause-short
 new-requires-clause-short c = λ place d within.
