@@ -3,7 +3,7 @@ status 1, since the run lists too few: so it is measured what reading and listin
 import re
 
 HEADER = "path,direction,length,source,steps,verdict,test,robust_proof,nonrobust_proof\n"
-PROOFS = "pdfgen proofs 1\n"
+PROOFS = "pdfgen proofs 2\n"
 # What `check` says of such a run of a circuit that has a path.
 SAID = "check: count 1 WrongCount"
 FORM = re.compile(r"\s*(INPUT|OUTPUT)\s*\(\s*([^\s()]+)\s*\)|\s*([^\s=]+)\s*=\s*(\w+)\s*\(([^)]*)\)", re.IGNORECASE)

@@ -23,8 +23,15 @@ def be_the_one_who_waits():
         raise OSError(ctypes.get_errno(), "prctl")
 
 
-def run(words):
-    """Runs the program words[0] with the other words, again where the shell that starts it has waited for it."""
+# Gives a program $0 processor seconds, after which a signal ends it, and four times as many of the clock, and $1 KB of address space.
+LIMITED = 'ulimit -t "$0"; ulimit -v "$1"; most=$(($0 * 4)); shift; exec timeout "$most" "$@"'
+
+
+def run(words, most_seconds=None, most_kilobytes=None):
+    """Runs the program words[0] with the other words, again where the shell that starts it has waited for it. It may take so much, if that
+    is told."""
+    if most_seconds is not None:
+        words = ["sh", "-c", LIMITED, str(most_seconds), str(most_kilobytes or "unlimited"), *words]
     while True:
         try:
             return run_once(words)

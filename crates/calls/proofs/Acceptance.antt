@@ -1,5 +1,5 @@
 -- What accepted inputs exclude, over files that tell what is read: each stage then has one answer.
-use Rattle.std.proofs.Common.{◌≡◌, ℕ, List, [], ◌∷◌, ◌++◌, Option, None, Some, sym, subst, ◌∙◌}
+use Rattle.std.proofs.Common.{◌≡◌, ℕ, List, [], ◌∷◌, ◌++◌, Option, None, Some, refl, sym, subst, ◌∙◌}
 use Rattle.pd_io.specs.Folder.{Folder}
 use Rattle.calls.specs.Work.{Work, Stage, Read, Require, Requirement, names_read}
 use Rattle.calls.specs.Passing.{Accepts, HasBytes, Pass}
@@ -44,6 +44,24 @@ module _ (work : Work) (folder : Option Folder) where
       (same_bytes folder name (names_read before) text bytes told has has_too) so_far)
   accepted_before (Require other ∷ before) later requirement first inputs all told (accepts, pass) (accepts_too, so_far) =
       accepted_before before later requirement first inputs all told pass so_far
+
+  -- stages are passed, and behind them further ones
+  pub passed_on : (stages later : List Stage) (first middle all : List (List ℕ)) → Pass work folder stages first middle
+      → Pass work folder later middle all → Pass work folder (stages ++ later) first all
+  passed_on [] later first middle all pass rest = subst (λ (read : List (List ℕ)). Pass work folder later read all) pass rest
+  passed_on (Read role name ∷ stages) later first middle all (text, has, pass) rest =
+      (text, has, passed_on stages later (first ++ text ∷ []) middle all pass rest)
+  passed_on (Require requirement ∷ stages) later first middle all (accepts, pass) rest =
+      (accepts, passed_on stages later first middle all pass rest)
+
+  -- where stages are passed, so are the first ones, and from there the later ones
+  pub front_passed : (stages later : List Stage) (first all : List (List ℕ)) → Pass work folder (stages ++ later) first all
+      → (middle : List (List ℕ)) × Pass work folder stages first middle × Pass work folder later middle all
+  front_passed [] later first all pass = (first, refl, pass)
+  front_passed (Read role name ∷ stages) later first all (text, has, pass) =
+      let rest = front_passed stages later (first ++ text ∷ []) all pass in (rest.0, (text, has, rest.1), rest.2)
+  front_passed (Require requirement ∷ stages) later first all (accepts, pass) =
+      let rest = front_passed stages later first all pass in (rest.0, (accepts, rest.1), rest.2)
 
 -- of names that are told so is a front of them
 pub front_told : (folder : Option Folder) (front rest : List (List ℕ)) → AreTold (front ++ rest) folder

@@ -21,7 +21,7 @@ pub enum Status {
     WriteFault = 6,
     /// Memory ran out.
     NoMemory = 7,
-    /// An input has more bytes than are read of it, or the texts may be too long.
+    /// An input has more bytes than are read of it, the texts may be too long, or a line changes too often under a test.
     Size = 8,
 }
 

@@ -12,8 +12,8 @@ use Rattle.claim_check.specs.declared.claim.Claim.TheVariants.{Holds, Fails}
 use Rattle.claim_check.specs.declared.claim.Reason.{Reason}
 use Rattle.claim_check.specs.declared.claim.Reason.TheVariants.{WrongCount, WrongPath, WrongLength, BadRefutation, BadSpent, NotShared, BadTest, WrongExpected}
 use Rattle.claim_check.specs.Claims.{TellsOfRun}
-use Rattle.claim_check.specs.Flaws.{IsFirstFlaw, stage_of, turn_of}
-use Rattle.claim_check.specs.Flaws.IsToldBefore.{earlier_stage, lesser_item, earlier_reason}
+use Rattle.claim_check.specs.Flaws.{IsFirstFlaw, part_of, turn_of}
+use Rattle.claim_check.specs.Flaws.IsToldBefore.{earlier_part, lesser_item, earlier_reason}
 use Rattle.claim_check.specs.Right.{IsRightAt}
 use Rattle.claim_check.proofs.Rightness.{right_of_good}
 
@@ -38,22 +38,22 @@ same_number a b no_less no_more =
 -- one flaw is told first
 module _ (IsRight : ℕ → Reason → Type 0) (item other : ℕ) (reason other_reason : Reason) (one : IsFirstFlaw IsRight item reason)
     (its : IsFirstFlaw IsRight other other_reason) where
-  same_stage : stage_of reason ≡ stage_of other_reason
-  same_stage =
-      same_number (stage_of reason) (stage_of other_reason) (λ less. one.flawed (its.before item reason (earlier_stage less)))
-      (λ less. its.flawed (one.before other other_reason (earlier_stage less)))
+  same_part : part_of reason ≡ part_of other_reason
+  same_part =
+      same_number (part_of reason) (part_of other_reason) (λ less. one.flawed (its.before item reason (earlier_part less)))
+      (λ less. its.flawed (one.before other other_reason (earlier_part less)))
 
   pub same_item : item ≡ other
   same_item =
-      same_number item other (λ less. one.flawed (its.before item reason (lesser_item same_stage less)))
-      (λ less. its.flawed (one.before other other_reason (lesser_item (sym same_stage) less)))
+      same_number item other (λ less. one.flawed (its.before item reason (lesser_item same_part less)))
+      (λ less. its.flawed (one.before other other_reason (lesser_item (sym same_part) less)))
 
   pub is_reason : reason ≡ other_reason
   is_reason =
       same_reason reason other_reason
       (same_number (turn_of reason) (turn_of other_reason)
-      (λ less. one.flawed (its.before item reason (earlier_reason same_stage same_item less)))
-      (λ less. its.flawed (one.before other other_reason (earlier_reason (sym same_stage) (sym same_item) less))))
+      (λ less. one.flawed (its.before item reason (earlier_reason same_part same_item less)))
+      (λ less. its.flawed (one.before other other_reason (earlier_reason (sym same_part) (sym same_item) less))))
 
 module _ (c : Circuit) (delays : Delays) (count budget : ℕ) (run : Run) where
   -- a good run has no first flaw

@@ -1,4 +1,4 @@
--- Which flaw is told: of one item, of the items of a stage, and of all stages.
+-- Which flaw is told: of one item, of the items of a part, and of all parts.
 use Rattle.std.proofs.Common.{◌≡◌, ◌≢◌, ⊎_elim, ℕ, true, ◌+◌, ◌<◌, ◌≤◌, ◌↔◌, List, length, refl, sym, subst, arith}
 use Rattle.std.specs.Prelude.{Option, Some, None, is_some}
 use Rattle.std.proofs.lemmas.Bool.{cases_eq, cases_lt}
@@ -12,8 +12,8 @@ use Rattle.good_runs.proofs.Numbers.{number_same}
 use Rattle.claim_check.specs.declared.claim.Flaw.{Flaw}
 use Rattle.claim_check.specs.declared.claim.Reason.{Reason}
 use Rattle.claim_check.specs.declared.claim.Reason.TheVariants.{WrongCount, WrongPath, WrongLength, BadRefutation, BadSpent, NotShared, BadTest, WrongExpected}
-use Rattle.claim_check.specs.Flaws.{IsFirstFlaw, IsFirstReason, IsToldBefore, TellsOfItem, TellsOfItems, stage_of}
-use Rattle.claim_check.specs.Flaws.IsToldBefore.{earlier_stage, lesser_item, earlier_reason}
+use Rattle.claim_check.specs.Flaws.{IsFirstFlaw, IsFirstReason, IsToldBefore, TellsOfItem, TellsOfItems, part_of}
+use Rattle.claim_check.specs.Flaws.IsToldBefore.{earlier_part, lesser_item, earlier_reason}
 use Rattle.claim_check.specs.Right.{IsRightAt, IsRightCount, IsRightFaultAt, IsRightPath, IsRightPathAt, IsRightProof, IsRightProofAt, IsRightVerdict}
 
 -- what is told of an item in these words is told of it in those that mean the same
@@ -45,15 +45,15 @@ right_more IsRight item before here other reason few =
     let at : item + 1 ≡ other = omega arith in subst (λ (n : ℕ). IsRight n reason) at (here reason))
     (cases_lt other (item + 1))
 
--- of the reasons of other stages all is right
-abbrev pub IsOfStage : (ℕ → Reason → Type 0) → ℕ → Type 0
-IsOfStage IsRight stage = (item : ℕ) (reason : Reason) → stage_of reason ≢ stage → IsRight item reason
+-- of the reasons of other parts all is right
+abbrev pub IsOfPart : (ℕ → Reason → Type 0) → ℕ → Type 0
+IsOfPart IsRight part = (item : ℕ) (reason : Reason) → part_of reason ≢ part → IsRight item reason
 
-module _ (IsRight : ℕ → Reason → Type 0) (stage : ℕ) (others : IsOfStage IsRight stage) where
-  -- so a flaw has a reason of the stage
-  pub flaw_stage : (item : ℕ) (reason : Reason) → ¬ IsRight item reason → stage_of reason ≡ stage
-  flaw_stage item reason flawed =
-      ⊎_elim (λ same. same) (λ differs. absurd (flawed (others item reason differs))) (cases_eq (stage_of reason) stage)
+module _ (IsRight : ℕ → Reason → Type 0) (part : ℕ) (others : IsOfPart IsRight part) where
+  -- so a flaw has a reason of the part
+  pub flaw_part : (item : ℕ) (reason : Reason) → ¬ IsRight item reason → part_of reason ≡ part
+  flaw_part item reason flawed =
+      ⊎_elim (λ same. same) (λ differs. absurd (flawed (others item reason differs))) (cases_eq (part_of reason) part)
 
   -- the first reason of the next item is the first flaw
   pub first_at : (item : ℕ) (reason : Reason) → IsRightUpTo IsRight item → IsFirstReason (IsRight (item + 1)) reason
@@ -61,52 +61,52 @@ module _ (IsRight : ℕ → Reason → Type 0) (stage : ℕ) (others : IsOfStage
   first_at item reason before first = record { flawed = first.flawed; before = by }
     where
       by : (other : ℕ) (other_reason : Reason) → IsToldBefore other other_reason (item + 1) reason → IsRight other other_reason
-      by other other_reason (earlier_stage less) =
-          let own = flaw_stage (item + 1) reason first.flawed in
+      by other other_reason (earlier_part less) =
+          let own = flaw_part (item + 1) reason first.flawed in
           others other other_reason (λ same. absurd (omega arith))
       by other other_reason (lesser_item same less) = before other other_reason (omega arith)
       by other other_reason (earlier_reason same at less) =
           subst (λ (n : ℕ). IsRight n other_reason) (sym at) (first.before other_reason less)
 
--- what is told before is of no later stage
-told_stage : {item : ℕ} {reason : Reason} {other : ℕ} {other_reason : Reason} → IsToldBefore other other_reason item reason
-    → stage_of other_reason ≤ stage_of reason
-told_stage (earlier_stage less) = omega arith
-told_stage (lesser_item same less) = omega arith
-told_stage (earlier_reason same at less) = omega arith
+-- what is told before is of no later part
+told_part : {item : ℕ} {reason : Reason} {other : ℕ} {other_reason : Reason} → IsToldBefore other other_reason item reason
+    → part_of other_reason ≤ part_of reason
+told_part (earlier_part less) = omega arith
+told_part (lesser_item same less) = omega arith
+told_part (earlier_reason same at less) = omega arith
 
--- what is right of each kind of item says nothing of other stages
-pub counts_only : (first_count : ℕ) (run : Run) → IsOfStage (IsRightCount first_count run) 1
+-- what is right of each kind of item says nothing of other parts
+pub counts_only : (first_count : ℕ) (run : Run) → IsOfPart (IsRightCount first_count run) 1
 counts_only first_count run item WrongCount differs = absurd (differs refl)
 counts_only first_count run item reason differs = tt
 
-pub paths_only : (delays : Delays) (first : List Route) (paths : List ListedPath) → IsOfStage (IsRightPathAt delays first paths) 2
+pub paths_only : (delays : Delays) (first : List Route) (paths : List ListedPath) → IsOfPart (IsRightPathAt delays first paths) 2
 paths_only delays first paths item reason differs listed is = by reason differs
   where
-    by : (other : Reason) → stage_of other ≢ 2 → IsRightPath delays first item listed other
+    by : (other : Reason) → part_of other ≢ 2 → IsRightPath delays first item listed other
     by WrongPath differ = absurd (differ refl)
     by WrongLength differ = absurd (differ refl)
     by other differ = tt
 
-pub proofs_only : (c : Circuit) (budget : ℕ) (run : Run) → IsOfStage (IsRightProofAt c budget run) 3
+pub proofs_only : (c : Circuit) (budget : ℕ) (run : Run) → IsOfPart (IsRightProofAt c budget run) 3
 proofs_only c budget run item reason differs proof is = by reason differs
   where
-    by : (other : Reason) → stage_of other ≢ 3 → IsRightProof c run.rules budget (routes_of run) proof other
+    by : (other : Reason) → part_of other ≢ 3 → IsRightProof c run.rules budget (routes_of run) proof other
     by BadRefutation differ = absurd (differ refl)
     by BadSpent differ = absurd (differ refl)
     by other differ = tt
 
-pub faults_only : (c : Circuit) (run : Run) → IsOfStage (IsRightFaultAt c run) 4
+pub faults_only : (c : Circuit) (run : Run) → IsOfPart (IsRightFaultAt c run) 4
 faults_only c run item reason differs number listed direction is at = by reason differs
   where
-    by : (other : Reason) → stage_of other ≢ 4
+    by : (other : Reason) → part_of other ≢ 4
         → IsRightVerdict c run number direction listed.path (verdict_for listed direction) other
     by NotShared differ = absurd (differ refl)
     by BadTest differ = absurd (differ refl)
     by WrongExpected differ = absurd (differ refl)
     by other differ = tt
 
--- The first flaw of a stage is the first of all where all is right in the stages before it.
+-- The first flaw of a part is the first of all where all is right in the parts before it.
 module _ (c : Circuit) (delays : Delays) (budget : ℕ) (first : List Route) (run : Run) where
   abbrev pub IsRight : ℕ → Reason → Type 0
   IsRight = IsRightAt c delays budget first run
@@ -119,8 +119,8 @@ module _ (c : Circuit) (delays : Delays) (budget : ℕ) (first : List Route) (ru
   tell_counts item reason is = record {
     flawed = λ right. is.flawed right.count;
     before = λ other other_reason told.
-        let own = flaw_stage (IsRightCount (length first) run) 1 (counts_only (length first) run) item reason is.flawed in
-        let few = told_stage told in record {
+        let own = flaw_part (IsRightCount (length first) run) 1 (counts_only (length first) run) item reason is.flawed in
+        let few = told_part told in record {
           count = is.before other other_reason told;
           path = paths_only delays first run.paths other other_reason (λ same. absurd (omega arith));
           proof = proofs_only c budget run other other_reason (λ same. absurd (omega arith));
@@ -134,8 +134,8 @@ module _ (c : Circuit) (delays : Delays) (budget : ℕ) (first : List Route) (ru
     tell_paths item reason is = record {
       flawed = λ right. is.flawed right.path;
       before = λ other other_reason told.
-          let own = flaw_stage (IsRightPathAt delays first run.paths) 2 (paths_only delays first run.paths) item reason is.flawed in
-          let few = told_stage told in record {
+          let own = flaw_part (IsRightPathAt delays first run.paths) 2 (paths_only delays first run.paths) item reason is.flawed in
+          let few = told_part told in record {
             count = counts other other_reason;
             path = is.before other other_reason told;
             proof = proofs_only c budget run other other_reason (λ same. absurd (omega arith));
@@ -150,8 +150,8 @@ module _ (c : Circuit) (delays : Delays) (budget : ℕ) (first : List Route) (ru
       tell_proofs (Some flaw) is some = record {
         flawed = λ right. is.flawed right.proof;
         before = λ other other_reason told.
-            let own = flaw_stage (IsRightProofAt c budget run) 3 (proofs_only c budget run) flaw.item flaw.reason is.flawed in
-            let few = told_stage told in record {
+            let own = flaw_part (IsRightProofAt c budget run) 3 (proofs_only c budget run) flaw.item flaw.reason is.flawed in
+            let few = told_part told in record {
               count = counts other other_reason;
               path = paths other other_reason;
               proof = is.before other other_reason told;

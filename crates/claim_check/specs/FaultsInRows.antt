@@ -14,7 +14,7 @@ use Rattle.test_judging.specs.Expected.{TellsExpected}
 use Rattle.test_judging.specs.Judges.{IsJudgeOf}
 use Rattle.claim_check.specs.declared.fault.Fault.{Fault}
 use Rattle.claim_check.specs.declared.verdicts.Least.{Least}
-use Rattle.claim_check.specs.declared.verdicts.Room.{Room}
+use Rattle.claim_check.specs.declared.verdicts.TestJudge.{TestJudge}
 use Rattle.claim_check.specs.Prefixes.{AreLeastRefutations, IsLeastRefutation}
 
 -- the refutations of the least numbers that apply to the listed paths, for a direction
@@ -25,9 +25,9 @@ pub record AreLeastFor (run : Run) (direction : Direction) (least : Least) : Typ
   pub nonrobust : AreLeastRefutations (routes_of run) run.proofs direction kinds.Nonrobust least.nonrobust.items
 
 -- the tests are judged by this
-pub record JudgesTests (c : Circuit) (tests : List Test) (room : Room) : Type 0 where
-  pub judge : IsJudgeOf c room.judge
-  pub expected : TellsExpected c tests room.expected.items
+pub record JudgesTests (c : Circuit) (tests : List Test) (judge : TestJudge) : Type 0 where
+  pub pairs : IsJudgeOf c judge.pairs
+  pub expected : TellsExpected c tests judge.expected.items
 
 -- the fault of the listed path in a row, for a direction, with the refutations of the least numbers that apply
 pub record IsFaultInRow (run : Run) (row : ℕ) (direction : Direction) (fault : Fault) : Type 0 where

@@ -1,20 +1,20 @@
--- Which flaw of a run is told: the first by the stage in which it is looked for, then by its item, then by its reason. What is right of
+-- Which flaw of a run is told: the first by the part of the run that it is in, then by its item, then by its reason. What is right of
 -- each item is in Right.antt (this project's own).
 use Rattle.std.specs.Prelude.{◌≡◌, ℕ, ◌<◌, MatchOption, Option}
 use Rattle.claim_check.specs.declared.claim.Flaw.{Flaw}
 use Rattle.claim_check.specs.declared.claim.Reason.{Reason}
 use Rattle.claim_check.specs.declared.claim.Reason.TheVariants.{WrongCount, WrongPath, WrongLength, BadRefutation, BadSpent, NotShared, BadTest, WrongExpected}
 
--- the stage in which a flaw is looked for: the counts, the listed paths, the proofs, the faults
-abbrev pub stage_of : Reason → ℕ
-stage_of WrongCount = 1
-stage_of WrongPath = 2
-stage_of WrongLength = 2
-stage_of BadRefutation = 3
-stage_of BadSpent = 3
-stage_of NotShared = 4
-stage_of BadTest = 4
-stage_of WrongExpected = 4
+-- the part of a run that a reason is about, in the order of judging: the counts, the listed paths, the proofs, the faults
+abbrev pub part_of : Reason → ℕ
+part_of WrongCount = 1
+part_of WrongPath = 2
+part_of WrongLength = 2
+part_of BadRefutation = 3
+part_of BadSpent = 3
+part_of NotShared = 4
+part_of BadTest = 4
+part_of WrongExpected = 4
 
 -- the turn of a reason: of one item the reasons are told in this order
 abbrev pub turn_of : Reason → ℕ
@@ -27,12 +27,12 @@ turn_of NotShared = 6
 turn_of BadTest = 7
 turn_of WrongExpected = 8
 
--- a flaw is told before another one: that of the earlier stage; of one stage that of the lesser item; at one item that whose reason
+-- a flaw is told before another one: that of the earlier part; of one part that of the lesser item; at one item that whose reason
 -- stands first
 pub data IsToldBefore (item : ℕ) (reason : Reason) (other : ℕ) (other_reason : Reason) : Type 0 where
-  earlier_stage : stage_of reason < stage_of other_reason → IsToldBefore item reason other other_reason
-  lesser_item : stage_of reason ≡ stage_of other_reason → item < other → IsToldBefore item reason other other_reason
-  earlier_reason : stage_of reason ≡ stage_of other_reason → item ≡ other → turn_of reason < turn_of other_reason
+  earlier_part : part_of reason < part_of other_reason → IsToldBefore item reason other other_reason
+  lesser_item : part_of reason ≡ part_of other_reason → item < other → IsToldBefore item reason other other_reason
+  earlier_reason : part_of reason ≡ part_of other_reason → item ≡ other → turn_of reason < turn_of other_reason
       → IsToldBefore item reason other other_reason
 
 -- here is a flaw, something that is not right, and all that is told before it is right

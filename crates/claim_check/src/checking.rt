@@ -31,7 +31,7 @@ use std::alloc::Global;
 /// the number of the item, and at one item in the order of the reasons. Where it is good, its verdicts keep their promises: this follows from
 /// what is checked here alone.
 ///
-/// `OutOfMemory` comes where a growth was refused.
+/// The one error is that memory ran out.
 pub fn check_run(
     alloc: Global,
     net: &Netlist,

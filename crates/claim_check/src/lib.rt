@@ -8,7 +8,6 @@ mod checking;
 mod citing;
 mod claim;
 mod counts;
-mod ends;
 mod fault;
 mod listed;
 mod numbered;

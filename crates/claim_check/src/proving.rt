@@ -13,7 +13,6 @@ ghost use Rattle.claim_check.specs.Prefixes.{AreTreeNodes, IsFirstPrefix};
 ghost use Rattle.claim_check.specs.Right.{IsRightProof, IsRightProofAt};
 
 use crate::claim::{Flaw, Reason};
-use crate::ends::last_lines;
 use crate::numbered::numbered;
 use crate::prefix_tree::PrefixTree;
 use netlist::Netlist;
@@ -21,6 +20,7 @@ use pd_base::{OutOfMemory, Path};
 use refutation_check::{TreeCheck, TreeJudge};
 use runs::{Proof, Run};
 use std::alloc::Global;
+use test_judging::ends_of;
 
 // The first proof of a run that is not what it says, where these are the listed paths.
 pub(crate) fn wrong_proof(
@@ -39,7 +39,7 @@ pub(crate) fn wrong_proof(
 {
     // a netlist knows itself as a circuit
     let _ = net.sources();
-    let ends = last_lines(alloc, net, paths)?;
+    let ends = ends_of(alloc, net, paths)?;
     let mut judge = TreeJudge::new(alloc, net, &run.rules, ends.as_slice())?;
     wrong_by(&mut judge, alloc, budget, run, paths, prefixes)
 }

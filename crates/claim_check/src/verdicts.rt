@@ -32,8 +32,8 @@ struct Least {
 
 // What tests are judged by: a judge of their pairs, and for each test whether it expects the right bits.
 #[derive(Drop)]
-struct Room {
-    judge: ConeJudge,
+struct TestJudge {
+    pairs: ConeJudge,
     expected: Vec<bool>,
 }
 
@@ -56,8 +56,8 @@ pub(crate) fn wrong_verdict(
 {
     let rises = least_of(alloc, run, paths, prefixes, Direction::Rise)?;
     let falls = least_of(alloc, run, paths, prefixes, Direction::Fall)?;
-    let mut room = room_for(alloc, net, run.tests.as_slice())?;
-    Ok(first_wrong(net, run, paths, &rises, &falls, &mut room))
+    let mut judge = judge_for(alloc, net, run.tests.as_slice())?;
+    Ok(first_wrong(net, run, paths, &rises, &falls, &mut judge))
 }
 
 // The same of a run without proofs, of which no refutation applies to a path.
@@ -75,8 +75,8 @@ pub(crate) fn wrong_without_proofs(
     ensures { IfOk result (TellsOfItems (IsRightFaultAt net.now run.now)) }
 {
     let least = no_refutations(alloc, run)?;
-    let mut room = room_for(alloc, net, run.tests.as_slice())?;
-    Ok(first_wrong(net, run, paths, &least, &least, &mut room))
+    let mut judge = judge_for(alloc, net, run.tests.as_slice())?;
+    Ok(first_wrong(net, run, paths, &least, &least, &mut judge))
 }
 
 // No refutation for any listed path, where there are no proofs.
@@ -113,13 +113,13 @@ fn least_of(
 }
 
 // What these tests are judged by. The bits that they expect are compared here, 64 tests at once.
-fn room_for(alloc: Global, net: &Netlist, tests: &[Test]) -> Result<Room, OutOfMemory>
+fn judge_for(alloc: Global, net: &Netlist, tests: &[Test]) -> Result<TestJudge, OutOfMemory>
     requires { AreLawfulTests net.now tests.now }
     ensures { IfOk result (JudgesTests net.now tests.now) }
 {
     let expected = expect_observed(alloc, net, tests)?;
-    Ok(Room {
-        judge: ConeJudge::new(alloc, net)?,
+    Ok(TestJudge {
+        pairs: ConeJudge::new(alloc, net)?,
         expected,
     })
 }
@@ -131,7 +131,7 @@ fn first_wrong(
     paths: &[Path],
     rises: &Least,
     falls: &Least,
-    room: &mut Room,
+    judge: &mut TestJudge,
 ) -> Option<Flaw>
     requires routes { paths.now ≡ routes_of run.now }
     requires paths { All (IsPath net.now) paths.now }
@@ -139,19 +139,19 @@ fn first_wrong(
     requires lawful { AreLawfulTests net.now run.now.tests }
     requires rises { AreLeastFor run.now Direction.Rise rises.now }
     requires falls { AreLeastFor run.now Direction.Fall falls.now }
-    requires room { JudgesTests net.now run.now.tests room.old }
+    requires judge { JudgesTests net.now run.now.tests judge.old }
     ensures { TellsOfItems (IsRightFaultAt net.now run.now) result }
 {
     for row in 0..paths.len() {
         let rise = fault_in_row(run, &paths[row], row, Direction::Rise, rises);
-        if let Some(reason) = wrong_fault(net, run, &rise, room) {
+        if let Some(reason) = wrong_fault(net, run, &rise, judge) {
             return Some(Flaw {
                 item: 2 * row as u32 + 1,
                 reason,
             });
         }
         let fall = fault_in_row(run, &paths[row], row, Direction::Fall, falls);
-        if let Some(reason) = wrong_fault(net, run, &fall, room) {
+        if let Some(reason) = wrong_fault(net, run, &fall, judge) {
             return Some(Flaw {
                 item: 2 * row as u32 + 2,
                 reason,
@@ -197,22 +197,22 @@ fn verdict_for(listed: &ListedPath, dir: Direction) -> Verdict
 }
 
 // What is wrong with the verdict on a fault.
-fn wrong_fault(net: &Netlist, run: &Run, fault: &Fault, room: &mut Room) -> Option<Reason>
+fn wrong_fault(net: &Netlist, run: &Run, fault: &Fault, judge: &mut TestJudge) -> Option<Reason>
     requires prefix { IsPrefix net.now fault.now.path.now }
     requires robust { IsLeastRefutation (routes_of run.now) run.now.proofs (target_of fault.now.path.now fault.now.dir Kind.Robust) fault.now.robust }
     requires nonrobust { IsLeastRefutation (routes_of run.now) run.now.proofs (target_of fault.now.path.now fault.now.dir Kind.Nonrobust) fault.now.nonrobust }
     requires lawful { AreLawfulTests net.now run.now.tests }
-    requires room { JudgesTests net.now run.now.tests room.old }
+    requires judge { JudgesTests net.now run.now.tests judge.old }
     ensures wrong { TellsOfItem (IsRightVerdict net.now run.now fault.now.number fault.now.dir fault.now.path.now fault.now.verdict) result }
-    ensures room { JudgesTests net.now run.now.tests room.new }
+    ensures judge { JudgesTests net.now run.now.tests judge.new }
 {
     if !shares_proofs(run, fault) {
         return Some(Reason::NotShared);
     }
-    if !has_its_test(net, run, fault, &mut room.judge) {
+    if !has_its_test(net, run, fault, &mut judge.pairs) {
         return Some(Reason::BadTest);
     }
-    if !expects_right(fault.verdict, room.expected.as_slice()) {
+    if !expects_right(fault.verdict, judge.expected.as_slice()) {
         return Some(Reason::WrongExpected);
     }
     None

@@ -5,7 +5,7 @@
 pub enum Command<'a> {
     /// Lists the first paths of a netlist, and writes their tests, the report on them and the proofs.
     Gen(RunCommand<'a>),
-    /// Says whether the three files that `Gen` would write spell a good run. No file is written.
+    /// Says whether three files, as `Gen` writes them, spell a run that is good for the netlist and the delays. No file is written.
     Check(RunCommand<'a>),
     /// Samples the observed lines under each test at a time. No file is written.
     Replay(ReplayCommand<'a>),

@@ -1,17 +1,26 @@
--- Which inputs `gen` accepts: circuits with their delays, within the limits.
-use Rattle.std.proofs.Common.{ℕ, ◌≤◌, List, [], ◌∷◌, length, Some, refl}
+-- Which inputs `gen` accepts: circuits with their delays, within the limits. And which budget is great enough for it to find out what
+-- there is.
+use Rattle.std.proofs.Common.{ℕ, ◌-◌, ◌^◌, ◌≤◌, List, [], ◌∷◌, length, Some, refl, sym, subst}
+use Rattle.pd_base.specs.declared.fault.Direction.{Direction}
+use Rattle.pd_base.specs.declared.rules.Rules.{Rules}
 use Rattle.pd_io.specs.Folder.{Folder, bytes_at}
 use Rattle.netlist.specs.Circuit.{Circuit}
 use Rattle.bench_reader.specs.Circuits.{HasCircuit}
 use Rattle.netlist.specs.Waves.{Delays}
 use Rattle.delay_annotation.specs.DelayFile.{HasDelays}
+use Rattle.runs.specs.declared.run.ListedPath.{ListedPath}
+use Rattle.runs.specs.declared.run.Verdict.{Verdict}
+use Rattle.tree_laws.specs.Bounds.{AreSupport, states_of_source}
+use Rattle.good_runs.specs.Faults.{IsFault}
+use Rattle.good_runs.specs.Truth.{IsTruth}
 use Rattle.command_line.specs.Words.{RunCall}
 use Rattle.calls.specs.Calls.{HasAcceptedInputs}
+use Rattle.calls.specs.Work.{Products}
 use Rattle.call_inputs.specs.declared.judging.TheConstants.{INPUT_LIMIT}
 use Rattle.call_inputs.specs.InputStages.{short_stages}
 use Rattle.call_inputs.specs.Sizes.{HasShortTexts}
 use Rattle.call_inputs.proofs.InputStages.{inputs_pass, texts_pass}
-use Rattle.commands.specs.Gen.{gen_work}
+use Rattle.commands.specs.Gen.{GivesProductsOf, gen_work}
 use Rattle.commands.proofs.GenStages.{begins_gen, requires_short}
 
 module _ (call : RunCall) (told : Folder) where
@@ -35,3 +44,13 @@ module _ (call : RunCall) (told : Folder) where
         (texts_pass (gen_work call) call.net call.delays call.paths [] (requires_short call) net delays c has told (net ∷ delays ∷ []) short
         refl);
   }
+
+module _ (call : RunCall) (c : Circuit) (delays : Delays) (products : Products) (gives : GivesProductsOf call c delays products) where
+  -- where the budget is at least two to the power of the number of sources in the support of a fault's path, its own not counted, the
+  -- fault is not aborted, and its verdict tells what there is
+  pub two_power_decides : (number : ℕ) (listed : ListedPath) (direction : Direction) (verdict : Verdict)
+      → IsFault gives.run number listed direction verdict → (sources : List ℕ) → AreSupport c listed.path sources
+      → 2 ^ (length sources - 1) ≤ call.budget → IsTruth c listed.path direction verdict
+  two_power_decides number listed direction verdict fault sources support enough =
+      let P : Rules → Type 0 = λ rules. states_of_source rules ^ (length sources - 1) ≤ call.budget in
+      (gives.promises number listed direction verdict fault).great_budget sources support (subst P (sym gives.rules) enough)

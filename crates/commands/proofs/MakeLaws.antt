@@ -23,7 +23,7 @@ use Rattle.calls.proofs.Stages.{begun, stops_for_memory}
 use Rattle.netlist.specs.Circuit.{Circuit}
 use Rattle.netlist.specs.Lawful.{IsCircuit}
 use Rattle.netlist.specs.Waves.{Delays}
-use Rattle.pd_base.specs.declared.rules.Rules.TheVariants.{One}
+use Rattle.pd_base.specs.declared.rules.Rules.TheVariants.{Two}
 use Rattle.runs.specs.declared.run.Run.{Run}
 use Rattle.good_runs.specs.GoodRun.{IsGoodRun}
 use Rattle.good_runs.specs.Promises.{AllKeepPromises}
@@ -35,7 +35,7 @@ use Rattle.commands.specs.Make.{AreUnit, GivesLadder, GivesMake, make_work}
 
 -- the line of a good run of a ladder
 pub gives_ladder : (stages : ℕ) (c : Circuit) → IsCircuit c → (delays : Delays) (run : Run) (text : List ℕ) → c ≡ ladder_circuit stages → AreUnit c delays
-    → run.rules ≡ One → IsGoodRun c delays LADDER_PATHS LADDER_BUDGET run → text ≡ ladder_line stages c run
+    → run.rules ≡ Two → IsGoodRun c delays LADDER_PATHS LADDER_BUDGET run → text ≡ ladder_line stages c run
     → GivesLadder stages (record { files = []; out = text })
 gives_ladder stages c circuit delays run text is unit rules good told =
     let P : Circuit → Type 0 = λ d. AreUnit d delays in

@@ -2,7 +2,7 @@
 -- texts of one good run: it lists the first paths by nonincreasing length, each once, with one verdict for each transition, and each
 -- test, refutation and spent budget is one; what its verdicts promise is said in Promises.antt of good_runs (this project's own).
 use Rattle.std.specs.Prelude.{◌≡◌, ℕ, List, [], ◌∷◌, ◌++◌}
-use Rattle.pd_base.specs.declared.rules.Rules.TheVariants.{One}
+use Rattle.pd_base.specs.declared.rules.Rules.TheVariants.{Two}
 use Rattle.netlist.specs.Circuit.{Circuit}
 use Rattle.netlist.specs.Waves.{Delays}
 use Rattle.runs.specs.declared.run.Run.{Run}
@@ -54,12 +54,12 @@ run_files call c run = tests_due call c run ∷ report_due call c run ∷ proofs
 abbrev pub gen_products : RunCall → Circuit → Run → Products
 gen_products call c run = record { files = run_files call c run; out = summary_text run }
 
--- the products are the texts of one good run under rules One, for the paths and the budget that are asked for, which the files can
+-- the products are the texts of one good run under rules Two, for the paths and the budget that are asked for, which the files can
 -- spell: its tests are numbered in the order of the report, and each proof where it is first named; its verdicts keep their promises,
 -- and each refutation stands at its shortest prefix
 pub record GivesProductsOf (call : RunCall) (c : Circuit) (delays : Delays) (products : Products) : Type 0 where
   pub run : Run
-  pub rules : run.rules ≡ One
+  pub rules : run.rules ≡ Two
   pub good : IsGoodRun c delays call.paths call.budget run
   pub lawful : IsLawfulRun c run
   pub promises : AllKeepPromises c call.budget run

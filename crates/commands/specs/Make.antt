@@ -1,8 +1,8 @@
 -- The command `make`: no stage, since it reads nothing; it gives the line of a good run of a ladder, as `gen` would make one, where
 -- each pin has the delay 1 (this project's own).
-use Rattle.std.specs.Prelude.{◌≡◌, ℕ, List, [], ◌∷◌}
+use Rattle.std.specs.Prelude.{◌≡◌, ℕ, List, []}
 use Rattle.pd_base.specs.declared.ids.PinRef.{PinRef}
-use Rattle.pd_base.specs.declared.rules.Rules.TheVariants.{One}
+use Rattle.pd_base.specs.declared.rules.Rules.TheVariants.{Two}
 use Rattle.netlist.specs.Circuit.{Circuit}
 use Rattle.netlist.specs.Pins.{IsPinOn}
 use Rattle.netlist.specs.Waves.{Delays}
@@ -26,7 +26,7 @@ pub record GivesLadder (stages : ℕ) (products : Products) : Type 0 where
   pub delays : Delays
   pub unit : AreUnit (ladder_circuit stages) delays
   pub run : Run
-  pub rules : run.rules ≡ One
+  pub rules : run.rules ≡ Two
   pub good : IsGoodRun (ladder_circuit stages) delays LADDER_PATHS LADDER_BUDGET run
   pub promises : AllKeepPromises (ladder_circuit stages) LADDER_BUDGET run
   pub text : products ≡ record { files = []; out = ladder_line stages (ladder_circuit stages) run }

@@ -1,7 +1,7 @@
 // The stages of `gen` in their order, up to the run whose texts are to be written.
 ghost use Rattle.std.specs.Prelude.{◌≡◌, ◌≤◌, IfErr, IfOk};
 ghost use Rattle.pd_base.specs.declared.limits.TheConstants.{MOST_PATHS};
-ghost use Rattle.pd_base.specs.declared.rules.Rules.TheVariants.{One};
+ghost use Rattle.pd_base.specs.declared.rules.Rules.TheVariants.{Two};
 ghost use Rattle.pd_io.specs.Seen.{files_seen};
 ghost use Rattle.command_line.specs.Commands.{run_call_of};
 ghost use Rattle.command_line.specs.Words.{HasRunNumbers};
@@ -102,7 +102,7 @@ fn told_run(
     Ok(ToldRun { run, summary })
 }
 
-/// A good run for so many paths and this budget, under rules One.
+/// A good run for so many paths and this budget, under rules Two: sources other than a path's own are held steady.
 pub(crate) fn run_of(
     alloc: Global,
     net: &Netlist,
@@ -114,7 +114,7 @@ pub(crate) fn run_of(
     requires paths { paths ≤ MOST_PATHS }
     requires budget { IsBudget budget }
     ensures good { IfOk result (λ run. IsGoodRun net.now (delays_of net.now delays.now) paths budget run) }
-    ensures rules { IfOk result (λ run. run.rules ≡ One) }
+    ensures rules { IfOk result (λ run. run.rules ≡ Two) }
     ensures lawful { IfOk result (λ run. IsLawfulRun net.now run) }
     ensures shortest { IfOk result (λ run. IsShortestRun net.now run) }
 {
@@ -127,7 +127,7 @@ pub(crate) fn run_of(
         first,
         paths,
         budget,
-        Rules::One,
+        Rules::Two,
         &mut steps,
     )
 }

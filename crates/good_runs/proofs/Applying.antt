@@ -18,7 +18,7 @@ use Rattle.good_runs.specs.GoodRun.{IsGoodRefutation}
 use Rattle.good_runs.proofs.Numbers.{number_same}
 
 -- the proof's tree refutes the target on a prefix of its path
-pub record RefutesOnPrefix (c : Circuit) (rules : Rules) (target : Target) (proof : Proof) : Type 0 where
+pub record RefutesByTree (c : Circuit) (rules : Rules) (target : Target) (proof : Proof) : Type 0 where
   pub prefix : Route
   pub is_prefix : IsPrefixOf prefix target.path
   pub refutes : IsRefutation c rules (target_of prefix target.direction target.kind) proof.tree
@@ -26,7 +26,7 @@ pub record RefutesOnPrefix (c : Circuit) (rules : Rules) (target : Target) (proo
 module _ (c : Circuit) (rules : Rules) (budget : ℕ) (routes : List Route) (target : Target) (proof : Proof)
     (good : IsGoodRefutation c rules budget routes proof) (applies : Applies routes target proof) where
   -- a good refutation that applies refutes the target on its prefix
-  pub refutes_on_prefix : RefutesOnPrefix c rules target proof
+  pub refutes_on_prefix : RefutesByTree c rules target proof
   refutes_on_prefix =
       let same = number_same routes proof.path good.listed applies.listed good.is_listed applies.is_listed in
       let about = applies.is_about in

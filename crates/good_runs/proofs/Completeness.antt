@@ -175,7 +175,7 @@ module _ (c : Circuit) (circuit : IsCircuit c) (delays : Delays) (count budget :
   -- where the start does not close for the robust kind, and neither does the trial there, the fault is robust, whatever the budget
   module _ (hull : List StateSet) (is_hull : IsNodeHull c run.rules (target_of listed.path direction kinds.Robust) [] hull)
       (none_empty : HasNoEmptySet c hull)
-      (open_trial : ¬ Closes four_states c (IsNarrowingOf c kinds.Robust listed.path.steps)
+      (passes_trial : ¬ Closes four_states c (IsNarrowingOf c kinds.Robust listed.path.steps)
       (MayTry c run.rules (target_of listed.path direction kinds.Robust) [] hull)) where
     -- the pair that the trial reads off
     abbrev pair : Vectors
@@ -191,7 +191,7 @@ module _ (c : Circuit) (circuit : IsCircuit c) (delays : Delays) (count budget :
         let least = takes source (own_in_support c listed.path is_prefix) in
         let may = is_hull.rest.among source _ least.has in
         let launches = launched c pair source is_prefix.source direction (may.start.own refl) in
-        open_trial (trial_closes c circuit run.rules (target_of listed.path direction kinds.Robust) is_prefix [] hull pair takes
+        passes_trial (trial_closes c circuit run.rules (target_of listed.path direction kinds.Robust) is_prefix [] hull pair takes
         (λ sides. none (record { launches = launches; sides = sides })))
 
     -- no budget was spent on a robust test
@@ -202,14 +202,14 @@ module _ (c : Circuit) (circuit : IsCircuit c) (delays : Delays) (count budget :
         (MayBe four_states c run.rules (target_of listed.path direction kinds.Robust) []) root.0 root.1.is_hull hull is_hull in
         let P : List StateSet → Type 0 = λ labels. Closes four_states c (IsNarrowingOf c kinds.Robust listed.path.steps)
         (MayTry c run.rules (target_of listed.path direction kinds.Robust) [] labels) in
-        open_trial (subst P same root.1.trial)
+        passes_trial (subst P same root.1.trial)
 
     no_robust_proof : (proof : ℕ) → HasRobustProof run number direction listed.path proof → ⊥
     no_robust_proof proof has =
         some_robust (no_robust_test proof has (λ spent. none_spent spent.proof.tree spent.is_spent) pair)
 
-    pub open_start_is_robust : is_robust verdict ≡ true
-    open_start_is_robust = by verdict fault (good.verdicts number listed direction verdict fault)
+    pub passed_trial_is_robust : is_robust verdict ≡ true
+    passed_trial_is_robust = by verdict fault (good.verdicts number listed direction verdict fault)
       where
         by : (own : Verdict) → IsFault run number listed direction own → IsVerdict c run number direction listed.path own
             → is_robust own ≡ true

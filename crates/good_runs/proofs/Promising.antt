@@ -13,7 +13,7 @@ use Rattle.good_runs.specs.Faults.{IsFault, IsNumber}
 use Rattle.good_runs.specs.Faults.HasProof.{refuted, spent}
 use Rattle.good_runs.specs.GoodRun.{HasRobustProof, IsGoodRun}
 use Rattle.good_runs.specs.Promises.{AllKeepPromises, LacksRobustTest, VerdictTells}
-use Rattle.good_runs.proofs.Completeness.{great_budget_decides, closed_start_is_untestable, open_start_is_robust}
+use Rattle.good_runs.proofs.Completeness.{great_budget_decides, closed_start_is_untestable, passed_trial_is_robust}
 use Rattle.good_runs.proofs.Verdicts.{cited_excludes, cited_refutes, cited_spent, nonrobust_test_shows, robust_test_shows, untestable_excludes_every_pair}
 
 module _ (c : Circuit) (circuit : IsCircuit c) (delays : Delays) (count budget : ℕ) (run : Run)
@@ -55,7 +55,7 @@ module _ (c : Circuit) (circuit : IsCircuit c) (delays : Delays) (count budget :
     tells = verdict_tells number listed direction verdict fault;
     great_budget = great_budget_decides c circuit delays count budget run good number listed direction verdict fault;
     closed_start = closed_start_is_untestable c circuit delays count budget run good number listed direction verdict fault;
-    open_start = λ start.
-        open_start_is_robust c circuit delays count budget run good number listed direction verdict fault start.hull start.is_hull
-        start.none_empty start.open_trial;
+    passed_trial = λ start.
+        passed_trial_is_robust c circuit delays count budget run good number listed direction verdict fault start.hull start.is_hull
+        start.none_empty start.passes_trial;
   }

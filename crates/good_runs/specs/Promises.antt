@@ -93,11 +93,11 @@ VerdictTells c budget run path_number path direction (Aborted robust nonrobust) 
     × SpendsBudget c budget run (target_of path direction kinds.Nonrobust) nonrobust
 
 -- the start of a path does not close for the robust kind, and neither does its trial
-pub record IsOpenAtStart (c : Circuit) (rules : Rules) (path : Route) (direction : Direction) : Type 0 where
+pub record PassesTrialAtStart (c : Circuit) (rules : Rules) (path : Route) (direction : Direction) : Type 0 where
   pub hull : List StateSet
   pub is_hull : IsNodeHull c rules (target_of path direction kinds.Robust) [] hull
   pub none_empty : HasNoEmptySet c hull
-  pub open_trial : ¬ Closes four_states c (IsNarrowingOf c kinds.Robust path.steps)
+  pub passes_trial : ¬ Closes four_states c (IsNarrowingOf c kinds.Robust path.steps)
       (MayTry c rules (target_of path direction kinds.Robust) [] hull)
 
 -- What a verdict promises: what it tells; that a budget of at least the number of states that the rules leave a source, to the power
@@ -109,7 +109,7 @@ pub record KeepsPromises (c : Circuit) (budget : ℕ) (run : Run) (path_number :
   pub great_budget : (sources : List ℕ) → AreSupport c path sources → states_of_source run.rules ^ (length sources - 1) ≤ budget
       → IsTruth c path direction verdict
   pub closed_start : ClosesAtStart c run.rules (target_of path direction kinds.Nonrobust) → is_untestable verdict ≡ true
-  pub open_start : IsOpenAtStart c run.rules path direction → is_robust verdict ≡ true
+  pub passed_trial : PassesTrialAtStart c run.rules path direction → is_robust verdict ≡ true
 
 -- each fault of the run has its verdict, and it promises this
 abbrev pub AllKeepPromises : Circuit → ℕ → Run → Type 0

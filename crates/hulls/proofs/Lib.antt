@@ -9,14 +9,11 @@ pub mod Folds
 pub mod Limited
 pub mod Marks
 pub mod Narrowed
-pub mod Nodes
 pub mod OneToThree
 pub mod Passing
 pub mod Prefixes
 pub mod Readers
 pub mod Sets
-pub mod Starts
 pub mod Suffixes
-pub mod Telling
 pub mod Ties
 pub mod Whole

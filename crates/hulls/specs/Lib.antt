@@ -1,4 +1,3 @@
-pub mod Answers
 pub mod Awaiting
 pub mod Boards
 pub mod Changes
@@ -8,7 +7,6 @@ pub mod GateViews
 pub mod Joins
 pub mod Limits
 pub mod Marks
-pub mod Pairs
 pub mod Passes
 pub mod Queues
 pub mod Sets

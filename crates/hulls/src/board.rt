@@ -41,21 +41,9 @@ impl<A: Algebra> Model for Board<A> {
 }
 
 impl<A: Algebra> Board<A> {
-    /// All states at each line of the netlist, and all gates inside; nothing is noted, and no gate waits. It fails only where memory
-    /// runs out, of which it takes for each line a note for each state beside its set, and for each gate ten bytes.
-    pub fn new(alloc: Global, net: &Netlist) -> Result<Board<A>, OutOfMemory>
-        ensures { IfOk result (λ b. b ≡ record {
-          labels = replicate (line_count net.now) (all_states A.algebra.count);
-          notes = [];
-          waiting = [];
-          inside = replicate (gate_count net.now) true;
-        }) }
-    {
-        let labels = Labels::full(alloc, net)?;
-        Board::with_labels(alloc, net, labels)
-    }
-
-    /// The same with those gates inside whose flag, by gate number, is true. It fails only where memory runs out.
+    /// All states at each line of the netlist, and those gates inside whose flag, by gate number, is true; nothing is noted, and no gate
+    /// waits. It fails only where memory runs out, of which it takes for each line a note for each state beside its set, and for each
+    /// gate nine bytes.
     pub fn within(alloc: Global, net: &Netlist, inside: Vec<bool>) -> Result<Board<A>, OutOfMemory>
         requires { length inside.items ≡ gate_count net.now }
         ensures { IfOk result (λ b. b ≡ record {
@@ -66,19 +54,6 @@ impl<A: Algebra> Board<A> {
         }) }
     {
         let labels = Labels::full(alloc, net)?;
-        Board::over(alloc, net, labels, inside)
-    }
-
-    /// These labels, and all gates inside; nothing is noted, and no gate waits. It fails only where memory runs out.
-    pub fn with_labels(
-        alloc: Global,
-        net: &Netlist,
-        labels: Labels<A>,
-    ) -> Result<Board<A>, OutOfMemory>
-        requires { IsLabelling A.algebra.count net.now labels }
-        ensures { IfOk result (λ b. b ≡ record { labels = labels; notes = []; waiting = []; inside = replicate (gate_count net.now) true }) }
-    {
-        let inside = vec![in alloc; true; net.gates() as usize]?;
         Board::over(alloc, net, labels, inside)
     }
 
@@ -238,12 +213,5 @@ impl<A: Algebra> Board<A> {
     {
         self.waiting.clear();
         self.trail.undo_to(self.labels.as_mut_slice(), mark);
-    }
-
-    /// The labels alone.
-    pub fn into_labels(self) -> Labels<A>
-        ensures { result ≡ self.labels }
-    {
-        self.labels
     }
 }

@@ -2,10 +2,9 @@
 //! prefix sets there; the labels stand on a board, with a trail by which changes are undone and the gates that have to be narrowed
 //! again, so that a cut costs what it changes.
 //! Stands on pd_base, netlist, path_laws, undo_trail, state_sets and state_laws.
-//! The layers above use `Board`, `Conditions`, `launch`, `hull`, `kept_at` and `half_states`, and cite their contracts.
+//! The layers above use `Board`, `Conditions`, `launching_states`, `other_states`, `kept_at` and `half_states`, and cite their contracts.
 #![tactic(auto)]
 
-mod answer;
 mod board;
 mod collecting;
 mod conditions;
@@ -18,7 +17,6 @@ mod inverting;
 mod joins;
 mod limits;
 mod link;
-mod node;
 mod queue;
 mod scratch;
 mod selecting;
@@ -29,14 +27,12 @@ mod view;
 mod waiting;
 mod waking;
 
-pub use answer::Hull;
 pub use board::Board;
 pub use conditions::Conditions;
 pub use entering::enter_all;
 pub use gate::{kept_at, narrow};
 pub use halving::half_states;
 pub use link::narrow_link;
-pub use node::hull;
 pub use scratch::NarrowScratch;
-pub use starting::{cut_to_half, launch, launching_states, other_states};
+pub use starting::{launching_states, other_states};
 pub use waiting::Waiting;

@@ -1,32 +1,34 @@
 -- What stands by a board: idle labels, which it has wherever its start was not written.
-use Rattle.std.proofs.Common.{◌≡◌, ◌≢◌, ℕ, ◌+◌, ◌-◌, ◌<◌, ◌≤◌, ◌^◌, ◌⊎◌, ◌↔◌, inl, inr, ⊎_elim, Bool, true, List, [], ◌∷◌, ◌++◌, length, take, drop, get_or, replicate, Option, Some, None, IfSome, IfNone, refl, sym, ap, ◌∙◌, subst, arith, set}
-use Rattle.std.specs.List.{Contains}
+use Rattle.std.proofs.Common.{◌≡◌, ◌≢◌, ℕ, ◌+◌, ◌-◌, ◌<◌, ◌≤◌, ◌^◌, ◌⊎◌, ◌↔◌, inl, inr, ⊎_elim, Bool, List, [], ◌∷◌, ◌++◌, length, take, drop, get_or, replicate, Option, Some, None, IfSome, IfNone, refl, sym, ap, ◌∙◌, subst, arith, set}
+use Rattle.std.specs.List.{All, Contains}
 use Rattle.std.proofs.lemmas.Bool.{cases_lt, cases_eq}
-use Rattle.std.proofs.lemmas.List.{take_more, take-append-drop, get_or_default, get_or-set_same, get_or-set_other, get_or-replicate, length-replicate, same_lists}
-use Rattle.std.proofs.lemmas.List.Elements.{All-nil, All-cons, All-head, All-contains, All-from_get_or, Contains-push_cases, Contains-append_left, Contains-push}
+use Rattle.std.proofs.lemmas.List.{take_more, take-append-drop, get_or_default, get_or-set_same, get_or-set_other, get_or-replicate, get_or-take, length-replicate, length-set, length-take-le, same_lists}
+use Rattle.std.proofs.lemmas.List.Elements.{All-nil, All-cons, All-head, All-set, All-from_get_or, Contains-push_cases, Contains-append_left, Contains-push}
 use Rattle.std.proofs.lemmas.Nat.{pow_pos}
 use Rattle.pd_base.specs.declared.fault.Direction.{Direction}
 use Rattle.pd_base.specs.declared.fault.Kind.{Kind}
 use Rattle.pd_base.specs.declared.ids.LineId.{LineId}
 use Rattle.pd_base.specs.declared.ids.PinRef.{PinRef}
 use Rattle.pd_base.specs.declared.rules.Rules.{Rules}
-use Rattle.netlist.specs.Circuit.{Circuit, source_count, gate_count, line_count, gate_line}
+use Rattle.netlist.specs.Circuit.{Circuit, source_count, gate_count, line_count, gate_line, kind_at, pins_at}
 use Rattle.netlist.specs.Lawful.{IsCircuit}
 use Rattle.netlist.specs.declared.op.Op.TheVariants.{And}
-use Rattle.netlist.proofs.Evaluation.{gate_line_of}
+use Rattle.netlist.specs.Levels.{level}
+use Rattle.netlist.proofs.Evaluation.{gate_line_of, map_agree, all_from_places}
+use Rattle.netlist.proofs.RankOrder.{reads_lower}
 use Rattle.state_sets.specs.declared.state.State.{State}
 use Rattle.state_sets.specs.declared.state.StateSet.{StateSet}
-use Rattle.state_sets.specs.States.{Has, no_states, all_states, both_sets}
+use Rattle.state_sets.specs.States.{Has, AreWithin, no_states, all_states, both_sets}
 use Rattle.state_sets.specs.StateAlgebra.{StateAlgebra, HasLaws}
 use Rattle.state_sets.specs.Starts.{MayStart, IsLaunching, IsOtherStart}
 use Rattle.state_sets.specs.Labellings.{label_at, IsLabelling}
 use Rattle.state_sets.specs.Hulls.{IsHull, IsEmptied, HasNoEmptySet, HasAt}
 use Rattle.state_sets.specs.Hulls.Narrowing.{at_gate}
 use Rattle.state_laws.specs.Cones.{IsClosedBack, IsNarrowingIn}
-use Rattle.state_laws.specs.Forward.{IsForward, AreReached, IsLaunchedFrom}
-use Rattle.state_laws.proofs.Forward.{start_keeps, settled_forward, stands_or_not, launched_hull, launched_emptied, launched_rests, launched_some, cut_hull, cut_emptied}
+use Rattle.state_laws.specs.Forward.{IsForward}
+use Rattle.state_laws.proofs.Forward.{start_keeps, settled_forward, cut_hull, cut_emptied}
 use Rattle.state_laws.proofs.Images.{has_some}
-use Rattle.state_laws.proofs.Sets.{none_has, no_state_at, label_within}
+use Rattle.state_laws.proofs.Sets.{none_has, no_state_at}
 use Rattle.hulls.proofs.Sets.{all_have, both_have}
 use Rattle.undo_trail.specs.Undoing.{undone}
 use Rattle.undo_trail.proofs.Undoing.{undone-append, length-undone}
@@ -37,7 +39,10 @@ use Rattle.implication.specs.declared.assumption.Assumption.{Assumption}
 use Rattle.implication.specs.declared.assumption.Assumption.TheVariants.{Assumed}
 use Rattle.implication.specs.Assumptions.{IsLetBy}
 use Rattle.implication.specs.Kept.{AreCutBy, IsNarrowedMore}
-use Rattle.implication.specs.Idling.{Idling, HasOtherStarts, StartsNowhere, IsIdleSet, StandsBy, IsIdleBoard, IsStartWritten}
+use Rattle.implication.specs.Begun.{IsImage, HasBegunWith, AreBegun, IsLaunched}
+use Rattle.implication.specs.Idling.{Idling, HasOtherStarts, StartsNowhere, IsIdleSet, StandsBy, IsIdleBoard, IsLeftAtRest}
+use Rattle.implication.specs.Ranked.{lines_by_level, IsByLevel, AreRanked}
+use Rattle.implication.proofs.Launching.{begun_hull, begun_some}
 
 -- a board has as many labels as one that follows it
 pub as_many : (old new : OnBoard) → Follows old new → length new.labels ≡ length old.labels
@@ -75,72 +80,131 @@ module _ (a : StateAlgebra) (c : Circuit) (rules : Rules) (idling : Idling) (old
       ∙ ap (λ ns. undone ns old.labels) (take-append-drop mark old.notes))
       inside
 
-module _ (count : ℕ) (c : Circuit) (launched : StateSet) where
-  -- the start is written at no line yet
-  pub started_none : (lines : List LineId) (board : OnBoard) → IsStartWritten count c launched (take 0 lines) board board
-  started_none lines board = record {
-    inside = refl;
-    notes = refl;
+module _ (a : StateAlgebra) (c : Circuit) (launched : StateSet) where
+  -- no line has begun yet
+  pub begun_none : (lines : List LineId) (board : OnBoard) → AreWithin a.count board.labels → AreBegun a c launched (take 0 lines) board board
+  begun_none lines board within = record {
+    board = refl;
     one_each = refl;
-    sources = λ line stands. absurd (let s = stands.1 in omega arith);
-    gates = λ line stands. absurd (let s = stands.1 in omega arith);
+    within = within;
+    each = λ line stands. absurd (let s = stands.1 in omega arith);
     same = λ line not. refl;
-    waits = λ gate waits. waits;
-    asked = λ gate within is stands. absurd (let s = stands.1 in omega arith);
   }
 
-  -- and then at one line more
-  module _ (lines : List LineId) (index : ℕ) (none : LineId) (in_lines : index < length lines) (old mid new : OnBoard)
-      (before : IsStartWritten count c launched (take index lines) old mid)
-      (here : IsStartWritten count c launched (get_or lines index none ∷ []) mid new) where
-    abbrev line_here : LineId
-    line_here = get_or lines index none
+  -- the same lines in another order have begun
+  pub begun_ranked : (lines : List LineId) (ranked : List (ℕ × LineId)) → AreRanked c lines ranked → (old new : OnBoard)
+      → AreBegun a c launched (lines_by_level ranked) old new → AreBegun a c launched lines old new
+  begun_ranked lines ranked are old new begun = record {
+    board = begun.board;
+    one_each = begun.one_each;
+    within = begun.within;
+    each = λ line stands. begun.each line ((are.same line).0 stands);
+    same = λ line not. begun.same line (λ stands. not ((are.same line).1 stands));
+  }
 
-    alone : (line : LineId) → Contains (line_here ∷ []) line → line_here ≡ line
-    alone line stands = ⊎_elim (λ (nothing : Contains [] line). absurd (let s = nothing.1 in omega arith))
-        (λ (is : line_here ≡ line). is) (Contains-push_cases [] line_here line stands)
+  -- one line more begins: those that have begun are on no higher level, so that they do not read it
+  module _ (circuit : IsCircuit c) (lines : List LineId) (in_circuit : All (λ line. line.0 < line_count c) lines) (by_level : IsByLevel c lines)
+      (index : ℕ) (in_lines : index < length lines) (old mid new : OnBoard) (old_lines : length old.labels ≡ line_count c)
+      (before : AreBegun a c launched (take index lines) old mid) (line_here : LineId) (at_here : get_or lines index (record { 0 = 0 }) ≡ line_here)
+      (first : StateSet) (first_within : first.0 < 2 ^ a.count) (begins : HasBegunWith a c launched mid.labels line_here.0 first)
+      (wrote : new ≡ record mid { labels = set mid.labels line_here.0 first }) where
+    lines_are : take (index + 1) lines ≡ take index lines ++ line_here ∷ []
+    lines_are =
+        take_more lines index (record { 0 = 0 }) in_lines
+        ∙ ap (λ (line : LineId). take index lines ++ line ∷ []) at_here
 
-    split : (line : LineId) → Contains (take (index + 1) lines) line → Contains (take index lines) line ⊎ (line_here ≡ line)
-    split line stands = Contains-push_cases (take index lines) line_here line
-        (subst (λ (ls : List LineId). Contains ls line) (take_more lines index none in_lines) stands)
+    abbrev with_line : List StateSet
+    with_line = set mid.labels line_here.0 first
 
-    into_left : (line : LineId) → Contains (take index lines) line → Contains (take (index + 1) lines) line
-    into_left line stands = subst (λ (ls : List LineId). Contains ls line) (sym (take_more lines index none in_lines))
+    labels_are : new.labels ≡ with_line
+    labels_are = ap (λ (b : OnBoard). b.labels) wrote
+
+    in_mid : line_here.0 < length mid.labels
+    in_mid =
+        let inside = in_circuit index (record { 0 = 0 }) in_lines in
+        omega (arith, inside, ap (λ (line : LineId). line.0) at_here, before.one_each, old_lines)
+
+    at_others : (line : ℕ) → line ≢ line_here.0 → label_at new.labels line ≡ label_at mid.labels line
+    at_others line away =
+        ap (λ (ls : List StateSet). label_at ls line) labels_are
+        ∙ get_or-set_other mid.labels line_here.0 line first no_states away
+
+    at_line : label_at new.labels line_here.0 ≡ first
+    at_line =
+        ap (λ (ls : List StateSet). label_at ls line_here.0) labels_are
+        ∙ get_or-set_same mid.labels line_here.0 first no_states in_mid
+
+    -- a line on no higher level begins with the same set as before
+    stays_begun : (line : ℕ) (chosen : StateSet) → level c line ≤ level c line_here.0 → HasBegunWith a c launched mid.labels line chosen
+        → HasBegunWith a c launched new.labels line chosen
+    stays_begun line chosen low begun = record {
+      source = begun.source;
+      gate = λ gate within is.
+          subst (λ (sets : List StateSet). IsImage a (kind_at c gate) sets chosen)
+          (sym (map_agree (λ (pin : LineId). label_at new.labels pin.0) (λ (pin : LineId). label_at mid.labels pin.0) (pins_at c gate)
+          (all_from_places (λ (pin : LineId). label_at new.labels pin.0 ≡ label_at mid.labels pin.0) (pins_at c gate)
+          (λ place pin reads. at_others pin.0
+          (λ here. absurd (omega (
+            arith,
+            reads_lower c circuit gate place pin within reads,
+            ap (level c) is,
+            ap (level c) here,
+            low,
+          )))))))
+          (begun.gate gate within is);
+    }
+
+    into_front : (line : LineId) → Contains (take index lines) line → Contains (take (index + 1) lines) line
+    into_front line stands = subst (λ (ls : List LineId). Contains ls line) (sym lines_are)
         (Contains-append_left (take index lines) (line_here ∷ []) line stands)
 
     into_here : Contains (take (index + 1) lines) line_here
-    into_here = subst (λ (ls : List LineId). Contains ls line_here) (sym (take_more lines index none in_lines))
+    into_here = subst (λ (ls : List LineId). Contains ls line_here) (sym lines_are)
         (Contains-push (take index lines) line_here)
 
-    -- what is true at the line, and kept elsewhere, is true of all
-    at_each : (P : LineId → StateSet → Type 0) → ((line : LineId) → Contains (line_here ∷ []) line → P line (label_at new.labels line.0))
-        → ((line : LineId) → Contains (take index lines) line → P line (label_at mid.labels line.0))
-        → (line : LineId) → Contains (take (index + 1) lines) line → P line (label_at new.labels line.0)
-    at_each P at_here at_before line stands = ⊎_elim (λ (is : Contains (line_here ∷ []) line). at_here line is)
-        (λ (away : ¬ Contains (line_here ∷ []) line). ⊎_elim
-        (λ (earlier : Contains (take index lines) line). subst (P line) (sym (here.same line away)) (at_before line earlier))
-        (λ (is : line_here ≡ line). absurd (away (subst (Contains (line_here ∷ [])) is (Contains-push [] line_here))))
-        (split line stands))
-        (stands_or_not (line_here ∷ []) line)
+    split : (line : LineId) → Contains (take (index + 1) lines) line → Contains (take index lines) line ⊎ (line_here ≡ line)
+    split line stands = Contains-push_cases (take index lines) line_here line
+        (subst (λ (ls : List LineId). Contains ls line) lines_are stands)
 
-    pub started_more : IsStartWritten count c launched (take (index + 1) lines) old new
-    started_more = record {
-      inside = here.inside ∙ before.inside;
-      notes = here.notes ∙ before.notes;
-      one_each = here.one_each ∙ before.one_each;
-      sources = at_each (λ line set. line.0 < source_count c → set ≡ launched) here.sources before.sources;
-      gates = at_each (λ line set. source_count c ≤ line.0 → set ≡ all_states count) here.gates before.gates;
+    -- a line in front is on no higher level
+    front_low : (line : LineId) → Contains (take index lines) line → level c line.0 ≤ level c line_here.0
+    front_low line stands =
+        let earlier : stands.0 < index = omega (arith, stands.1, length-take-le index lines (omega arith)) in
+        let at : get_or lines stands.0 line ≡ line = sym (get_or-take index lines stands.0 line earlier) ∙ stands.2 in
+        omega (
+          arith,
+          by_level stands.0 index line (omega arith) in_lines,
+          ap (λ (l : LineId). level c l.0) at,
+          ap (λ (l : LineId). level c l.0) (get_or_default lines index line (record { 0 = 0 }) in_lines ∙ at_here),
+        )
+
+    begun_here : HasBegunWith a c launched new.labels line_here.0 (label_at new.labels line_here.0)
+    begun_here = subst (HasBegunWith a c launched new.labels line_here.0) (sym at_line) (stays_begun line_here.0 first (omega arith) begins)
+
+    begun_each : (line : LineId) → Contains (take (index + 1) lines) line → HasBegunWith a c launched new.labels line.0 (label_at new.labels line.0)
+    begun_each line stands = ⊎_elim
+        (λ (here : line.0 ≡ line_here.0).
+        subst (λ (l : ℕ). HasBegunWith a c launched new.labels l (label_at new.labels l)) (sym here) begun_here)
+        (λ (away : line.0 ≢ line_here.0). ⊎_elim
+        (λ (front : Contains (take index lines) line).
+        subst (HasBegunWith a c launched new.labels line.0) (sym (at_others line.0 away))
+        (stays_begun line.0 (label_at mid.labels line.0) (front_low line front) (before.each line front)))
+        (λ (is : line_here ≡ line). absurd (away (sym (ap (λ (l : LineId). l.0) is))))
+        (split line stands))
+        (cases_eq line.0 line_here.0)
+
+    pub begun_more : AreBegun a c launched (take (index + 1) lines) old new
+    begun_more = record {
+      board = wrote
+          ∙ ap (λ (b : OnBoard). let n : OnBoard = record b { labels = with_line } in n) before.board
+          ∙ ap (λ (ls : List StateSet). let n : OnBoard = record old { labels = ls } in n) (sym labels_are);
+      one_each = ap length labels_are ∙ length-set mid.labels line_here.0 first ∙ before.one_each;
+      within = subst (AreWithin a.count) (sym labels_are)
+          (All-set (λ (s : StateSet). s.0 < 2 ^ a.count) mid.labels line_here.0 first first_within before.within);
+      each = begun_each;
       same = λ line not.
-          here.same line (λ stands. not (subst (Contains (take (index + 1) lines)) (alone line stands) into_here))
-          ∙ before.same line (λ stands. not (into_left line stands));
-      waits = λ gate waits. here.waits gate (before.waits gate waits);
-      asked = λ gate within is stands. ⊎_elim
-          (λ (earlier : Contains (take index lines) (record { 0 = gate_line c gate })).
-          here.waits (record { 0 = gate }) (before.asked gate within is earlier))
-          (λ (same : line_here ≡ record { 0 = gate_line c gate }).
-          here.asked gate within (subst (λ (flags : List Bool). is_inside flags gate ≡ true) (sym before.inside) is)
-          (subst (Contains (line_here ∷ [])) same (Contains-push [] line_here)))
-          (split (record { 0 = gate_line c gate }) stands);
+          at_others line.0 (λ here. not (subst (Contains (take (index + 1) lines)) (λ i. record { 0 = sym here i }) into_here))
+          ∙ before.same line (λ stands. not (into_front line stands));
     }
 
 -- what a board is whose labels are put to the idle ones
@@ -234,12 +298,16 @@ module _ (a : StateAlgebra) (laws : HasLaws a) (c : Circuit) (circuit : IsCircui
       (λ (nowhere : StartsNowhere a rules). absurd (away (stuck nowhere line within)))
       idle.stands.is_start.starts
 
+  is_idle : old.labels ≡ idling.labels
+  is_idle = same_labels old.labels idling.labels (idle.stands.lines ∙ sym idle.stands.forward.labelling.one_each)
+      (λ line within. had (record { 0 = line }))
+
+  -- the sets are within the states
+  pub idle_within : AreWithin a.count old.labels
+  idle_within = subst (AreWithin a.count) (sym is_idle) idle.stands.forward.labelling.within
+
   -- Where the idle label of the source has all states that launch the transition, the source need only be cut to these.
   module _ (all : both_sets (label_at old.labels source.0) launched ≡ launched) (kind : Kind) (steps : List PinRef) (no_steps : steps ≡ []) where
-    is_idle : old.labels ≡ idling.labels
-    is_idle = same_labels old.labels idling.labels (idle.stands.lines ∙ sym idle.stands.forward.labelling.one_each)
-        (λ line within. had (record { 0 = line }))
-
     -- the board is ready to be narrowed on
     pub idle_ready : MaySettle a c kind steps old
     idle_ready = record {
@@ -298,97 +366,53 @@ module _ (a : StateAlgebra) (laws : HasLaws a) (c : Circuit) (circuit : IsCircui
             no_steps narrowed.settled.emptied.1),
       )
 
-  -- else the start is written at the lines reached
-  module _ (reached : List LineId) (of : AreReached c (is_inside old.inside) source.0 reached)
-      (new : OnBoard) (started : IsStartWritten a.count c launched reached old new) where
-    set_within : (line : ℕ) → (label_at new.labels line).0 < 2 ^ a.count
-    set_within line =
-        let P : StateSet → Type 0 = λ set. set.0 < 2 ^ a.count in
-        let this : LineId = record { 0 = line } in
-        ⊎_elim
-        (λ (stands : Contains reached this). ⊎_elim
-        (λ (below : line < source_count c). subst P (sym (started.sources this stands below)) launched_within)
-        (λ (above : source_count c ≤ line). subst P (sym (started.gates this stands above)) (omega (arith, pow_pos a.count)))
-        (cases_lt line (source_count c)))
-        (λ (not : ¬ Contains reached this).
-        subst P (sym (started.same this not ∙ had this)) (label_within a.count c idling.labels idle.stands.forward.labelling line))
-        (stands_or_not reached this)
+  -- else each line reached gets the set with which it begins
+  module _ (some : launched ≢ no_states) (reached : List LineId) (new : OnBoard)
+      (is : IsLaunched a c source.0 launched reached old new) where
+    begun : AreBegun a c launched reached old new
+    begun = is.begun
 
-    own_set : label_at new.labels source.0 ≡ launched
-    own_set = started.sources source of.own is_source
+    new_labelling : IsLabelling a.count c new.labels
+    new_labelling = record { one_each = begun.one_each ∙ idle.stands.lines; within = begun.within }
 
-    from : IsLaunchedFrom a c source.0 direction reached idling.labels new.labels
-    from = record {
-      labelling = record {
-        one_each = started.one_each ∙ idle.stands.lines;
-        within = All-from_get_or (λ (set : StateSet). set.0 < 2 ^ a.count) new.labels no_states (λ line in_labels. set_within line);
-      };
-      launched = λ state. subst (λ (set : StateSet). Has a.count set state ↔ ((state.0 < a.count) × IsLaunching a direction state))
-          (sym own_set) (launches state);
-      full = λ line stands away. ⊎_elim (λ (here : line.0 ≡ source.0). absurd (away here))
-          (λ (above : source_count c ≤ line.0). started.gates line stands above)
-          (All-contains (λ (l : LineId). (l.0 ≡ source.0) ⊎ (source_count c ≤ l.0)) reached line of.behind stands);
-      same = λ line not. started.same line not ∙ had line;
+    same : (line : LineId) → ¬ Contains reached line → label_at new.labels line.0 ≡ label_at idling.labels line.0
+    same line not = begun.same line not ∙ had line
+
+    -- this is the hull of the start
+    pub launched_hull : (kind : Kind)
+        → IsHull a c (IsNarrowingIn c (is_inside old.inside) kind []) (MayStart a c rules source.0 direction) new.labels
+    launched_hull =
+        begun_hull a laws c circuit (is_inside old.inside) idle.stands.start idling.labels idle.stands.forward rules source.0 is_source others
+        direction launched launched_within some launches reached is.reached is.all_inside new.labels new_labelling begun.each same
+
+    pub launched_some : HasNoEmptySet c new.labels
+    launched_some =
+        begun_some a laws c circuit (is_inside old.inside) idle.stands.start idling.labels idle.stands.forward rules source.0 is_source others
+        direction launched launched_within some launches reached is.reached is.all_inside new.labels new_labelling begun.each same
+
+    inside_same : new.inside ≡ old.inside
+    inside_same = ap (λ (b : OnBoard). b.inside) begun.board
+
+    -- and the idle labels stand by it
+    pub launched_stands : StandsBy a c rules (record { labels = idling.labels; reached = reached }) new
+    launched_stands = record {
+      gates = ap length inside_same ∙ idle.stands.gates;
+      closed = subst (λ (flags : List Bool). IsClosedBack c (is_inside flags)) (sym inside_same) idle.stands.closed;
+      start = idle.stands.start;
+      is_start = idle.stands.is_start;
+      forward = subst (λ (flags : List Bool). IsForward a c (is_inside flags) idle.stands.start idling.labels) (sym inside_same)
+          idle.stands.forward;
+      lines = new_labelling.one_each;
+      same = λ line not.
+          ap (λ ns. label_at (undone ns new.labels) line.0) (ap (λ (b : OnBoard). b.notes) begun.board ∙ idle.unnoted) ∙ same line not;
     }
 
-    inside_kept : (gate : ℕ) → is_inside new.inside gate ≡ true → is_inside old.inside gate ≡ true
-    inside_kept gate is = subst (λ (flags : List Bool). is_inside flags gate ≡ true) started.inside is
-
-    module _ (kind : Kind) (steps : List PinRef) (no_steps : steps ≡ []) where
-      rests_without : (gate : ℕ) → gate < gate_count c → is_inside new.inside gate ≡ true
-          → ¬ Contains reached (record { 0 = gate_line c gate }) → RestsAt a c kind steps new.labels gate
-      rests_without gate within is not =
-          subst (λ (s : List PinRef). RestsAt a c kind s new.labels gate) (sym no_steps)
-          (launched_rests a c laws circuit.reads_lines circuit.loop_free (is_inside old.inside) idle.stands.start idling.labels
-          idle.stands.forward rules source.0 others direction reached of new.labels from kind gate within (inside_kept gate is) not)
-
-      -- the board is ready to settle
-      pub begun_ready : launched ≢ no_states → MaySettle a c kind steps new
-      begun_ready some = record {
-        of = record { lines = from.labelling.one_each; gates = ap length started.inside ∙ idle.stands.gates };
-        labelling = from.labelling;
-        some = launched_some a c laws circuit.reads_lines circuit.loop_free (is_inside old.inside) idle.stands.start idling.labels
-            idle.stands.forward rules source.0 others direction reached of new.labels from kind (λ none. some (sym own_set ∙ none));
-        awake = λ gate within is. ⊎_elim
-            (λ (stands : Contains reached (record { 0 = gate_line c gate })). inl (started.asked gate within (inside_kept gate is) stands))
-            (λ (not : ¬ Contains reached (record { 0 = gate_line c gate })). inr (rests_without gate within is not))
-            (stands_or_not reached (record { 0 = gate_line c gate }));
-      }
-
-      -- its hull is that of the start
-      pub begun_hull : (hull : List StateSet) → IsHull a c (IsNarrowingIn c (is_inside new.inside) kind steps) (HasAt a.count new.labels) hull
-          → IsHull a c (IsNarrowingIn c (is_inside old.inside) kind []) (MayStart a c rules source.0 direction) hull
-      begun_hull hull is =
-          launched_hull a c laws circuit.reads_lines circuit.loop_free (is_inside old.inside) idle.stands.start idling.labels
-          idle.stands.forward rules source.0 others direction reached of new.labels from kind is_source hull
-          (subst (λ (flags : List Bool). IsHull a c (IsNarrowingIn c (is_inside flags) kind []) (HasAt a.count new.labels) hull) started.inside
-          (subst (λ (s : List PinRef). IsHull a c (IsNarrowingIn c (is_inside new.inside) kind s) (HasAt a.count new.labels) hull) no_steps is))
-
-      pub begun_emptied : (line : ℕ) → IsEmptied a c (IsNarrowingIn c (is_inside new.inside) kind steps) (HasAt a.count new.labels) line
-          → IsEmptied a c (IsNarrowingIn c (is_inside old.inside) kind []) (MayStart a c rules source.0 direction) line
-      begun_emptied line is =
-          launched_emptied a c laws circuit.reads_lines circuit.loop_free (is_inside old.inside) idle.stands.start idling.labels
-          idle.stands.forward rules source.0 others direction reached of new.labels from kind is_source line
-          (subst (λ (flags : List Bool). IsEmptied a c (IsNarrowingIn c (is_inside flags) kind []) (HasAt a.count new.labels) line) started.inside
-          (subst (λ (s : List PinRef). IsEmptied a c (IsNarrowingIn c (is_inside new.inside) kind s) (HasAt a.count new.labels) line) no_steps is))
-
-    -- and what stands by the board stands by what follows it
-    pub begun_stands : (after : OnBoard) → Follows new after → after.inside ≡ new.inside
-        → StandsBy a c rules (record { labels = idling.labels; reached = reached }) after
-    begun_stands after follows inside =
-        stands_on a c rules (record { labels = idling.labels; reached = reached }) new after here follows inside
-      where
-        here : StandsBy a c rules (record { labels = idling.labels; reached = reached }) new
-        here = record {
-          gates = ap length started.inside ∙ idle.stands.gates;
-          closed = subst (λ (flags : List Bool). IsClosedBack c (is_inside flags)) (sym started.inside) idle.stands.closed;
-          start = idle.stands.start;
-          is_start = idle.stands.is_start;
-          forward = subst (λ (flags : List Bool). IsForward a c (is_inside flags) idle.stands.start idling.labels) (sym started.inside)
-              idle.stands.forward;
-          lines = from.labelling.one_each;
-          same = λ line not. ap (λ ns. label_at (undone ns new.labels) line.0) (started.notes ∙ idle.unnoted) ∙ from.same line not;
-        }
+    pub launched_board : IsLeftAtRest old new
+    launched_board = record {
+      inside = inside_same;
+      lines = begun.one_each;
+      at_rest = ap (λ (b : OnBoard). b.waiting) begun.board ∙ idle.at_rest;
+    }
 
 -- a board with other labels, where these are the labels wanted
 pub board_with : (old new : OnBoard) (labels : List StateSet) → new ≡ record old { labels = new.labels } → new.labels ≡ labels

@@ -8,6 +8,9 @@ pub mod History
 pub mod Inside
 pub mod Marking
 pub mod Spreading
+pub mod Joining
+pub mod ByLevel
+pub mod Launching
 pub mod Idling
 pub mod Starting
 pub mod Beginnings

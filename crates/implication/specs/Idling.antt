@@ -1,9 +1,8 @@
 -- The labels of a board while no scope is open, and the lines at which the scope that is open began with others (this project's own).
-use Rattle.std.specs.Prelude.{◌≡◌, ◌≢◌, ℕ, ◌<◌, ◌≤◌, ◌⊎◌, ◌↔◌, true, List, [], length, replicate, Contains}
-use Rattle.pd_base.specs.declared.ids.GateId.{GateId}
+use Rattle.std.specs.Prelude.{◌≡◌, ◌≢◌, ℕ, ◌<◌, ◌⊎◌, ◌↔◌, List, [], length, replicate, Contains}
 use Rattle.pd_base.specs.declared.ids.LineId.{LineId}
 use Rattle.pd_base.specs.declared.rules.Rules.{Rules}
-use Rattle.netlist.specs.Circuit.{Circuit, source_count, gate_count, line_count, gate_line}
+use Rattle.netlist.specs.Circuit.{Circuit, gate_count, line_count}
 use Rattle.state_sets.specs.declared.state.State.{State}
 use Rattle.state_sets.specs.declared.state.StateSet.{StateSet}
 use Rattle.state_sets.specs.States.{Has, no_states, all_states}
@@ -65,16 +64,3 @@ pub record IsLeftAtRest (old new : OnBoard) : Type 0 where
   pub inside : new.inside ≡ old.inside
   pub lines : length new.labels ≡ length old.labels
   pub at_rest : new.waiting ≡ []
-
--- A start is written at these lines: those of sources have the set that is launched, those of gates all states, and the gates inside
--- wait. The others have what they had.
-pub record IsStartWritten (count : ℕ) (c : Circuit) (launched : StateSet) (lines : List LineId) (old new : OnBoard) : Type 0 where
-  pub inside : new.inside ≡ old.inside
-  pub notes : new.notes ≡ old.notes
-  pub one_each : length new.labels ≡ length old.labels
-  pub sources : (line : LineId) → Contains lines line → line.0 < source_count c → label_at new.labels line.0 ≡ launched
-  pub gates : (line : LineId) → Contains lines line → source_count c ≤ line.0 → label_at new.labels line.0 ≡ all_states count
-  pub same : (line : LineId) → ¬ Contains lines line → label_at new.labels line.0 ≡ label_at old.labels line.0
-  pub waits : (gate : GateId) → Contains old.waiting gate → Contains new.waiting gate
-  pub asked : (gate : ℕ) → gate < gate_count c → is_inside old.inside gate ≡ true
-      → Contains lines (record { 0 = gate_line c gate }) → Contains new.waiting (record { 0 = gate })

@@ -4,6 +4,8 @@ pub mod Moves
 pub mod Clients
 pub mod Inside
 pub mod Reached
+pub mod Ranked
+pub mod Begun
 pub mod Idling
 pub mod Kept
 pub mod Scopes

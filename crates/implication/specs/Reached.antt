@@ -1,7 +1,7 @@
 -- Lines that are reached, each marked (this project's own).
 use Rattle.std.specs.Prelude.{◌≡◌, ℕ, ◌<◌, ◌≤◌, ◌⊎◌, ◌++◌, ◌∷◌, [], Bool, true, false, List, length, sum_by, slice_get, slice_index_or, Some, All, Contains}
 use Rattle.pd_base.specs.declared.ids.LineId.{LineId}
-use Rattle.netlist.specs.Circuit.{Circuit, source_count, gate_count, gate_line, pins_at}
+use Rattle.netlist.specs.Circuit.{Circuit, gate_count, gate_line, pins_at}
 use Rattle.hulls.specs.Awaiting.{is_inside, one_if}
 
 -- the lines in the order in which they were reached, and how many lines there are
@@ -26,9 +26,13 @@ abbrev pub AreReadersIn : Circuit → List Bool → LineId → List LineId → T
 AreReadersIn c inside line lines = (gate pin : ℕ) → gate < gate_count c → is_inside inside gate ≡ true
     → slice_get (pins_at c gate) pin ≡ Some line → Contains lines (record { 0 = gate_line c gate })
 
--- lines of gates were added behind those that stood there
-pub record HasMore (c : Circuit) (old new : Reached) : Type 0 where
+-- the line is that of a gate inside
+abbrev pub IsOfGateInside : Circuit → List Bool → LineId → Type 0
+IsOfGateInside c inside line = (gate : ℕ) × (gate < gate_count c) × (is_inside inside gate ≡ true) × (line.0 ≡ gate_line c gate)
+
+-- lines of gates inside were added behind those that stood there
+pub record HasMore (c : Circuit) (inside : List Bool) (old new : Reached) : Type 0 where
   pub count : new.count ≡ old.count
   pub more : List LineId
   pub lines : new.lines ≡ old.lines ++ more
-  pub gates : All (λ line. source_count c ≤ line.0) more
+  pub gates : All (IsOfGateInside c inside) more

@@ -1,6 +1,6 @@
 // The engine: a netlist with the rules, what is assumed of it, and the labels that follow. Its board narrows on from each assumption
 // at the gates that have to be narrowed again, and the trail of the board leads back to what stood before. After an engine is made,
-// nothing costs the circuit: a call costs what changes.
+// nothing costs the circuit: a call costs what changes, and one that begins or ends what its source reaches.
 ghost use Rattle.std.specs.Prelude.{◌≡◌, ◌≢◌, ◌<◌, ◌≤◌, ◌-◌, ◌∷◌, ◌++◌, [], ℕ, List, length, All, Some, None, Ok, Err, IfOk, IfErr, OnOk, OnErr, IfSome, IfNone, IsSome};
 ghost use Rattle.std.specs.Option.{option_map};
 ghost use Rattle.netlist.specs.Circuit.{source_count, line_count, gate_count, gate_line};

@@ -1,25 +1,29 @@
 // The labels of a board while no scope is open, and how a scope begins. The idle labels are computed once, forward from sources that start
 // as the rules leave them. Where the source may launch its transition by its idle label, a beginning cuts that label, at the cost of what
-// changes. Else it writes the states that launch the transition at the source, and all states at the lines behind it, and narrows
-// there: no other line can have less than its idle label.
+// changes. Else it writes the states that launch the transition at the source, and at each line that the source reaches, by level, what
+// its gate makes of the sets of its pins' lines: no narrowing changes these sets, and no other line has another set than its idle label.
 ghost use Rattle.std.specs.Prelude.{◌≡◌, ◌≢◌, ◌<◌, ◌≤◌, ◌∷◌, [], ℕ, length, replicate, All, Contains, IfOk, IfSome, IfNone};
 ghost use Rattle.pd_base.specs.declared.ids.LineId.{LineId};
 ghost use Rattle.pd_base.specs.declared.rules.Rules.{Rules};
 ghost use Rattle.netlist.specs.Circuit.{Circuit, source_count, gate_count, line_count};
 ghost use Rattle.netlist.specs.Lawful.{IsCircuit};
-ghost use Rattle.state_sets.specs.States.{IsWithin, AreWithin, no_states, all_states};
+ghost use Rattle.state_sets.specs.States.{IsWithin, AreWithin, no_states};
 ghost use Rattle.state_sets.specs.Labellings.{label_at};
 ghost use Rattle.state_sets.specs.Starts.{MayStart};
 ghost use Rattle.state_sets.specs.Hulls.{IsHull, IsEmptied, HasNoEmptySet};
 ghost use Rattle.state_laws.specs.Cones.{IsClosedBack, IsNarrowingIn};
-ghost use Rattle.state_laws.specs.Forward.{IsForward, AreReached};
+ghost use Rattle.state_laws.specs.Forward.{IsForward};
 ghost use Rattle.hulls.specs.Conditions.{IsEnteredOn};
 ghost use Rattle.hulls.specs.Awaiting.{is_inside};
 ghost use Rattle.hulls.specs.Boards.{IsBoardOf};
-ghost use Rattle.implication.specs.Idling.{IsIdleSet, StartsNowhere, StandsBy, IsIdleBoard, IsNewBoard, IsLeftAtRest, IsStartWritten};
+ghost use Rattle.implication.specs.Idling.{IsIdleSet, StartsNowhere, StandsBy, IsIdleBoard, IsNewBoard, IsLeftAtRest};
+ghost use Rattle.implication.specs.Ranked.{lines_by_level, IsByLevel};
+ghost use Rattle.implication.specs.Begun.{HasBegunWith, AreBegun, IsLaunched};
 
 use crate::Beginning;
+use crate::images::image;
 use crate::narrowing_on::narrow_on_cut;
+use crate::ranking::rank;
 use crate::reached::ReachedLines;
 use crate::reaching::reach;
 use hulls::{Board, Conditions, NarrowScratch, launching_states, other_states};
@@ -34,17 +38,19 @@ use std::marker::Model;
 pub(crate) struct IdleLabels {
     labels: Vec<StateSet>,
     reached: ReachedLines,
+    // The lines reached by level, each with its level.
+    ranked: Vec<(u32, LineId)>,
 }
 
 impl Model for IdleLabels {
-    ghost use Rattle.std.specs.Prelude.{◌≡◌, length};
+    ghost use Rattle.std.specs.Prelude.{◌≡◌, ◌≤◌, length, vec_capacity};
     ghost use Rattle.implication.specs.Idling.{Idling};
 
     ghost Value = { Idling };
 
     ghost view = { λ i. record { labels = i.labels.items; reached = i.reached.lines } };
 
-    ghost invariant = { λ i. i.reached.count ≡ length i.labels.items };
+    ghost invariant = { λ i. (i.reached.count ≡ length i.labels.items) × (length i.labels.items ≤ vec_capacity i.ranked) };
 }
 
 impl IdleLabels {
@@ -67,9 +73,14 @@ impl IdleLabels {
         settle_idle(net, set, board, conditions, scratch);
         let labels = Vec::from_slice(alloc, board.labels())?;
         let reached = ReachedLines::new(alloc, labels.len())?;
+        let ranked = Vec::with_capacity(alloc, labels.len())?;
         board.undo_to(0);
         put_labels(net, labels.as_slice(), board);
-        Ok(IdleLabels { labels, reached })
+        Ok(IdleLabels {
+            labels,
+            reached,
+            ranked,
+        })
     }
 
     // Begins with a transition at a source: the labels are then the hull of the start by the narrowings inside, or no state is left
@@ -107,9 +118,31 @@ impl IdleLabels {
         if common == launched {
             return narrow_on_cut(net, begun.source, launched, board, conditions, scratch);
         }
-        reach(net, board, begun.source, &mut self.reached);
-        start_lines(net, self.reached.lines(), launched, board);
-        board.settle(net, conditions, scratch)
+        self.begin_forward(net, begun.source, launched, board);
+        None
+    }
+
+    // Begins at the lines that a source reaches, forward from what is launched there.
+    fn begin_forward<A: Algebra>(
+        &mut self,
+        net: &Netlist,
+        source: LineId,
+        launched: StateSet,
+        board: &mut Board<A>,
+    )
+        requires source { source.0 < source_count net.now }
+        requires nothing_reached { self.old.reached ≡ [] }
+        requires one_each { length self.old.labels ≡ line_count net.now }
+        requires board { IsBoardOf net.now board.old }
+        requires within { AreWithin A.algebra.count board.old.labels }
+        requires launched { IsWithin A.algebra.count launched }
+        requires unnoted { board.old.notes ≡ [] }
+        ensures launched { IsLaunched A.algebra net.now source.0 launched self.new.reached board.old board.new }
+        ensures labels { self.new.labels ≡ self.old.labels }
+    {
+        reach(net, board, source, &mut self.reached);
+        rank(net, self.reached.lines(), &mut self.ranked);
+        begin_lines(net, self.ranked.as_slice(), launched, board);
     }
 
     // Undoes all changes of the board, and gives it the idle labels back. Takes no memory, and costs what was changed and reached.
@@ -203,38 +236,46 @@ fn stuck_source<A: Algebra>(net: &Netlist, rules: &Rules, source: LineId) -> Opt
     None
 }
 
-// Writes the start at the lines reached, and lets the gates inside wait whose lines are among them.
-fn start_lines<A: Algebra>(
+// Writes at each of these lines the set with which it begins.
+fn begin_lines<A: Algebra>(
     net: &Netlist,
-    reached: &[LineId],
+    ranked: &[(u32, LineId)],
     launched: StateSet,
     board: &mut Board<A>,
 )
-    requires of { IsBoardOf net.now board.old }
-    requires in_circuit { All (λ line. line.0 < line_count net.now) reached.now }
+    requires lines { length board.old.labels ≡ line_count net.now }
+    requires within { AreWithin A.algebra.count board.old.labels }
+    requires in_circuit { All (λ line. line.0 < line_count net.now) (lines_by_level ranked.now) }
+    requires by_level { IsByLevel net.now (lines_by_level ranked.now) }
     requires launched { IsWithin A.algebra.count launched }
     requires unnoted { board.old.notes ≡ [] }
-    ensures { IsStartWritten A.algebra.count net.now launched reached.now board.old board.new }
+    ensures { AreBegun A.algebra net.now launched (lines_by_level ranked.now) board.old board.new }
 {
-    for line in reached {
-        start_line(net, *line, launched, board);
+    // a netlist knows itself as a circuit
+    let _ = net.sources();
+    for (_, line) in ranked {
+        let set = set_to_begin::<A>(net, *line, launched, board.labels());
+        board.write(*line, set);
     }
 }
 
-// The same at one line.
-fn start_line<A: Algebra>(net: &Netlist, line: LineId, launched: StateSet, board: &mut Board<A>)
-    requires of { IsBoardOf net.now board.old }
-    requires in_circuit { line.0 < line_count net.now }
+// The set with which a line begins.
+fn set_to_begin<A: Algebra>(
+    net: &Netlist,
+    line: LineId,
+    launched: StateSet,
+    labels: &[StateSet],
+) -> StateSet
+    requires line { line.0 < line_count net.now }
+    requires lines { length labels.now ≡ line_count net.now }
+    requires within { AreWithin A.algebra.count labels.now }
     requires launched { IsWithin A.algebra.count launched }
-    requires unnoted { board.old.notes ≡ [] }
-    ensures { IsStartWritten A.algebra.count net.now launched (line ∷ []) board.old board.new }
+    ensures within { IsWithin A.algebra.count result }
+    ensures begun { HasBegunWith A.algebra net.now launched labels.now line.0 result }
 {
     match net.gate_of(line) {
-        None => board.write(line, launched),
-        Some(gate) => {
-            board.write(line, every_state::<A>());
-            board.ask(gate);
-        }
+        None => launched,
+        Some(gate) => image::<A>(net.kind(gate), net.pins(gate), labels),
     }
 }
 

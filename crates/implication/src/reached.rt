@@ -47,6 +47,7 @@ impl ReachedLines {
     pub(crate) fn lines(&self) -> &[LineId]
         ensures lines { result.now ≡ self.now.lines }
         ensures in_range { All (λ line. line.0 < self.now.count) result.now }
+        ensures few { length result.now ≤ self.now.count }
     {
         self.lines.as_slice()
     }

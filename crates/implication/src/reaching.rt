@@ -1,6 +1,7 @@
 // Which lines a transition at a source can reach: the source, and the line of each gate inside that reads one of them.
 ghost use Rattle.std.specs.Prelude.{◌≡◌, ◌<◌, [], length, true, All};
 ghost use Rattle.netlist.specs.Circuit.{source_count, gate_count, line_count, gate_line};
+ghost use Rattle.state_laws.specs.Cones.{IsLineIn};
 ghost use Rattle.state_laws.specs.Forward.{AreReached};
 ghost use Rattle.hulls.specs.Awaiting.{is_inside};
 ghost use Rattle.implication.specs.Reached.{HasMore, AreReadersIn};
@@ -23,6 +24,7 @@ pub(crate) fn reach<A: Algebra>(
     requires none { reached.old.lines ≡ [] }
     requires count { reached.old.count ≡ line_count net.now }
     ensures reached { AreReached net.now (is_inside board.now.inside) source.0 reached.new.lines }
+    ensures inside { All (λ line. IsLineIn net.now (is_inside board.now.inside) line.0) reached.new.lines }
     ensures count { reached.new.count ≡ line_count net.now }
 {
     reached.add(source);
@@ -44,7 +46,7 @@ fn reach_readers<A: Algebra>(
     requires line { line.0 < line_count net.now }
     requires gates { length board.now.inside ≡ gate_count net.now }
     requires count { reached.old.count ≡ line_count net.now }
-    ensures more { HasMore net.now reached.old reached.new }
+    ensures more { HasMore net.now board.now.inside reached.old reached.new }
     ensures readers { AreReadersIn net.now board.now.inside line reached.new.lines }
 {
     for pin in net.fanout(line) {

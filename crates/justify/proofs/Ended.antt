@@ -27,7 +27,7 @@ use Rattle.justify.specs.Growths.{DueTree, IsGrowing}
 use Rattle.justify.specs.Searches.{IsGrowthOf}
 use Rattle.justify.specs.Tasks.{task_target}
 use Rattle.justify.specs.Tests.{IsFitTest}
-use Rattle.tree_scopes.proofs.Labels.{there_too}
+use Rattle.tree_laws.proofs.ScopeLabels.{there_too}
 
 -- what holds of no value
 pub at_none : {T : Type 0} {X : Type 0} (value : Option T) → value ≡ None → IfNone value X → X

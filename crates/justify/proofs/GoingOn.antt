@@ -21,12 +21,13 @@ use Rattle.justify.specs.declared.task.Task.{Task}
 use Rattle.justify.specs.Choices.{AreSingle}
 use Rattle.justify.specs.Desks.{IsDesk}
 use Rattle.justify.specs.Growths.{IsEntered, IsShut, IsGrowing, IsExtended}
-use Rattle.tree_scopes.specs.Nodes.{StandsAtNode}
+use Rattle.tree_laws.specs.NodeScopes.{StandsAtNode}
 use Rattle.justify.specs.Searches.{IsSearching, SearchGoesOn, AddsNode, AddsClosed, IsNodeVisit, IsVisit, IsGrowthOf}
 use Rattle.justify.specs.Tasks.{task_target}
 use Rattle.justify.specs.Tests.{IsFitTest}
 use Rattle.justify.specs.Trying.{HasFailed, FailsAtNode, IsTrialOf}
-use Rattle.tree_scopes.specs.Settings.{IsSameSetting}
+use Rattle.tree_laws.specs.Settings.{IsSameSetting}
+use Rattle.tree_laws.proofs.Settings.{same_twice}
 use Rattle.justify.proofs.SameNodes.{same_restored, stays_at_node, failed_stays}
 use Rattle.justify.proofs.Placing.{IsNext, next_place}
 use Rattle.justify.proofs.Visits.{growing_same, reverse_push, reverse_none, shut_under_way, shut_growing, entered_at_node, last_under_way, extended_growing, extended_by_one, extended_left}
@@ -177,13 +178,6 @@ searching_ended task standing desk growth searching none =
     (reverse growth.places.items) [] growth.nodes.items growth.nodes.items growth.splits growth.splits
     refl refl refl (reverse_none growth.places.items none) refl refl searching.growing
 
-pub setting_trans : (first middle last : Standing) → IsSameSetting first middle → IsSameSetting middle last → IsSameSetting first last
-setting_trans first middle last one two = record {
-  net = two.net ∙ one.net;
-  rules = two.rules ∙ one.rules;
-  ends = two.ends ∙ one.ends;
-}
-
 pub visit_none : (task : Task) (old new : Standing) (before after : Growth) (answer : Option Vectors) → is_some answer ≡ false
     → IsVisit task old new before after answer → AddsNode task old new before after
 visit_none task old new before after None none adds = adds
@@ -204,7 +198,7 @@ two_where_failed aim standing failed single =
 pub goes_further : (task : Task) (first middle last : Standing) (desk : Desk) → IsSameSetting first middle → first.closings ≤ middle.closings
     → SearchGoesOn task middle last desk → SearchGoesOn task first last desk
 goes_further task first middle last desk setting rising goes = record {
-  setting = setting_trans first middle last setting goes.setting;
+  setting = same_twice first middle last setting goes.setting;
   under_way = goes.under_way;
   serves = goes.serves;
   later = let more = goes.later in omega (arith, rising, more);

@@ -32,8 +32,8 @@ use Rattle.implication.specs.declared.scope.ScopeMark.{ScopeMark}
 use Rattle.implication.specs.declared.assumption.Assumption.TheVariants.{Assumed}
 use Rattle.implication.specs.Assumptions.{entered_pins, left_of, ClosesUnder}
 use Rattle.implication.specs.Moves.{with_assumed}
-use Rattle.tree_scopes.specs.Nodes.{beginning_of, AllowAsNode}
-use Rattle.tree_scopes.proofs.Assuming.{may_assumed, entered_assumed, assumed_cases}
+use Rattle.tree_laws.specs.NodeScopes.{beginning_of, AllowAsNode}
+use Rattle.tree_laws.proofs.Assuming.{may_assumed, entered_assumed, assumed_cases}
 use Rattle.justify.specs.declared.choosing.Split.{Split}
 use Rattle.justify.specs.declared.growing.Place.{Place}
 use Rattle.justify.specs.Growths.{IsHalfPlace, AllowAsNodeWith, IsPlace, DueTree, AreStacked, IsGrowing}

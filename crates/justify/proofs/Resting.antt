@@ -12,14 +12,10 @@ use Rattle.state_laws.proofs.Sets.{label_within}
 use Rattle.implication.specs.declared.assumption.Beginning.{Beginning}
 use Rattle.implication.specs.Moves.{risen}
 use Rattle.implication.specs.Standing.{Standing, IsLabels, IsToldBy, TellsLabel}
-use Rattle.tree_scopes.proofs.Labels.{labels_once, labels_under}
+use Rattle.tree_laws.proofs.ScopeLabels.{labels_once, labels_under}
+use Rattle.tree_laws.proofs.Told.{source_told}
 
--- each source is told
-source_told : (c : Circuit) (ends : Option (List LineId)) (line : ℕ) → line < source_count c → IsToldBy c ends line
-source_told c None line within = tt
-source_told c (Some ends) line within = inl within
-
--- so what a scope answers for a source is its set in the hull
+-- what a scope answers for a source is its set in the hull
 module _ (standing : Standing) (begun : Beginning) (is : standing.beginning ≡ Some begun) (source : ℕ) (answer : StateSet)
     (within : source < source_count standing.net)
     (tells : (labels : List StateSet) × IsLabels four_states standing labels × TellsLabel four_states.count standing labels source answer) where

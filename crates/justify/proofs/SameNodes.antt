@@ -16,10 +16,10 @@ use Rattle.implication.specs.declared.assumption.Assumption.{Assumption}
 use Rattle.implication.specs.Assumptions.{entered_pins}
 use Rattle.implication.specs.Clients.{IsRestored}
 use Rattle.implication.specs.Standing.{Standing, IsHullFrom, IsLabels, IsOpenFrom}
-use Rattle.tree_scopes.specs.Nodes.{StandsAtNode, AllowAsNode}
+use Rattle.tree_laws.specs.NodeScopes.{StandsAtNode, AllowAsNode}
 use Rattle.justify.specs.Tests.{IsFitTest}
 use Rattle.justify.specs.Trying.{HasFailed, IsTrialOf, HasLeast, IsSingle}
-use Rattle.tree_scopes.proofs.Labels.{there_too}
+use Rattle.tree_laws.proofs.ScopeLabels.{there_too}
 use Rattle.justify.proofs.Resting.{counted_before}
 
 -- the same circuit, rules, beginning, assumptions and conflict

@@ -21,14 +21,14 @@ use Rattle.implication.specs.Assumptions.{entered_pins, IsLetBy}
 use Rattle.implication.specs.Clients.{IsRestored}
 use Rattle.implication.specs.Moves.{back_at}
 use Rattle.implication.specs.Standing.{Standing, IsOpenIn, end_of_scope, end_from}
-use Rattle.tree_scopes.specs.Nodes.{beginning_of}
-use Rattle.tree_scopes.proofs.Entered.{pins_of_entered}
-use Rattle.tree_scopes.proofs.Labels.{open_under}
+use Rattle.tree_laws.specs.NodeScopes.{beginning_of}
+use Rattle.tree_laws.proofs.Entered.{pins_of_entered}
+use Rattle.tree_laws.proofs.ScopeLabels.{open_under}
 use Rattle.justify.specs.declared.desk.Desk.{Desk}
 use Rattle.justify.specs.declared.growing.Growth.{Growth}
 use Rattle.justify.specs.declared.growing.Place.{Place}
 use Rattle.justify.specs.Growths.{AllowAsNodeWith, IsPlace, IsGrowing, root_place}
-use Rattle.tree_scopes.specs.Settings.{IsSameSetting}
+use Rattle.tree_laws.specs.Settings.{IsSameSetting}
 use Rattle.justify.specs.UnderWay.{IsUnderWay}
 use Rattle.justify.specs.Desks.{IsDeskFor, IsDesk}
 use Rattle.test_judging.specs.KeptCones.{KeptCone, IsConeFor, IsConeAt}

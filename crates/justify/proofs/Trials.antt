@@ -29,12 +29,12 @@ use Rattle.implication.specs.Clients.{ExtendsStanding}
 use Rattle.implication.specs.Moves.{with_assumed, risen}
 use Rattle.implication.specs.Standing.{Standing, IsLabels}
 use Rattle.justify.specs.declared.trial.Tried.{Tried}
-use Rattle.tree_scopes.specs.Nodes.{beginning_of, StandsAtNode, AllowAsNode}
+use Rattle.tree_laws.specs.NodeScopes.{beginning_of, StandsAtNode, AllowAsNode}
 use Rattle.test_judging.proofs.Taking.{least_is_taken}
 use Rattle.justify.specs.Trying.{CanTry, IsWithinTrial, IsHeldIn, EndsTrial, HasFailed, IsSingle, GivesTest}
-use Rattle.tree_scopes.proofs.Assuming.{may_assumed, entered_assumed}
-use Rattle.tree_scopes.proofs.Nodes.{hull_at_node}
-use Rattle.tree_scopes.proofs.Labels.{there_too, labels_under, open_under}
+use Rattle.tree_laws.proofs.Assuming.{may_assumed, entered_assumed}
+use Rattle.tree_laws.proofs.NodeScopes.{hull_at_node}
+use Rattle.tree_laws.proofs.ScopeLabels.{there_too, labels_under, open_under}
 
 module _ (target : Target) (first : Standing) where
   abbrev begun : Beginning

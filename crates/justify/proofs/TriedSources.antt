@@ -31,7 +31,7 @@ use Rattle.search_hints.specs.Drafts.{Prepared, IsJustifierOf}
 use Rattle.test_judging.specs.FoundLines.{HasMark}
 use Rattle.test_judging.specs.KeptCones.{KeptCone, AreConeSources, IsConeFor, IsConeAt}
 use Rattle.test_judging.specs.LeastStates.{IsTakenOf}
-use Rattle.tree_scopes.specs.Nodes.{beginning_of, StandsAtNode}
+use Rattle.tree_laws.specs.NodeScopes.{beginning_of, StandsAtNode}
 use Rattle.test_judging.specs.Taken.{AreLeast}
 use Rattle.justify.specs.Tests.{IsFitTest}
 use Rattle.justify.proofs.Resting.{label_is}

@@ -19,9 +19,9 @@ use Rattle.implication.specs.Assumptions.{entered_pins, ClosesUnder}
 use Rattle.implication.specs.Clients.{IsRestored}
 use Rattle.implication.specs.Standing.{Standing, IsEmptiedFrom, IsOpenIn}
 use Rattle.implication.specs.Moves.{with_assumed, grown, back_at, conflict_at}
-use Rattle.tree_scopes.specs.Nodes.{beginning_of, StandsAtNode, AllowAsNode}
-use Rattle.tree_scopes.proofs.Nodes.{closes_at_node}
-use Rattle.tree_scopes.proofs.Labels.{there_too, open_under}
+use Rattle.tree_laws.specs.NodeScopes.{beginning_of, StandsAtNode, AllowAsNode}
+use Rattle.tree_laws.proofs.NodeScopes.{closes_at_node}
+use Rattle.tree_laws.proofs.ScopeLabels.{there_too, open_under}
 use Rattle.justify.specs.declared.choosing.Split.{Split}
 use Rattle.justify.specs.declared.growing.Growth.{Growth}
 use Rattle.justify.specs.declared.growing.Place.{Place}

@@ -1,4 +1,4 @@
--- Which splits of the cases may be chosen (this project's own).
+-- Which splits of the cases may be chosen, in words that are spoken inside this crate alone (this project's own).
 use Rattle.std.specs.Prelude.{◌≡◌, ℕ, Bool, List}
 use Rattle.pd_base.specs.Target.{Target}
 use Rattle.pd_base.specs.declared.ids.LineId.{LineId}

@@ -1,4 +1,4 @@
--- What a search ends with (this project's own).
+-- What a search ends with, in words that are spoken inside this crate alone (this project's own).
 use Rattle.std.specs.Prelude.{◌≡◌, List, Option, Some, None, Result, Ok, Err}
 use Rattle.std.specs.List.{Contains}
 use Rattle.pd_base.specs.Pair.{Vectors}

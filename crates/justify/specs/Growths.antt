@@ -1,4 +1,4 @@
--- The growth of a tree on a scope (this project's own).
+-- The growth of a tree on a scope, in words that are spoken inside this crate alone (this project's own).
 use Rattle.std.specs.Prelude.{◌≡◌, ℕ, ◌+◌, ◌<◌, ◌≤◌, ◌↔◌, Bool, true, false, List, [], ◌∷◌, ◌++◌, length, take, map, All, AllPairs, Contains}
 use Rattle.pd_base.specs.Target.{Target}
 use Rattle.pd_base.specs.declared.ids.LineId.{LineId}
@@ -20,7 +20,7 @@ use Rattle.implication.specs.declared.scope.ScopeMark.{ScopeMark}
 use Rattle.implication.specs.Assumptions.{entered_pins, MayUnder, ClosesUnder}
 use Rattle.implication.specs.Standing.{Standing, IsOpenIn, IsEmptiedIn}
 use Rattle.implication.specs.Moves.{with_assumed, grown, back_at, risen}
-use Rattle.tree_scopes.specs.Nodes.{beginning_of, AllowSame}
+use Rattle.tree_laws.specs.NodeScopes.{beginning_of, AllowSame}
 use Rattle.justify.specs.declared.choosing.Split.{Split}
 use Rattle.justify.specs.declared.growing.Growth.{Growth}
 use Rattle.justify.specs.declared.growing.Place.{Place}

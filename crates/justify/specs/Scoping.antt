@@ -2,7 +2,7 @@
 use Rattle.std.specs.Prelude.{◌≡◌, Some, None}
 use Rattle.pd_base.specs.Target.{Target}
 use Rattle.implication.specs.Standing.{Standing}
-use Rattle.tree_scopes.specs.Nodes.{beginning_of}
+use Rattle.tree_laws.specs.NodeScopes.{beginning_of}
 use Rattle.justify.specs.UnderWay.{entered_steps}
 
 -- the path's pins are entered, nothing else is assumed, and no conflict stands

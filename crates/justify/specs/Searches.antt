@@ -1,4 +1,5 @@
--- A search that is under way on a scope, and what a visit of a place makes of it (this project's own).
+-- A search that is under way on a scope, and what a visit of a place makes of it, in words that are spoken
+-- inside this crate alone (this project's own).
 use Rattle.std.specs.Prelude.{◌≡◌, ◌+◌, ◌*◌, ◌-◌, ◌≤◌, List, [], ◌∷◌, ◌++◌, length, reverse, Option, Some, None}
 use Rattle.pd_base.specs.Pair.{Vectors}
 use Rattle.netlist.specs.Paths.{IsPrefix}
@@ -15,7 +16,7 @@ use Rattle.justify.specs.Growths.{IsGrowing, IsExtended}
 use Rattle.justify.specs.Tasks.{task_target}
 use Rattle.justify.specs.Tests.{IsFitTest}
 use Rattle.justify.specs.Trying.{FailsAtNode}
-use Rattle.tree_scopes.specs.Settings.{IsSameSetting}
+use Rattle.tree_laws.specs.Settings.{IsSameSetting}
 use Rattle.justify.specs.UnderWay.{IsUnderWay}
 
 -- The task's path is one of the circuit, what was entered stands, the desk is the path's, and the tree has grown so far, with these

@@ -1,5 +1,5 @@
 -- The trial of a node through its scope: sources of the path's support are assumed to be in the least states of their labels, one
--- after another, until a conflict comes (this project's own).
+-- after another, until a conflict comes. Its words are spoken inside this crate alone (this project's own).
 use Rattle.std.specs.Prelude.{◌≡◌, ℕ, ◌<◌, ◌≤◌, Bool, true, false, List, Option, Some, None, All, Contains}
 use Rattle.pd_base.specs.Pair.{Vectors}
 use Rattle.pd_base.specs.Target.{Target}
@@ -21,7 +21,7 @@ use Rattle.implication.specs.Assumptions.{entered_pins, MayUnder, ClosesUnder}
 use Rattle.implication.specs.Moves.{risen}
 use Rattle.implication.specs.Standing.{Standing, IsLabels, IsOpenIn}
 use Rattle.justify.specs.declared.trial.Tried.{Tried}
-use Rattle.tree_scopes.specs.Nodes.{beginning_of, AllowAsNode}
+use Rattle.tree_laws.specs.NodeScopes.{beginning_of, AllowAsNode}
 use Rattle.test_judging.specs.ConeStates.{state_in}
 use Rattle.test_judging.specs.LeastStates.{IsTakenOf}
 use Rattle.test_judging.specs.FoundLines.{HasMark}

@@ -1,11 +1,11 @@
--- How a scope stands while a tree grows on it (this project's own).
+-- How a scope stands while a tree grows on it, in words that are spoken inside this crate alone (this project's own).
 use Rattle.std.specs.Prelude.{◌≡◌, ◌≤◌, List, length, take, map, Some, None}
 use Rattle.pd_base.specs.Route.{Route}
 use Rattle.pd_base.specs.Target.{Target}
 use Rattle.implication.specs.declared.assumption.Assumption.{Assumption}
 use Rattle.implication.specs.declared.assumption.Assumption.TheVariants.{Entered}
 use Rattle.implication.specs.Standing.{Standing}
-use Rattle.tree_scopes.specs.Nodes.{beginning_of}
+use Rattle.tree_laws.specs.NodeScopes.{beginning_of}
 
 -- the pins of a path as entered one after another
 abbrev pub entered_steps : Route → List Assumption

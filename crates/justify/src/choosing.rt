@@ -4,7 +4,7 @@ ghost use Rattle.std.specs.Prelude.{◌≡◌, ◌<◌, IfSome, IfNone};
 ghost use Rattle.netlist.specs.Circuit.{source_count};
 ghost use Rattle.implication.specs.Scopes.{standing};
 ghost use Rattle.justify.specs.Tasks.{task_target};
-ghost use Rattle.tree_scopes.specs.Nodes.{StandsAtNode};
+ghost use Rattle.tree_laws.specs.NodeScopes.{StandsAtNode};
 ghost use Rattle.justify.specs.Desks.{IsDesk};
 ghost use Rattle.justify.specs.Choices.{IsUsefulSplit, AreSingle, SplitsAt, IsSingleAt};
 

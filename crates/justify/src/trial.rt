@@ -7,7 +7,7 @@ ghost use Rattle.implication.specs.Standing.{IsFree, IsOpenIn};
 ghost use Rattle.implication.specs.Scopes.{IsSameScope, standing};
 ghost use Rattle.implication.specs.Clients.{IsRestored, ExtendsStanding};
 ghost use Rattle.justify.specs.Tasks.{task_target};
-ghost use Rattle.tree_scopes.specs.Nodes.{StandsAtNode};
+ghost use Rattle.tree_laws.specs.NodeScopes.{StandsAtNode};
 ghost use Rattle.justify.specs.Trying.{CanTry, IsWithinTrial, EndsTrial, EndsAtNode};
 
 use crate::task::Task;

@@ -7,7 +7,7 @@ ghost use Rattle.implication.specs.Scopes.{IsSameScope, standing};
 ghost use Rattle.implication.specs.Clients.{IsRestored};
 ghost use Rattle.test_judging.specs.ConeStates.{AreFourStates};
 ghost use Rattle.justify.specs.Tasks.{task_target};
-ghost use Rattle.tree_scopes.specs.Nodes.{StandsAtNode};
+ghost use Rattle.tree_laws.specs.NodeScopes.{StandsAtNode};
 ghost use Rattle.justify.specs.Desks.{IsDesk, HasSameStates, AreInSupport};
 ghost use Rattle.justify.specs.Tests.{IsFitTest};
 ghost use Rattle.justify.specs.Trying.{CanTry, HasLeastLabel, AreTriedIn, HasLeast, FailsAtNode, IsTrialOf};

@@ -8,7 +8,7 @@ ghost use Rattle.implication.specs.Scopes.{IsSameScope, standing};
 ghost use Rattle.justify.specs.Choices.{AreSingle};
 ghost use Rattle.justify.specs.Desks.{IsDesk};
 ghost use Rattle.justify.specs.Growths.{IsExtended};
-ghost use Rattle.tree_scopes.specs.Nodes.{StandsAtNode};
+ghost use Rattle.tree_laws.specs.NodeScopes.{StandsAtNode};
 ghost use Rattle.justify.specs.Searches.{IsSearching, SearchGoesOn, IsVisit, AddsClosed, IsNodeVisit};
 ghost use Rattle.justify.specs.Tasks.{task_target};
 

@@ -12,7 +12,7 @@ use pd_base::{FlatLists, GateId, LineId, OutOfMemory, PinRef};
 use std::alloc::Global;
 
 /// The fan-outs of so many lines, by line: the pins that read each, by gate and then by pin. `pins` has the lines that the
-/// pins of each gate read, by gate. `OutOfMemory` comes where a growth was refused.
+/// pins of each gate read, by gate. The one error is that memory ran out.
 pub(crate) fn fanouts_of(
     alloc: Global,
     lines: u32,

@@ -18,7 +18,7 @@ use std::alloc::Global;
 pub(crate) enum LevelFault {
     /// The gate of the least number that lies on a loop or is fed by one.
     Loop(GateId),
-    /// A growth was refused.
+    /// Memory ran out.
     NoMemory,
 }
 

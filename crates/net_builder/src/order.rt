@@ -9,7 +9,7 @@ use pd_base::{GateId, OutOfMemory};
 use std::alloc::Global;
 
 /// The rank order of the gates of a circuit with so many sources, where `levels` has the levels of all of its lines, by
-/// line. `OutOfMemory` comes where a growth was refused.
+/// line. The one error is that memory ran out.
 pub(crate) fn order_of(
     alloc: Global,
     sources: u32,

@@ -22,7 +22,7 @@ pub(crate) struct CircuitGraph {
     pub(crate) pins: Vec<PinRef>,
 }
 
-// Builds the graph, in as many steps as there are lines and pins. `OutOfMemory` comes where a growth was refused.
+// Builds the graph, in as many steps as there are lines and pins. The one error is that memory ran out.
 pub(crate) fn graph_of(
     alloc: Global,
     net: &Netlist,

@@ -41,7 +41,7 @@ impl Listing {
         self.places.len()
     }
 
-    /// The arcs of the walk at this place, from its first one on. `AllocError` comes where a growth was refused.
+    /// The arcs of the walk at this place, from its first one on. The one error is that memory ran out.
     pub(crate) fn walk(&self, alloc: Global, place: usize) -> Result<Vec<u32>, AllocError>
         requires { place < length self.now }
         ensures { IfOk result (λ walk. walk.items ≡ slice_index_or self.now place []) }
@@ -51,7 +51,7 @@ impl Listing {
 }
 
 /// The first `count` walks from node 0, longest first, and at equal lengths those of the lesser arcs first; all walks where
-/// there are fewer. `AllocError` comes where a growth was refused, or where 2^32 - 1 entries would not do. Takes memory for the
+/// there are fewer. The one error is that memory ran out, or that 2^32 - 1 entries would not do. Takes memory for the
 /// nodes and arcs and, for each walk listed, at most one entry more at each node that it passes; recursion goes no deeper than
 /// the longest walk has arcs.
 pub(crate) fn first_walks(

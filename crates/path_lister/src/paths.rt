@@ -14,7 +14,7 @@ use std::alloc::Global;
 
 /// The first `count` paths of a netlist under these delays, or all of them where there are fewer: the longer path stands
 /// before, of equally long ones that of the lesser source, and then that of the lesser steps, by gate and pin. No path is
-/// listed twice. `OutOfMemory` comes where a growth was refused.
+/// listed twice. The one error is that memory ran out.
 pub fn first_paths(
     alloc: Global,
     net: &Netlist,

@@ -36,7 +36,7 @@ impl Model for Scratch {
 }
 
 impl Scratch {
-    /// Room for the lines of this circuit. It fails only where a growth is refused.
+    /// Room for the lines of this circuit. The one error is that memory ran out.
     pub fn new(alloc: Global, net: &Netlist) -> Result<Scratch, OutOfMemory>
         ensures { IfOk result (λ scratch. scratch ≡ line_count net.now) }
     {

@@ -16,7 +16,7 @@ use text_pieces::{MOST_BYTES, split_line, text_behind};
 pub enum TestsFault {
     /// The line of this number, from 1, is the first one that lacks its form, or that is missing at the end.
     Malformed(u32),
-    /// A growth was refused.
+    /// Memory ran out.
     NoMemory,
 }
 

@@ -3,7 +3,7 @@
 use Rattle.std.proofs.Common.{◌≡◌, ℕ, zero, suc, ◌+◌, ◌<◌, ◌≤◌, Bool, true, false, if◌then◌else◌, List, [], ◌∷◌, ◌++◌, length, map, take, get_or, Some, None, Option, refl, sym, ap, subst, subst₂, ◌∙◌, arith}
 use Rattle.std.specs.Prelude.{nat_lt, IsSome}
 use Rattle.std.proofs.lemmas.Bool.{lt-ltb}
-use Rattle.std.proofs.lemmas.List.{length_push, take_more, get_or_default}
+use Rattle.std.proofs.lemmas.List.{length_push, map_push, take_more, get_or_default}
 use Rattle.std.proofs.Math.Seq.{take-append_seam}
 use Rattle.std.proofs.lemmas.List.Elements.{All-map}
 use Rattle.pd_base.specs.declared.ids.LineId.{LineId}
@@ -13,7 +13,7 @@ use Rattle.pd_base.specs.Target.{Target, target_of}
 use Rattle.pd_base.specs.declared.rules.Rules.{Rules}
 use Rattle.netlist.specs.Circuit.{Circuit, line_count, gate_line}
 use Rattle.netlist.specs.Pins.{IsPinOn}
-use Rattle.netlist.specs.Paths.{Connects, line_after, prefix_of}
+use Rattle.netlist.specs.Paths.{line_after, prefix_of}
 use Rattle.state_sets.specs.declared.state.State.{State}
 use Rattle.state_sets.specs.FourStates.{four_states}
 use Rattle.state_sets.specs.Starts.{MayStart}
@@ -23,7 +23,7 @@ use Rattle.state_laws.proofs.Hulls.{closes_if_wider, emptied_if_wider, prefix_cl
 use Rattle.implication.specs.declared.assumption.Assumption.{Assumption}
 use Rattle.implication.specs.declared.assumption.Assumption.TheVariants.{Entered}
 use Rattle.implication.specs.declared.assumption.Beginning.{Beginning}
-use Rattle.implication.specs.Assumptions.{entered_pins, ClosesUnder, IsEmptiedUnder, IsLetBy, MayUnder}
+use Rattle.implication.specs.Assumptions.{ClosesUnder, IsEmptiedUnder, IsLetBy, MayUnder}
 use Rattle.implication.specs.Moves.{back_at, closed_at, conflict_at, grown, with_entered}
 use Rattle.implication.specs.Standing.{Standing, IsEmptiedFrom, IsEmptiedIn, IsFree, IsOpenFrom, IsOpenIn, IsTold, IsToldBy, end_of_scope, end_from}
 use Rattle.good_runs.specs.Shortest.{ClosesAtStart}
@@ -31,16 +31,8 @@ use Rattle.prefix_sensitize.specs.AlongPaths.{ClosesFrom, IsAtPin, LeadsAlong}
 use Rattle.prefix_sensitize.specs.Entering.{IsSameBeginning}
 use Rattle.prefix_sensitize.specs.PathOrder.{ShareSteps}
 use Rattle.prefix_sensitize.proofs.RoutePrefixes.{shorter_prefix}
-use Rattle.tree_scopes.proofs.Told.{gate_told}
-
--- the pins of entries that are all pins
-pins_of_entered : (steps : List PinRef) → entered_pins (map Entered steps) ≡ steps
-pins_of_entered [] = refl
-pins_of_entered (step ∷ steps) = ap (λ rest. step ∷ rest) (pins_of_entered steps)
-
-pub map_push : (steps : List PinRef) (step : PinRef) → map Entered (steps ++ step ∷ []) ≡ map Entered steps ++ Entered step ∷ []
-map_push [] step = refl
-map_push (first ∷ steps) step = ap (λ rest. Entered first ∷ rest) (map_push steps step)
+use Rattle.tree_laws.proofs.Entered.{pins_of_entered, step_on}
+use Rattle.tree_laws.proofs.Told.{gate_told}
 
 first_entered : (count : ℕ) (steps : List PinRef) → take count (map Entered steps) ≡ map Entered (take count steps)
 first_entered zero steps = refl
@@ -50,14 +42,6 @@ first_entered (suc count) (step ∷ steps) = ap (λ rest. Entered step ∷ rest)
 none_either : (less : Bool) (line : Option LineId) → line ≡ None → (if less then None else line) ≡ None
 none_either true line none = refl
 none_either false line none = none
-
--- of steps that connect, the one behind these first ones is on their last line
-step_on : (c : Circuit) (line : ℕ) (steps : List PinRef) (place : ℕ) (d : PinRef) → Connects c line steps → place < length steps
-    → IsPinOn c (get_or steps place d) (line_after c line (take place steps))
-step_on c line [] place d connects within = absurd (omega arith)
-step_on c line (step ∷ steps) zero d connects within = connects.0
-step_on c line (step ∷ steps) (suc place) d connects within =
-    step_on c (gate_line c step.gate.0) steps place d connects.1 (omega arith)
 
 module _ (c : Circuit) (rules : Rules) (begun : Beginning) (path : Route) (source : begun.source ≡ path.source) (count : ℕ) where
   -- the entries of the first pins, and the target of the prefix that they make
@@ -168,7 +152,7 @@ module _ (before : Standing) (pins : List PinRef) (path : Route) (count : ℕ) (
   entries_more : before.assumptions ++ Entered pin ∷ [] ≡ map Entered (take (count + 1) path.steps)
   entries_more =
       ap (λ (list : List Assumption). list ++ Entered pin ∷ []) at.entered
-      ∙ sym (map_push pins pin)
+      ∙ sym (map_push Entered pins pin)
       ∙ ap (map Entered) (first_more pins path.steps count pin at.first within is)
 
   -- the pin is on the line that was reached
@@ -199,7 +183,7 @@ module _ (before : Standing) (pins : List PinRef) (path : Route) (count : ℕ) (
     entered =
         ap (λ (s : Standing). s.assumptions) grows
         ∙ ap (λ (list : List Assumption). list ++ Entered pin ∷ []) at.entered
-        ∙ sym (map_push pins pin)
+        ∙ sym (map_push Entered pins pin)
         ∙ ap (map Entered) (sym pushed);
     free = ap (λ (s : Standing). s.conflict) grows ∙ at.free;
     left_open = left_open;

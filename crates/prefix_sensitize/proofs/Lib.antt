@@ -4,7 +4,6 @@ mod PathOrderPrefixes
 mod PathOrderShares
 mod PathOrderSteps
 pub mod Prefixes
-mod EndLines
 mod AlongPaths
 mod Descents
 mod RoutePrefixes

@@ -144,14 +144,6 @@ pub all_counted : (c : Circuit) (rules : Rules) (course : Course) (begin place :
 all_counted c rules course begin place outcomes proofs steps come =
     record { entered = come.entered; are_prefixes = come.are_prefixes; counts = come.counts }
 
--- no prefix is counted
-pub none_counted : (routes : List Route) (steps : ℕ) → CountsPrefixes routes steps steps
-none_counted routes steps = record {
-  entered = [];
-  are_prefixes = record { each = All-nil (IsListedPrefix routes); once = λ i j d less within. absurd (omega (arith, within)) };
-  counts = omega arith;
-}
-
 -- no walk yet
 module _ (c : Circuit) (rules : Rules) (course : Course) (proofs : List Proof) (steps : ℕ) where
   pub come_none : (outcomes : List Outcome) → outcomes ≡ replicate (length course.paths.now) Unsearched

@@ -1,4 +1,4 @@
--- How a scope stands while the pins of a path are entered (this project's own).
+-- How a scope stands while the pins of a path are entered, in words that are spoken inside this crate alone (this project's own).
 use Rattle.std.specs.Prelude.{◌≡◌, ℕ, ◌+◌, ◌≤◌, Bool, true, false, List, length, map, take, Some, None}
 use Rattle.pd_base.specs.declared.ids.PinRef.{PinRef}
 use Rattle.pd_base.specs.Route.{Route}

@@ -1,4 +1,5 @@
--- What a verdict asks of what is written so far, and what stays of it as more is written (this project's own).
+-- What a verdict asks of what is written so far, and what stays of it as more is written, in words that are spoken inside this crate
+-- alone (this project's own).
 use Rattle.std.specs.Prelude.{◌≡◌, ℕ, ◌+◌, ◌<◌, ◌≤◌, ◌^◌, true, false, List, [], ◌∷◌, ◌++◌, length, slice_get, Some, All}
 use Rattle.pd_base.specs.Pair.{Vectors}
 use Rattle.pd_base.specs.Route.{Route}

@@ -1,4 +1,4 @@
--- What a walk goes by (this project's own).
+-- What a walk goes by, in words that are spoken inside this crate alone (this project's own).
 use Rattle.std.specs.Prelude.{◌≡◌, ℕ, List, length, Option, Some, All}
 use Rattle.pd_base.specs.declared.ids.LineId.{LineId}
 use Rattle.pd_base.specs.Route.{Route}

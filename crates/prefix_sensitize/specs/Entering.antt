@@ -1,4 +1,5 @@
--- How far a scope has gone along paths from its source, and what a search in it ends with (this project's own).
+-- How far a scope has gone along paths from its source, and what a search in it ends with, in words that are spoken inside this crate
+-- alone (this project's own).
 use Rattle.std.specs.Prelude.{◌≡◌, ℕ, ◌+◌, ◌<◌, ◌≤◌, [], ◌∷◌, List, Some, None, length, map, take}
 use Rattle.pd_base.specs.Route.{Route}
 use Rattle.pd_base.specs.declared.ids.PinRef.{PinRef}

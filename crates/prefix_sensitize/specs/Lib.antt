@@ -3,7 +3,6 @@ pub mod PathOrder
 pub mod Outcomes
 pub mod Entering
 pub mod Walks
-pub mod Ends
 pub mod Marks
 pub mod AlongPaths
 pub mod Courses

@@ -1,4 +1,4 @@
--- What is written of the first listed paths (this project's own).
+-- What is written of the first listed paths, in words that are spoken inside this crate alone (this project's own).
 use Rattle.std.specs.Prelude.{◌≡◌, ℕ, ◌+◌, ◌*◌, ◌<◌, ◌≤◌, ◌^◌, List, [], ◌∷◌, length, map, All}
 use Rattle.pd_base.specs.Route.{Route}
 use Rattle.pd_base.specs.declared.fault.Direction.{Direction}

@@ -1,4 +1,5 @@
--- The marks to which a scope can go back, one before each pin that it entered (this project's own).
+-- The marks to which a scope can go back, one before each pin that it entered, in words that are spoken inside this crate
+-- alone (this project's own).
 use Rattle.std.specs.Prelude.{◌≡◌, ℕ, List, length, slice_get, Some}
 use Rattle.pd_base.specs.declared.ids.PinRef.{PinRef}
 use Rattle.implication.specs.declared.scope.ScopeMark.{ScopeMark}

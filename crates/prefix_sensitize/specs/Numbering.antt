@@ -1,4 +1,4 @@
--- Proofs are numbered in the order in which they are first cited (this project's own).
+-- Proofs are numbered in the order in which they are first cited, in words that are spoken inside this crate alone (this project's own).
 use Rattle.std.specs.Prelude.{◌≡◌, ℕ, ◌+◌, List, [], ◌∷◌, ◌++◌, length, slice_get, Option, Some, None}
 use Rattle.runs.specs.declared.run.Proof.{Proof}
 use Rattle.good_runs.specs.Faults.{IsNumber}

@@ -1,4 +1,5 @@
--- What searches promise of their outcomes and of the proofs that they found (this project's own).
+-- What searches promise of their outcomes and of the proofs that they found, in words that are spoken inside this crate
+-- alone (this project's own).
 use Rattle.std.specs.Prelude.{◌≡◌, ℕ, ◌+◌, true, false, Bool, List, ◌++◌, length, slice_get, slice_index_or, Some, All, Contains}
 use Rattle.pd_base.specs.Pair.{Vectors}
 use Rattle.pd_base.specs.Route.{Route}

@@ -1,4 +1,4 @@
--- What all searches for tests of listed paths found (this project's own).
+-- What all searches for tests of listed paths found, in words that are spoken inside this crate alone (this project's own).
 use Rattle.std.specs.Prelude.{◌≡◌, ℕ, ◌≤◌, Bool, true, false, List, length, slice_get, Some, All}
 use Rattle.pd_base.specs.declared.limits.TheConstants.{MOST_PATHS}
 use Rattle.pd_base.specs.Route.{Route}

@@ -1,4 +1,4 @@
--- What the end of a search settles (this project's own).
+-- What the end of a search settles, in words that are spoken inside this crate alone (this project's own).
 use Rattle.std.specs.Prelude.{◌≡◌, ⊤, ℕ, ◌+◌, ◌<◌, ◌≤◌, Bool, true, false, List, [], ◌∷◌, ◌++◌, length, slice_get, Some}
 use Rattle.pd_base.specs.Route.{Route}
 use Rattle.netlist.specs.Paths.{prefix_of}

@@ -68,7 +68,7 @@ impl Descent {
     /// shared with the path stay entered, and each other one of the path counts one step. A conflict at a pin ends the search: the pin is
     /// left again, and one closed leaf refutes the prefix up to it. Otherwise the search is one of the whole path.
     ///
-    /// Afterwards the scope stands at the last pin that was entered and not left. `OutOfMemory` comes where a growth was refused; where
+    /// Afterwards the scope stands at the last pin that was entered and not left. The one error is that memory ran out; where
     /// the scope stands is not promised then, but that no more steps were counted.
     pub(crate) fn search<S: Setting, L>(
         &mut self,

@@ -7,7 +7,6 @@
 mod all_outcomes;
 mod course;
 mod descent;
-mod ends;
 mod listing;
 mod numbering;
 mod outcome;

@@ -10,13 +10,12 @@ ghost use Rattle.runs.specs.Lawful.{IsLawfulRun};
 ghost use Rattle.justify.specs.Desks.{IsDeskFor};
 ghost use Rattle.prefix_sensitize.specs.Entering.{IsIdleAgain};
 ghost use Rattle.prefix_sensitize.specs.Listed.{AreAllOutcomes};
-ghost use Rattle.prefix_sensitize.specs.Outcomes.{AddsProofs, AreFoundProofs, AreOutcomes, NoneIsAbout};
+ghost use Rattle.prefix_sensitize.specs.Outcomes.{AreFoundProofs};
 ghost use Rattle.prefix_sensitize.specs.Readiness.{AddsProofsFor, CountsAtMost, IsReadyFor, NoneIsFor};
 ghost use Rattle.prefix_sensitize.specs.Searches.{AreBothOutcomesFrom, is_test, searches_of};
-ghost use Rattle.prefix_sensitize.specs.Walks.{AreExcused, AreSearchablePaths, AreToldPaths, IsBudget};
+ghost use Rattle.prefix_sensitize.specs.Walks.{AreSearchablePaths, AreToldPaths, IsBudget};
 
 use crate::all_outcomes::{AllOutcomes, BothOutcomes};
-use crate::ends::ends_of;
 use crate::listing::run_of;
 use crate::outcome::{Aim, Outcome};
 use crate::path_tree::PathTree;
@@ -29,6 +28,7 @@ use pd_base::{Direction, Kind, OutOfMemory, Path, Rules, Steps};
 use runs::{Proof, Run};
 use state_sets::FourStates;
 use std::alloc::Global;
+use test_judging::ends_of;
 
 /// A good run for the first `count` paths of a circuit, which are given, at most `MOST_PATHS` of them, and a budget of splits for each
 /// search, 1 to `MOST_BUDGET`: each verdict has the test or the proofs that it asks for, and each test and each proof is what it says,
@@ -85,9 +85,7 @@ fn search_paths<L>(
     let ends = ends_of(alloc, net, paths)?;
     let setting = RuledNetlist { net, rules };
     let mut engine = Engine::within(alloc, setting, ends.as_slice())?;
-    let outcomes = search_on(alloc, net, &mut engine, paths, budget, steps);
-    drop(engine);
-    outcomes
+    search_on(alloc, net, &mut engine, paths, budget, steps)
 }
 
 // Does so with this engine, on which no scope is open.
@@ -109,9 +107,7 @@ fn search_on<S: Setting, L>(
     ensures steps { CountsAtMost paths.now 4 steps.old steps.new }
 {
     let mut desk = Desk::new(alloc, net)?;
-    let outcomes = search_in_order(alloc, engine, &mut desk, paths, budget, steps);
-    drop(desk);
-    outcomes
+    search_in_order(alloc, engine, &mut desk, paths, budget, steps)
 }
 
 // Does so at this desk, in an order in which each prefix is entered once.
@@ -211,55 +207,17 @@ fn search_way<S: Setting, L>(
         budget,
     };
     let all = vec![in alloc; true; paths.len()]?;
-    let robust = search_for(alloc, engine, desk, paths, tree, all, aim, proofs, steps)?;
+    let robust = walk(alloc, engine, desk, paths, tree, all, aim, proofs, steps)?;
     let aim = Aim {
         kind: Kind::Nonrobust,
         dir,
         budget,
     };
     let untested = untested(alloc, robust.as_slice())?;
-    let nonrobust = search_for(
+    let nonrobust = walk(
         alloc, engine, desk, paths, tree, untested, aim, proofs, steps,
     )?;
     Ok(BothOutcomes { robust, nonrobust })
-}
-
-// Searches for the tests of one kind and transition, as far as they are needed.
-fn search_for<S: Setting, L>(
-    alloc: Global,
-    engine: &mut Engine<FourStates, S>,
-    desk: &mut Desk,
-    paths: &[Path],
-    tree: &PathTree,
-    needed: Vec<bool>,
-    aim: Aim,
-    proofs: &mut Vec<Proof>,
-    steps: &mut Steps<L>,
-) -> Result<Vec<Outcome>, OutOfMemory>
-    requires ready { IsReadyFor paths.now tree.now aim.budget engine.old desk.old }
-    requires needed { length needed.items ≡ length paths.now }
-    requires excused { AreExcused engine.old.net aim paths.now needed.items }
-    requires found { AreFoundProofs engine.old.net engine.old.rules aim.budget paths.now proofs.old.items }
-    requires fresh { NoneIsAbout aim proofs.old.items }
-    requires room { steps.old + length paths.now * MOST_LEVELS < 2 ^ 64 }
-    ensures ready { OnOk result (IsReadyFor paths.now tree.now aim.budget engine.new desk.new) }
-    ensures rest { OnOk result (IsIdleAgain engine.old engine.new) }
-    ensures outcomes { IfOk result (λ outcomes. AreOutcomes engine.old.net paths.now proofs.new.items needed.items aim outcomes.items) }
-    ensures found { OnOk result (AreFoundProofs engine.old.net engine.old.rules aim.budget paths.now proofs.new.items) }
-    ensures adds { OnOk result (AddsProofs aim proofs.old.items proofs.new.items) }
-    ensures steps { steps.new ≤ steps.old + tree.now.prefixes }
-{
-    walk(
-        alloc,
-        engine,
-        desk,
-        paths,
-        tree,
-        needed.as_slice(),
-        aim,
-        proofs,
-        steps,
-    )
 }
 
 // For which paths no test was found.

@@ -166,12 +166,11 @@ impl Writer {
     {
         let Writer {
             alloc,
-            judge,
+            judge: _,
             found,
             numbering,
             tests,
         } = self;
-        drop(judge);
         let proofs = cited_proofs(alloc, numbering.cited(), found)?;
         Ok((tests, proofs))
     }

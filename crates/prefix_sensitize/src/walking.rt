@@ -8,8 +8,8 @@ ghost use Rattle.prefix_sensitize.specs.Coming.{HasComeAlong, HasComeApart};
 ghost use Rattle.prefix_sensitize.specs.Courses.{BeginsAt, IsBegunAt, IsCourse};
 ghost use Rattle.prefix_sensitize.specs.Entering.{HasGone, IsIdleAgain, IsSameBeginning};
 ghost use Rattle.prefix_sensitize.specs.Outcomes.{AddsProofs, AreFoundProofs, AreOutcomes, NoneIsAbout};
-ghost use Rattle.prefix_sensitize.specs.PathOrder.{IsOrder};
-ghost use Rattle.prefix_sensitize.specs.Walks.{AreExcused, AreSearchablePaths, AreToldPaths, CountsPrefixes, IsBudget};
+ghost use Rattle.prefix_sensitize.specs.Readiness.{IsReadyFor};
+ghost use Rattle.prefix_sensitize.specs.Walks.{AreExcused, CountsPrefixes};
 
 use crate::course::{Course, begins_at};
 use crate::descent::Descent;
@@ -28,36 +28,31 @@ use std::alloc::Global;
 /// the one proof that is added to the list names the first listed path that has the prefix. No scope is open, and no proof is about this
 /// aim yet; where no outcome is needed there is a test.
 ///
-/// Afterwards no scope is open, the desk serves as before, and each proof is one that was found for these paths. `OutOfMemory` comes where
-/// a growth was refused; promised is then only how far the count of steps rose: no prefix was counted twice.
+/// Afterwards no scope is open, the desk serves as before, and each proof is one that was found for these paths. The one error is that
+/// memory ran out; promised is then only how far the count of steps rose: no prefix was counted twice.
 pub(crate) fn walk<S: Setting, L>(
     alloc: Global,
     engine: &mut Engine<FourStates, S>,
     desk: &mut Desk,
     paths: &[Path],
     tree: &PathTree,
-    needed: &[bool],
+    needed: Vec<bool>,
     aim: Aim,
     proofs: &mut Vec<Proof>,
     steps: &mut Steps<L>,
 ) -> Result<Vec<Outcome>, OutOfMemory>
-    requires idle { engine.old.beginning ≡ None }
-    requires listed { AreSearchablePaths engine.old.net paths.now }
-    requires told { AreToldPaths engine.old paths.now }
-    requires desk { IsDeskFor engine.old.net desk.old }
-    requires tree { IsOrder paths.now tree.now.order }
-    requires needed { length needed.now ≡ length paths.now }
-    requires excused { AreExcused engine.old.net aim paths.now needed.now }
-    requires budget { IsBudget aim.budget }
+    requires ready { IsReadyFor paths.now tree.now aim.budget engine.old desk.old }
+    requires needed { length needed.items ≡ length paths.now }
+    requires excused { AreExcused engine.old.net aim paths.now needed.items }
     requires found { AreFoundProofs engine.old.net engine.old.rules aim.budget paths.now proofs.old.items }
     requires fresh { NoneIsAbout aim proofs.old.items }
     requires room { steps.old + length paths.now * MOST_LEVELS < 2 ^ 64 }
-    ensures desk { OnOk result (IsDeskFor engine.old.net desk.new) }
+    ensures ready { OnOk result (IsReadyFor paths.now tree.now aim.budget engine.new desk.new) }
     ensures rest { OnOk result (IsIdleAgain engine.old engine.new) }
-    ensures outcomes { IfOk result (λ outcomes. AreOutcomes engine.old.net paths.now proofs.new.items needed.now aim outcomes.items) }
+    ensures outcomes { IfOk result (λ outcomes. AreOutcomes engine.old.net paths.now proofs.new.items needed.items aim outcomes.items) }
     ensures found { OnOk result (AreFoundProofs engine.old.net engine.old.rules aim.budget paths.now proofs.new.items) }
     ensures adds { OnOk result (AddsProofs aim proofs.old.items proofs.new.items) }
-    ensures steps { CountsPrefixes paths.now steps.old steps.new }
+    ensures steps { steps.new ≤ steps.old + tree.now.prefixes }
 {
     // the netlist knows itself as a circuit
     let _ = engine.net().lines();
@@ -65,7 +60,7 @@ pub(crate) fn walk<S: Setting, L>(
     let course = Course {
         paths,
         order: tree.order(),
-        needed,
+        needed: needed.as_slice(),
         aim,
     };
     walk_course(

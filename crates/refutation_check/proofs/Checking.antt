@@ -1,5 +1,5 @@
 -- How far a check has come: a walk over the nodes of a tree, each of which was right. And what its answer tells.
-use Rattle.std.proofs.Common.{◌≡◌, ℕ, suc, ◌+◌, ◌<◌, ◌≤◌, ◌↔◌, Bool, true, false, List, [], ◌∷◌, length, drop, get_or, reverse, inr, Some, Result, Ok, Err, IfOk, refl, sym, ap, ◌∙◌, subst, subst₂, arith, add-one}
+use Rattle.std.proofs.Common.{◌≡◌, ℕ, suc, ◌+◌, ◌<◌, ◌≤◌, ◌↔◌, Bool, true, false, List, [], ◌∷◌, length, drop, get_or, reverse, inr, Some, refl, sym, ap, ◌∙◌, subst, subst₂, arith, add-one}
 use Rattle.std.specs.Prelude.{IsTrue}
 use Rattle.std.specs.List.{Contains}
 use Rattle.std.proofs.lemmas.List.Elements.{Contains-get_or}
@@ -26,7 +26,7 @@ use Rattle.tree_laws.specs.Spent.{IsSpent}
 use Rattle.tree_laws.proofs.Faults.{right_refutes, right_spent, fault_refutes_not, fault_spent_not}
 use Rattle.tree_laws.proofs.Walks.{HasCome, come_none, come_stands, stands_fault, come_all, come_leaf, come_split}
 use Rattle.tree_laws.proofs.Walks.IsSplitNode.{value_node, steadiness_node}
-use Rattle.tree_scopes.specs.Settings.{IsSameSetting}
+use Rattle.tree_laws.specs.Settings.{IsSameSetting}
 use Rattle.refutation_check.specs.declared.answer.TreeCheck.{TreeCheck}
 use Rattle.refutation_check.specs.declared.answer.TreeCheck.TheVariants.{Yes, No}
 use Rattle.refutation_check.specs.declared.walk.Pending.{Pending}
@@ -184,11 +184,6 @@ pub spent_exactly : (c : Circuit) (rules : Rules) (target : Target) (budget : �
 spent_exactly c rules target budget nodes Yes spent = (λ e. spent, λ all. refl)
 spent_exactly c rules target budget nodes (No place) fault =
     (λ e. cc, λ all. absurd (fault_spent_not c rules target budget nodes place fault all))
-
--- what holds of every answer holds of one that there is
-pub of_every : {T E : Type 0} (result : Result T E) (P : T → Type 0) → ((value : T) → P value) → IfOk result P
-of_every (Ok value) P every = every value
-of_every (Err error) P every = tt
 
 -- a judge that is made for the end of a path can judge it
 pub told_at_end : (made : MadeFor) (c : Circuit) (rules : Rules) (end : LineId) (path : Route)

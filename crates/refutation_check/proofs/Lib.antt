@@ -1,5 +1,9 @@
 mod Checking
+mod Closing
+mod KeptStates
+mod NodeLabels
 mod Roots
 mod Spending
+mod Telling
 mod Trying
 mod Walking

@@ -1,6 +1,6 @@
 -- The pins of a prefix are entered one after another. Where a conflict comes up at one, the root of each tree for the prefix closes; and where
 -- none has come up at all of them, the scope is at the root.
-use Rattle.std.proofs.Common.{◌≡◌, ℕ, ◌+◌, ◌<◌, ◌≤◌, List, [], length, map, take, get_or, Bool, true, false, Some, None, Result, Ok, Err, OnOk, IfErr, refl, sym, ap, subst, ◌∙◌}
+use Rattle.std.proofs.Common.{◌≡◌, ℕ, ◌+◌, ◌<◌, ◌≤◌, List, [], length, map, take, get_or, Bool, true, false, Some, None, Result, Ok, Err, OnOk, IfErr, sym, ap, subst, ◌∙◌}
 use Rattle.std.specs.Prelude.{is_err}
 use Rattle.std.proofs.lemmas.Bool.{false≢true}
 use Rattle.std.proofs.lemmas.List.{take_all, get_or_default}
@@ -17,20 +17,19 @@ use Rattle.netlist.specs.Paths.{IsPrefix, line_after, end_of, prefix_of}
 use Rattle.path_laws.proofs.Prefixes.{prefix_of-is_prefix}
 use Rattle.state_sets.specs.FourStates.{four_states}
 use Rattle.state_laws.specs.declared.half.Half.{Half}
-use Rattle.state_laws.specs.Nodes.{ClosesAtNode}
-use Rattle.state_laws.proofs.Hulls.{prefix_closes}
+use Rattle.state_laws.proofs.Hulls.{prefix_empties}
 use Rattle.implication.specs.declared.assumption.Assumption.{Assumption}
 use Rattle.implication.specs.declared.assumption.Assumption.TheVariants.{Entered}
 use Rattle.implication.specs.Assumptions.{entered_pins}
 use Rattle.implication.specs.Moves.{grown, closed_at, with_entered, HasBegun}
 use Rattle.implication.specs.Standing.{Standing, IsTold, IsToldBy, IsOpenIn, IsEmptiedIn, end_of_scope, end_from}
-use Rattle.tree_scopes.specs.Nodes.{beginning_of, AllowAsNode}
-use Rattle.tree_scopes.proofs.Entered.{pins_of_entered, step_on, entries_more, start_allows}
-use Rattle.tree_scopes.proofs.Labels.{open_under, closes_there}
-use Rattle.tree_scopes.proofs.Nodes.{closes_at_node}
-use Rattle.tree_scopes.proofs.Told.{gate_told}
+use Rattle.tree_laws.specs.NodeScopes.{beginning_of, AllowAsNode}
+use Rattle.tree_laws.proofs.Entered.{pins_of_entered, step_on, entries_more, start_allows}
+use Rattle.tree_laws.proofs.ScopeLabels.{open_under}
+use Rattle.tree_laws.proofs.Told.{gate_told}
 use Rattle.refutation_check.specs.Entering.{HasEnteredTo, IsStartFor}
-use Rattle.refutation_check.specs.Walks.{IsScopeAt, IsNodeBy}
+use Rattle.refutation_check.specs.Walks.{ClosesAtLine, IsScopeAt, IsNodeBy}
+use Rattle.refutation_check.proofs.Closing.{closes_at_line}
 
 -- an answer that is told to be no error, and one that is told to be one
 pub ok_of : {T E : Type 0} (answer : Result T E) (P : Type 0) (r : Bool) → r ≡ is_err answer → r ≡ false → OnOk answer P → P
@@ -86,7 +85,7 @@ module _ (prefix : Route) (direction : Direction) (kind : Kind) where
         });
       }
 
-  -- where the first ones lead to a conflict, the root closes
+  -- where the first ones lead to a conflict, the root closes at its line
   root_closed : (now : Standing) (count : ℕ) (line : LineId) → now.assumptions ≡ map Entered (take count prefix.steps) → now.conflict ≡ Some line
       → IsEmptiedIn four_states now line.0 → now.beginning ≡ Some (beginning_of target) → IsScopeAt target [] now
   root_closed now count line list stands emptied began =
@@ -94,14 +93,15 @@ module _ (prefix : Route) (direction : Direction) (kind : Kind) where
       let P : List Assumption → Type 0 = λ l. AllowAsNode now.net now.rules first l [] in
       let allows : AllowAsNode now.net now.rules first now.assumptions [] =
       subst P (sym list) (start_allows now.net now.rules first (take count prefix.steps)) in
-      let closes : ClosesAtNode now.net now.rules first [] =
-      closes_at_node now.net now.rules first now.assumptions (ap entered_pins list ∙ pins_of_entered (take count prefix.steps)) [] allows
-      (closes_there now now (beginning_of target) refl refl began line.0 emptied) in
+      let closes : ClosesAtLine now.net now.rules first [] line =
+      closes_at_line first [] now began (ap entered_pins list ∙ pins_of_entered (take count prefix.steps)) allows line emptied in
       record {
         beginning = began;
         on_sources = All-nil (λ (half : Half). half.source < source_count now.net);
-        is_node = subst (IsNodeBy target [] now) (sym stands)
-            (prefix_closes now.net now.rules (prefix_of count prefix) prefix (prefix_of-is_prefix count prefix) direction kind [] closes);
+        is_node = subst (IsNodeBy target [] now) (sym stands) (
+          closes.0,
+          prefix_empties now.net now.rules (prefix_of count prefix) prefix (prefix_of-is_prefix count prefix) direction kind [] line.0 closes.1,
+        );
       }
 
 -- what holds of the targets on a prefix holds of one whose path is the prefix

@@ -21,6 +21,7 @@ use Rattle.implication.specs.declared.assumption.Conflict.{Conflict}
 use Rattle.implication.specs.Standing.{Standing, IsLabels, IsToldBy}
 use Rattle.test_judging.specs.FoundLines.{HasMark}
 use Rattle.refutation_check.specs.Walks.{IsScopeAt, IsNodeBy}
+use Rattle.refutation_check.proofs.Closing.{closes_at_some}
 use Rattle.refutation_check.proofs.Trying.{node_of, node_open, hull_of}
 
 -- the conflict that stands, or that none does, as the scope tells it
@@ -57,10 +58,14 @@ unmarked_outside c path lines marks source marked cone none support =
     false≢true (sym none ∙ (marked source).1 ((cone source).1 support.in_fan_in))
 
 module _ (target : Target) (halves : List Half) (standing : Standing) (at : IsScopeAt target halves standing) where
+  -- the node closes where a conflict stands
+  closes_by : (line : LineId) → standing.conflict ≡ Some line → ClosesAtNode standing.net standing.rules target halves
+  closes_by line stands = closes_at_some standing.net standing.rules target halves line (subst (IsNodeBy target halves standing) stands at.is_node)
+
   -- whether the node closes, as the scope tells its conflict
   pub closes_told : (answer : Option Conflict) → IfNone answer (standing.conflict ≡ None) → IfSome answer (λ found. standing.conflict ≡ Some found.0)
       → (r : Bool) → r ≡ is_some answer → IsTrue r ↔ ClosesAtNode standing.net standing.rules target halves
-  closes_told (Some conflict) none some r is = (λ yes. subst (IsNodeBy target halves standing) some at.is_node, λ closes. is)
+  closes_told (Some conflict) none some r is = (λ yes. closes_by conflict.0 some, λ closes. is)
   closes_told None none some r is = (
     λ yes. absurd (false≢true (sym is ∙ yes)),
     λ closes. absurd (node_open target halves standing (node_of target halves standing at none) closes),
@@ -72,7 +77,7 @@ module _ (target : Target) (halves : List Half) (standing : Standing) (at : IsSc
   not_open line stands hull open_here =
       not_closing four_states standing.net (IsNarrowingOf standing.net target.kind target.path.steps)
       (MayBe four_states standing.net standing.rules target halves) hull open_here.is_hull open_here.none_empty
-      (subst (IsNodeBy target halves standing) stands at.is_node)
+      (closes_by line stands)
 
   pub closing_not_open : (line : LineId) → standing.conflict ≡ Some line
       → IsTrue false ↔ ((hull : List StateSet) × IsOpen standing.net standing.rules target halves hull)

@@ -1,6 +1,5 @@
--- The trial of a node at which a scope stands without a conflict: a pair of vectors that has at each source the least state of the hull, of
--- which the judgement within the cone of the path's end tells whether it meets the conditions. Its states lie in the hull where it does,
--- so that the trial does not close; and where it does not, the trial closes.
+-- The trial of a node at which a scope stands without a conflict: a pair of vectors that has at each source the least state of the hull.
+-- Where it meets the conditions, the trial does not close, and where it does not, the trial closes.
 use Rattle.std.proofs.Common.{◌≡◌, ℕ, ◌<◌, ◌↔◌, true, false, List, [], get_or, None, refl, sym, subst, arith}
 use Rattle.std.specs.List.{All, Contains}
 use Rattle.std.specs.Prelude.{IsTrue}
@@ -15,7 +14,6 @@ use Rattle.netlist.specs.Lawful.{IsCircuit}
 use Rattle.netlist.specs.Paths.{IsPrefix, end_of}
 use Rattle.netlist.specs.Pins.{IsInFanIn}
 use Rattle.netlist.specs.Pins.IsInFanIn.{end_itself}
-use Rattle.path_laws.proofs.StepCounts.{line_after_in_circuit}
 use Rattle.state_sets.specs.declared.state.State.{State}
 use Rattle.state_sets.specs.declared.state.StateSet.{StateSet}
 use Rattle.state_sets.specs.FourStates.{four_states}
@@ -26,23 +24,21 @@ use Rattle.state_sets.specs.Hulls.{IsNarrowingOf, HasNoEmptySet}
 use Rattle.state_laws.specs.declared.half.Half.{Half}
 use Rattle.state_laws.specs.Nodes.{MayBe, IsNodeHull, ClosesAtNode}
 use Rattle.state_laws.specs.Steadied.{KeepsRules}
-use Rattle.state_laws.proofs.FanIns.{fan_in_in_circuit}
 use Rattle.state_laws.proofs.Hulls.{hull_once}
-use Rattle.state_laws.proofs.Pairs.{kept_at_node}
 use Rattle.tree_laws.specs.Spent.{IsOpen}
 use Rattle.tree_laws.proofs.Trials.{TakesLeast, trial_stays_open}
 use Rattle.tree_laws.proofs.Trying.{open_has_no_empty_set, open_if_no_test}
 use Rattle.good_runs.proofs.LeastPairs.{least_pair, takes_least}
 use Rattle.implication.specs.Standing.{Standing, IsLabels, IsTold, TellsLabels}
-use Rattle.tree_scopes.specs.Nodes.{beginning_of}
-use Rattle.tree_scopes.proofs.Labels.{labels_under}
-use Rattle.tree_scopes.proofs.Nodes.{hull_at_node, closes_under}
-use Rattle.test_judging.specs.ConeStates.{state_in, HasSourceStates, AreAllowed}
-use Rattle.test_judging.specs.Judged.{IsJudgedAt}
+use Rattle.tree_laws.specs.NodeScopes.{beginning_of}
+use Rattle.tree_laws.proofs.ScopeLabels.{labels_under}
+use Rattle.tree_laws.proofs.NodeScopes.{hull_at_node, closes_under}
+use Rattle.test_judging.specs.ConeStates.{state_in, HasSourceStates}
 use Rattle.test_judging.specs.KeptCones.{AreConeSources}
 use Rattle.test_judging.specs.LeastStates.{IsTakenOf}
+use Rattle.test_judging.specs.Taken.{AreLeast}
 use Rattle.test_judging.proofs.Taking.{least_is_taken}
-use Rattle.test_judging.specs.declared.judging.Judgement.TheVariants.{IsTest}
+use Rattle.refutation_check.specs.Trials.{AreLeastOf, EachIsTest, NoneIsTest}
 use Rattle.refutation_check.specs.Walks.{IsScopeAt, IsNodeBy, IsOpenNode}
 
 -- the sources of a cone are lines
@@ -52,6 +48,17 @@ sources_within c end sources seen same are n is k d inside =
     let P : List LineId → Type 0 = λ list. Contains list (get_or seen k d) in
     let found = (are.exactly (get_or seen k d).0).0 (subst P same (Contains-get_or seen k d inside)) in
     let within = found.0 in omega (arith, within, is)
+
+pub are_sources : (c : Circuit) (end : ℕ) (sources seen : List LineId) → seen ≡ sources → AreConeSources c end sources
+    → All (λ source. source.0 < source_count c) seen
+are_sources c end sources seen same are k d inside =
+    let P : List LineId → Type 0 = λ list. Contains list (get_or seen k d) in
+    ((are.exactly (get_or seen k d).0).0 (subst P same (Contains-get_or seen k d inside))).0
+
+-- those that are in the least states of their labels are the ones in the fan-in of the end
+pub least_in_cone : (c : Circuit) (end : ℕ) (sources : List LineId) → AreConeSources c end sources → (labels : List StateSet)
+    → (states : List State) → AreLeast sources labels states → AreLeastOf c end labels states
+least_in_cone c end sources are labels states least source within further = least source ((are.exactly source).1 (within, further))
 
 -- a node at which a scope stands without a conflict is open, and does not close
 pub node_of : (target : Target) (halves : List Half) (standing : Standing) → IsScopeAt target halves standing → standing.conflict ≡ None
@@ -115,7 +122,7 @@ module _ (target : Target) (halves : List Half) (standing : Standing) (at : IsSc
       trial_stays_open standing.net circuit standing.rules target is halves hull tried takes meets keeps lie
       (subst (IsOpen standing.net standing.rules target halves) (sym same) open_there).trial
 
-  -- the judgement of the pairs that have the least states of the scope's labels is one of this pair
+  -- what is told of the pairs that have the least states of the scope's labels is told of this pair
   module _ (answers : List StateSet) (tells : TellsLabels 4 standing hull answers)
       (told : (line : ℕ) → IsInFanIn standing.net (end_of standing.net target.path) line → IsTold standing line)
       (states : List State)
@@ -129,31 +136,19 @@ module _ (target : Target) (halves : List Half) (standing : Standing) (at : IsSc
         least_is_taken (label_at hull source) (state_under standing.net tried source) (state_in states source) (least_at source within)
         (subst T seen (least source within further))
 
-    -- where it meets the conditions, its states lie in the labels
-    allowed : Meets standing.net target tried → AreAllowed standing.net (end_of standing.net target.path) answers tried
-    allowed meets line further =
-        let within = is.source in
-        let inside : line < line_count standing.net =
-        fan_in_in_circuit standing.net (end_of standing.net target.path) circuit.reads_lines
-        (line_after_in_circuit standing.net circuit target.path.source.0 target.path.steps (omega (arith, within)) is.connects) line further in
-        (tells line inside).contains (state_under standing.net tried line)
-        (kept_at_node standing.net circuit standing.rules target is tried meets keeps halves lie hull is_hull line inside)
-
-    pub test_not_open : IsJudgedAt standing.net target answers states IsTest
+    pub test_not_open : EachIsTest standing.net target states
         → IsTrue false ↔ ((other : List StateSet) × IsOpen standing.net standing.rules target halves other)
-    test_not_open judged = (
+    test_not_open each = (
       λ never. absurd (false≢true never),
-      λ open_there. absurd (met_not_open (judged tried has_states).1 open_there.0 open_there.1),
+      λ open_there. absurd (met_not_open (each tried has_states) open_there.0 open_there.1),
     )
 
-    pub failed_open : ((pair : Vectors) → HasSourceStates standing.net (end_of standing.net target.path) states pair
-        → AreAllowed standing.net (end_of standing.net target.path) answers pair → ¬ Meets standing.net target pair)
+    pub failed_open : NoneIsTest standing.net target states
         → IsTrue true ↔ ((other : List StateSet) × IsOpen standing.net standing.rules target halves other)
-    failed_open judged = (
+    failed_open fails = (
       λ yes. (
         hull,
-        open_if_no_test standing.net circuit standing.rules target is halves hull is_hull tried takes
-            (λ meets. judged tried has_states (allowed meets) meets) none_empty,
+        open_if_no_test standing.net circuit standing.rules target is halves hull is_hull tried takes (fails tried has_states) none_empty,
       ),
       λ open_there. refl,
     )

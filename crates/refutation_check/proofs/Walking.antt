@@ -11,11 +11,7 @@ use Rattle.pd_base.specs.declared.rules.Rules.{Rules}
 use Rattle.netlist.specs.Circuit.{Circuit, source_count}
 use Rattle.state_sets.specs.declared.state.StateSet.{StateSet}
 use Rattle.state_sets.specs.FourStates.{four_states}
-use Rattle.state_sets.specs.Hulls.{IsNarrowingOf}
 use Rattle.state_laws.specs.declared.half.Half.{Half}
-use Rattle.state_laws.specs.Nodes.{MayBe, ClosesAtNode}
-use Rattle.state_laws.proofs.Hulls.{closes_if_wider, widens_by_states}
-use Rattle.state_laws.proofs.Restart.{may_be_above}
 use Rattle.tree_laws.specs.Halves.{halves_of, turns, GoesOn}
 use Rattle.implication.specs.declared.assumption.Assumption.{Assumption}
 use Rattle.implication.specs.declared.assumption.Conflict.{Conflict}
@@ -24,24 +20,14 @@ use Rattle.implication.specs.Clients.{ExtendsStanding, IsRestored}
 use Rattle.implication.specs.Moves.{with_assumed, grown, closed_at, back_at}
 use Rattle.implication.specs.Standing.{Standing, IsFree, IsOpenIn, IsEmptiedIn}
 use Rattle.implication.proofs.Restoring.{extends_restored, extends_trans}
-use Rattle.tree_scopes.specs.Nodes.{beginning_of, AllowAsNode}
-use Rattle.tree_scopes.specs.Settings.{IsSameSetting}
-use Rattle.tree_scopes.proofs.Assuming.{entered_assumed}
-use Rattle.tree_scopes.proofs.Halves.{IsStatesOf, half_assumed}
-use Rattle.tree_scopes.proofs.Labels.{open_under, closes_there}
-use Rattle.tree_scopes.proofs.Nodes.{closes_at_node}
+use Rattle.tree_laws.specs.NodeScopes.{beginning_of, AllowAsNode}
+use Rattle.tree_laws.specs.Settings.{IsSameSetting}
+use Rattle.tree_laws.proofs.Assuming.{entered_assumed}
+use Rattle.tree_laws.proofs.AssumedHalves.{IsStatesOf, half_assumed}
+use Rattle.tree_laws.proofs.ScopeLabels.{open_under}
 use Rattle.refutation_check.specs.declared.walk.Pending.{Pending}
-use Rattle.refutation_check.specs.Walks.{IsNodeBy, IsScopeAt, IsPending, ArePending, WalksAt, IsWalk}
-
--- where a node closes, so does each below it
-pub closes_below : (c : Circuit) (rules : Rules) (target : Target) (halves : List Half) (half : Half) → ClosesAtNode c rules target halves
-    → ClosesAtNode c rules target (halves ++ half ∷ [])
-closes_below c rules target halves half =
-    let Narrowings = IsNarrowingOf c target.kind target.path.steps in
-    let Below = MayBe four_states c rules target (halves ++ half ∷ []) in
-    let Above = MayBe four_states c rules target halves in
-    closes_if_wider four_states c Narrowings Narrowings Below Above (widens_by_states four_states c Narrowings Below Above
-    (λ line state in_circuit in_range may. (may_be_above four_states c rules target halves half line state in_circuit in_range may).0))
+use Rattle.refutation_check.specs.Walks.{ClosesAtLine, IsNodeBy, IsScopeAt, IsPending, ArePending, WalksAt, IsWalk}
+use Rattle.refutation_check.proofs.Closing.{closes_below, closes_at_line}
 
 -- what stays of an engine while its innermost scope goes on
 pub same_of_extended : (old new : Standing) → ExtendsStanding old new → IsSameSetting old new
@@ -77,8 +63,8 @@ module _ (old new : Standing) (half : Half) (set : StateSet) (states : IsStatesO
   -- a conflict that stood still does
   held_node : (line : LineId) → new ≡ old → IsNodeBy target halves old (Some line) → IsNodeBy target (halves ++ half ∷ []) new (Some line)
   held_node line same closes =
-      let P : Standing → Type 0 = λ s. ClosesAtNode s.net s.rules target (halves ++ half ∷ []) in
-      subst P (sym same) (closes_below old.net old.rules target halves half closes)
+      let P : Standing → Type 0 = λ s. ClosesAtLine s.net s.rules target (halves ++ half ∷ []) line in
+      subst P (sym same) (closes_below old.net old.rules target halves half line closes)
 
   below_by : {T : Type 0} (answer : Result T Conflict) (conflict : Option LineId) → old.conflict ≡ conflict → old.beginning ≡ Some (beginning_of target)
       → IsNodeBy target halves old conflict
@@ -103,8 +89,8 @@ module _ (old new : Standing) (half : Half) (set : StateSet) (states : IsStatesO
       let is = ap (λ (s : Standing). s.assumptions) closed in
       let P : Option LineId → Type 0 = IsNodeBy target (halves ++ half ∷ []) new in
       subst P (sym (ap (λ (s : Standing). s.conflict) closed))
-      (closes_at_node new.net new.rules target new.assumptions (entered_there node.entered is) (halves ++ half ∷ []) (allows_there node.allows is)
-      (closes_there new new (beginning_of target) refl refl (extends.beginning ∙ began) conflict.0.0 emptied))
+      (closes_at_line target (halves ++ half ∷ []) new (extends.beginning ∙ began) (entered_there node.entered is) (allows_there node.allows is)
+      conflict.0 emptied)
 
   -- the scope is at the node below
   pub at_below : {T : Type 0} (answer : Result T Conflict) → half.source < source_count old.net → IsScopeAt target halves old
@@ -132,7 +118,7 @@ at_restored target halves old new restored at = record {
   where
     by : (conflict : Option LineId) → IsNodeBy target halves old conflict → IsNodeBy target halves new conflict
     by (Some line) closes =
-        let P : Circuit → Rules → Type 0 = λ c rules. ClosesAtNode c rules target halves in
+        let P : Circuit → Rules → Type 0 = λ c rules. ClosesAtLine c rules target halves line in
         subst₂ P (sym restored.net) (sym restored.rules) closes
     by None node = record {
       entered = ap entered_pins restored.assumptions ∙ node.entered;

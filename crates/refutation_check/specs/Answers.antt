@@ -10,7 +10,7 @@ use Rattle.tree_laws.specs.Refutations.{IsRefutation}
 use Rattle.tree_laws.specs.Spent.{IsSpent}
 use Rattle.tree_laws.specs.Faults.{AreRight, IsFirstFaultOf, IsFaultOfRefutation, IsFaultOfSpent}
 use Rattle.implication.specs.Standing.{Standing}
-use Rattle.tree_scopes.specs.Settings.{IsSameSetting}
+use Rattle.tree_laws.specs.Settings.{IsSameSetting}
 use Rattle.refutation_check.specs.declared.answer.TreeCheck.{TreeCheck}
 use Rattle.refutation_check.specs.declared.answer.TreeCheck.TheVariants.{Yes, No}
 

@@ -1,4 +1,5 @@
--- How a scope stands before the pins of a prefix are entered, and while they are (this project's own).
+-- How a scope stands before the pins of a prefix are entered, and while they are: facts of a loop, spoken inside this crate alone (this
+-- project's own).
 use Rattle.std.specs.Prelude.{◌≡◌, ℕ, map, take, Some, None}
 use Rattle.pd_base.specs.Route.{Route}
 use Rattle.state_sets.specs.FourStates.{four_states}

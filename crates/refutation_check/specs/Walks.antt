@@ -1,18 +1,20 @@
--- Where a walk over a tree in preorder stands: a scope at its node, and the second halves that it has put off (this project's own).
+-- Where a walk over a tree in preorder stands: a scope at its node, and the second halves that it has put off. These are facts of a loop,
+-- spoken inside this crate alone (this project's own).
 use Rattle.std.specs.Prelude.{◌≡◌, ⊤, ℕ, ◌<◌, true, false, List, [], ◌∷◌, reverse, length, All, Option, Some, None}
 use Rattle.pd_base.specs.Target.{Target}
 use Rattle.pd_base.specs.declared.ids.LineId.{LineId}
-use Rattle.netlist.specs.Circuit.{source_count}
+use Rattle.pd_base.specs.declared.rules.Rules.{Rules}
+use Rattle.netlist.specs.Circuit.{Circuit, source_count, line_count}
 use Rattle.state_sets.specs.FourStates.{four_states}
 use Rattle.state_laws.specs.declared.half.Half.{Half}
-use Rattle.state_laws.specs.Nodes.{ClosesAtNode}
+use Rattle.state_laws.specs.Nodes.{IsEmptiedAtNode}
 use Rattle.runs.specs.declared.tree.Node.{Node}
 use Rattle.runs.specs.declared.tree.Node.TheVariants.{Closed, Waiting, Value, Steadiness}
 use Rattle.tree_laws.specs.Halves.{halves_of, turns, GoesOn}
 use Rattle.implication.specs.Assumptions.{entered_pins, ClosesUnder}
 use Rattle.implication.specs.Clients.{ExtendsStanding}
 use Rattle.implication.specs.Standing.{Standing}
-use Rattle.tree_scopes.specs.Nodes.{beginning_of, AllowAsNode}
+use Rattle.tree_laws.specs.NodeScopes.{beginning_of, AllowAsNode}
 use Rattle.refutation_check.specs.declared.walk.Pending.{Pending}
 
 -- the assumptions of the scope are those of the node: the pins entered are the path's, and lines may be in the same states, of which
@@ -22,10 +24,14 @@ pub record IsOpenNode (target : Target) (halves : List Half) (standing : Standin
   pub allows : AllowAsNode standing.net standing.rules target standing.assumptions halves
   pub left_open : ¬ ClosesUnder four_states standing.net standing.rules (beginning_of target) standing.assumptions
 
--- where no conflict stands the assumptions are the node's, and where one stands the node closes
+-- the node closes at this line
+abbrev pub ClosesAtLine : Circuit → Rules → Target → List Half → LineId → Type 0
+ClosesAtLine c rules target halves line = (line.0 < line_count c) × IsEmptiedAtNode c rules target halves line.0
+
+-- where no conflict stands the assumptions are the node's, and where one stands the node closes at its line
 abbrev pub IsNodeBy : Target → List Half → Standing → Option LineId → Type 0
 IsNodeBy target halves standing None = IsOpenNode target halves standing
-IsNodeBy target halves standing (Some line) = ClosesAtNode standing.net standing.rules target halves
+IsNodeBy target halves standing (Some line) = ClosesAtLine standing.net standing.rules target halves line
 
 -- the scope is at the node of a tree for this target below these halves, which are of sources
 pub record IsScopeAt (target : Target) (halves : List Half) (standing : Standing) : Type 0 where

@@ -1,4 +1,6 @@
-// The answer of a check of a tree.
+// The answers of a check of a tree, and of a call for the hull at a node.
+use pd_base::LineId;
+use state_sets::{FourStates, Labels};
 
 /// What a check tells of a tree.
 #[derive(Clone, Copy, Debug, PartialEq, Eq)]
@@ -7,4 +9,13 @@ pub enum TreeCheck {
     Yes,
     /// It does not. This is the first node at fault, by its place in preorder from 0.
     No(u32),
+}
+
+/// What is left at a node of a tree of cases.
+#[derive(Debug, Drop)]
+pub enum Hull {
+    /// The hull, in which each line has some state.
+    Rest(Labels<FourStates>),
+    /// The node closes: no labels at rest have a state at this line. Which such line it is, is not said.
+    Empty(LineId),
 }

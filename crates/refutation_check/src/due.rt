@@ -31,8 +31,8 @@ pub(crate) fn is_due<S: Setting>(
 ) -> bool
     requires prefix { IsPrefix (standing scope.now).net asked.now.path.now }
     requires told { IsTold (standing scope.now) (end_of (standing scope.now).net asked.now.path.now) }
-    requires room { IsTrialRoomAt (standing scope.now).net asked.now.path.now room.old }
-    ensures room { IsTrialRoomAt (standing scope.now).net asked.now.path.now room.new }
+    requires room { IsTrialRoomAt (standing scope.now).net (asked_target asked.now) room.old }
+    ensures room { IsTrialRoomAt (standing scope.now).net (asked_target asked.now) room.new }
     ensures due { (halves : List Half) → IsScopeAt (asked_target asked.now) halves (standing scope.now)
         → IsTrue result ↔ IsDue (standing scope.now).net (standing scope.now).rules (asked_target asked.now) halves split.steadiness split.source }
 {

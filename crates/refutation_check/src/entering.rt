@@ -4,8 +4,8 @@ ghost use Rattle.pd_base.specs.Target.{Target};
 ghost use Rattle.netlist.specs.Paths.{IsPrefix, end_of};
 ghost use Rattle.implication.specs.Scopes.{IsSameScope, standing};
 ghost use Rattle.implication.specs.Standing.{IsTold};
-ghost use Rattle.tree_scopes.specs.Nodes.{beginning_of};
-ghost use Rattle.tree_scopes.specs.Settings.{IsSameSetting};
+ghost use Rattle.tree_laws.specs.NodeScopes.{beginning_of};
+ghost use Rattle.tree_laws.specs.Settings.{IsSameSetting};
 ghost use Rattle.refutation_check.specs.Entering.{IsStartFor};
 ghost use Rattle.refutation_check.specs.Walks.{IsScopeAt};
 

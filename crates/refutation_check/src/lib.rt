@@ -1,6 +1,7 @@
-//! Whether a tree of cases refutes, and whether it shows that a budget was spent; if not, which node is first at fault.
-//! Stands on implication, tree_laws, tree_scopes and test_judging.
-//! The layers above use the contracts of `TreeJudge`, `check_tree` and `check_spent`.
+//! Whether a tree of cases refutes, and whether it shows that a budget was spent; if not, which node is first at fault. And the hull at
+//! a node of a tree.
+//! Stands on implication, tree_laws and test_judging.
+//! The layers above use the contracts of `TreeJudge`, `check_tree`, `check_spent` and `hull`.
 #![tactic(auto)]
 
 mod answer;
@@ -9,12 +10,15 @@ mod due;
 mod entering;
 mod halves;
 mod judge;
+mod kept_states;
+mod node_hull;
 mod refutation;
 mod single;
 mod spent;
 mod trial;
 mod walk;
 
-pub use answer::TreeCheck;
+pub use answer::{Hull, TreeCheck};
 pub use judge::TreeJudge;
+pub use node_hull::hull;
 pub use single::{check_spent, check_tree};

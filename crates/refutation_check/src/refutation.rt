@@ -7,7 +7,7 @@ ghost use Rattle.implication.specs.Scopes.{IsSameScope, standing};
 ghost use Rattle.implication.specs.Standing.{IsTold};
 ghost use Rattle.implication.specs.declared.assumption.Origin.TheVariants.{Begun};
 ghost use Rattle.tree_laws.specs.Faults.{IsRightInRefutation};
-ghost use Rattle.tree_scopes.specs.Settings.{IsSameSetting};
+ghost use Rattle.tree_laws.specs.Settings.{IsSameSetting};
 ghost use Rattle.refutation_check.specs.Walks.{IsScopeAt, IsRoot};
 ghost use Rattle.refutation_check.specs.Answers.{TellsOfNodes, IsIdleOn};
 

@@ -40,9 +40,11 @@ pub fn check_tree(
     ensures excludes { result ≡ Ok TreeCheck.Yes → (path : Route) → IsPrefix net.now path → IsPrefixOf prefix.now path
         → (pair : Vectors) → ¬ Meets net.now (target_of path dir kind) pair }
     // steadying a pair at the other sources, as rules Two ask, loses no test
-    ensures steadied { IfOk result (λ check. (pair : Vectors) → Meets net.now (target_of prefix.now dir kind) pair
-        → Meets net.now (target_of prefix.now dir kind) (steadied net.now prefix.now.source.0 pair)) }
+    ensures steadied { (pair : Vectors) → Meets net.now (target_of prefix.now dir kind) pair
+        → Meets net.now (target_of prefix.now dir kind) (steadied net.now prefix.now.source.0 pair) }
 {
+    // a netlist knows itself as a circuit
+    let _ = net.lines();
     let ends = [end_of(net, prefix)];
     let mut judge = TreeJudge::new(alloc, net, rules, &ends)?;
     judge.check_tree(prefix, dir, kind, tree)

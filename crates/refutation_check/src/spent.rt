@@ -7,7 +7,7 @@ ghost use Rattle.implication.specs.Scopes.{IsSameScope, standing};
 ghost use Rattle.implication.specs.Standing.{IsTold};
 ghost use Rattle.implication.specs.declared.assumption.Origin.TheVariants.{Begun};
 ghost use Rattle.tree_laws.specs.Faults.{IsRightInSpent};
-ghost use Rattle.tree_scopes.specs.Settings.{IsSameSetting};
+ghost use Rattle.tree_laws.specs.Settings.{IsSameSetting};
 ghost use Rattle.refutation_check.specs.Answers.{TellsOfNodes, IsIdleOn};
 ghost use Rattle.refutation_check.specs.Trials.{asked_target, IsTrialRoomFor, IsTrialRoomAt};
 ghost use Rattle.refutation_check.specs.Walks.{IsScopeAt};
@@ -45,6 +45,7 @@ pub(crate) fn spends<S: Setting>(
     enter_all(&mut scope, path);
     let net = scope.net();
     room.cone.set_end(net, end_of(net, path));
+    room.failed = false;
     walk_spent(&mut scope, pending, room, asked, tree)
 }
 
@@ -60,10 +61,10 @@ fn walk_spent<S: Setting>(
     requires prefix { IsPrefix (standing scope.old).net asked.now.path.now }
     requires told { IsTold (standing scope.old) (end_of (standing scope.old).net asked.now.path.now) }
     requires root { IsScopeAt (asked_target asked.now) [] (standing scope.old) }
-    requires room { IsTrialRoomAt (standing scope.old).net asked.now.path.now room.old }
+    requires room { IsTrialRoomAt (standing scope.old).net (asked_target asked.now) room.old }
     ensures scope { IsSameScope scope.old scope.new }
     ensures setting { IsSameSetting (standing scope.old) (standing scope.new) }
-    ensures room { IsTrialRoomAt (standing scope.old).net asked.now.path.now room.new }
+    ensures room { IsTrialRoomAt (standing scope.old).net (asked_target asked.now) room.new }
     ensures tells { IfOk result (TellsOfNodes (IsRightInSpent (standing scope.old).net (standing scope.old).rules (asked_target asked.now)) tree.now) }
 {
     pending.clear();
@@ -85,8 +86,8 @@ fn is_right_at<S: Setting>(
 ) -> bool
     requires prefix { IsPrefix (standing scope.now).net asked.now.path.now }
     requires told { IsTold (standing scope.now) (end_of (standing scope.now).net asked.now.path.now) }
-    requires room { IsTrialRoomAt (standing scope.now).net asked.now.path.now room.old }
-    ensures room { IsTrialRoomAt (standing scope.now).net asked.now.path.now room.new }
+    requires room { IsTrialRoomAt (standing scope.now).net (asked_target asked.now) room.old }
+    ensures room { IsTrialRoomAt (standing scope.now).net (asked_target asked.now) room.new }
     ensures right { (halves : List Half) → IsScopeAt (asked_target asked.now) halves (standing scope.now)
         → IsTrue result ↔ IsRightInSpent (standing scope.now).net (standing scope.now).rules (asked_target asked.now) halves node }
 {

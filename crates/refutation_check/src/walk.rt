@@ -9,7 +9,7 @@ ghost use Rattle.state_laws.specs.declared.half.Half.{Half};
 ghost use Rattle.implication.specs.Clients.{ExtendsStanding};
 ghost use Rattle.implication.specs.Scopes.{IsSameScope, standing};
 ghost use Rattle.implication.specs.declared.assumption.Origin.TheVariants.{Begun};
-ghost use Rattle.tree_scopes.specs.Settings.{IsSameSetting};
+ghost use Rattle.tree_laws.specs.Settings.{IsSameSetting};
 ghost use Rattle.refutation_check.specs.Walks.{IsScopeAt, IsWalk, IsOn, GoesRound, GoesDown, PassesOn};
 
 use hulls::half_states;
@@ -96,7 +96,7 @@ fn split<S: Setting>(
 }
 
 // Assumes of the source of a half that it is in a state of that half. Where a conflict comes, the scope keeps it.
-fn assume_half<S: Setting>(scope: &mut Scope<FourStates, S>, half: Half)
+pub(crate) fn assume_half<S: Setting>(scope: &mut Scope<FourStates, S>, half: Half)
     requires source { half.source < source_count (standing scope.old).net }
     ensures scope { IsSameScope scope.old scope.new }
     ensures extends { ExtendsStanding (standing scope.old) (standing scope.new) }

@@ -14,7 +14,7 @@ use Rattle.delay_replay.specs.declared.line_waves.ReplayFault.{ReplayFault}
 use Rattle.delay_replay.specs.declared.line_waves.ReplayFault.TheVariants.{TooManyChanges, NoMemory}
 use Rattle.delay_replay.specs.ChangeLimits.{HasFewChanges, IsFirstTooMuch, RefusesReplay, ranked_lines}
 use Rattle.replay_command.specs.ReplayText.{replayed_line, replayed_lines}
-use Rattle.replay_command.specs.TestChanges.{HaveFewChanges, IsFirstTestOver, RefusesTests, text_fault}
+use Rattle.replay_command.specs.TestChanges.{HaveFewChanges, IsFirstTestOver, RefusesTests, replay_text_fault}
 use Rattle.replay_command.proofs.OneOrder.{one_rank_order}
 
 -- what holds of each item holds of the one at this place
@@ -79,7 +79,7 @@ module _ (c : Circuit) (delays : Delays) where
 
       -- or it is the first one over
       pub refused_here : (fault : ReplayFault) → RefusesReplay c here.pair delays fault
-          → RefusesTests c delays tests (text_fault (place + 1) fault)
+          → RefusesTests c delays tests (replay_text_fault (place + 1) fault)
       refused_here NoMemory refuses = tt
       refused_here (TooManyChanges line) refuses = record {
         earlier = take place tests;

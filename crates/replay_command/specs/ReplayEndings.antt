@@ -8,16 +8,16 @@ use Rattle.calls.specs.declared.ending.Ending.{Ending}
 use Rattle.calls.specs.declared.ending.Ending.TheVariants as ended
 use Rattle.calls.specs.declared.refusal.Refusal.TheVariants as refused
 use Rattle.replay_command.specs.TestChanges.{IsFirstTestOver}
-use Rattle.replay_command.specs.declared.text.TextFault.{TextFault}
-use Rattle.replay_command.specs.declared.text.TextFault.TheVariants.{TooManyChanges, NoMemory}
+use Rattle.replay_command.specs.declared.text.ReplayTextFault.{ReplayTextFault}
+use Rattle.replay_command.specs.declared.text.ReplayTextFault.TheVariants.{TooManyChanges, NoMemory}
 
 -- a fault of a text names a line of the circuit, if it names one
-abbrev pub NamesLine : Circuit → TextFault → Type 0
+abbrev pub NamesLine : Circuit → ReplayTextFault → Type 0
 NamesLine c (TooManyChanges number line) = line.0 < line_count c
 NamesLine c NoMemory = ⊤
 
 -- a call ends so for a fault of its text: the test and the name of the line are told, or memory ran out
-pub data EndsForFault (c : Circuit) (fault : TextFault) (ending : Ending) : Type 0 where
+pub data EndsForFault (c : Circuit) (fault : ReplayTextFault) (ending : Ending) : Type 0 where
   told : (number line : ℕ) → fault ≡ TooManyChanges number (record { 0 = line })
       → ending ≡ ended.Refused (refused.TooManyChanges number (name_at c line)) → EndsForFault c fault ending
   no_memory : ending ≡ ended.NoMemory → EndsForFault c fault ending

@@ -7,8 +7,8 @@ use Rattle.netlist.specs.Waves.{Delays}
 use Rattle.delay_replay.specs.declared.line_waves.ReplayFault.{ReplayFault}
 use Rattle.delay_replay.specs.declared.line_waves.ReplayFault.TheVariants as replay
 use Rattle.delay_replay.specs.ChangeLimits.{HasFewChanges, IsFirstTooMuch}
-use Rattle.replay_command.specs.declared.text.TextFault.{TextFault}
-use Rattle.replay_command.specs.declared.text.TextFault.TheVariants.{TooManyChanges, NoMemory}
+use Rattle.replay_command.specs.declared.text.ReplayTextFault.{ReplayTextFault}
+use Rattle.replay_command.specs.declared.text.ReplayTextFault.TheVariants.{TooManyChanges, NoMemory}
 
 -- under the pair of each of these tests the lines change few times
 abbrev pub HaveFewChanges : Circuit → Delays → List Test → Type 0
@@ -26,11 +26,11 @@ pub record IsFirstTestOver (c : Circuit) (delays : Delays) (tests : List Test) (
   pub too_much : IsFirstTooMuch c test.pair delays line
 
 -- the text of a replay is refused only at that test and that line, or for want of memory
-abbrev pub RefusesTests : Circuit → Delays → List Test → TextFault → Type 0
+abbrev pub RefusesTests : Circuit → Delays → List Test → ReplayTextFault → Type 0
 RefusesTests c delays tests (TooManyChanges number line) = IsFirstTestOver c delays tests number line.0
 RefusesTests c delays tests NoMemory = ⊤
 
 -- the fault of a text at the test of this number
-abbrev pub text_fault : ℕ → ReplayFault → TextFault
-text_fault number (replay.TooManyChanges line) = TooManyChanges number line
-text_fault number replay.NoMemory = NoMemory
+abbrev pub replay_text_fault : ℕ → ReplayFault → ReplayTextFault
+replay_text_fault number (replay.TooManyChanges line) = TooManyChanges number line
+replay_text_fault number replay.NoMemory = NoMemory

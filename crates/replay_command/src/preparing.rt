@@ -12,7 +12,7 @@ ghost use Rattle.replay_command.specs.ReplayText.{replay_text};
 ghost use Rattle.replay_command.specs.ReplayEndings.{EndsForFault, FailsReplay, NamesLine};
 ghost use Rattle.replay_command.specs.TestChanges.{HaveFewChanges};
 
-use crate::text::{TextFault, replay_text};
+use crate::text::{ReplayTextFault, replay_text};
 use call_inputs::{delays_from, netlist_from, tests_from};
 use calls::{ClaimsReader, Ending, Refusal};
 use command_line::ReplayCommand;
@@ -75,16 +75,16 @@ fn text_at(
 }
 
 // How the call ends for a fault of its text.
-fn ending_for(alloc: Global, net: &Netlist, fault: TextFault) -> Ending
+fn ending_for(alloc: Global, net: &Netlist, fault: ReplayTextFault) -> Ending
     requires { NamesLine net.now fault }
     ensures { EndsForFault net.now fault result }
 {
     match fault {
-        TextFault::TooManyChanges(number, line) => match copied(alloc, net.name(line)) {
+        ReplayTextFault::TooManyChanges(number, line) => match copied(alloc, net.name(line)) {
             Ok(name) => Ending::Refused(Refusal::TooManyChanges(number, name)),
             Err(OutOfMemory) => Ending::NoMemory,
         },
-        TextFault::NoMemory => Ending::NoMemory,
+        ReplayTextFault::NoMemory => Ending::NoMemory,
     }
 }
 

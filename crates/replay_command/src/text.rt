@@ -6,7 +6,7 @@ ghost use Rattle.delay_annotation.specs.Annotation.{Fits, delays_of};
 ghost use Rattle.delay_replay.specs.ChangeLimits.{HasFewChanges, RefusesReplay};
 ghost use Rattle.delay_replay.specs.Settling.{observed_at};
 ghost use Rattle.replay_command.specs.ReplayText.{sample_line, agreement_word, replay_text, replayed_line};
-ghost use Rattle.replay_command.specs.TestChanges.{HaveFewChanges, RefusesTests, text_fault};
+ghost use Rattle.replay_command.specs.TestChanges.{HaveFewChanges, RefusesTests, replay_text_fault};
 
 use delay_annotation::Delays;
 use delay_replay::{ReplayFault, replay, sample};
@@ -17,20 +17,20 @@ use text_pieces::{push_spaced, push_spaced_digits};
 
 /// Why the text of a replay was not made.
 #[derive(Clone, Copy, Debug, Drop)]
-pub(crate) enum TextFault {
+pub(crate) enum ReplayTextFault {
     /// The first test, by its number from 1, under whose pair some line changes too often, and the first such line in rank order.
     TooManyChanges(u32, LineId),
     /// Memory ran out.
     NoMemory,
 }
 
-impl From<OutOfMemory> for TextFault {
-    ghost use Rattle.replay_command.specs.declared.text.TextFault.TheVariants.{NoMemory};
+impl From<OutOfMemory> for ReplayTextFault {
+    ghost use Rattle.replay_command.specs.declared.text.ReplayTextFault.TheVariants.{NoMemory};
 
     ghost from_gives = { λ _ fault. fault ≡ NoMemory };
 
-    fn from(_: OutOfMemory) -> TextFault {
-        TextFault::NoMemory
+    fn from(_: OutOfMemory) -> ReplayTextFault {
+        ReplayTextFault::NoMemory
     }
 }
 
@@ -43,7 +43,7 @@ pub(crate) fn replay_text(
     delays: &Delays,
     tests: &[Test],
     time: i64,
-) -> Result<Vec<u8>, TextFault>
+) -> Result<Vec<u8>, ReplayTextFault>
     requires fits { Fits net.now delays.now }
     requires lawful { AreLawfulTests net.now tests.now }
     requires numbers { length tests.now < 2 ^ 32 }
@@ -55,19 +55,19 @@ pub(crate) fn replay_text(
     for (index, test) in tests.iter().enumerate() {
         let number = index as u32 + 1;
         if let Err(fault) = push_replayed(alloc, net, delays, test, number, time, &mut text) {
-            return Err(text_fault(number, fault));
+            return Err(replay_text_fault(number, fault));
         }
     }
     Ok(text)
 }
 
 // The fault of the test of this number.
-fn text_fault(number: u32, fault: ReplayFault) -> TextFault
-    ensures { result ≡ text_fault number fault }
+fn replay_text_fault(number: u32, fault: ReplayFault) -> ReplayTextFault
+    ensures { result ≡ replay_text_fault number fault }
 {
     match fault {
-        ReplayFault::TooManyChanges(line) => TextFault::TooManyChanges(number, line),
-        ReplayFault::NoMemory => TextFault::NoMemory,
+        ReplayFault::TooManyChanges(line) => ReplayTextFault::TooManyChanges(number, line),
+        ReplayFault::NoMemory => ReplayTextFault::NoMemory,
     }
 }
 

@@ -1,23 +1,26 @@
-//! Plays rows and prints what came of each: what a netlist's text says, values, delays, paths and tests, waves, hulls and trees of
-//! cases, searches; what is read of the files of a run; and whole calls over files and streams in memory. The rows are this crate's stdin;
-//! what they have to print, its stdout, was worked out by hand. In the end it is the program `pdfgen` once more, for words that are refused
-//! (the file `args`): it ends with their status (the file `status`), and writes nothing more on out. Stands on row_answers, search_answers,
-//! pattern_writer, verdict_report and commands, and is no part of the product.
+//! Plays rows and prints what came of each: what a netlist's text says, values, delays, paths and tests, waves, hulls and trees of cases,
+//! searches; what is read of the files of a run; and whole calls over files and streams in memory, alone and in series. The rows are this
+//! crate's stdin; what they have to print, its stdout, was worked out by hand. In the end it is the program `pdfgen` once more, for words
+//! that are refused (the file `args`): it ends with their status (the file `status`), and writes nothing more on out. Stands on
+//! row_answers, search_answers, pattern_writer, verdict_report and commands, and is no part of the product.
 #![tactic(auto)]
 
-mod chain;
+mod answer_lines;
 mod claims;
+mod outside;
 mod questions;
 mod row;
 mod searches;
+mod series;
+mod shape;
+mod standing;
 mod subject;
 mod table;
-mod wide;
 
 use commands::serve;
 use row::Row;
 use row_answers::Trouble;
-use std::alloc::Global;
+use std::alloc::{AllocError, Global};
 use std::process::ExitCode;
 use subject::Subject;
 use table::Table;
@@ -54,6 +57,7 @@ fn play(
 ) -> Result<(), Trouble> {
     match Row::of(line)? {
         Row::Put(name, text) => table.put(name, text)?,
+        Row::Build(shape, size) => table.put_as_is("net", shape.text(rt.alloc(), size)?)?,
         Row::Remove(name) => table.remove(name),
         Row::Show(names) => table.show(names)?,
         Row::Fail(object, nth) => table.fail(object, nth)?,
@@ -83,21 +87,43 @@ fn answer(
         Row::Call(words) => called(alloc, table, words),
         Row::Unfailing(words) => called_unfailing(alloc, table, words),
         Row::BareCall => table.call(&[]),
-        Row::Wide(buffers) => wide::call(alloc, buffers),
-        Row::Chain(row) => chain::call(alloc, row),
         Row::Ask(word, rest) => subject.answer(alloc, word, rest),
+        row => of_series(alloc, table, row),
+    }
+}
+
+// What came of a series of calls, or nothing where the row is none.
+fn of_series(alloc: Global, table: &Table, row: Row<'_>) -> Result<String, Trouble> {
+    match row {
+        Row::Cuts(name, words) => {
+            let words = words_of(alloc, words)?;
+            series::cuts(alloc, table, name, words.as_slice())
+        }
+        Row::Repeats(name, words) => {
+            let words = words_of(alloc, words)?;
+            series::repeats(alloc, table, name, words.as_slice())
+        }
+        Row::Failing(object, words) => {
+            let words = words_of(alloc, words)?;
+            series::failing(alloc, table, object, words.as_slice())
+        }
         _ => Ok(String::new(alloc)),
     }
 }
 
 // What came of a call with these words.
 fn called(alloc: Global, table: &mut Table, words: &str) -> Result<String, Trouble> {
-    let words: Vec<&str> = words.split(' ').collect(alloc)?;
+    let words = words_of(alloc, words)?;
     table.call(words.as_slice())
 }
 
 // The same over files and streams whose calls never fail.
 fn called_unfailing(alloc: Global, table: &Table, words: &str) -> Result<String, Trouble> {
-    let words: Vec<&str> = words.split(' ').collect(alloc)?;
+    let words = words_of(alloc, words)?;
     table.call_unfailing(words.as_slice())
+}
+
+// The words of a call, between single spaces.
+fn words_of(alloc: Global, words: &str) -> Result<Vec<&str>, AllocError> {
+    words.split(' ').collect(alloc)
 }

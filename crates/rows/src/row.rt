@@ -1,4 +1,5 @@
-// The rows: what stands in files, what is to fail, calls, and what is asked of a netlist.
+// The rows: what stands in files, what is to fail, calls and series of calls, and what is asked of a netlist.
+use crate::shape::Shape;
 use pd_io::FileCall;
 use row_answers::{Trouble, number_of};
 
@@ -13,6 +14,22 @@ pub enum Object {
     Err,
 }
 
+impl Object {
+    // The object of this word.
+    fn of(word: &str) -> Result<Object, Trouble> {
+        match word {
+            "begin_read" => Ok(Object::Files(FileCall::BeginRead)),
+            "read" => Ok(Object::Files(FileCall::Read)),
+            "begin_write" => Ok(Object::Files(FileCall::BeginWrite)),
+            "write" => Ok(Object::Files(FileCall::Write)),
+            "finish" => Ok(Object::Files(FileCall::Finish)),
+            "out" => Ok(Object::Out),
+            "err" => Ok(Object::Err),
+            _ => Err(Trouble::NoRow),
+        }
+    }
+}
+
 /// One row.
 #[derive(Clone, Copy)]
 pub enum Row<'a> {
@@ -20,6 +37,8 @@ pub enum Row<'a> {
     Heading,
     /// From now on each call finds this text under this name; `\n` stands for LF (texts.rt has all signs).
     Put(&'a str, &'a str),
+    /// From now on each call finds the netlist of this shape and size under the name `net`.
+    Build(Shape, u32),
     /// From now on the name is absent.
     Remove(&'a str),
     /// From now on, of the files that a call changes only these are told, single spaces between.
@@ -32,10 +51,12 @@ pub enum Row<'a> {
     Call(&'a str),
     /// The same over files and streams whose calls never fail.
     Unfailing(&'a str),
-    /// A call on a netlist of one source and so many buffers of it, all observed.
-    Wide(u32),
-    /// A call of `gen` or `check` for so many paths of a chain of a thousand buffers, each with a name of a hundred bytes.
-    Chain(&'a str),
+    /// Calls with these words in which the file of this name is cut to nothing, then behind each of its bytes but the last.
+    Cuts(&'a str, &'a str),
+    /// Calls with these words in which one line after another of the file of this name stands twice.
+    Repeats(&'a str, &'a str),
+    /// Calls with these words in which one call after another of this object fails. No failures are planned beside these.
+    Failing(Object, &'a str),
     /// A word of the rows about netlists, and what stands behind it.
     Ask(&'a str, &'a str),
 }
@@ -51,34 +72,28 @@ impl<'a> Row<'a> {
         }
         let (word, rest) = line.split_once(' ').unwrap_or((line, ""));
         match word {
-            "put" => {
-                let (name, text) = rest.split_once(' ').ok_or(Trouble::NoRow)?;
-                Ok(Row::Put(name, text))
-            }
             "remove" => Ok(Row::Remove(rest)),
             "show" => Ok(Row::Show(rest)),
-            "fail" => failure(rest),
             "call" => Ok(Row::Call(rest)),
             "unfailing" => Ok(Row::Unfailing(rest)),
-            "wide" => Ok(Row::Wide(number_of(rest)?)),
-            "chain" => Ok(Row::Chain(rest)),
+            "put" | "build" | "fail" | "cuts" | "repeats" | "failing" => {
+                let (first, more) = rest.split_once(' ').ok_or(Trouble::NoRow)?;
+                of_two_parts(word, first, more)
+            }
             _ => Ok(Row::Ask(word, rest)),
         }
     }
 }
 
-// A failure: what fails, and the number of the call.
-fn failure(text: &str) -> Result<Row<'_>, Trouble> {
-    let (object, nth) = text.split_once(' ').ok_or(Trouble::NoRow)?;
-    let object = match object {
-        "begin_read" => Object::Files(FileCall::BeginRead),
-        "read" => Object::Files(FileCall::Read),
-        "begin_write" => Object::Files(FileCall::BeginWrite),
-        "write" => Object::Files(FileCall::Write),
-        "finish" => Object::Files(FileCall::Finish),
-        "out" => Object::Out,
-        "err" => Object::Err,
-        _ => return Err(Trouble::NoRow),
-    };
-    Ok(Row::Fail(object, u64::from(number_of(nth)?)))
+// The row of a word with two parts behind it.
+fn of_two_parts<'a>(word: &str, first: &'a str, more: &'a str) -> Result<Row<'a>, Trouble> {
+    match word {
+        "put" => Ok(Row::Put(first, more)),
+        "build" => Ok(Row::Build(Shape::of(first)?, number_of(more)?)),
+        "fail" => Ok(Row::Fail(Object::of(first)?, u64::from(number_of(more)?))),
+        "cuts" => Ok(Row::Cuts(first, more)),
+        "repeats" => Ok(Row::Repeats(first, more)),
+        "failing" => Ok(Row::Failing(Object::of(first)?, more)),
+        _ => Err(Trouble::NoRow),
+    }
 }

@@ -1,13 +1,14 @@
 // What stands between two calls: the files that a call finds, and what is to fail in the next one.
+use crate::answer_lines::add;
+use crate::outside::{Outside, call_unfailing};
 use crate::row::Object;
-use commands::run;
-use pd_io::{Files, MemoryFiles, MemorySink, Sink, SteadyFiles, SteadySink};
-use row_answers::{Trouble, shown, spelled_out};
+use pd_io::SteadyFiles;
+use row_answers::{Trouble, spelled_out};
 use std::alloc::{AllocError, Global};
 use std::collections::BTreeMap;
 
-// The names of which a call may change what they hold.
-const NAMES: [&str; 6] = ["net", "delays", "tests", "report", "proofs", "other"];
+/// The names of which a call may change what they hold.
+pub const NAMES: [&str; 6] = ["net", "delays", "tests", "report", "proofs", "other"];
 
 /// Files by name, and failures of the next call.
 #[derive(Drop)]
@@ -29,9 +30,14 @@ impl Table {
         }
     }
 
-    /// Puts a text under a name.
+    /// Puts a text under a name, with its signs exchanged for what they stand for.
     pub fn put(&mut self, name: &str, text: &str) -> Result<(), AllocError> {
         let text = spelled_out(self.alloc, text)?;
+        self.put_as_is(name, text)
+    }
+
+    /// Puts a text under a name as it is.
+    pub fn put_as_is(&mut self, name: &str, text: String) -> Result<(), AllocError> {
         self.held.insert(String::from_str(self.alloc, name)?, text)?;
         Ok(())
     }
@@ -39,6 +45,16 @@ impl Table {
     /// Makes a name absent.
     pub fn remove(&mut self, name: &str) {
         self.held.remove(name);
+    }
+
+    /// What stands under a name.
+    pub fn text(&self, name: &str) -> Option<&str> {
+        self.held.get(name).map(|text| text.as_str())
+    }
+
+    /// The same as bytes.
+    pub fn held(&self, name: &str) -> Option<&[u8]> {
+        self.held.get(name).map(|text| text.as_bytes())
     }
 
     /// Of the files that a call changes tells only these, single spaces between.
@@ -55,64 +71,38 @@ impl Table {
 
     /// A call with these words: what came of it, line by line.
     pub fn call(&mut self, words: &[&str]) -> Result<String, Trouble> {
-        let mut files = self.files()?;
-        let mut came = self.call_over(words, &mut files)?;
-        self.add_changed(&mut came, &files)?;
+        let mut outside = self.outside()?;
+        self.plan_failures(&mut outside)?;
+        self.failing.clear();
+        let mut came = outside.call(words)?;
+        self.add_changed(&mut came, &outside)?;
         Ok(came)
     }
 
     /// A call with these words over files and streams whose calls never fail: its status, and what err and out took.
     pub fn call_unfailing(&self, words: &[&str]) -> Result<String, Trouble> {
-        let mut files = self.steady_files()?;
-        let mut out = SteadySink::new(self.alloc);
-        let mut err = SteadySink::new(self.alloc);
-        let status = status_of(self.alloc, words, &mut files, &mut out, &mut err);
-        came_of(self.alloc, status, err.bytes(), out.bytes())
-    }
-
-    // The same files, as those whose calls never fail.
-    fn steady_files(&self) -> Result<SteadyFiles, Trouble> {
         let mut files = SteadyFiles::new(self.alloc);
         for (name, text) in self.held.iter() {
             files.put(name.as_str(), text.as_bytes())?;
         }
-        Ok(files)
+        call_unfailing(self.alloc, words, &mut files)
     }
 
-    // A call over these files: its status, and what err and out took.
-    fn call_over(&mut self, words: &[&str], files: &mut MemoryFiles) -> Result<String, Trouble> {
-        let alloc = self.alloc;
-        let mut out = MemorySink::new(alloc);
-        let mut err = MemorySink::new(alloc);
-        self.plan_failures(files, &mut out, &mut err)?;
-        self.failing.clear();
-        told(alloc, words, files, &mut out, &mut err)
+    /// What a call finds, and nothing that is to fail.
+    pub fn outside(&self) -> Result<Outside, Trouble> {
+        let mut outside = Outside::new(self.alloc);
+        for (name, text) in self.held.iter() {
+            outside.put(name.as_str(), text.as_bytes())?;
+        }
+        Ok(outside)
     }
 
     // Makes the calls fail that are to fail.
-    fn plan_failures(
-        &self,
-        files: &mut MemoryFiles,
-        out: &mut MemorySink,
-        err: &mut MemorySink,
-    ) -> Result<(), Trouble> {
+    fn plan_failures(&self, outside: &mut Outside) -> Result<(), Trouble> {
         for (object, nth) in self.failing.iter() {
-            match object {
-                Object::Files(call) => files.fail(*call, *nth)?,
-                Object::Out => out.fail(*nth)?,
-                Object::Err => err.fail(*nth)?,
-            }
+            outside.fail(*object, *nth)?;
         }
         Ok(())
-    }
-
-    // Files that hold what a call finds.
-    fn files(&self) -> Result<MemoryFiles, Trouble> {
-        let mut files = MemoryFiles::new(self.alloc);
-        for (name, text) in self.held.iter() {
-            files.put(name.as_str(), text.as_bytes())?;
-        }
-        Ok(files)
     }
 
     // Whether a change of this file is told.
@@ -124,10 +114,10 @@ impl Table {
     }
 
     // A line for each file that holds another text than before, if it is told.
-    fn add_changed(&self, came: &mut String, files: &MemoryFiles) -> Result<(), Trouble> {
+    fn add_changed(&self, came: &mut String, outside: &Outside) -> Result<(), Trouble> {
         for name in NAMES {
-            let before = self.held.get(name).map(|text| text.as_bytes());
-            let after = files.get(name);
+            let before = self.held(name);
+            let after = outside.get(name);
             if after == before || !self.shows(name) {
                 continue;
             }
@@ -138,74 +128,4 @@ impl Table {
         }
         Ok(())
     }
-}
-
-/// A call of these words, in which `net` stands for this netlist, and `delays` for unit delays: its status, and what err and out took.
-pub fn call_on(alloc: Global, net: &str, words: &[&str]) -> Result<String, Trouble> {
-    let mut files = MemoryFiles::new(alloc);
-    files.put("net", net.as_bytes())?;
-    files.put("delays", b"gate,pin,delay\n")?;
-    told_over(alloc, words, &mut files)
-}
-
-// A call over these files.
-fn told_over(alloc: Global, words: &[&str], files: &mut MemoryFiles) -> Result<String, Trouble> {
-    let mut out = MemorySink::new(alloc);
-    let mut err = MemorySink::new(alloc);
-    told(alloc, words, files, &mut out, &mut err)
-}
-
-// A call over these files and streams: its status, and what err and out took.
-fn told(
-    alloc: Global,
-    words: &[&str],
-    files: &mut MemoryFiles,
-    out: &mut MemorySink,
-    err: &mut MemorySink,
-) -> Result<String, Trouble> {
-    let status = status_of(alloc, words, files, out, err);
-    came_of(alloc, status, err.bytes(), out.bytes())
-}
-
-// What came of a call with this status, where err and out took these bytes.
-fn came_of(alloc: Global, status: u8, err: &[u8], out: &[u8]) -> Result<String, Trouble> {
-    let mut came = format!(in alloc; "  status {status}\n")?;
-    add_taken(alloc, &mut came, "err", err)?;
-    add_taken(alloc, &mut came, "out", out)?;
-    Ok(came)
-}
-
-// A line with what was taken, if it is anything.
-fn add_taken(alloc: Global, came: &mut String, name: &str, bytes: &[u8]) -> Result<(), Trouble> {
-    if bytes.is_empty() {
-        return Ok(());
-    }
-    add(alloc, came, name, bytes)
-}
-
-// A line with a name and a text.
-fn add(alloc: Global, came: &mut String, name: &str, bytes: &[u8]) -> Result<(), Trouble> {
-    let text = str::from_utf8(bytes).map_err(|_| Trouble::NoText)?;
-    let shown = shown(alloc, text)?;
-    Ok(add_line(came, name, shown.as_str())?)
-}
-
-// The same of a text as it is shown.
-fn add_line(came: &mut String, name: &str, shown: &str) -> Result<(), AllocError> {
-    came.push_str("  ")?;
-    came.push_str(name)?;
-    came.push(' ')?;
-    came.push_str(shown)?;
-    came.push('\n')
-}
-
-// The status of a call. It promises nothing, so that what is printed is not proved over again under the contract of `run`.
-fn status_of<F: Files, O: Sink, E: Sink>(
-    alloc: Global,
-    words: &[&str],
-    files: &mut F,
-    out: &mut O,
-    err: &mut E,
-) -> u8 {
-    run(alloc, words, files, out, err).number()
 }

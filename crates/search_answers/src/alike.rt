@@ -1,4 +1,4 @@
-// Sweeps over all gates, and the worklist of hulls and engines, play the same assumptions: the labels that they end with are the same,
+// Sweeps over all gates, and the worklist of engines, play the same assumptions: the labels that they end with are the same,
 // or both leave some line without a state. Scopes are played in scopes.rt.
 ghost use Rattle.std.specs.Prelude.{◌<◌, All, IsTrue};
 ghost use Rattle.netlist.specs.Circuit.{source_count};
@@ -6,11 +6,11 @@ ghost use Rattle.netlist.specs.Paths.{IsPath};
 
 use crate::scopes::{whole_alike, within_alike};
 use crate::sweeping::{Assumed, swept};
-use hulls::{Hull, hull};
 use netlist::Netlist;
 use pd_base::Direction::{Fall, Rise};
 use pd_base::Kind::{Nonrobust, Robust};
 use pd_base::{Direction, Kind, OutOfMemory, Path, Rules};
+use refutation_check::{Hull, hull};
 use row_answers::{Trouble, path, yes_or_no};
 use state_laws::Half;
 use std::alloc::Global;

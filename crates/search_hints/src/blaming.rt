@@ -31,7 +31,7 @@ impl Model for Blame {
 }
 
 impl Blame {
-    /// No source yet, with room for this netlist. It fails only where a growth is refused.
+    /// No source yet, with room for this netlist. The one error is that memory ran out.
     pub fn new(alloc: Global, net: &Netlist) -> Result<Blame, OutOfMemory>
         ensures { IfOk result (λ blame. blame ≡ record { room = line_count net.now; sources = [] }) }
     {

@@ -2,7 +2,7 @@ mod Images
 pub mod Finding
 pub mod Spreading
 mod Numbers
-mod RankedCones
+pub mod RankedCones
 mod ConeLists
 mod ConeScans
 mod Joining

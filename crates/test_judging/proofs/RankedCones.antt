@@ -19,7 +19,7 @@ use Rattle.state_laws.proofs.FanIns.{pin_in_fan_in}
 use Rattle.test_judging.specs.KeptCones.{AreConeGates}
 
 -- a gate is not ranked before one on a lower level
-never_after : (c : Circuit) (a b : GateId) → level c (gate_line c b.0) < level c (gate_line c a.0) → IsRankedBefore c a b → ⊥
+pub never_after : (c : Circuit) (a b : GateId) → level c (gate_line c b.0) < level c (gate_line c a.0) → IsRankedBefore c a b → ⊥
 never_after c a b higher (lower_level below) = omega arith
 never_after c a b higher (lesser_number even less) = omega arith
 

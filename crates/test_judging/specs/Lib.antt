@@ -7,3 +7,4 @@ pub mod SourceBits
 pub mod Judged
 pub mod Judges
 pub mod Expected
+pub mod PathEnds

@@ -45,7 +45,7 @@ impl Model for Cone {
 }
 
 impl Cone {
-    /// The cone of no line yet. It fails only where a growth is refused.
+    /// The cone of no line yet. The one error is that memory ran out.
     pub fn new(alloc: Global, net: &Netlist) -> Result<Cone, OutOfMemory>
         ensures { IfOk result (IsConeFor net.now) }
     {

@@ -26,7 +26,7 @@ impl Model for FoundLines {
 }
 
 impl FoundLines {
-    /// No line, with room for so many. It fails only where a growth is refused.
+    /// No line, with room for so many. The one error is that memory ran out.
     pub fn new(alloc: Global, room: usize) -> Result<FoundLines, OutOfMemory>
         ensures { IfOk result (λ found. found ≡ record { room = room; lines = [] }) }
     {

@@ -11,7 +11,7 @@ use pd_base::LineId;
 use state_sets::{Algebra, FourStates, State};
 
 /// What a gate makes of the states of its pins.
-pub(crate) fn gate_state(kind: GateKind, pins: &[LineId], states: &[State]) -> State
+pub fn gate_state(kind: GateKind, pins: &[LineId], states: &[State]) -> State
     requires pins { All (λ pin. pin.0 < length states.now) pins.now }
     requires states { AreFourStates states.now }
     ensures state { result ≡ gate_state four_states kind (map (λ pin. state_in states.now pin.0) pins.now) }

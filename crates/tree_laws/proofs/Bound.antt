@@ -40,7 +40,8 @@ leaf_count waiting = 1
 leaf_count (by_value source first second) = leaf_count first + leaf_count second
 leaf_count (by_steadiness source first second) = leaf_count first + leaf_count second
 
-splits_append : (xs ys : List Node) → split_count (xs ++ ys) ≡ split_count xs + split_count ys
+-- the splits of nodes behind one another
+pub splits_append : (xs ys : List Node) → split_count (xs ++ ys) ≡ split_count xs + split_count ys
 splits_append xs ys = sum_by-append (λ node. cond (is_split node) 1 0) xs ys
 
 -- there is one leaf more than splits
@@ -212,3 +213,13 @@ spent_below_bound c rules target budget nodes prefix spent sources support =
   where
     one : cond (target.path.source.0 == target.path.source.0) 1 (states_left rules [] target.path.source.0) ≤ 1
     one = rw (eq-eqb target.path.source.0 target.path.source.0 refl) (omega arith)
+
+-- the same in numbers: under rules One a spent budget is below 4^(n-1), n the number of sources in the fan-in of the path's end
+pub spent_below_four : (c : Circuit) (target : Target) (budget : ℕ) (nodes : List Node) → IsPrefix c target.path
+    → IsSpent c One target budget nodes → (sources : List ℕ) → AreSupport c target.path sources → budget < 4 ^ (length sources - 1)
+spent_below_four c target budget nodes prefix spent sources support = spent_below_bound c One target budget nodes prefix spent sources support
+
+-- and under rules Two, where the other sources are held steady, below 2^(n-1)
+pub spent_below_two : (c : Circuit) (target : Target) (budget : ℕ) (nodes : List Node) → IsPrefix c target.path
+    → IsSpent c Two target budget nodes → (sources : List ℕ) → AreSupport c target.path sources → budget < 2 ^ (length sources - 1)
+spent_below_two c target budget nodes prefix spent sources support = spent_below_bound c Two target budget nodes prefix spent sources support

@@ -1,8 +1,7 @@
 -- A tree that has grown whole: it refutes where no leaf waits, and else it has spent its splits. And how many nodes it has.
-use Rattle.std.proofs.Common.{◌≡◌, ℕ, ◌+◌, ◌*◌, Bool, true, false, cond, List, [], ◌∷◌, ◌++◌, length, refl, sym, ap, ◌∙◌, subst, arith}
+use Rattle.std.proofs.Common.{◌≡◌, ℕ, ◌+◌, ◌*◌, Bool, true, false, List, [], ◌∷◌, ◌++◌, length, refl, sym, ap, ◌∙◌, subst, arith}
 use Rattle.std.specs.List.{Contains}
 use Rattle.std.proofs.lemmas.List.{append-nil, length-append}
-use Rattle.std.proofs.lemmas.List.Sums.{sum_by-append}
 use Rattle.std.proofs.lemmas.List.Elements.{Contains-append_left, Contains-append_right}
 use Rattle.pd_base.specs.Target.{Target}
 use Rattle.pd_base.specs.declared.rules.Rules.{Rules}
@@ -10,15 +9,12 @@ use Rattle.netlist.specs.Circuit.{Circuit}
 use Rattle.state_laws.specs.declared.half.Half.{Half}
 use Rattle.runs.specs.declared.tree.Node.{Node}
 use Rattle.runs.specs.declared.tree.Node.TheVariants.{Closed, Waiting, Value, Steadiness}
-use Rattle.runs.specs.Trees.{Cases, preorder, is_split, split_count}
+use Rattle.runs.specs.Trees.{Cases, preorder, split_count}
 use Rattle.runs.specs.Trees.Cases.{closed, waiting, by_value, by_steadiness}
 use Rattle.tree_laws.specs.Refutations.{below, RefutesBelow, IsRefutation}
 use Rattle.tree_laws.specs.Spent.{IsSpentBelow, IsSpent}
 use Rattle.tree_laws.specs.Growing.{split_node, IsOneWith, Grows}
-
--- the splits of nodes behind one another
-splits_append : (xs ys : List Node) → split_count (xs ++ ys) ≡ split_count xs + split_count ys
-splits_append xs ys = sum_by-append (λ node. cond (is_split node) 1 0) xs ys
+use Rattle.tree_laws.proofs.Bound.{splits_append}
 
 -- a tree has twice as many nodes as splits, and one
 pub nodes_and_splits : (cases : Cases) → length (preorder cases) ≡ 2 * split_count (preorder cases) + 1

@@ -8,3 +8,10 @@ pub mod Walks
 pub mod Growing
 pub mod Ending
 pub mod Trying
+pub mod Assuming
+pub mod Entered
+pub mod AssumedHalves
+pub mod ScopeLabels
+pub mod NodeScopes
+pub mod Told
+pub mod Settings

@@ -21,19 +21,12 @@ use Rattle.state_sets.specs.Hulls.{IsNarrowingOf, IsRestAmong, HasAt, HasNoEmpty
 use Rattle.state_laws.specs.declared.half.Half.{Half}
 use Rattle.state_laws.specs.Nodes.{MayBe, IsNodeHull, ClosesAtNode}
 use Rattle.state_laws.proofs.Hulls.{emptied_if_empty}
-use Rattle.state_laws.proofs.FanIns.{leads_in_fan_in}
 use Rattle.state_laws.proofs.SourceStates.{launched}
 use Rattle.state_laws.proofs.Deciding.{rest_decides}
 use Rattle.state_laws.proofs.Failing.{closes_unless_met}
 use Rattle.tree_laws.specs.Spent.{IsInSupport, IsOpen}
+use Rattle.tree_laws.proofs.Bound.{own_in_support}
 use Rattle.tree_laws.proofs.Trials.{TakesLeast, trial_closes}
-
--- the path's source is in its support
-pub source_in_support : (c : Circuit) (path : Route) → IsPrefix c path → IsInSupport c path path.source.0
-source_in_support c path is = record {
-  is_source = is.source;
-  in_fan_in = leads_in_fan_in c path.source.0 path.steps is.connects;
-}
 
 -- the labels leave each source of the support at most one state
 abbrev pub IsSingleOnSupport : Circuit → Route → List StateSet → Type 0
@@ -60,7 +53,7 @@ module _ (c : Circuit) (circuit : IsCircuit c) (rules : Rules) (target : Target)
   -- the pair launches the transition
   launching : IsLaunching four_states target.direction (state_under c pair target.path.source.0)
   launching =
-      let own = takes target.path.source.0 (source_in_support c target.path is) in
+      let own = takes target.path.source.0 (own_in_support c target.path is) in
       (is_hull.rest.among target.path.source.0 (state_under c pair target.path.source.0) own.has).start.own refl
 
   -- so its sides do not meet the conditions

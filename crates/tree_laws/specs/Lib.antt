@@ -4,3 +4,5 @@ pub mod Bounds
 pub mod Halves
 pub mod Faults
 pub mod Growing
+pub mod NodeScopes
+pub mod Settings

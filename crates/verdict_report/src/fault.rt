@@ -10,7 +10,7 @@ use std::alloc::AllocFailed;
 pub enum TextFault {
     /// The line of this number, from 1, is the first one that lacks its form, or that is missing at the end.
     Malformed(u32),
-    /// A growth was refused.
+    /// Memory ran out.
     NoMemory,
 }
 

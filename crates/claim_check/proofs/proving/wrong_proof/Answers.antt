@@ -1,17 +1,18 @@
 -- The judge is made for the ends of the listed paths.
-use Rattle.std.proofs.Common.{All, IfOk, sym, ap, ◌∙◌, subst, List, Some, refl}
+use Rattle.std.proofs.Common.{◌<◌, All, IfOk, sym, ap, ◌∙◌, subst, List, Some, refl}
 use Rattle.pd_base.specs.declared.ids.LineId.{LineId}
+use Rattle.netlist.specs.Circuit.{line_count}
 use Rattle.refutation_check.specs.Judges.{MadeFor}
 use Rattle.claim_check.specs.JudgedPaths.{IsPathTold}
 use Rattle.claim_check.specs.Flaws.{TellsOfItems}
 use Rattle.claim_check.specs.Right.{IsRightProofAt}
-use Rattle.claim_check.proofs.PathsTold.{last_in_circuit, paths_told}
+use Rattle.claim_check.proofs.PathsTold.{paths_told}
 use Rattle.claim_check.proofs.proving.wrong_proof.Goals as goal
 
 pub new-requires : goal.new-requires
 new-requires c =
-    last_in_circuit c.args.net.now c.args.paths.now c.requires.paths c.sources.ensures.circuit c.as_slice.result.now
-    (c.as_slice.ensures.value ∙ c.in_ok-ends.ensures)
+    let P : List LineId → Type 0 = All (λ (end : LineId). end.0 < line_count c.args.net.now) in
+    subst P (sym c.as_slice.ensures.value) c.in_ok-ends.ensures.lines
 
 pub wrong_by-requires-clause-paths : goal.wrong_by-requires-clause-paths
 wrong_by-requires-clause-paths c =
@@ -19,7 +20,7 @@ wrong_by-requires-clause-paths c =
     let P : MadeFor → Type 0 = λ made. All (IsPathTold made.net made.ends) c.args.paths.now in
     let Q : List LineId → Type 0 = λ list. All (IsPathTold net (Some list)) c.args.paths.now in
     subst P (sym c.in_ok-judge.ensures)
-    (subst Q (sym (c.as_slice.ensures.value ∙ c.in_ok-ends.ensures)) (paths_told net c.args.paths.now c.requires.paths _ refl))
+    (subst Q (sym (c.as_slice.ensures.value ∙ c.in_ok-ends.ensures.ends)) (paths_told net c.args.paths.now c.requires.paths _ refl))
 
 pub wrong_by-requires-clause-rules : goal.wrong_by-requires-clause-rules
 wrong_by-requires-clause-rules c = ap (λ (made : MadeFor). made.rules) c.in_ok-judge.ensures

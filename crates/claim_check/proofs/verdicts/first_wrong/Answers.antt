@@ -16,7 +16,7 @@ use Rattle.claim_check.proofs.Telling.{IsRightUpTo, faults_only, first_at, right
 use Rattle.claim_check.proofs.verdicts.first_wrong.Goals as goal
 
 pub loop-row-init : goal.loop-row-init
-loop-row-init c = record { right = no_faults_yet c.args.net.now c.args.run.now; room = c.requires.room }
+loop-row-init c = record { right = no_faults_yet c.args.net.now c.args.run.now; judge = c.requires.judge }
 
 pub fault_in_row-rise-requires-clause-path : goal.fault_in_row-rise-requires-clause-path
 fault_in_row-rise-requires-clause-path c =
@@ -97,7 +97,7 @@ loop-row-preserved c =
     c.in_default-wrong_fault.ensures.wrong) in
     record {
       right = subst (IsRightUpTo (IsRightFaultAt net run)) at both;
-      room = c.wrong_fault-in-loop-row.ensures.room;
+      judge = c.wrong_fault-in-loop-row.ensures.judge;
     }
 
 pub returns : goal.returns

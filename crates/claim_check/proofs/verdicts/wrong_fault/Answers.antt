@@ -22,7 +22,7 @@ pub returns-then-not-expects_right-clause-wrong : goal.returns-then-not-expects_
 returns-then-not-expects_right-clause-wrong c =
     let fault = c.args.fault.now in
     let told =
-    subst (TellsExpected c.args.net.now c.args.run.now.tests) (sym c.as_slice.ensures.value) c.requires.room.expected in
+    subst (TellsExpected c.args.net.now c.args.run.now.tests) (sym c.as_slice.ensures.value) c.requires.judge.expected in
     expects_not c.args.net.now c.args.run.now fault.number fault.dir fault.path.now fault.verdict
     (c.shares_proofs.ensures.0 c.if-not-shares_proofs.false) (c.has_its_test.ensures.tests.0 c.if-not-has_its_test.false)
     (λ has. false≢true (sym c.if-not-expects_right.true ∙ (c.expects_right.ensures c.args.net.now c.args.run.now told).1 has))
@@ -31,7 +31,7 @@ pub returns-clause-wrong : goal.returns-clause-wrong
 returns-clause-wrong c =
     let fault = c.args.fault.now in
     let told =
-    subst (TellsExpected c.args.net.now c.args.run.now.tests) (sym c.as_slice.ensures.value) c.requires.room.expected in
+    subst (TellsExpected c.args.net.now c.args.run.now.tests) (sym c.as_slice.ensures.value) c.requires.judge.expected in
     verdict_right c.args.net.now c.args.run.now fault.number fault.dir fault.path.now fault.verdict
     (c.shares_proofs.ensures.0 c.if-not-shares_proofs.false) (c.has_its_test.ensures.tests.0 c.if-not-has_its_test.false)
     ((c.expects_right.ensures c.args.net.now c.args.run.now told).0 c.if-not-expects_right.false)

@@ -1,7 +1,6 @@
 -- A file was not written; all files are whole, and out was written or not.
-use Rattle.std.proofs.Common.{List, ℕ, refl, subst}
-use Rattle.calls.specs.Outputs.{Prints}
-use Rattle.calls.proofs.Outputs.{printed, unwritten}
+use Rattle.std.proofs.Common.{refl}
+use Rattle.calls.proofs.Outputs.{unwritten}
 use Rattle.commands.proofs.generating.write_products.Goals as goal
 
 pub returns-in-Err : goal.returns-in-Err

@@ -1,5 +1,4 @@
 -- The line was printed, or not; or memory ran out before it was made.
-use Rattle.std.proofs.Common.{[], refl}
 use Rattle.command_line.specs.Commands.{make_call_of}
 use Rattle.commands.proofs.MakeLaws.{made_performed, made_no_memory}
 use Rattle.commands.proofs.making.make.Goals as goal

@@ -1,8 +1,6 @@
 -- The run is good and lawful, and the summary is its own.
-use Rattle.std.proofs.Common.{List, ℕ}
 use Rattle.command_line.specs.Commands.{run_call_of}
 use Rattle.commands.specs.Gen.{run_files}
-use Rattle.calls.specs.Work.{Products}
 use Rattle.good_runs.proofs.Promising.{good_run_keeps}
 use Rattle.commands.proofs.preparing.told_run.Goals as goal
 

@@ -2,7 +2,7 @@
 use Rattle.std.proofs.Common.{ℕ, ◌<◌, ◌≤◌, List, get_or, subst}
 use Rattle.pd_base.specs.declared.ids.LineId.{LineId}
 use Rattle.implication.specs.Reached.{AreReadersIn}
-use Rattle.implication.proofs.Spreading.{spread_first, spread_more, spread_all}
+use Rattle.implication.proofs.Spreading.{spread_first, spread_more, spread_all, spread_inside}
 use Rattle.implication.proofs.reaching.reach.Goals as goal
 
 pub loop-seen-init : goal.loop-seen-init
@@ -22,3 +22,8 @@ pub returns-clause-reached : goal.returns-clause-reached
 returns-clause-reached g c =
     spread_all c.args.net.now c.args.board.now.inside c.args.source c.loop-seen.seen c.loop-seen.reached c.loop-seen.invariant
     (subst (λ (n : ℕ). n ≤ c.loop-seen.seen) c.len.ensures.len c.loop-seen-test.false)
+
+pub returns-clause-inside : goal.returns-clause-inside
+returns-clause-inside g c =
+    spread_inside c.args.net.now c.args.board.now.inside c.args.source c.requires.source c.loop-seen.seen c.loop-seen.reached
+    c.loop-seen.invariant

@@ -18,7 +18,8 @@ loop-pin-preserved g c =
     elim c.if-is_inside.branch [
       | then-is_inside w ↦ subst P (sym w.reached-is)
           (pins_more c.args.net.now c.args.board.now.inside pins index no_pin c.loop-pin-test.true c.args.reached.now c.loop-pin.reached
-          c.loop-pin.invariant w.add.new.self
+          c.loop-pin.invariant (c.fanout-pin-items.ensures.on_line index no_pin c.loop-pin-test.true).in_circuit
+          (sym c.is_inside.ensures ∙ w.if-is_inside.true) w.add.new.self
           (subst (λ (line : LineId). IsLineAdded line c.loop-pin.reached w.add.new.self) w.line_of.ensures.line w.add.ensures))
       | else-is_inside w ↦ subst P (sym w.reached-is)
           (pins_skip c.args.net.now c.args.board.now.inside pins index no_pin c.loop-pin-test.true c.args.reached.now c.loop-pin.reached

@@ -3,7 +3,7 @@ use Rattle.std.proofs.lemmas.Grind.{common_steps}
 use Rattle.state_sets.specs.declared.state.StateSet.{StateSet}
 use Rattle.tree_laws.specs.Spent.{HasInHalf}
 use Rattle.implication.specs.Scopes.{standing}
-use Rattle.tree_scopes.specs.Nodes.{beginning_of}
+use Rattle.tree_laws.specs.NodeScopes.{beginning_of}
 use Rattle.justify.specs.Tasks.{task_target}
 use Rattle.justify.proofs.HalfStates.{in_both}
 use Rattle.justify.proofs.Resting.{label_is}

@@ -1,4 +1,4 @@
-use Rattle.tree_scopes.proofs.Halves.{shares_half}
+use Rattle.tree_laws.proofs.AssumedHalves.{shares_half}
 use Rattle.justify.proofs.halves.has_in_half.Goals as goal
 
 pub returns : goal.returns

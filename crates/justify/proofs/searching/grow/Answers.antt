@@ -3,7 +3,8 @@ use Rattle.implication.specs.Scopes.{standing}
 use Rattle.justify.specs.Answers.{HasCounted}
 use Rattle.justify.proofs.Ended.{counted_more}
 use Rattle.std.proofs.lemmas.Grind.{common_steps}
-use Rattle.justify.proofs.GoingOn.{goes_further, grown_some, visit_none, searching_on, setting_trans}
+use Rattle.justify.proofs.GoingOn.{goes_further, grown_some, visit_none, searching_on}
+use Rattle.tree_laws.proofs.Settings.{same_twice}
 use Rattle.justify.proofs.searching.grow.Goals as goal
 
 pub returns-in_err-test-clause-goes_on : goal.returns-in_err-test-clause-goes_on
@@ -38,7 +39,7 @@ loop-place-preserved g c =
         engine = c.visit.ensures.scope.engine ∙ inv.scope.engine;
         origin = c.visit.ensures.scope.origin ∙ inv.scope.origin;
       };
-      setting = setting_trans first middle last inv.setting goes.setting;
+      setting = same_twice first middle last inv.setting goes.setting;
       later = omega (arith, rising, more);
       searching = searching_on task middle last c.loop-place.desk c.visit.new.desk _ _ _ c.visit.new.growth inv.searching goes adds;
       counted = subst P (sym adds.one_more) (counted_more (length c.loop-place.growth.nodes.items) first middle last inv.counted adds.counted);

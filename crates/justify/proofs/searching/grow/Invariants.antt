@@ -3,7 +3,7 @@ use Rattle.std.proofs.Common.{◌+◌, ◌-◌, ◌*◌, ◌≤◌, length, reve
 use Rattle.implication.specs.Scopes.{IsSameScope, standing}
 use Rattle.justify.specs.Answers.{HasCounted}
 use Rattle.justify.specs.Searches.{IsSearching}
-use Rattle.tree_scopes.specs.Settings.{IsSameSetting}
+use Rattle.tree_laws.specs.Settings.{IsSameSetting}
 use Rattle.justify.proofs.searching.grow.Given as goal
 
 abbrev pub invariant-loop-place : goal.invariant-loop-place

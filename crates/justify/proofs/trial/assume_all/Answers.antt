@@ -8,10 +8,10 @@ use Rattle.implication.specs.Scopes.{standing}
 use Rattle.implication.specs.Standing.{IsFree}
 use Rattle.implication.proofs.Restoring.{extends_trans}
 use Rattle.justify.specs.Tasks.{task_target}
-use Rattle.tree_scopes.specs.Nodes.{beginning_of}
+use Rattle.tree_laws.specs.NodeScopes.{beginning_of}
 use Rattle.justify.specs.Trying.{IsHeldIn}
 use Rattle.justify.proofs.Assumed.{grown_list, grown_conflict, closed_list, closed_count}
-use Rattle.tree_scopes.proofs.Labels.{closes_there}
+use Rattle.tree_laws.proofs.ScopeLabels.{closes_there}
 use Rattle.justify.proofs.Resting.{counted_later}
 use Rattle.justify.proofs.Trials.{within_more, held_here, held_before}
 use Rattle.justify.proofs.trial.assume_all.Goals as goal

@@ -5,7 +5,7 @@ use Rattle.state_sets.specs.declared.state.State.{State}
 use Rattle.state_sets.specs.declared.state.StateSet.{StateSet}
 use Rattle.implication.specs.Scopes.{standing}
 use Rattle.test_judging.specs.LeastStates.{IsTakenOf}
-use Rattle.tree_scopes.specs.Nodes.{beginning_of}
+use Rattle.tree_laws.specs.NodeScopes.{beginning_of}
 use Rattle.justify.specs.Tasks.{task_target}
 use Rattle.justify.proofs.Resting.{label_is}
 use Rattle.justify.proofs.trying.has_least.Goals as goal

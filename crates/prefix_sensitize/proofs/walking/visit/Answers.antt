@@ -38,6 +38,31 @@ returns-then-not-course-row-clause-within g c =
     let within = slice_get_within c.args.course.now.order.now c.args.place at.row at.stands.is_placed in
     omega (arith, within)
 
+pub search-requires-clause-begun : goal.search-requires-clause-begun
+search-requires-clause-begun g c = c.requires.1.1.0
+
+pub search-requires-clause-path : goal.search-requires-clause-path
+search-requires-clause-path g c =
+    let course = c.args.course.now in
+    let at = c.requires.1.1.1.1.1.1.1 in
+    let within = slice_get_within course.order.now c.args.place at.row at.stands.is_placed in
+    c.requires.1.1.1.0.searchable.are_paths (get_or course.order.now c.args.place 0) c.index-course-row.result
+    (c.requires.1.1.1.0.order.inside c.args.place 0 within)
+
+pub search-requires-clause-told : goal.search-requires-clause-told
+search-requires-clause-told g c =
+    let course = c.args.course.now in
+    let at = c.requires.1.1.1.1.1.1.1 in
+    let within = slice_get_within course.order.now c.args.place at.row at.stands.is_placed in
+    c.requires.1.1.1.0.told (get_or course.order.now c.args.place 0) c.index-course-row.result
+    (c.requires.1.1.1.0.order.inside c.args.place 0 within)
+
+pub search-requires-clause-desk : goal.search-requires-clause-desk
+search-requires-clause-desk g c = c.requires.1.1.1.1.0
+
+pub search-requires-clause-budget : goal.search-requires-clause-budget
+search-requires-clause-budget g c = c.requires.1.1.1.0.budget
+
 pub search-requires-clause-gone : goal.search-requires-clause-gone
 search-requires-clause-gone g c =
     let course = c.args.course.now in
@@ -61,6 +86,15 @@ search-requires-clause-room g c =
     room_for (standing c.args.scope.now) course c.requires.1.1.1.0 g.begin place row path
     (stands_there course.paths.now course.order.now c.requires.1.1.1.0.order.inside place 0 c.index-course-row.result within) c.args.descent.now
     c.args.outcomes.now c.args.proofs.now.items c.args.steps.now c.requires.1.1.1.1.1.1.0 c.requires.1.1.1.1.1.0
+
+pub settle-requires-clause-order : goal.settle-requires-clause-order
+settle-requires-clause-order g c = c.requires.1.1.1.0.order
+
+pub settle-requires-clause-short : goal.settle-requires-clause-short
+settle-requires-clause-short g c = c.requires.1.1.1.0.searchable.short
+
+pub settle-requires-clause-one_each : goal.settle-requires-clause-one_each
+settle-requires-clause-one_each g c = let come = c.requires.1.1.1.1.1.1.0 in come.come.come.one_each
 
 pub settle-requires-clause-place : goal.settle-requires-clause-place
 settle-requires-clause-place g c =

@@ -1,5 +1,5 @@
 -- The walk begins with nothing found for its aim, and ends with an outcome for each path that needs one.
-use Rattle.std.proofs.Common.{◌≡◌, ℕ, List, ◌++◌, length, take, drop, sym, ap, subst, ◌∙◌, arith}
+use Rattle.std.proofs.Common.{◌≡◌, ℕ, Bool, List, ◌++◌, length, take, drop, sym, ap, subst, ◌∙◌, arith}
 use Rattle.std.proofs.Math.Seq.{take-append_seam}
 use Rattle.netlist.specs.Circuit.{Circuit}
 use Rattle.netlist.specs.Lawful.{IsCircuit}
@@ -7,32 +7,36 @@ use Rattle.prefix_sensitize.specs.declared.course.Course.{Course}
 use Rattle.prefix_sensitize.specs.declared.outcome.Outcome.{Outcome}
 use Rattle.prefix_sensitize.specs.Outcomes.{AreOutcomes}
 use Rattle.prefix_sensitize.specs.PathOrder.{IsOrder}
-use Rattle.prefix_sensitize.proofs.Passing.{all_outcomes, come_none, none_counted}
+use Rattle.prefix_sensitize.specs.Walks.{AreExcused}
+use Rattle.prefix_sensitize.proofs.Counting.{counted}
+use Rattle.prefix_sensitize.proofs.Passing.{all_outcomes, come_none}
 use Rattle.prefix_sensitize.proofs.walking.walk.Goals as goal
 
 pub walk_course-requires : goal.walk_course-requires
 walk_course-requires g c κs lives =
     let engine = c.args.engine.now in
-    let course : Course = record { paths = c.args.paths; order = c.order.result; needed = c.args.needed; aim = c.args.aim } in
+    let course : Course = record { paths = c.args.paths; order = c.order.result; needed = c.as_slice.result; aim = c.args.aim } in
     let C : Circuit → Type 0 = λ n. IsCircuit n in
-    let O : List ℕ → Type 0 = λ order. IsOrder c.args.paths.now order in (
+    let O : List ℕ → Type 0 = λ order. IsOrder c.args.paths.now order in
+    let N : List Bool → Type 0 = λ needed. length needed ≡ length c.args.paths.now in
+    let X : List Bool → Type 0 = λ needed. AreExcused engine.net c.args.aim c.args.paths.now needed in (
       lives.0,
       (
         lives.1,
         (
-          c.requires.idle,
+          c.requires.ready.idle,
           (
             record {
               circuit = subst C c.net.ensures c.lines.ensures.circuit;
-              searchable = c.requires.listed;
-              told = c.requires.told;
-              order = subst O (sym c.order.ensures) c.requires.tree;
-              one_each = c.requires.needed;
-              excused = c.requires.excused;
-              budget = c.requires.budget;
+              searchable = c.requires.ready.listed;
+              told = c.requires.ready.told;
+              order = subst O (sym c.order.ensures) c.requires.ready.tree.order;
+              one_each = subst N (sym c.as_slice.ensures.value) c.requires.needed;
+              excused = subst X (sym c.as_slice.ensures.value) c.requires.excused;
+              budget = c.requires.ready.within;
             },
             (
-              c.requires.desk,
+              c.requires.ready.desk,
               (
                 c.requires.room,
                 come_none engine.net engine.rules course c.args.proofs.now.items c.args.steps.now c.as_mut_slice.result.now
@@ -47,29 +51,31 @@ walk_course-requires g c κs lives =
 pub returns-clause-outcomes : goal.returns-clause-outcomes
 returns-clause-outcomes g c =
     let engine = c.args.engine.now in
-    let course : Course = record { paths = c.args.paths; order = c.order.result; needed = c.args.needed; aim = c.args.aim } in
+    let course : Course = record { paths = c.args.paths; order = c.order.result; needed = c.as_slice.result; aim = c.args.aim } in
     let before = c.in_ok-outcomes.outcomes.items in
     let after = c.walk_course.new.outcomes in
     let proofs = c.walk_course.new.proofs.items in
     let O : List ℕ → Type 0 = λ order. IsOrder c.args.paths.now order in
-    let P : List Outcome → Type 0 = λ o. AreOutcomes engine.net c.args.paths.now proofs c.args.needed.now c.args.aim o in
+    let P : List Outcome → Type 0 = λ o. AreOutcomes engine.net c.args.paths.now proofs c.args.needed.items c.args.aim o in
+    let N : List Bool → Type 0 = λ needed. AreOutcomes engine.net c.args.paths.now proofs needed c.args.aim after in
     let many = c.as_mut_slice.ensures.len in
     let same = c.walk_course.auto.outcomes in
     let long : c.in_ok-outcomes.outcomes.len ≡ length after = omega (arith, many, same) in
     let back : take c.in_ok-outcomes.outcomes.len (after ++ drop (length after) before) ≡ after =
     ap (λ (n : ℕ). take n (after ++ drop (length after) before)) long ∙ take-append_seam after (drop (length after) before) in
     subst P (sym back)
-    (all_outcomes engine.net engine.rules course (subst O (sym c.order.ensures) c.requires.tree) c.args.steps.now after proofs
-    c.walk_course.new.steps c.in_ok-walk_course.ensures.come)
+    (subst N c.as_slice.ensures.value
+    (all_outcomes engine.net engine.rules course (subst O (sym c.order.ensures) c.requires.ready.tree.order) c.args.steps.now after proofs
+    c.walk_course.new.steps c.in_ok-walk_course.ensures.come))
 
 pub returns-clause-found : goal.returns-clause-found
 returns-clause-found g c = let come = c.in_ok-walk_course.ensures.come in come.come.found
 
 pub returns-clause-steps : goal.returns-clause-steps
-returns-clause-steps g c = c.in_ok-walk_course.ensures.counted
+returns-clause-steps g c =
+    counted c.args.paths.now c.args.tree.now c.requires.ready.tree c.args.steps.now c.walk_course.new.steps
+    c.in_ok-walk_course.ensures.counted
 
 pub returns-in_err-walk_course-clause-steps : goal.returns-in_err-walk_course-clause-steps
-returns-in_err-walk_course-clause-steps g c = c.walk_course.ensures.counted
-
-pub returns-in_err-outcomes-clause-steps : goal.returns-in_err-outcomes-clause-steps
-returns-in_err-outcomes-clause-steps g c = none_counted c.args.paths.now c.args.steps.now
+returns-in_err-walk_course-clause-steps g c =
+    counted c.args.paths.now c.args.tree.now c.requires.ready.tree c.args.steps.now c.walk_course.new.steps c.walk_course.ensures.counted

@@ -1,6 +1,6 @@
 use Rattle.std.proofs.Common.{◌≡◌}
 use Rattle.implication.specs.Scopes.{IsSameScope, standing}
-use Rattle.tree_scopes.specs.Settings.{IsSameSetting}
+use Rattle.tree_laws.specs.Settings.{IsSameSetting}
 use Rattle.refutation_check.specs.Entering.{HasEnteredTo}
 use Rattle.refutation_check.proofs.entering.enter_all.Given as goal
 

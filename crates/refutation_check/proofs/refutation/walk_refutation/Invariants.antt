@@ -2,7 +2,7 @@ use Rattle.std.proofs.Common.{[]}
 use Rattle.pd_base.specs.Target.{Target}
 use Rattle.implication.specs.Scopes.{IsSameScope, standing}
 use Rattle.tree_laws.specs.Faults.{IsRightInRefutation}
-use Rattle.tree_scopes.specs.Settings.{IsSameSetting}
+use Rattle.tree_laws.specs.Settings.{IsSameSetting}
 use Rattle.refutation_check.specs.Walks.{IsScopeAt}
 use Rattle.refutation_check.proofs.Checking.{HasChecked}
 use Rattle.refutation_check.proofs.refutation.walk_refutation.Given as goal

@@ -1,13 +1,11 @@
 -- The judge is made for the end of the prefix.
 use Rattle.std.proofs.Common.{◌≡◌, ◌↔◌, IfOk, subst}
-use Rattle.pd_base.specs.Pair.{Vectors}
 use Rattle.pd_base.specs.Target.{target_of}
-use Rattle.netlist.specs.Conditions.{Meets}
-use Rattle.state_laws.specs.Steadied.{steadied}
+use Rattle.state_laws.proofs.Steadied.{steadied_meets}
 use Rattle.tree_laws.specs.Refutations.{IsRefutation}
 use Rattle.refutation_check.specs.declared.answer.TreeCheck.TheVariants.{Yes}
 use Rattle.refutation_check.specs.Judges.{MadeFor}
-use Rattle.refutation_check.proofs.Checking.{of_every, told_at_end}
+use Rattle.refutation_check.proofs.Checking.{told_at_end}
 use Rattle.refutation_check.proofs.single.check_tree.Goals as goal
 
 pub check_tree-requires-clause-told : goal.check_tree-requires-clause-told
@@ -21,7 +19,9 @@ returns-clause-exactly c =
     subst P c.in_ok-judge.ensures c.check_tree.ensures.exactly
 
 pub returns-clause-steadied : goal.returns-clause-steadied
-returns-clause-steadied c =
-    let P : MadeFor → Type 0 = λ m. (pair : Vectors) → Meets m.net (target_of c.args.prefix.now c.args.dir c.args.kind) pair
-    → Meets m.net (target_of c.args.prefix.now c.args.dir c.args.kind) (steadied m.net c.args.prefix.now.source.0 pair) in
-    of_every c.check_tree.result _ (λ check. subst P c.in_ok-judge.ensures c.check_tree.ensures.steadied)
+returns-clause-steadied c = λ pair meets.
+    steadied_meets c.args.net.now c.lines.ensures.circuit (target_of c.args.prefix.now c.args.dir c.args.kind) c.requires pair meets
+
+pub returns-in_err-judge-clause-steadied : goal.returns-in_err-judge-clause-steadied
+returns-in_err-judge-clause-steadied c = λ pair meets.
+    steadied_meets c.args.net.now c.lines.ensures.circuit (target_of c.args.prefix.now c.args.dir c.args.kind) c.requires pair meets

@@ -56,7 +56,7 @@ is_right_at-requires-clause-told g c =
 
 pub is_right_at-requires-clause-room : goal.is_right_at-requires-clause-room
 is_right_at-requires-clause-room g c =
-    let P : Circuit → Type 0 = λ n. IsTrialRoomAt n c.args.asked.now.path.now c.loop-place.room in
+    let P : Circuit → Type 0 = λ n. IsTrialRoomAt n (asked_target c.args.asked.now) c.loop-place.room in
     subst P (sym c.loop-place.invariant.setting.net) c.loop-place.invariant.room
 
 pub pass-requires-clause-walk : goal.pass-requires-clause-walk
@@ -85,7 +85,7 @@ loop-place-preserved g c =
     record {
       scope = record { engine = c.pass.ensures.scope.engine ∙ inv.scope.engine; origin = c.pass.ensures.scope.origin ∙ inv.scope.origin };
       setting = same_twice old now next inv.setting c.pass.ensures.setting;
-      room = let P : Circuit → Type 0 = λ n. IsTrialRoomAt n c.args.asked.now.path.now c.is_right_at.new.room in
+      room = let P : Circuit → Type 0 = λ n. IsTrialRoomAt n (asked_target c.args.asked.now) c.is_right_at.new.room in
           subst P inv.setting.net c.is_right_at.ensures.room;
       checked =
           let target = asked_target c.args.asked.now in let Is = IsRightInSpent old.net old.rules target in

@@ -1,6 +1,6 @@
 use Rattle.implication.specs.Scopes.{IsSameScope, standing}
 use Rattle.tree_laws.specs.Faults.{IsRightInSpent}
-use Rattle.tree_scopes.specs.Settings.{IsSameSetting}
+use Rattle.tree_laws.specs.Settings.{IsSameSetting}
 use Rattle.refutation_check.specs.Trials.{asked_target, IsTrialRoomAt}
 use Rattle.refutation_check.proofs.Checking.{HasChecked}
 use Rattle.refutation_check.proofs.spent.walk_spent.Given as goal
@@ -10,7 +10,7 @@ abbrev pub invariant-loop-place : goal.invariant-loop-place
 invariant-loop-place g l = record {
   scope : IsSameScope l.fn.scope l.scope;
   setting : IsSameSetting (standing l.fn.scope) (standing l.scope);
-  room : IsTrialRoomAt (standing l.fn.scope).net l.asked.path.now l.room;
+  room : IsTrialRoomAt (standing l.fn.scope).net (asked_target l.asked) l.room;
   checked : HasChecked (IsRightInSpent (standing l.fn.scope).net (standing l.fn.scope).rules (asked_target l.asked)) (asked_target l.asked)
       l.node-items l.place (standing l.scope) l.pending.items;
 }

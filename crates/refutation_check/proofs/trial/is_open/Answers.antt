@@ -1,38 +1,70 @@
 -- The judged pair has the least states of the hull.
-use Rattle.std.proofs.Common.{subst}
+use Rattle.std.proofs.Common.{length, refl, subst}
 use Rattle.netlist.specs.Circuit.{Circuit}
 use Rattle.netlist.specs.Lawful.{IsCircuit}
 use Rattle.netlist.specs.Paths.{end_of}
 use Rattle.implication.specs.Scopes.{standing}
-use Rattle.tree_scopes.proofs.Told.{told_in_fan_in}
-use Rattle.test_judging.specs.Judged.{IsJudgedAt}
-use Rattle.test_judging.specs.declared.judging.Judgement.{Judgement}
-use Rattle.refutation_check.specs.Trials.{asked_target, AreLeastOf}
-use Rattle.refutation_check.proofs.Trying.{test_not_open, failed_open}
+use Rattle.tree_laws.proofs.Told.{told_in_fan_in}
+use Rattle.refutation_check.specs.KeptStates.{AreKeptStates}
+use Rattle.refutation_check.specs.Trials.{asked_target, AreLeastOf, EachIsTest, NoneIsTest}
+use Rattle.refutation_check.proofs.Trying.{sources_within, least_in_cone, test_not_open, failed_open}
 use Rattle.refutation_check.proofs.trial.is_open.Goals as goal
 
-pub returns-in-IsTest-clause-open : goal.returns-in-IsTest-clause-open
-returns-in-IsTest-clause-open g c = λ halves at.
-    let now = standing c.args.scope.now in let target = asked_target c.args.asked.now in
-    let labels = c.labels.ensures.told c.requires.free in let states = c.judge_least-judgement.new.states in
-    let C : Circuit → Type 0 = λ n. IsCircuit n in
-    let L : Circuit → Type 0 = λ n. AreLeastOf n (end_of n target.path) c.labels.result.now states in
-    let J : Judgement → Type 0 = λ j. IsJudgedAt now.net target c.labels.result.now states j in
-    let K : Circuit → Type 0 = λ n. IsJudgedAt n target c.labels.result.now states c.judge_least-judgement.result in
-    test_not_open target halves now at c.requires.free (subst C c.net-net.ensures c.sources.ensures.circuit) c.requires.prefix labels.0 labels.1
-    c.labels.result.now labels.2 (λ line further. told_in_fan_in now.net now.ends (end_of now.net target.path) line c.requires.told further)
-    states (subst L c.net-net.ensures c.judge_least-judgement.ensures.least)
-    (subst J c.in-IsTest.is (subst K c.net-net.ensures c.judge_least-judgement.ensures.judged))
+pub fails_again-requires-clause-labels : goal.fails_again-requires-clause-labels
+fails_again-requires-clause-labels g c =
+    let now = standing c.args.scope.now in let room = c.args.room.now in
+    sources_within now.net (end_of now.net c.args.asked.now.path.now) room.cone.sources room.cone.sources refl c.requires.room.cone.sources
+    (length c.labels-labels.result.now) c.labels-labels.ensures.one_each
 
-pub returns-in-FailsAt-clause-open : goal.returns-in-FailsAt-clause-open
-returns-in-FailsAt-clause-open g c = λ halves at.
+pub fails_again-requires-clause-states : goal.fails_again-requires-clause-states
+fails_again-requires-clause-states g c =
+    let now = standing c.args.scope.now in let room = c.args.room.now in
+    sources_within now.net (end_of now.net c.args.asked.now.path.now) room.cone.sources room.cone.sources refl c.requires.room.cone.sources
+    (length room.kept.states.items) c.requires.room.made.kept.room.states.places
+
+pub returns-then-fails_again-clause-open : goal.returns-then-fails_again-clause-open
+returns-then-fails_again-clause-open g c = λ halves at.
     let now = standing c.args.scope.now in let target = asked_target c.args.asked.now in
-    let labels = c.labels.ensures.told c.requires.free in let states = c.judge_least-judgement.new.states in
+    let labels = c.labels-labels.ensures.told c.requires.free in let room = c.args.room.now in
     let C : Circuit → Type 0 = λ n. IsCircuit n in
-    let L : Circuit → Type 0 = λ n. AreLeastOf n (end_of n target.path) c.labels.result.now states in
-    let J : Judgement → Type 0 = λ j. IsJudgedAt now.net target c.labels.result.now states j in
-    let K : Circuit → Type 0 = λ n. IsJudgedAt n target c.labels.result.now states c.judge_least-judgement.result in
     failed_open target halves now at c.requires.free (subst C c.net-net.ensures c.sources.ensures.circuit) c.requires.prefix labels.0 labels.1
-    c.labels.result.now labels.2 (λ line further. told_in_fan_in now.net now.ends (end_of now.net target.path) line c.requires.told further)
-    states (subst L c.net-net.ensures c.judge_least-judgement.ensures.least)
-    (subst J c.in-FailsAt.is (subst K c.net-net.ensures c.judge_least-judgement.ensures.judged))
+    c.labels-labels.result.now labels.2 (λ line further. told_in_fan_in now.net now.ends (end_of now.net target.path) line c.requires.told further)
+    room.kept.states.items
+    (least_in_cone now.net (end_of now.net target.path) room.cone.sources c.requires.room.cone.sources c.labels-labels.result.now
+    room.kept.states.items (c.fails_again.ensures.least c.if-fails_again.true))
+    (c.requires.room.failed (c.fails_again.ensures.failed c.if-fails_again.true))
+
+pub returns-then-are_tests-clause-open : goal.returns-then-are_tests-clause-open
+returns-then-are_tests-clause-open g c = λ halves at.
+    let now = standing c.args.scope.now in let target = asked_target c.args.asked.now in
+    let labels = c.labels-labels.ensures.told c.requires.free in let states = c.are_tests.new.kept.states.items in
+    let C : Circuit → Type 0 = λ n. IsCircuit n in
+    let L : Circuit → Type 0 = λ n. AreLeastOf n (end_of n target.path) c.labels-labels.result.now states in
+    let E : Circuit → Type 0 = λ n. EachIsTest n target states in
+    test_not_open target halves now at c.requires.free (subst C c.net-net.ensures c.sources.ensures.circuit) c.requires.prefix labels.0 labels.1
+    c.labels-labels.result.now labels.2 (λ line further. told_in_fan_in now.net now.ends (end_of now.net target.path) line c.requires.told further)
+    states (subst L c.net-net.ensures c.are_tests.ensures.least)
+    (subst E c.net-net.ensures (c.are_tests.ensures.each c.if-are_tests.true))
+
+pub returns-clause-room : goal.returns-clause-room
+returns-clause-room g c =
+    let now = standing c.args.scope.now in let target = asked_target c.args.asked.now in
+    let K : Circuit → Type 0 = λ n. AreKeptStates n c.are_tests.new.kept in
+    let N : Circuit → Type 0 = λ n. NoneIsTest n target c.are_tests.new.kept.states.items in
+    record {
+      made = record { cone = c.requires.room.made.cone; kept = subst K c.net-net.ensures c.are_tests.ensures.kept };
+      cone = c.requires.room.cone;
+      failed = λ yes. subst N c.net-net.ensures (c.are_tests.ensures.none c.if-are_tests.false);
+    }
+
+pub returns-clause-open : goal.returns-clause-open
+returns-clause-open g c = λ halves at.
+    let now = standing c.args.scope.now in let target = asked_target c.args.asked.now in
+    let labels = c.labels-labels.ensures.told c.requires.free in let states = c.are_tests.new.kept.states.items in
+    let C : Circuit → Type 0 = λ n. IsCircuit n in
+    let L : Circuit → Type 0 = λ n. AreLeastOf n (end_of n target.path) c.labels-labels.result.now states in
+    let N : Circuit → Type 0 = λ n. NoneIsTest n target states in
+    failed_open target halves now at c.requires.free (subst C c.net-net.ensures c.sources.ensures.circuit) c.requires.prefix labels.0 labels.1
+    c.labels-labels.result.now labels.2 (λ line further. told_in_fan_in now.net now.ends (end_of now.net target.path) line c.requires.told further)
+    states (subst L c.net-net.ensures c.are_tests.ensures.least)
+    (subst N c.net-net.ensures (c.are_tests.ensures.none c.if-are_tests.false))

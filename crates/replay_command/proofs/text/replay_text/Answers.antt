@@ -15,7 +15,7 @@ returns-in-Err-clause-refused c =
     let net = c.args.net.now in
     let delays = delays_of c.args.net.now c.args.delays.now in
     let test = c.index-tests-index.result in
-    subst (RefusesTests net delays c.args.tests.now) (sym c.text_fault.ensures)
+    subst (RefusesTests net delays c.args.tests.now) (sym c.replay_text_fault.ensures)
     (refused_here net delays c.args.tests.now c.loop-index.index test c.loop-index-test.true c.loop-index.invariant.few c.in-Err.fault
     (subst (λ (t : Test). RefusesReplay net t.pair delays c.in-Err.fault) c.index-tests-index.is c.in-Err.ensures.refused))
 

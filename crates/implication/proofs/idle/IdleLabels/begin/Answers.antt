@@ -1,15 +1,13 @@
--- The start of a scope, cut from the idle labels or written where its source reaches, settles to the hull of the start.
-use Rattle.std.proofs.Common.{◌≡◌, Bool, true, bit_and, List, Option, Some, None, IfSome, IfNone, refl, sym, ap, ◌∙◌, subst, arith}
+-- The start of a scope, cut from the idle labels and narrowed, or computed forward where its source reaches, is the hull of the start.
+use Rattle.std.proofs.Common.{◌≡◌, Bool, true, bit_and, List, refl, sym, ap, ◌∙◌, subst, arith}
 use Rattle.std.proofs.Math.Dec.{eqb}
 use Rattle.std.proofs.lemmas.Bool.{eqb-true}
-use Rattle.pd_base.specs.declared.ids.LineId.{LineId}
 use Rattle.state_sets.specs.declared.state.StateSet.{StateSet}
 use Rattle.state_sets.specs.States.{both_sets}
-use Rattle.state_laws.specs.Forward.{AreReached}
 use Rattle.hulls.specs.Awaiting.{is_inside}
 use Rattle.hulls.proofs.Narrowed.{is_none, is_some}
-use Rattle.implication.specs.Idling.{Idling, StandsBy}
-use Rattle.implication.proofs.Idling.{as_many, stands_on, unlaunched_emptied, stuck_emptied, idle_ready, cut_begun_hull, cut_begun_emptied, begun_ready, begun_hull, begun_emptied, begun_stands}
+use Rattle.implication.specs.Idling.{StandsBy}
+use Rattle.implication.proofs.Idling.{as_many, stands_on, unlaunched_emptied, stuck_emptied, idle_ready, idle_within, cut_begun_hull, cut_begun_emptied, launched_hull, launched_some, launched_stands, launched_board}
 use Rattle.implication.proofs.idle.IdleLabels.begin.Goals as goal
 
 pub returns-then-eq-clause-emptied : goal.returns-then-eq-clause-emptied
@@ -29,72 +27,51 @@ returns-in-Some-clause-emptied g c =
           c.args.begun.source c.args.begun.direction c.in-Some.other.0 stuck.0 stuck.1 stuck.2,
     )
 
-if_none : (P Q : Type 0) → (P → Q) → (answer : Option LineId) → IfNone answer P → IfNone answer Q
-if_none P Q f None is = f is
-if_none P Q f (Some line) is = tt
-
-if_some : (P Q : LineId → Type 0) → ((line : LineId) → P line → Q line) → (answer : Option LineId) → IfSome answer P → IfSome answer Q
-if_some P Q f None is = tt
-if_some P Q f (Some line) is = f line is
-
-pub settle-requires-clause-ready : goal.settle-requires-clause-ready
-settle-requires-clause-ready g c =
+pub begin_forward-requires-clause-within : goal.begin_forward-requires-clause-within
+begin_forward-requires-clause-within g c =
     let launched = c.launching_states-launched.result in
-    let conditions = c.args.conditions.now in
-    let reached = c.lines.result.now in
-    let of = subst (AreReached c.args.net.now (is_inside c.args.board.now.inside) c.args.begun.source.0) (sym c.lines.ensures.lines)
-    c.reach.ensures.reached in
-    begun_ready g.A.Algebra.algebra g.met.A.Algebra.laws c.args.net.now c.stuck_source.ensures.circuit c.args.rules.now c.args.self.now
+    idle_within g.A.Algebra.algebra g.met.A.Algebra.laws c.args.net.now c.stuck_source.ensures.circuit c.args.rules.now c.args.self.now
     c.args.board.now c.requires.idle c.args.begun.source c.requires.source c.args.begun.direction launched
-    c.launching_states-launched.ensures.within c.launching_states-launched.ensures.means c.in_default.ensures.none reached of
-    c.start_lines.new.board c.start_lines.ensures conditions.kind conditions.steps c.requires.no_steps
-    (is_some c.eq.result launched launched c.eq.ensures c.if-eq.false refl)
+    c.launching_states-launched.ensures.within c.launching_states-launched.ensures.means c.in_default.ensures.none
 
 pub returns-clause-hull : goal.returns-clause-hull
 returns-clause-hull g c =
     let launched = c.launching_states-launched.result in
-    let conditions = c.args.conditions.now in
-    let reached = c.lines.result.now in
-    let of = subst (AreReached c.args.net.now (is_inside c.args.board.now.inside) c.args.begun.source.0) (sym c.lines.ensures.lines)
-    c.reach.ensures.reached in
-    if_none _ _
-    (begun_hull g.A.Algebra.algebra g.met.A.Algebra.laws c.args.net.now c.stuck_source.ensures.circuit c.args.rules.now c.args.self.now
+    launched_hull g.A.Algebra.algebra g.met.A.Algebra.laws c.args.net.now c.stuck_source.ensures.circuit c.args.rules.now c.args.self.now
     c.args.board.now c.requires.idle c.args.begun.source c.requires.source c.args.begun.direction launched
-    c.launching_states-launched.ensures.within c.launching_states-launched.ensures.means c.in_default.ensures.none reached of
-    c.start_lines.new.board c.start_lines.ensures conditions.kind conditions.steps c.requires.no_steps c.settle.new.self.labels)
-    c.settle.result c.settle.ensures.hull
+    c.launching_states-launched.ensures.within c.launching_states-launched.ensures.means c.in_default.ensures.none
+    (is_some c.eq.result launched launched c.eq.ensures c.if-eq.false refl) c.begin_forward.new.self.reached c.begin_forward.new.board
+    c.begin_forward.ensures.launched c.args.conditions.now.kind
 
-pub returns-clause-emptied : goal.returns-clause-emptied
-returns-clause-emptied g c =
+pub returns-clause-none_empty : goal.returns-clause-none_empty
+returns-clause-none_empty g c =
     let launched = c.launching_states-launched.result in
-    let conditions = c.args.conditions.now in
-    let reached = c.lines.result.now in
-    let of = subst (AreReached c.args.net.now (is_inside c.args.board.now.inside) c.args.begun.source.0) (sym c.lines.ensures.lines)
-    c.reach.ensures.reached in
-    if_some _ _
-    (λ line is. (
-      is.0,
-      begun_emptied g.A.Algebra.algebra g.met.A.Algebra.laws c.args.net.now c.stuck_source.ensures.circuit c.args.rules.now
-          c.args.self.now c.args.board.now c.requires.idle c.args.begun.source c.requires.source c.args.begun.direction launched
-          c.launching_states-launched.ensures.within c.launching_states-launched.ensures.means c.in_default.ensures.none reached of
-          c.start_lines.new.board c.start_lines.ensures conditions.kind conditions.steps c.requires.no_steps line.0 is.1,
-    ))
-    c.settle.result c.settle.ensures.emptied
+    launched_some g.A.Algebra.algebra g.met.A.Algebra.laws c.args.net.now c.stuck_source.ensures.circuit c.args.rules.now c.args.self.now
+    c.args.board.now c.requires.idle c.args.begun.source c.requires.source c.args.begun.direction launched
+    c.launching_states-launched.ensures.within c.launching_states-launched.ensures.means c.in_default.ensures.none
+    (is_some c.eq.result launched launched c.eq.ensures c.if-eq.false refl) c.begin_forward.new.self.reached c.begin_forward.new.board
+    c.begin_forward.ensures.launched
 
 pub returns-clause-stands : goal.returns-clause-stands
 returns-clause-stands g c =
-    let a = g.A.Algebra.algebra in let net = c.args.net.now in let rules = c.args.rules.now in
     let launched = c.launching_states-launched.result in
-    let reached = c.lines.result.now in
-    let of = subst (AreReached net (is_inside c.args.board.now.inside) c.args.begun.source.0) (sym c.lines.ensures.lines)
-    c.reach.ensures.reached in
-    subst (λ (lines : List LineId). StandsBy a net rules (record { labels = c.self.inside.labels.items; reached = lines }) c.settle.new.self)
-    c.lines.ensures.lines
-    (subst (λ (i : Idling). StandsBy a net rules (record { labels = i.labels; reached = reached }) c.settle.new.self) (sym c.self.view_is)
-    (begun_stands g.A.Algebra.algebra g.met.A.Algebra.laws c.args.net.now c.stuck_source.ensures.circuit c.args.rules.now c.args.self.now
+    let now = c.begin_forward.new.self in
+    subst (λ (labels : List StateSet). StandsBy g.A.Algebra.algebra c.args.net.now c.args.rules.now
+    (record { labels = labels; reached = now.reached }) c.begin_forward.new.board) (sym c.begin_forward.ensures.labels)
+    (launched_stands g.A.Algebra.algebra g.met.A.Algebra.laws c.args.net.now c.stuck_source.ensures.circuit c.args.rules.now c.args.self.now
     c.args.board.now c.requires.idle c.args.begun.source c.requires.source c.args.begun.direction launched
-    c.launching_states-launched.ensures.within c.launching_states-launched.ensures.means c.in_default.ensures.none reached of c.start_lines.new.board c.start_lines.ensures c.settle.new.self
-    c.settle.ensures.follows c.settle.ensures.inside))
+    c.launching_states-launched.ensures.within c.launching_states-launched.ensures.means c.in_default.ensures.none
+    (is_some c.eq.result launched launched c.eq.ensures c.if-eq.false refl) c.begin_forward.new.self.reached c.begin_forward.new.board
+    c.begin_forward.ensures.launched)
+
+pub returns-clause-board : goal.returns-clause-board
+returns-clause-board g c =
+    let launched = c.launching_states-launched.result in
+    launched_board g.A.Algebra.algebra g.met.A.Algebra.laws c.args.net.now c.stuck_source.ensures.circuit c.args.rules.now c.args.self.now
+    c.args.board.now c.requires.idle c.args.begun.source c.requires.source c.args.begun.direction launched
+    c.launching_states-launched.ensures.within c.launching_states-launched.ensures.means c.in_default.ensures.none
+    (is_some c.eq.result launched launched c.eq.ensures c.if-eq.false refl) c.begin_forward.new.self.reached c.begin_forward.new.board
+    c.begin_forward.ensures.launched
 
 -- the label has all states of the set, with which it has so many in common
 all_common : (answer : Bool) (left common launched label : StateSet) → answer ≡ eqb common.0 launched.0 → answer ≡ true
@@ -158,10 +135,3 @@ returns-then-eq-clause-stands g c = c.requires.idle.stands
 
 pub returns-then-eq-clause-board : goal.returns-then-eq-clause-board
 returns-then-eq-clause-board g c = record { inside = refl; lines = refl; at_rest = c.requires.idle.at_rest }
-
-pub returns-clause-board : goal.returns-clause-board
-returns-clause-board g c = record {
-  inside = c.settle.ensures.inside ∙ c.start_lines.ensures.inside;
-  lines = as_many c.start_lines.new.board c.settle.new.self c.settle.ensures.follows ∙ c.start_lines.ensures.one_each;
-  at_rest = c.settle.ensures.waiting;
-}

@@ -1,0 +1,90 @@
+"""A netlist of two paths and four faults, with the three files of its run, written down by hand, and calls on them. For the scripts beside
+it."""
+
+NET = "INPUT(a)\nOUTPUT(y)\nn = BUFF(a)\ny = AND(a, n)\n"
+DELAYS = "gate,pin,delay\n"
+TESTS = "pdfgen tests 1\nsources a\nobserved y\n1 1 rise robust 0 1 1\n2 2 rise robust 0 1 1\n"
+REPORT = (
+    "path,direction,length,source,steps,verdict,test,robust_proof,nonrobust_proof\n"
+    "1,rise,2,a,n:0 y:1,robust,1,-,-\n"
+    "1,fall,2,a,n:0 y:1,untestable,-,-,1\n"
+    "2,rise,1,a,y:0,robust,2,-,-\n"
+    "2,fall,1,a,y:0,untestable,-,-,2\n"
+)
+PROOFS = "pdfgen proofs 1\n1 refutes nonrobust fall 1 2 X\n2 refutes nonrobust fall 2 1 X\n"
+# The version that `gen` writes; check judges both.
+GEN_VERSION = 2
+GEN_PROOFS = PROOFS.replace("proofs 1", f"proofs {GEN_VERSION}", 1)
+SUMMARY = "paths 2 robust 2 nonrobust 0 untestable 2 aborted 0\n"
+
+OUTPUTS = (("tests", TESTS), ("report", REPORT), ("proofs", PROOFS))
+INPUTS = (("net", NET), ("delays", DELAYS))
+# Files that are refused, each for a reason whose line names something.
+REFUSED = (
+    ("other_net", NET.replace("BUFF(a)", "BUFF(b)")),
+    ("other_delays", DELAYS + "z,0,1\n"),
+    ("other_tests", TESTS.replace("robust 0", "robust 2")),
+    ("other_proofs", PROOFS.replace("1 X", "1 V0 X O")),
+)
+# Longer than each of the outputs, so that it shows where a file was not cut.
+OLD = "0" * 1000
+
+FILES = ["net", "delays", "tests", "report", "proofs"]
+GEN_FILES = [TESTS, REPORT, GEN_PROOFS]
+# What is called, the words, and the status.
+CALLS = [
+    ("gen", ["gen", *FILES], 0),
+    ("check", ["check", *FILES], 0),
+    ("replay", ["replay", "net", "delays", "tests", "1"], 0),
+    ("make", ["make", "2"], 0),
+    ("check, a line malformed", ["check", "net", "delays", "other_tests", "report", "proofs"], 1),
+    ("check, a proof bad", ["check", "net", "delays", "tests", "report", "other_proofs"], 1),
+    ("no words", [], 2),
+    ("an option twice", ["gen", *FILES, "--paths=5", "--paths", "6"], 2),
+    ("gen, a netlist refused", ["gen", "other_net", *FILES[1:]], 3),
+    ("gen, delays refused", ["gen", "net", "other_delays", *FILES[2:]], 4),
+    ("gen, DELAYS absent", ["gen", "net", "absent", *FILES[2:]], 5),
+    ("gen, REPORT in no folder", ["gen", "net", "delays", "tests", "absent/report", "proofs"], 6),
+    ("gen, texts too long", ["gen", "long_name", "delays", *FILES[2:], "--paths", "10000", "--budget", "1"], 8),
+]
+
+
+def long_way():
+    """A row of buffers of so many lines, and names so long, that 10,000 paths are too long a text."""
+    names = ["n" * 200 + f"{at:02}" for at in range(40)]
+    gates = "".join(f"{name} = BUFF({before})\n" for before, name in zip(names, names[1:]))
+    return f"INPUT({names[0]})\nOUTPUT({names[-1]})\n{gates}y = AND({names[0]}, {names[0]})\nOUTPUT(y)\n"
+
+
+def before(words):
+    """What the three outputs hold before a call with these words: old texts where it is to write them."""
+    return [OLD] * len(OUTPUTS) if words[:1] == ["gen"] else [text for _, text in OUTPUTS]
+
+
+def prepare(folder, words):
+    """Puts the files into a folder as they stand before a call with these words."""
+    for name, text in (*INPUTS, *REFUSED, ("long_name", long_way())):
+        (folder / name).write_text(text)
+    for (name, _), text in zip(OUTPUTS, before(words)):
+        (folder / name).write_text(text)
+
+
+def outputs_in(folder):
+    """What the three outputs hold."""
+    return [(folder / name).read_text() for name, _ in OUTPUTS]
+
+
+def is_as_written_down(words, out, files):
+    """Whether a call with memory leaves what a person wrote down: the run of gen; for the others the files as before."""
+    if words == ["gen", *FILES]:
+        return out == SUMMARY and files == GEN_FILES
+    return words[:1] == ["gen"] or files == before(words)
+
+
+def stand_in_turn(found, whole, before):
+    """Whether these are whole files, then at most one front of its text, then files as they were before."""
+    begun = next((at for at, text in enumerate(found) if text != whole[at]), len(found))
+    behind = begun + 1
+    if found[begun:] == before[begun:]:
+        return True
+    return found[behind:] == before[behind:] and found[begun] is not None and whole[begun].startswith(found[begun])

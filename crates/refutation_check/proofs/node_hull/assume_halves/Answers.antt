@@ -1,0 +1,42 @@
+-- One half more is assumed, and at the end all are.
+use Rattle.std.proofs.Common.{◌<◌, false, List, take, get_or, sym, subst}
+use Rattle.std.proofs.lemmas.List.{take_more, take_all}
+use Rattle.netlist.specs.Circuit.{Circuit, source_count}
+use Rattle.state_laws.specs.declared.half.Half.{Half}
+use Rattle.implication.specs.Scopes.{standing}
+use Rattle.refutation_check.specs.Walks.{IsScopeAt}
+use Rattle.refutation_check.proofs.Walking.{same_itself, same_twice, same_of_extended}
+use Rattle.refutation_check.proofs.node_hull.assume_halves.Goals as goal
+
+abbrev no_half : Half
+no_half = record { source = 0; steadiness = false; second = false }
+
+pub loop-half-init : goal.loop-half-init
+loop-half-init g c = record {
+  setting = same_itself (standing c.args.scope.now);
+  below = λ target at. at;
+}
+
+pub assume_half-requires : goal.assume_half-requires
+assume_half-requires g c =
+    let P : Circuit → Type 0 = λ n. (get_or c.args.halves.now c.loop-half.half-index no_half).source < source_count n in
+    record {
+      source = subst P (sym c.loop-half.invariant.setting.net) (c.requires.sources c.loop-half.half-index no_half c.loop-half-test.true);
+    }
+
+pub loop-half-preserved : goal.loop-half-preserved
+loop-half-preserved g c =
+    let halves = c.args.halves.now in let place = c.loop-half.half-index in
+    let before = standing c.loop-half.scope in let after = standing c.assume_half.new.scope in
+    record {
+      setting = same_twice (standing c.args.scope.now) before after c.loop-half.invariant.setting
+          (same_of_extended before after c.assume_half.ensures.extends);
+      below = λ target at. subst (λ (list : List Half). IsScopeAt target list after)
+          (sym (take_more halves place no_half c.loop-half-test.true))
+          (c.assume_half.ensures.below target (take place halves) (c.loop-half.invariant.below target at));
+    }
+
+pub returns-clause-below : goal.returns-clause-below
+returns-clause-below g c = λ target at.
+    subst (λ (list : List Half). IsScopeAt target list (standing c.loop-half.scope))
+    (take_all c.loop-half.half-index c.args.halves.now c.loop-half-test.false) (c.loop-half.invariant.below target at)
