@@ -1,7 +1,7 @@
 // Telling that a claim file is malformed, or that the run that claim files spell is not good, in pieces that need no memory.
 ghost use Rattle.std.specs.Prelude.{◌≡◌, ◌++◌, codes, decimal};
 ghost use Rattle.pd_io.specs.Seen.{sink_seen};
-ghost use Rattle.calls.specs.Lines.{reader_word, refusal_line};
+ghost use Rattle.calls.specs.Lines.{reader_word, reason_at_item, refusal_line, run_reason_told};
 ghost use Rattle.calls.specs.Reports.{LineEnds};
 ghost use Rattle.text_pieces.specs.Tokens.{line};
 
@@ -52,15 +52,23 @@ pub(crate) fn write_run_refusal<E: Sink>(refusal: RunRefusal, err: &mut E) -> Re
     ensures { LineEnds (refusal_line (Refusal.NotGood refusal)) result
         (sink_seen E.Sink err.old) (sink_seen E.Sink err.new) }
 {
+    let (item, number, reason) = flaw_words(refusal);
+    write_item(err, item, number, reason)
+}
+
+// How a line says why a run is not good: the word of an item, its number, and what is wrong there.
+fn flaw_words(refusal: RunRefusal) -> (&'static [u8], u32, &'static [u8])
+    ensures { run_reason_told refusal ≡ reason_at_item result.0.now result.1 result.2.now }
+{
     match refusal {
-        RunRefusal::WrongCount(item) => write_item(err, b"count ", item, b" WrongCount"),
-        RunRefusal::WrongPath(item) => write_item(err, b"path ", item, b" WrongPath"),
-        RunRefusal::WrongLength(item) => write_item(err, b"path ", item, b" WrongLength"),
-        RunRefusal::BadRefutation(item) => write_item(err, b"proof ", item, b" BadRefutation"),
-        RunRefusal::BadSpent(item) => write_item(err, b"proof ", item, b" BadSpent"),
-        RunRefusal::NotShared(item) => write_item(err, b"fault ", item, b" NotShared"),
-        RunRefusal::BadTest(item) => write_item(err, b"fault ", item, b" BadTest"),
-        RunRefusal::WrongExpected(item) => write_item(err, b"fault ", item, b" WrongExpected"),
+        RunRefusal::WrongCount(item) => (b"count ", item, b" WrongCount"),
+        RunRefusal::WrongPath(item) => (b"path ", item, b" WrongPath"),
+        RunRefusal::WrongLength(item) => (b"path ", item, b" WrongLength"),
+        RunRefusal::BadRefutation(item) => (b"proof ", item, b" BadRefutation"),
+        RunRefusal::BadSpent(item) => (b"proof ", item, b" BadSpent"),
+        RunRefusal::NotShared(item) => (b"fault ", item, b" NotShared"),
+        RunRefusal::BadTest(item) => (b"fault ", item, b" BadTest"),
+        RunRefusal::WrongExpected(item) => (b"fault ", item, b" WrongExpected"),
     }
 }
 

@@ -1,7 +1,7 @@
 // Why a delay file is refused: what its line on err says of it.
 
 /// Why the text of a delay file gives no delays. A place is the number of a row, counted from 1.
-#[derive(Clone, Copy, Debug)]
+#[derive(Clone, Copy)]
 pub enum DelaysRefusal {
     /// The first row is not that of the titles, or there is no row.
     Header,

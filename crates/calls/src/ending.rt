@@ -6,7 +6,7 @@ use crate::{Refusal, Role};
 use pd_base::OutOfMemory;
 
 /// How a call ended.
-#[derive(Debug, Drop)]
+#[derive(Drop)]
 pub enum Ending {
     /// The work was done.
     Done,

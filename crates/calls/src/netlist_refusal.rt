@@ -2,7 +2,7 @@
 use pd_base::Items;
 
 /// Why the text of a netlist has no circuit. A place is the number of a line, counted from 1, and a name stands on that line.
-#[derive(Debug, Drop)]
+#[derive(Drop)]
 pub enum NetlistRefusal {
     /// A byte may not stand there.
     BadByte(u32),

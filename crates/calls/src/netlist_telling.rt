@@ -8,6 +8,7 @@ ghost use Rattle.text_pieces.specs.Tokens.{line};
 use crate::telling::write_pieces;
 use crate::{NetlistRefusal, Refusal};
 use itoa::Buffer;
+use pd_base::Items;
 use pd_io::{FileFault, Sink};
 
 // Writes the line that says why the netlist was refused.
@@ -26,16 +27,10 @@ pub(crate) fn write_netlist_refusal<E: Sink>(
         NetlistRefusal::FanIn(place) => write_place(err, *place, b" fan-in"),
         NetlistRefusal::TooManyLines(count) => write_count(err, b"too many lines ", *count),
         NetlistRefusal::TooManyPins(count) => write_count(err, b"too many pins ", *count),
-        NetlistRefusal::Twice(place, name) => {
-            write_name(err, *place, b" twice ", name.as_slice())
-        }
-        NetlistRefusal::Undefined(place, name) => {
-            write_name(err, *place, b" undefined ", name.as_slice())
-        }
-        NetlistRefusal::Loop(place, name) => { write_name(err, *place, b" loop ", name.as_slice()) }
-        NetlistRefusal::TooDeep(place, name) => {
-            write_name(err, *place, b" too deep ", name.as_slice())
-        }
+        NetlistRefusal::Twice(place, name) => write_name(err, *place, b" twice ", name),
+        NetlistRefusal::Undefined(place, name) => write_name(err, *place, b" undefined ", name),
+        NetlistRefusal::Loop(place, name) => write_name(err, *place, b" loop ", name),
+        NetlistRefusal::TooDeep(place, name) => write_name(err, *place, b" too deep ", name),
     }
 }
 
@@ -60,11 +55,19 @@ fn write_count<E: Sink>(err: &mut E, reason: &[u8], count: u64) -> Result<(), Fi
 }
 
 // Writes a line that names a place, what is wrong there, and a name that stands there.
-fn write_name<E: Sink>(err: &mut E, place: u32, reason: &[u8], name: &[u8]) -> Result<(), FileFault>
+fn write_name<E: Sink>(
+    err: &mut E,
+    place: u32,
+    reason: &[u8],
+    name: &Items<u8>,
+) -> Result<(), FileFault>
     ensures { LineEnds (line (codes "netlist: line " ++ decimal place ++ reason.now ++ name.now)) result
         (sink_seen E.Sink err.old) (sink_seen E.Sink err.new) }
 {
     let mut digits = Buffer::new();
     let place = digits.format(place).as_bytes();
-    write_pieces(err, &[b"netlist: line ", place, reason, name, b"\n"])
+    write_pieces(
+        err,
+        &[b"netlist: line ", place, reason, name.as_slice(), b"\n"],
+    )
 }

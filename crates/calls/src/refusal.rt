@@ -4,7 +4,7 @@ use command_line::WordsRefusal;
 use pd_base::Items;
 
 /// A reason for which the words or the inputs of a call are refused.
-#[derive(Debug, Drop)]
+#[derive(Drop)]
 pub enum Refusal {
     /// The words are no lawful command.
     Words(WordsRefusal),

@@ -1,7 +1,7 @@
 // Why a run is refused: what its line on err says of it.
 
 /// Why the run that claim files spell is not good. Numbers of items are counted from 1.
-#[derive(Clone, Copy, Debug)]
+#[derive(Clone, Copy)]
 pub enum RunRefusal {
     /// A count is wrong: that of the listed paths (1), of the tests (2) or of the proofs (3).
     WrongCount(u32),

@@ -16,6 +16,10 @@ pub record Nodes : Type 0 where
   pub before : List ℕ
   pub count : ℕ
 
+-- those of an empty list
+abbrev pub no_nodes : Nodes
+no_nodes = record { rows = []; before = []; count = 0 }
+
 -- the node of the prefix of so many steps of the path in a row
 abbrev pub node_at : Nodes → ℕ → ℕ → ℕ
 node_at nodes row steps = slice_index_or (slice_index_or nodes.rows row []) steps 0

@@ -4,7 +4,7 @@ ghost use Rattle.std.specs.Prelude.{◌≡◌, ◌+◌, ◌<◌, ◌≤◌, ◌�
 ghost use Rattle.pd_base.specs.declared.limits.TheConstants.{MOST_PATHS};
 ghost use Rattle.pd_base.specs.Route.{Route};
 ghost use Rattle.netlist.specs.declared.limits.TheConstants.{MOST_LEVELS};
-ghost use Rattle.claim_check.specs.Prefixes.{AreTreeNodes, node_at};
+ghost use Rattle.claim_check.specs.Prefixes.{AreTreeNodes, no_nodes, node_at};
 ghost use Rattle.claim_check.specs.PrefixNodes.{AreNodesOf, ArePut, IsPut, IsTreeOf};
 
 use indexmap::IndexSet;
@@ -43,16 +43,35 @@ impl PrefixTree {
         requires short { All (λ route. length route.steps ≤ MOST_LEVELS) paths.now }
         ensures { IfOk result (AreTreeNodes paths.now) }
     {
-        let mut prefixes = IndexSet::new(alloc);
-        let mut tree = PrefixTree {
-            rows: FlatLists::with_capacity(alloc, paths.len(), 0)?,
-            before: Vec::with_capacity(alloc, paths.len())?,
-            count: 0,
-        };
-        for path in paths {
-            tree.add_path(alloc, &mut prefixes, path)?;
-        }
+        let mut tree = PrefixTree::empty(alloc, paths.len())?;
+        tree.add_paths(alloc, paths)?;
         Ok(tree)
+    }
+
+    // The tree of no path, with room for so many.
+    fn empty(alloc: Global, room: usize) -> Result<PrefixTree, OutOfMemory>
+        ensures { IfOk result (λ tree. tree ≡ no_nodes) }
+    {
+        let before = Vec::with_capacity(alloc, room)?;
+        Ok(PrefixTree {
+            rows: FlatLists::with_capacity(alloc, room, 0)?,
+            before,
+            count: 0,
+        })
+    }
+
+    // Adds these paths to the tree of none. The set of their prefixes stands here alone, so that it is dropped at few places.
+    fn add_paths(&mut self, alloc: Global, paths: &[Path]) -> Result<(), OutOfMemory>
+        requires none { self.old ≡ no_nodes }
+        requires few { length paths.now ≤ MOST_PATHS }
+        requires short { All (λ route. length route.steps ≤ MOST_LEVELS) paths.now }
+        ensures { OnOk result (AreTreeNodes paths.now self.new) }
+    {
+        let mut prefixes = IndexSet::new(alloc);
+        for path in paths {
+            self.add_path(alloc, &mut prefixes, path)?;
+        }
+        Ok(())
     }
 
     // How many nodes there are.

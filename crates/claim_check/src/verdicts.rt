@@ -1,5 +1,5 @@
 // The verdicts of a run, fault by fault in the order of the report.
-ghost use Rattle.std.specs.Prelude.{◌≡◌, ◌<◌, ◌^◌, ◌≤◌, [], None, Some, All, IfOk, length, slice_get};
+ghost use Rattle.std.specs.Prelude.{◌≡◌, ◌<◌, ◌^◌, ◌≤◌, [], None, Some, All, IfOk, length, replicate, slice_get};
 ghost use Rattle.pd_base.specs.declared.limits.TheConstants.{MOST_PATHS};
 ghost use Rattle.pd_base.specs.Target.{target_of};
 ghost use Rattle.pd_base.specs.declared.fault.Direction.{Direction};
@@ -86,9 +86,16 @@ fn no_refutations(alloc: Global, run: &Run) -> Result<Least, OutOfMemory>
 {
     let count = run.paths.as_slice().len();
     Ok(Least {
-        robust: vec![in alloc; None; count]?,
-        nonrobust: vec![in alloc; None; count]?,
+        robust: no_numbers(alloc, count)?,
+        nonrobust: no_numbers(alloc, count)?,
     })
+}
+
+// No number, so many times.
+fn no_numbers(alloc: Global, count: usize) -> Result<Vec<Option<u32>>, OutOfMemory>
+    ensures { IfOk result (λ none. none.items ≡ replicate count None) }
+{
+    Ok(vec![in alloc; None; count]?)
 }
 
 // The refutations of the least numbers for a direction.

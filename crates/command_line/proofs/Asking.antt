@@ -1,10 +1,10 @@
 -- What words ask for that a command is given.
-use Rattle.std.proofs.Common.{◌≡◌, ◌*◌, ◌-◌, ◌≤◌, ◌&&◌, ℕ, true, List, [], ◌∷◌, Option, Some, None, Result, Ok, Err, length, get_or, take, drop, leb, option_map, refl, sym, ap, subst, ◌∙◌, inl, inr, arith}
+use Rattle.std.proofs.Common.{◌≡◌, ◌*◌, ◌-◌, ◌≤◌, ◌&&◌, ℕ, List, [], ◌∷◌, Option, Some, None, Result, Ok, Err, length, get_or, take, drop, leb, option_map, refl, sym, ap, subst, ◌∙◌, inl, inr, arith}
 use Rattle.std.specs.Prelude.{if◌then◌else◌, unwrap_or}
 use Rattle.std.proofs.lemmas.Bool.{and_parts, cases_Bool, leb-true}
 use Rattle.std.proofs.lemmas.List.{take_all, length-map}
 use Rattle.command_line.specs.Commands.{bytes_of_words}
-use Rattle.command_line.specs.Options.{is_at_most, is_within, number_or}
+use Rattle.command_line.specs.Options.{is_at_most, is_within}
 use Rattle.command_line.specs.Taken.{HasTexts, IsFaultOf}
 use Rattle.command_line.specs.Words.{Given, GivesWords, HasLawfulNumbers, HasMakeNumbers, HasRunNumbers, AreAccepted, asked_call, budget_asked, call_asked, call_behind, call_given, call_reason, call_with, command_form, command_named, first_place, first_same, none_given, paths_asked, product_reason, reason_or, run_call, run_reason, stages_spelled, texts_of_words, time_reason, time_spelled, then_taken, unless_refused, words_outcome, words_taken}
 use Rattle.command_line.specs.declared.command_name.CommandName.{CommandName}

@@ -1,7 +1,7 @@
 // What the words ask for: a command with the names of its files, by role, and its numbers.
 
 /// A command of the program.
-#[derive(Clone, Copy, Debug)]
+#[derive(Clone, Copy)]
 pub enum Command<'a> {
     /// Lists the first paths of a netlist, and writes their tests, the report on them and the proofs.
     Gen(RunCommand<'a>),
@@ -14,7 +14,7 @@ pub enum Command<'a> {
 }
 
 /// What is asked for of a run: `gen` makes it and writes its three files, `check` judges the run that they spell.
-#[derive(Clone, Copy, Debug)]
+#[derive(Clone, Copy)]
 pub struct RunCommand<'a> {
     /// The netlist, to be read.
     pub net: &'a str,
@@ -33,7 +33,7 @@ pub struct RunCommand<'a> {
 }
 
 /// A call of `replay`. All its files are to be read.
-#[derive(Clone, Copy, Debug)]
+#[derive(Clone, Copy)]
 pub struct ReplayCommand<'a> {
     /// The netlist.
     pub net: &'a str,
@@ -46,7 +46,7 @@ pub struct ReplayCommand<'a> {
 }
 
 /// A call of `make`.
-#[derive(Clone, Copy, Debug)]
+#[derive(Clone, Copy)]
 pub struct MakeCommand {
     /// How many stages the ladder is to have.
     pub stages: u32,

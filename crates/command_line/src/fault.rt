@@ -6,7 +6,7 @@ use crate::WordsRefusal;
 use std::alloc::AllocFailed;
 
 /// Why words gave no command.
-#[derive(Clone, Copy, Debug)]
+#[derive(Clone, Copy)]
 pub enum WordsFault {
     /// The words are no lawful command.
     Refused(WordsRefusal),

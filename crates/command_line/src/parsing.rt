@@ -1,8 +1,8 @@
 // The values of words that the rules accept, as clap reads them. Nothing else speaks of clap.
-ghost use Rattle.std.specs.Prelude.{◌≡◌, IfOk, IfErr};
-ghost use Rattle.clap.specs.Words.{app_of, found_of, kind_of, rows_of};
+ghost use Rattle.std.specs.Prelude.{◌≡◌, IfOk, IfErr, false};
+ghost use Rattle.clap.specs.Words.{app_of, found_of, kind_of, rows_of, rule_of};
 ghost use Rattle.command_line.specs.Commands.{bytes_of_words};
-ghost use Rattle.command_line.specs.ClapWords.{HasRows, words_app};
+ghost use Rattle.command_line.specs.ClapWords.{HasRows, option_rule, word_rule, words_app};
 ghost use Rattle.command_line.specs.Taken.{HasTexts};
 ghost use Rattle.command_line.specs.Words.{Given, GivesWords};
 ghost use Rattle.command_line.specs.declared.form.CommandForm.{CommandForm};
@@ -35,20 +35,31 @@ pub(crate) fn parsed_words<'a>(alloc: Global, words: &'a [&'a str]) -> Result<Pa
     values_of(alloc, &matches)
 }
 
-// What clap is told of the words: one argument takes all positional words, and both options have a value.
+// What clap is told of the words: one argument takes all positional words, and both options have a value. Each argument is made where it
+// is handed over, so that none has to be dropped where memory runs out.
 fn words_parser<'a>(alloc: Global) -> Result<Command<'a>, Error>
     ensures parser { IfOk result (λ command. app_of command ≡ words_app) }
     ensures memory { IfErr result (λ error. kind_of error ≡ ErrorKind.OutOfMemory) }
 {
-    let positional = Arg::new(alloc, "positional").action(ArgAction::Append);
-    let paths = Arg::new(alloc, "paths").long("paths");
-    let budget = Arg::new(alloc, "budget").long("budget");
-    Ok(
-        Command::new(alloc, "pdfgen")
-            .arg(positional)?
-            .arg(paths)?
-            .arg(budget)?,
-    )
+    let parser = Command::new(alloc, "pdfgen").arg(positional_argument(alloc))?;
+    let parser = parser.arg(option_argument(alloc, "paths"))?;
+    Ok(parser.arg(option_argument(alloc, "budget"))?)
+}
+
+// The argument that takes all positional words.
+fn positional_argument<'a>(alloc: Global) -> Arg<'a>
+    ensures rule { rule_of result ≡ word_rule }
+    ensures local { result.global ≡ false }
+{
+    Arg::new(alloc, "positional").action(ArgAction::Append)
+}
+
+// The argument of an option of this name.
+fn option_argument<'a>(alloc: Global, name: &'a str) -> Arg<'a>
+    ensures rule { rule_of result ≡ option_rule name.entry.now }
+    ensures local { result.global ≡ false }
+{
+    Arg::new(alloc, name).long(name)
 }
 
 // The values that were found.

@@ -107,7 +107,10 @@ fn run_reason(taken: &Taken) -> Option<WordsRefusal>
 {
     let paths = number_or(taken.paths, DEFAULT_PATHS);
     let budget = number_or(taken.budget, DEFAULT_BUDGET);
-    same_among(taken.positional.as_slice()).or_else(|| product_reason(paths, budget))
+    match same_among(taken.positional.as_slice()) {
+        None => product_reason(paths, budget),
+        reason => reason,
+    }
 }
 
 // Why words that may stand where they do are no call of `replay`: the last is no time, or two names are equal.
@@ -124,8 +127,10 @@ fn replay_reason(taken: &Taken) -> Option<WordsRefusal>
 fn number_or(text: Option<&str>, default: u32) -> u32
     ensures { result ≡ number_or default (option_map (λ text. text.now) text.entry) }
 {
-    text.and_then(|text| number(text, MOST_DIGITS))
-        .unwrap_or(default)
+    match text {
+        Some(text) => number(text, MOST_DIGITS).unwrap_or(default),
+        None => default,
+    }
 }
 
 // Why a call for so many paths and this budget is refused, if it is.

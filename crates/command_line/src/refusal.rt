@@ -2,7 +2,7 @@
 use crate::NumberOption;
 
 /// What is wrong with the words. A place is a word's number; the command stands at 1.
-#[derive(Clone, Copy, Debug)]
+#[derive(Clone, Copy)]
 pub enum WordsRefusal {
     /// The command is missing, or is none that is known.
     Command,

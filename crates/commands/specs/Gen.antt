@@ -56,7 +56,7 @@ gen_products call c run = record { files = run_files call c run; out = summary_t
 
 -- the products are the texts of one good run under rules Two, for the paths and the budget that are asked for, which the files can
 -- spell: its tests are numbered in the order of the report, and each proof where it is first named; its verdicts keep their promises,
--- and each refutation stands at its shortest prefix
+-- and a refutation whose prefix implication alone refutes is one closed leaf at the shortest such prefix
 pub record GivesProductsOf (call : RunCall) (c : Circuit) (delays : Delays) (products : Products) : Type 0 where
   pub run : Run
   pub rules : run.rules ≡ Two

@@ -1,10 +1,11 @@
 // The command `make`: the work of `gen` on a ladder, of which only a line is told.
-ghost use Rattle.std.specs.Prelude.{◌≤◌, [], IfOk};
+ghost use Rattle.std.specs.Prelude.{◌≡◌, ◌≤◌, [], IfOk};
 ghost use Rattle.pd_io.specs.Seen.{FilesSeen, sink_seen};
 ghost use Rattle.command_line.specs.Commands.{make_call_of};
 ghost use Rattle.command_line.specs.Words.{HasMakeNumbers};
 ghost use Rattle.calls.specs.Calls.{Performs};
 ghost use Rattle.commands.specs.Make.{GivesLadder, make_work};
+ghost use Rattle.ladder.specs.Ladder.{ladder_circuit};
 ghost use Rattle.ladder.specs.declared.building.TheConstants.{MOST_STAGES};
 
 use crate::preparing::run_of;
@@ -12,6 +13,7 @@ use calls::{Ending, print};
 use command_line::MakeCommand;
 use delay_annotation::Delays;
 use ladder::ladder;
+use netlist::Netlist;
 use pd_base::OutOfMemory;
 use pd_io::Sink;
 use std::alloc::Global;
@@ -43,9 +45,17 @@ fn made_line(alloc: Global, stages: u32) -> Result<Vec<u8>, OutOfMemory>
     ensures { IfOk result (λ text. GivesLadder stages (record { files = []; out = text.items })) }
 {
     let net = ladder(alloc, stages)?;
+    line_on(alloc, stages, &net)
+}
+
+// The line of a good run of this ladder.
+fn line_on(alloc: Global, stages: u32, net: &Netlist) -> Result<Vec<u8>, OutOfMemory>
+    requires { net.now ≡ ladder_circuit stages }
+    ensures { IfOk result (λ text. GivesLadder stages (record { files = []; out = text.items })) }
+{
     // a netlist has a circuit
     let _ = net.sources();
-    let delays = Delays::unit(alloc, &net)?;
-    let run = run_of(alloc, &net, &delays, LADDER_PATHS, LADDER_BUDGET)?;
-    ladder_line(alloc, stages, &net, &run)
+    let delays = Delays::unit(alloc, net)?;
+    let run = run_of(alloc, net, &delays, LADDER_PATHS, LADDER_BUDGET)?;
+    ladder_line(alloc, stages, net, &run)
 }

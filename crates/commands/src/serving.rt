@@ -50,8 +50,9 @@ fn end_without_memory(rt: HostRuntime) -> Status {
 
 // These words, borrowed.
 fn words_of(alloc: Global, arguments: &[String]) -> Result<Vec<&str>, AllocError> {
-    arguments
-        .iter()
-        .map(|argument| argument.as_str())
-        .collect(alloc)
+    let mut words = Vec::with_capacity(alloc, arguments.len())?;
+    for argument in arguments {
+        words.push(argument.as_str())?;
+    }
+    Ok(words)
 }

@@ -18,7 +18,7 @@ pub const UNIT_DELAY: u32 = 1;
 
 /// A delay for each pin of a netlist, in whole delay units from 0 to `MOST_DELAY`. Which netlist they fit is a question to
 /// `Fits`; each call is handed the netlist again.
-#[derive(Debug, Drop)]
+#[derive(Drop)]
 pub struct Delays {
     by_place: Vec<u32>,
 }

@@ -14,7 +14,7 @@ pub const LATEST_CHANGE: i64 = 5_000_000_000;
 
 /// A value over time, in whole delay units of either sign: the value before all changes, and the times at which it changes,
 /// each later than the one before. At the time of a change the wave has its new value.
-#[derive(Debug, Drop)]
+#[derive(Drop)]
 pub struct Wave {
     before: bool,
     times: Vec<i64>,

@@ -3,7 +3,7 @@ ghost use Rattle.std.specs.Prelude.{◌≡◌};
 ghost use Rattle.five_valued.specs.FiveValues.{is_steady_at, is_known_steady, ends_at, has_last, steady_five, ending_five, inverted};
 
 /// What is known of a line's state under a pair of vectors: the set of states of which it has one.
-#[derive(Clone, Copy, Debug, PartialEq, Eq, PartialOrd, Ord, Hash)]
+#[derive(Clone, Copy, Debug, PartialEq, Eq)]
 pub enum Five {
     /// Steady at 0.
     S0,

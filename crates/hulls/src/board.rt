@@ -1,6 +1,6 @@
 // The board: labels that are cut line by line, with a trail by which the changes are undone, and the gates that have to be narrowed
 // again. Its cost goes by what changes: only making a board and asking all gates go over the netlist.
-ghost use Rattle.std.specs.Prelude.{◌≡◌, ◌<◌, ◌∷◌, [], ℕ, true, All, Contains, None, length, take, drop, replicate, slice_set, IfOk, IfSome, MatchOption};
+ghost use Rattle.std.specs.Prelude.{◌≡◌, ◌≢◌, ◌<◌, ◌∷◌, [], ℕ, true, All, Contains, None, bit_and, length, take, drop, replicate, slice_set, IfOk, IfSome, MatchOption};
 ghost use Rattle.netlist.specs.Circuit.{gate_count, line_count};
 ghost use Rattle.state_sets.specs.States.{IsWithin, AreWithin, all_states};
 ghost use Rattle.state_sets.specs.Labellings.{IsLabelling, label_at};
@@ -22,7 +22,7 @@ use undo_trail::{Note, Trail};
 /// part of the netlist: all gates, or some.
 ///
 /// Contracts see the labels, the notes of the changes, the gates that wait in their order, and for each gate whether it is inside.
-#[derive(Debug, Drop)]
+#[derive(Drop)]
 pub struct Board<A: Algebra> {
     labels: Labels<A>,
     trail: Trail<StateSet>,
@@ -185,6 +185,25 @@ impl<A: Algebra> Board<A> {
         if new.0 == old.0 {
             return old;
         }
+        self.take_states(net, line, to, passed)
+    }
+
+    // The same where that takes states. Most cuts take none, and that is seen before this is called.
+    fn take_states(
+        &mut self,
+        net: &Netlist,
+        line: LineId,
+        to: StateSet,
+        passed: Option<GateId>,
+    ) -> StateSet
+        requires of { IsBoardOf net.now self.old }
+        requires line { line.0 < line_count net.now }
+        requires takes { bit_and (label_at self.old.labels line.0).0 to.0 ≢ (label_at self.old.labels line.0).0 }
+        ensures cut { IsCutTo A.algebra.count net.now passed line.0 to self.old self.new }
+        ensures left { result ≡ label_at self.new.labels line.0 }
+    {
+        let old = self.labels.get(line);
+        let new = old.intersect(to);
         self.trail.note(line.0, old);
         self.labels.cut(line, to);
         wake(&mut self.waiting, net, line, passed);

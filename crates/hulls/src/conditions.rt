@@ -17,7 +17,7 @@ use std::marker::Model;
 /// order in which the steps were entered, no two through one gate.
 ///
 /// Contracts see the kind, the number of gates, the most steps that there is room for, and the steps.
-#[derive(Debug, Drop)]
+#[derive(Drop)]
 pub struct Conditions {
     kind: Kind,
     // By gate one more than the pin of the step through it, or 0.

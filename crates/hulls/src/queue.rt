@@ -8,7 +8,7 @@ use std::marker::Model;
 use std::mem;
 
 // Gates in a queue, with room for so many. Contracts see the gates in their order, and the room.
-#[derive(Debug, Drop)]
+#[derive(Drop)]
 pub(crate) struct Queue {
     front: Vec<GateId>,
     at: usize,
@@ -66,11 +66,12 @@ impl Queue {
             return Some(gate);
         }
         self.front.clear();
-        mem::swap(&mut self.front, &mut self.back);
-        if self.front.is_empty() {
+        // most often no gate waits any more: then there is nothing to exchange
+        if self.back.is_empty() {
             self.at = 0;
             return None;
         }
+        mem::swap(&mut self.front, &mut self.back);
         self.at = 1;
         Some(self.front[0])
     }

@@ -16,7 +16,7 @@ const PLACES: usize = MOST_FAN_IN as usize + 1;
 ///
 /// Contracts see the sets that the last call of `kept_at` left, one for each pin of its gate, with whatever stands in the places
 /// behind them.
-#[derive(Debug, Drop)]
+#[derive(Drop)]
 pub struct NarrowScratch {
     // The sets at the pins, cut to what a condition allows.
     pub(crate) cut: [StateSet; PLACES],

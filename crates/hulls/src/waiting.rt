@@ -9,7 +9,7 @@ use std::alloc::Global;
 use std::marker::Model;
 
 /// The gates that wait, of those inside. Contracts see for each gate whether it is inside, and the gates that wait in their order.
-#[derive(Debug, Drop)]
+#[derive(Drop)]
 pub struct Waiting {
     inside: Vec<bool>,
     flags: Vec<bool>,

@@ -188,6 +188,17 @@ stands_here a {standing} {kept} {room} {befores_room} keeps nothing = (
   (idle_parts a standing.net standing.rules standing.ends standing.assumptions nothing standing.conflict kept standing.beginning keeps.stands).3,
 )
 
+-- the idle labels are those of all lines
+pub idle_on_all : (a : StateAlgebra) {standing : Standing} {kept : Kept} {room befores_room : ℕ}
+    (keeps : KeepsStanding a standing kept room befores_room) → length kept.idle.labels ≡ line_count standing.net
+idle_on_all a {standing} {kept} keeps = on_all standing.beginning keeps.stands
+  where
+    on_all : (beginning : Option Beginning)
+        → StandsFrom a standing.net standing.rules standing.ends beginning standing.assumptions standing.conflict kept
+        → length kept.idle.labels ≡ line_count standing.net
+    on_all None stands = stands.idling.stands.forward.labelling.one_each
+    on_all (Some begun) stands = stands.idling.forward.labelling.one_each
+
 -- what an engine keeps as the outermost scope ends
 pub kept_ended : (a : StateAlgebra) {standing : Standing} {kept : Kept} {room befores_room : ℕ}
     (keeps : KeepsStanding a standing kept room befores_room) (nothing : standing.assumptions ≡ []) (board : OnBoard) (idling : Idling)

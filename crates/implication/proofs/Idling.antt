@@ -2,8 +2,8 @@
 use Rattle.std.proofs.Common.{◌≡◌, ◌≢◌, ℕ, ◌+◌, ◌-◌, ◌<◌, ◌≤◌, ◌^◌, ◌⊎◌, ◌↔◌, inl, inr, ⊎_elim, Bool, List, [], ◌∷◌, ◌++◌, length, take, drop, get_or, replicate, Option, Some, None, IfSome, IfNone, refl, sym, ap, ◌∙◌, subst, arith, set}
 use Rattle.std.specs.List.{All, Contains}
 use Rattle.std.proofs.lemmas.Bool.{cases_lt, cases_eq}
-use Rattle.std.proofs.lemmas.List.{take_more, take-append-drop, get_or_default, get_or-set_same, get_or-set_other, get_or-replicate, get_or-take, length-replicate, length-set, length-take-le, same_lists}
-use Rattle.std.proofs.lemmas.List.Elements.{All-nil, All-cons, All-head, All-set, All-from_get_or, Contains-push_cases, Contains-append_left, Contains-push}
+use Rattle.std.proofs.lemmas.List.{take_more, drop_more, take-append-drop, get_or_default, get_or-set_same, get_or-set_other, get_or-replicate, get_or-take, length-replicate, length-set, length-take-le, same_lists}
+use Rattle.std.proofs.lemmas.List.Elements.{All-nil, All-cons, All-head, All-set, All-from_get_or, Contains-push_cases, Contains-append_cases, Contains-append_left, Contains-push}
 use Rattle.std.proofs.lemmas.Nat.{pow_pos}
 use Rattle.pd_base.specs.declared.fault.Direction.{Direction}
 use Rattle.pd_base.specs.declared.fault.Kind.{Kind}
@@ -39,9 +39,9 @@ use Rattle.implication.specs.declared.assumption.Assumption.{Assumption}
 use Rattle.implication.specs.declared.assumption.Assumption.TheVariants.{Assumed}
 use Rattle.implication.specs.Assumptions.{IsLetBy}
 use Rattle.implication.specs.Kept.{AreCutBy, IsNarrowedMore}
-use Rattle.implication.specs.Begun.{IsImage, HasBegunWith, AreBegun, IsLaunched}
+use Rattle.implication.specs.Begun.{IsImage, HasBegunWith, AreBegun, IsBegunFrom}
 use Rattle.implication.specs.Idling.{Idling, HasOtherStarts, StartsNowhere, IsIdleSet, StandsBy, IsIdleBoard, IsLeftAtRest}
-use Rattle.implication.specs.Ranked.{lines_by_level, IsByLevel, AreRanked}
+use Rattle.implication.specs.ByLevel.{lines_by_level, IsByLevel, AreSameByLevel}
 use Rattle.implication.proofs.Launching.{begun_hull, begun_some}
 
 -- a board has as many labels as one that follows it
@@ -92,7 +92,7 @@ module _ (a : StateAlgebra) (c : Circuit) (launched : StateSet) where
   }
 
   -- the same lines in another order have begun
-  pub begun_ranked : (lines : List LineId) (ranked : List (ℕ × LineId)) → AreRanked c lines ranked → (old new : OnBoard)
+  pub begun_ranked : (lines : List LineId) (ranked : List (ℕ × LineId)) → AreSameByLevel c lines ranked → (old new : OnBoard)
       → AreBegun a c launched (lines_by_level ranked) old new → AreBegun a c launched lines old new
   begun_ranked lines ranked are old new begun = record {
     board = begun.board;
@@ -206,25 +206,6 @@ module _ (a : StateAlgebra) (c : Circuit) (launched : StateSet) where
           at_others line.0 (λ here. not (subst (Contains (take (index + 1) lines)) (λ i. record { 0 = sym here i }) into_here))
           ∙ before.same line (λ stands. not (into_front line stands));
     }
-
--- what a board is whose labels are put to the idle ones
-pub idle_again : (a : StateAlgebra) (c : Circuit) (rules : Rules) (idling : Idling) (old new : OnBoard) → StandsBy a c rules idling old
-    → new.labels ≡ idling.labels → new.notes ≡ [] → new.waiting ≡ [] → new.inside ≡ old.inside
-    → IsIdleBoard a c rules (record { labels = idling.labels; reached = [] }) new
-idle_again a c rules idling old new stands labels notes waiting inside = record {
-  stands = record {
-    gates = ap length inside ∙ stands.gates;
-    closed = subst (λ (flags : List Bool). IsClosedBack c (is_inside flags)) (sym inside) stands.closed;
-    start = stands.start;
-    is_start = stands.is_start;
-    forward = subst (λ (flags : List Bool). IsForward a c (is_inside flags) stands.start idling.labels) (sym inside) stands.forward;
-    lines = ap length labels ∙ stands.forward.labelling.one_each;
-    same = λ line not. ap (λ ns. label_at (undone ns new.labels) line.0) notes ∙ ap (λ (ls : List StateSet). label_at ls line.0) labels;
-  };
-  unnoted = notes;
-  at_rest = waiting;
-  nothing_reached = refl;
-}
 
 module _ (a : StateAlgebra) (laws : HasLaws a) (rules : Rules) where
   some_states : all_states a.count ≢ no_states
@@ -368,7 +349,7 @@ module _ (a : StateAlgebra) (laws : HasLaws a) (c : Circuit) (circuit : IsCircui
 
   -- else each line reached gets the set with which it begins
   module _ (some : launched ≢ no_states) (reached : List LineId) (new : OnBoard)
-      (is : IsLaunched a c source.0 launched reached old new) where
+      (is : IsBegunFrom a c source.0 launched reached old new) where
     begun : AreBegun a c launched reached old new
     begun = is.begun
 
@@ -419,18 +400,27 @@ pub board_with : (old new : OnBoard) (labels : List StateSet) → new ≡ record
     → new ≡ record old { labels = labels }
 board_with old new labels same is = same ∙ ap (λ (ls : List StateSet). let b : OnBoard = record old { labels = ls } in b) is
 
--- the last of the lines reached gets its label back
-pub given_back : (labels old : List StateSet) (lines rest : List LineId) (line : LineId) → line.0 < length old → lines ≡ rest ++ line ∷ []
-    → ((other : LineId) → ¬ Contains lines other → label_at old other.0 ≡ label_at labels other.0)
-    → (other : LineId) → ¬ Contains rest other → label_at (set old line.0 (label_at labels line.0)) other.0 ≡ label_at labels other.0
-given_back labels old lines rest line in_old last same other not = ⊎_elim
+-- one of the lines reached gets its label back, and those behind it are left
+pub given_back : (labels old : List StateSet) (lines : List LineId) (index : ℕ) → index < length lines → (line : LineId)
+    → get_or lines index (record { 0 = 0 }) ≡ line → line.0 < length old
+    → ((other : LineId) → ¬ Contains (drop index lines) other → label_at old other.0 ≡ label_at labels other.0)
+    → (other : LineId) → ¬ Contains (drop (index + 1) lines) other
+    → label_at (set old line.0 (label_at labels line.0)) other.0 ≡ label_at labels other.0
+given_back labels old lines index in_lines line at_line in_old same other not = ⊎_elim
     (λ (here : other.0 ≡ line.0).
     ap (label_at (set old line.0 (label_at labels line.0))) here
     ∙ get_or-set_same old line.0 (label_at labels line.0) no_states in_old ∙ ap (label_at labels) (sym here))
     (λ (away : other.0 ≢ line.0).
     get_or-set_other old line.0 other.0 (label_at labels line.0) no_states away
-    ∙ same other (λ stands. ⊎_elim not (λ (is : line ≡ other). away (sym (ap (λ (l : LineId). l.0) is)))
-    (Contains-push_cases rest line other (subst (λ (ls : List LineId). Contains ls other) last stands))))
+    ∙ same other (λ stands. ⊎_elim
+    (λ (first : Contains (line ∷ []) other). ⊎_elim
+    (λ (nowhere : Contains [] other). omega (arith, nowhere.1))
+    (λ (is : line ≡ other). away (sym (ap (λ (l : LineId). l.0) is)))
+    (Contains-push_cases [] line other first))
+    not
+    (Contains-append_cases (line ∷ []) (drop (index + 1) lines) other
+    (subst (λ (ls : List LineId). Contains ls other)
+    (drop_more lines index (record { 0 = 0 }) in_lines ∙ ap (λ (l : LineId). l ∷ drop (index + 1) lines) at_line) stands))))
     (cases_eq other.0 line.0)
 
 -- where the sources of a new board get a set, it settles to the labels that are computed forward

@@ -1,6 +1,6 @@
 -- What a gate makes of the sets of its pins' lines: they are joined line by line, and inverted where the gate inverts.
-use Rattle.std.proofs.Common.{◌≡◌, ℕ, ◌+◌, ◌<◌, ◌≤◌, ◌^◌, Bool, true, false, List, length, map, take, get_or, sym, ap, ◌∙◌, subst, arith, take_all}
-use Rattle.std.proofs.lemmas.List.{length-map, get_or-map}
+use Rattle.std.proofs.Common.{◌≡◌, ℕ, ◌+◌, ◌<◌, ◌≤◌, ◌^◌, Bool, true, false, List, [], ◌∷◌, length, map, take, get_or, sym, ap, ◌∙◌, subst, arith, take_all}
+use Rattle.std.proofs.lemmas.List.{length-map, get_or-map, take_more}
 use Rattle.pd_base.specs.declared.ids.LineId.{LineId}
 use Rattle.netlist.specs.declared.kind.GateKind.{GateKind}
 use Rattle.netlist.specs.declared.op.Op.{Op}
@@ -11,52 +11,91 @@ use Rattle.state_sets.specs.States.{Has, no_states}
 use Rattle.state_sets.specs.StateSets.{AreJoins, AreInversions}
 use Rattle.state_sets.specs.StateAlgebra.{StateAlgebra, HasLaws, joined}
 use Rattle.state_sets.specs.Labellings.{label_at}
-use Rattle.state_sets.specs.Narrowing.{inverted_if}
+use Rattle.state_sets.specs.Narrowing.{inverted_if, IsChoice}
+use Rattle.state_sets.specs.Narrowing.IsChoice.{none, one}
 use Rattle.hulls.specs.Sets.{Means}
 use Rattle.hulls.specs.Joins.{Folds}
 use Rattle.hulls.proofs.Sets.{only_has, only_this, only_within}
-use Rattle.hulls.proofs.Folds.{folds_none, folds_more, joined_within}
+use Rattle.hulls.proofs.Folds.{first_of_choice, folds_none, folds_snoc, joined_within}
 use Rattle.implication.specs.Begun.{IsImage}
 
 -- the sets of these lines
 abbrev pub sets_of : List StateSet → List LineId → List StateSet
 sets_of labels lines = map (λ line. label_at labels line.0) lines
 
--- the set is what choices out of the sets of the first so many lines join to
-pub record AreJoined (a : StateAlgebra) (op : Op) (labels : List StateSet) (lines : List LineId) (count : ℕ) (set : StateSet) : Type 0 where
+-- the set is what choices out of a first set and the sets of so many lines join to
+pub record AreJoined (a : StateAlgebra) (op : Op) (labels : List StateSet) (first : StateSet) (others : List LineId) (count : ℕ)
+    (set : StateSet) : Type 0 where
   pub within : set.0 < 2 ^ a.count
-  pub folds : Means a.count set (Folds a op (take count (sets_of labels lines)))
+  pub folds : Means a.count set (Folds a op (first ∷ take count (sets_of labels others)))
 
-module _ (a : StateAlgebra) (laws : HasLaws a) (op : Op) (labels : List StateSet) (lines : List LineId) where
-  -- no lines join to the unit
-  pub joined_none : (only : StateSet) → only.0 ≡ 2 ^ (a.unit op).0 → AreJoined a op labels lines 0 only
-  joined_none only is = record {
-    within = only_within a.count only (a.unit op) is (laws.unit_within op);
-    folds = folds_none a laws op only
-        (λ state. (
-          (λ has. only_this a.count only (a.unit op) state is has),
-          λ same. subst (Has a.count only) (sym same) (only_has a.count only (a.unit op) is (laws.unit_within op)),
-        ));
-  }
+module _ (a : StateAlgebra) (laws : HasLaws a) (op : Op) where
+  -- a state alone joins to itself
+  alone : (state : State) → state.0 < a.count → joined a op (state ∷ []) ≡ state
+  alone state within = laws.commutative op state (a.unit op) within (laws.unit_within op) ∙ laws.unit_first op state within
 
-  -- one line more
-  pub joined_more : (index : ℕ) (none : LineId) → index < length lines → (before out : StateSet) → AreJoined a op labels lines index before
-      → out.0 < 2 ^ a.count → AreJoins a op before (label_at labels (get_or lines index none).0) out
-      → AreJoined a op labels lines (index + 1) out
-  joined_more index none in_lines before out were within joins = record {
-    within = within;
-    folds = folds_more a laws op (sets_of labels lines) index
-        (omega (arith, length-map lines (λ (line : LineId). label_at labels line.0))) before out were.folds
-        (subst (λ (set : StateSet). AreJoins a op before set out)
-        (sym (get_or-map (λ (line : LineId). label_at labels line.0) lines index none no_states in_lines)) joins);
-  }
+  last_joins : {rest : List State} (state : State) → state.0 < a.count → IsChoice a.count [] rest → joined a op (state ∷ rest) ≡ state
+  last_joins state within none = alone state within
 
-  -- all lines
-  pub joined_all : (index : ℕ) → length lines ≤ index → (set : StateSet) → AreJoined a op labels lines index set
-      → Means a.count set (Folds a op (sets_of labels lines))
-  joined_all index last set are =
-      subst (λ (sets : List StateSet). Means a.count set (Folds a op sets))
-      (take_all index (sets_of labels lines) (omega (arith, length-map lines (λ (line : LineId). label_at labels line.0)))) are.folds
+  -- choices out of one set join to its states
+  folds_alone : (set : StateSet) → Means a.count set (Folds a op (set ∷ []))
+  folds_alone set state = (
+    (λ has. record { choice = state ∷ []; each = one has none; joins = alone state has.in_range }),
+    λ folds. let first = first_of_choice a.count folds.each in
+        subst (Has a.count set)
+        (sym (last_joins first.state first.has.in_range first.each) ∙ sym (ap (joined a op) first.is) ∙ folds.joins)
+        first.has,
+  )
+
+  module _ (labels : List StateSet) where
+    -- no lines join to the unit
+    pub joined_none : (lines : List LineId) → length lines ≡ 0 → (only : StateSet) → only.0 ≡ 2 ^ (a.unit op).0
+        → (only.0 < 2 ^ a.count) × Means a.count only (Folds a op (sets_of labels lines))
+    joined_none [] empty only is = (
+      only_within a.count only (a.unit op) is (laws.unit_within op),
+      folds_none a laws op only
+          (λ state. (
+            (λ has. only_this a.count only (a.unit op) state is has),
+            λ same. subst (Has a.count only) (sym same) (only_has a.count only (a.unit op) is (laws.unit_within op)),
+          )),
+    )
+    joined_none (line ∷ lines) empty only is = absurd (omega (arith, empty))
+
+    -- the sets of the lines are that of the first one and those of the others
+    pub joined_split : (lines : List LineId) (first : LineId) (others : List LineId) → lines ≡ first ∷ others → (set : StateSet)
+        → Means a.count set (Folds a op (label_at labels first.0 ∷ sets_of labels others))
+        → Means a.count set (Folds a op (sets_of labels lines))
+    joined_split lines first others is set means =
+        subst (λ (sets : List StateSet). Means a.count set (Folds a op sets)) (sym (ap (sets_of labels) is)) means
+
+    module _ (first : StateSet) (others : List LineId) where
+      -- the first set alone
+      pub joined_first : first.0 < 2 ^ a.count → AreJoined a op labels first others 0 first
+      joined_first within = record { within = within; folds = folds_alone first }
+
+      -- one line more
+      pub joined_more : (index : ℕ) (nowhere : LineId) → index < length others → (before out : StateSet)
+          → AreJoined a op labels first others index before → out.0 < 2 ^ a.count
+          → AreJoins a op before (label_at labels (get_or others index nowhere).0) out → AreJoined a op labels first others (index + 1) out
+      joined_more index nowhere in_others before out were within joins =
+          let sets = sets_of labels others in
+          record {
+            within = within;
+            folds = subst (λ (list : List StateSet). Means a.count out (Folds a op (first ∷ list)))
+                (sym (take_more sets index no_states
+                (omega (arith, in_others, length-map others (λ (line : LineId). label_at labels line.0)))))
+                (folds_snoc a laws op (first ∷ take index sets) (get_or sets index no_states) before out were.folds
+                (subst (λ (set : StateSet). AreJoins a op before set out)
+                (sym (get_or-map (λ (line : LineId). label_at labels line.0) others index nowhere no_states in_others)) joins));
+          }
+
+      -- all lines
+      pub joined_all : (index : ℕ) → length others ≤ index → (set : StateSet) → AreJoined a op labels first others index set
+          → Means a.count set (Folds a op (first ∷ sets_of labels others))
+      joined_all index last set are =
+          subst (λ (sets : List StateSet). Means a.count set (Folds a op (first ∷ sets)))
+          (take_all index (sets_of labels others) (omega (arith, last, length-map others (λ (line : LineId). label_at labels line.0))))
+          are.folds
 
 module _ (a : StateAlgebra) (laws : HasLaws a) (kind : GateKind) (sets : List StateSet) (joins : StateSet)
     (folds : Means a.count joins (Folds a (op_of kind) sets)) where

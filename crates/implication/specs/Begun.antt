@@ -1,5 +1,5 @@
 -- The sets with which a scope begins: what is launched at its source, and forward from there what gates make of the sets of their pins'
--- lines (this project's own).
+-- lines. The words are spoken inside this crate alone (this project's own).
 use Rattle.std.specs.Prelude.{◌≡◌, ℕ, ◌<◌, ◌↔◌, List, length, map, All, Contains}
 use Rattle.pd_base.specs.declared.ids.LineId.{LineId}
 use Rattle.netlist.specs.declared.kind.GateKind.{GateKind}
@@ -41,8 +41,9 @@ pub record AreBegun (a : StateAlgebra) (c : Circuit) (launched : StateSet) (line
   pub each : (line : LineId) → Contains lines line → HasBegunWith a c launched new.labels line.0 (label_at new.labels line.0)
   pub same : (line : LineId) → ¬ Contains lines line → label_at new.labels line.0 ≡ label_at old.labels line.0
 
--- A transition is launched at a source: the lines that it reaches, all of them inside, have begun.
-pub record IsLaunched (a : StateAlgebra) (c : Circuit) (source : ℕ) (launched : StateSet) (lines : List LineId) (old new : OnBoard)
+-- A scope has begun forward from a source with the states that launch its transition: the lines that it reaches, all of them inside,
+-- have begun.
+pub record IsBegunFrom (a : StateAlgebra) (c : Circuit) (source : ℕ) (launched : StateSet) (lines : List LineId) (old new : OnBoard)
     : Type 0 where
   pub reached : AreReached c (is_inside old.inside) source lines
   pub all_inside : All (λ line. IsLineIn c (is_inside old.inside) line.0) lines

@@ -1,4 +1,5 @@
--- The labels of a board while no scope is open, and the lines at which the scope that is open began with others (this project's own).
+-- The labels of a board while no scope is open, and the lines at which the scope that is open began with others. The words are spoken
+-- inside this crate alone (this project's own).
 use Rattle.std.specs.Prelude.{◌≡◌, ◌≢◌, ℕ, ◌<◌, ◌⊎◌, ◌↔◌, List, [], length, replicate, Contains}
 use Rattle.pd_base.specs.declared.ids.LineId.{LineId}
 use Rattle.pd_base.specs.declared.rules.Rules.{Rules}

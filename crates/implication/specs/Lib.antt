@@ -4,7 +4,7 @@ pub mod Moves
 pub mod Clients
 pub mod Inside
 pub mod Reached
-pub mod Ranked
+pub mod ByLevel
 pub mod Begun
 pub mod Idling
 pub mod Kept

@@ -1,4 +1,4 @@
--- Lines that are reached, each marked (this project's own).
+-- Lines that are reached, each marked, in words that are spoken inside this crate alone (this project's own).
 use Rattle.std.specs.Prelude.{◌≡◌, ℕ, ◌<◌, ◌≤◌, ◌⊎◌, ◌++◌, ◌∷◌, [], Bool, true, false, List, length, sum_by, slice_get, slice_index_or, Some, All, Contains}
 use Rattle.pd_base.specs.declared.ids.LineId.{LineId}
 use Rattle.netlist.specs.Circuit.{Circuit, gate_count, gate_line, pins_at}

@@ -3,7 +3,7 @@ use pd_base::{Direction, Kind, LineId, PinRef};
 use state_sets::StateSet;
 
 /// With what an outermost scope begins: a transition at a source, and the kind of the tests that are looked for.
-#[derive(Clone, Copy, Debug, PartialEq, Eq)]
+#[derive(Clone, Copy)]
 pub struct Beginning {
     /// The source of the path.
     pub source: LineId,
@@ -14,7 +14,7 @@ pub struct Beginning {
 }
 
 /// An entry of the list of what was assumed.
-#[derive(Clone, Copy, Debug, PartialEq, Eq)]
+#[derive(Clone, Copy)]
 pub enum Assumption {
     /// The prefix goes on through this pin.
     Entered(PinRef),
@@ -23,7 +23,7 @@ pub enum Assumption {
 }
 
 /// How a scope was made.
-#[derive(Clone, Copy, Debug, PartialEq, Eq)]
+#[derive(Clone, Copy)]
 pub enum Origin {
     /// It is the outermost scope of its engine.
     Begun,

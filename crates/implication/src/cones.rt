@@ -60,5 +60,10 @@ fn is_read(pins: &[PinRef], inside: &[bool]) -> bool
     requires { All (λ pin. pin.gate.0 < length inside.now) pins.now }
     ensures { IsTrue result ↔ IsReadInside pins.now inside.now }
 {
-    pins.iter().any(|pin| inside[pin.gate.0 as usize])
+    for pin in pins {
+        if inside[pin.gate.0 as usize] {
+            return true;
+        }
+    }
+    false
 }

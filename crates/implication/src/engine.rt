@@ -202,6 +202,13 @@ impl<A: Algebra, S: Setting> Engine<A, S> {
         self.parts.board.changes()
     }
 
+    // The lines at which the outermost scope began with other sets, unless it noted them as changes.
+    pub(crate) fn begun_lines(&self) -> &[LineId]
+        ensures { All (λ line. line.0 < line_count self.now.net) result.now }
+    {
+        self.parts.idle.begun_lines()
+    }
+
     // The line of the conflict that stands, if there is one.
     pub(crate) fn conflict(&self) -> Option<LineId>
         ensures stands { result ≡ self.now.conflict }

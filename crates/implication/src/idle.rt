@@ -17,13 +17,13 @@ ghost use Rattle.hulls.specs.Conditions.{IsEnteredOn};
 ghost use Rattle.hulls.specs.Awaiting.{is_inside};
 ghost use Rattle.hulls.specs.Boards.{IsBoardOf};
 ghost use Rattle.implication.specs.Idling.{IsIdleSet, StartsNowhere, StandsBy, IsIdleBoard, IsNewBoard, IsLeftAtRest};
-ghost use Rattle.implication.specs.Ranked.{lines_by_level, IsByLevel};
-ghost use Rattle.implication.specs.Begun.{HasBegunWith, AreBegun, IsLaunched};
+ghost use Rattle.implication.specs.ByLevel.{lines_by_level, IsByLevel};
+ghost use Rattle.implication.specs.Begun.{HasBegunWith, AreBegun, IsBegunFrom};
 
 use crate::Beginning;
 use crate::images::image;
 use crate::narrowing_on::narrow_on_cut;
-use crate::ranking::rank;
+use crate::ranking::{is_by_level, rank};
 use crate::reached::ReachedLines;
 use crate::reaching::reach;
 use hulls::{Board, Conditions, NarrowScratch, launching_states, other_states};
@@ -137,12 +137,24 @@ impl IdleLabels {
         requires within { AreWithin A.algebra.count board.old.labels }
         requires launched { IsWithin A.algebra.count launched }
         requires unnoted { board.old.notes ≡ [] }
-        ensures launched { IsLaunched A.algebra net.now source.0 launched self.new.reached board.old board.new }
+        ensures launched { IsBegunFrom A.algebra net.now source.0 launched self.new.reached board.old board.new }
         ensures labels { self.new.labels ≡ self.old.labels }
     {
         reach(net, board, source, &mut self.reached);
-        rank(net, self.reached.lines(), &mut self.ranked);
-        begin_lines(net, self.ranked.as_slice(), launched, board);
+        let found = self.reached.lines();
+        if is_by_level(net, found) {
+            begin_lines(net, found, launched, board);
+            return;
+        }
+        rank(net, found, &mut self.ranked);
+        begin_ranked(net, self.ranked.as_slice(), launched, board);
+    }
+
+    // The lines that the scope that is open began forward, from its source on: none where its beginning cut labels.
+    pub(crate) fn begun_lines(&self) -> &[LineId]
+        ensures { All (λ line. line.0 < length self.now.labels) result.now }
+    {
+        self.reached.lines()
     }
 
     // Undoes all changes of the board, and gives it the idle labels back. Takes no memory, and costs what was changed and reached.
@@ -239,11 +251,34 @@ fn stuck_source<A: Algebra>(net: &Netlist, rules: &Rules, source: LineId) -> Opt
 // Writes at each of these lines the set with which it begins.
 fn begin_lines<A: Algebra>(
     net: &Netlist,
+    lines: &[LineId],
+    launched: StateSet,
+    board: &mut Board<A>,
+)
+    requires one_each { length board.old.labels ≡ line_count net.now }
+    requires within { AreWithin A.algebra.count board.old.labels }
+    requires in_circuit { All (λ line. line.0 < line_count net.now) lines.now }
+    requires by_level { IsByLevel net.now lines.now }
+    requires launched { IsWithin A.algebra.count launched }
+    requires unnoted { board.old.notes ≡ [] }
+    ensures { AreBegun A.algebra net.now launched lines.now board.old board.new }
+{
+    // a netlist knows itself as a circuit
+    let _ = net.sources();
+    for line in lines {
+        let set = set_to_begin::<A>(net, *line, launched, board.labels());
+        board.write(*line, set);
+    }
+}
+
+// The same where each line comes with its level.
+fn begin_ranked<A: Algebra>(
+    net: &Netlist,
     ranked: &[(u32, LineId)],
     launched: StateSet,
     board: &mut Board<A>,
 )
-    requires lines { length board.old.labels ≡ line_count net.now }
+    requires one_each { length board.old.labels ≡ line_count net.now }
     requires within { AreWithin A.algebra.count board.old.labels }
     requires in_circuit { All (λ line. line.0 < line_count net.now) (lines_by_level ranked.now) }
     requires by_level { IsByLevel net.now (lines_by_level ranked.now) }
@@ -290,7 +325,8 @@ fn give_back<A: Algebra>(labels: &[StateSet], reached: &mut ReachedLines, board:
     ensures reached { reached.new.lines ≡ [] }
     ensures count { reached.new.count ≡ reached.old.count }
 {
-    while let Some(line) = reached.pop() {
-        board.write(line, labels[line.0 as usize]);
+    for line in reached.lines() {
+        board.write(*line, labels[line.0 as usize]);
     }
+    reached.clear();
 }

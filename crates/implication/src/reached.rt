@@ -66,7 +66,7 @@ impl ReachedLines {
     }
 
     // Takes the last line, if there is one.
-    pub(crate) fn pop(&mut self) -> Option<LineId>
+    fn pop(&mut self) -> Option<LineId>
         ensures in_range { IfSome result (λ line. line.0 < self.old.count) }
         ensures cases { MatchOption result ((self.old.lines ≡ []) × (self.new ≡ self.old))
             (λ line. (self.old.lines ≡ self.new.lines ++ line ∷ []) × (self.new.count ≡ self.old.count)) }
@@ -74,5 +74,13 @@ impl ReachedLines {
         let line = self.lines.pop()?;
         self.marks[line.0 as usize] = false;
         Some(line)
+    }
+
+    // Takes all lines away. Takes no memory.
+    pub(crate) fn clear(&mut self)
+        ensures lines { self.new.lines ≡ [] }
+        ensures count { self.new.count ≡ self.old.count }
+    {
+        while self.pop().is_some() {}
     }
 }

@@ -16,7 +16,7 @@ use state_sets::{Algebra, StateSet};
 use undo_trail::Note;
 
 /// A length of the list of assumptions, to which a scope can go back.
-#[derive(Clone, Copy, Debug, PartialEq, Eq)]
+#[derive(Clone, Copy, PartialEq, Eq)]
 pub struct ScopeMark {
     at: usize,
 }
@@ -150,6 +150,14 @@ impl<'e, A: Algebra, S: Setting> Scope<'e, A, S> {
             × TellsLabels A.algebra.count (standing self.now) labels result.now }
     {
         self.engine.labels()
+    }
+
+    /// A hint for where to look first: the lines that the outermost scope began with other sets, from its source on, where that noted no
+    /// changes. Promised is only that each is a line of the netlist.
+    pub fn begun_lines(&self) -> &[LineId]
+        ensures { All (λ line. line.0 < line_count (standing self.now).net) result.now }
+    {
+        self.engine.begun_lines()
     }
 
     /// A hint for where to look: lines whose labels changed since the outermost scope began. Promised is only that each note is of a

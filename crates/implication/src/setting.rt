@@ -24,7 +24,7 @@ pub trait Setting: Drop {
 }
 
 /// A netlist and rules that others own.
-#[derive(Clone, Copy, Debug)]
+#[derive(Clone, Copy)]
 pub struct RuledNetlist<'n> {
     /// The netlist.
     pub net: &'n Netlist,

@@ -1,7 +1,6 @@
 -- A visit of a place: how the search goes on where the place is shut out, and where a trial has failed there.
-use Rattle.std.proofs.Common.{◌≡◌, ℕ, ◌<◌, ◌≤◌, List, [], ◌∷◌, ◌++◌, length, take, reverse, Option, Some, None, Result, Ok, Err, true, false, refl, sym, ap, ◌∙◌, subst, arith}
-use Rattle.std.specs.Prelude.{is_some, IfOk}
-use Rattle.std.proofs.lemmas.Bool.{false≢true}
+use Rattle.std.proofs.Common.{◌≡◌, ℕ, ◌<◌, ◌≤◌, List, [], ◌∷◌, ◌++◌, length, take, reverse, Option, Some, None, Result, Ok, Err, refl, sym, ap, ◌∙◌, subst}
+use Rattle.std.specs.Prelude.{IfOk}
 use Rattle.std.proofs.lemmas.List.{length_push, length-take}
 use Rattle.pd_base.specs.Pair.{Vectors}
 use Rattle.pd_base.specs.Target.{Target}
@@ -25,10 +24,11 @@ use Rattle.tree_laws.specs.NodeScopes.{StandsAtNode}
 use Rattle.justify.specs.Searches.{IsSearching, SearchGoesOn, AddsNode, AddsClosed, IsNodeVisit, IsVisit, IsGrowthOf}
 use Rattle.justify.specs.Tasks.{task_target}
 use Rattle.justify.specs.Tests.{IsFitTest}
-use Rattle.justify.specs.Trying.{HasFailed, FailsAtNode, IsTrialOf}
+use Rattle.justify.specs.Trying.{HasFailed}
 use Rattle.tree_laws.specs.Settings.{IsSameSetting}
 use Rattle.tree_laws.proofs.Settings.{same_twice}
-use Rattle.justify.proofs.SameNodes.{same_restored, stays_at_node, failed_stays}
+use Rattle.justify.proofs.Orders.{late_enough, at_least, no_less, up_from, as_much_left}
+use Rattle.justify.proofs.SameNodes.{same_restored, failed_stays}
 use Rattle.justify.proofs.Placing.{IsNext, next_place}
 use Rattle.justify.proofs.Visits.{growing_same, reverse_push, reverse_none, shut_under_way, shut_growing, entered_at_node, last_under_way, extended_growing, extended_by_one, extended_left}
 
@@ -43,7 +43,9 @@ module _ (task : Task) (old : Standing) (desk : Desk) (growth : Growth) (place :
 
   -- the scope can go back to the mark of the place, and its set can be assumed there
   pub next_late : (n : ℕ) → n ≤ length task.path.now.steps → n ≤ place.mark.at
-  next_late n few = let e = next.here.longer in let f = length-take place.mark.at old.assumptions in omega (arith, few, e, f)
+  next_late n few =
+      late_enough n (length task.path.now.steps) place.mark.at (length old.assumptions) (length (take place.mark.at old.assumptions))
+      (length-take place.mark.at old.assumptions) next.here.longer few
 
   pub next_at_mark : place.mark.at ≤ length old.assumptions
   next_at_mark = next.at_mark
@@ -78,9 +80,9 @@ module _ (task : Task) (old : Standing) (desk : Desk) (growth : Growth) (place :
     pub shut_adds : (after : Growth) → after.nodes.items ≡ growth.nodes.items ++ Closed ∷ [] → after.places.items ≡ growth.places.items
         → after.splits ≡ growth.splits → AddsNode task old new growth after
     shut_adds after nodes places splits = record {
-      counted = let e = ap (λ (s : Standing). s.closings) shut.now in omega (arith, e);
+      counted = at_least (risen old.closings) new.closings (ap (λ (s : Standing). s.closings) shut.now);
       one_more = ap length nodes ∙ length_push growth.nodes.items Closed;
-      left = let e = ap length places in omega (arith, e, splits);
+      left = as_much_left task.budget growth.splits after.splits (length growth.places.items) (length after.places.items) splits (ap length places);
       growing =
           growing_same new.net new.net new.rules new.rules target task.budget new.assumptions new.assumptions (reverse growth.places.items)
           (reverse after.places.items) after.nodes.items after.nodes.items growth.splits after.splits refl refl refl
@@ -122,13 +124,13 @@ module _ (task : Task) (old : Standing) (desk : Desk) (growth : Growth) (place :
         under_way = last_under_way target task.budget old searching.under_way place (reverse growth.places.items) growth.nodes.items growth.splits
             next new entered last restored;
         serves = let P : Circuit → Type 0 = λ c. IsDesk c task.path.now later in subst P (sym restored.net) made;
-        later = let e = ap (λ (s : Standing). s.closings) entered.now in let f = restored.later in omega (arith, e, f);
+        later = up_from old.closings new.closings last.closings (ap (λ (s : Standing). s.closings) entered.now) restored.later;
       }
 
       pub failed_adds : HasFailed target last → risen new.closings ≤ last.closings → (after : Growth)
           → IsExtended target last task.budget growth after → AddsNode task old last growth after
       failed_adds failed counted after extended = record {
-        counted = let e = ap (λ (s : Standing). risen s.closings) entered.now in omega (arith, e, counted);
+        counted = up_from (risen old.closings) (risen new.closings) last.closings (ap (λ (s : Standing). risen s.closings) entered.now) counted;
         one_more = extended_by_one target last task.budget growth after extended;
         left = extended_left target last task.budget growth after extended;
         growing = extended_growing target task.budget old searching.under_way place growth after next new entered last restored failed extended;
@@ -178,16 +180,17 @@ searching_ended task standing desk growth searching none =
     (reverse growth.places.items) [] growth.nodes.items growth.nodes.items growth.splits growth.splits
     refl refl refl (reverse_none growth.places.items none) refl refl searching.growing
 
-pub visit_none : (task : Task) (old new : Standing) (before after : Growth) (answer : Option Vectors) → is_some answer ≡ false
+pub visit_none : (task : Task) (old new : Standing) (before after : Growth) (answer : Option Vectors) → answer ≡ None
     → IsVisit task old new before after answer → AddsNode task old new before after
-visit_none task old new before after None none adds = adds
-visit_none task old new before after (Some pair) none fit = absurd (false≢true (sym none))
+visit_none task old new before after answer none visited =
+    let P : Option Vectors → Type 0 = λ a. IsVisit task old new before after a in subst P none visited
 
-pub grown_some : (task : Task) (first old new : Standing) (before after growth : Growth) (answer : Option Vectors) → is_some answer ≡ true
-    → old.net ≡ first.net → IsVisit task old new before after answer → IsGrowthOf task first new growth answer
-grown_some task first old new before after growth (Some pair) some same fit =
-    let P : Circuit → Type 0 = λ c. IsFitTest c (task_target task) pair in subst P same fit
-grown_some task first old new before after growth None some same adds = absurd (false≢true some)
+pub grown_some : (task : Task) (first old new : Standing) (before after growth : Growth) (answer : Option Vectors) (pair : Vectors)
+    → answer ≡ Some pair → old.net ≡ first.net → IsVisit task old new before after answer → IsGrowthOf task first new growth (Some pair)
+grown_some task first old new before after growth answer pair some same visited =
+    let P : Option Vectors → Type 0 = λ a. IsVisit task old new before after a in
+    let Q : Circuit → Type 0 = λ c. IsFitTest c (task_target task) pair in
+    subst Q same (subst P some visited)
 
 -- where a trial has failed, some source of the support has two states
 pub two_where_failed : (target : Target) (standing : Standing) → HasFailed target standing → ¬ AreSingle target standing
@@ -201,5 +204,5 @@ goes_further task first middle last desk setting rising goes = record {
   setting = same_twice first middle last setting goes.setting;
   under_way = goes.under_way;
   serves = goes.serves;
-  later = let more = goes.later in omega (arith, rising, more);
+  later = no_less first.closings middle.closings last.closings rising goes.later;
 }

@@ -1,13 +1,11 @@
 -- The halves of a split: what a set of the four states has where no split has both.
-use Rattle.std.proofs.Common.{◌≡◌, ◌≢◌, ◌<◌, ◌^◌, ◌↔◌, Bool, true, false, not, refl, sym, ap, ap₂, ◌∙◌, eqb, lit≤}
-use Rattle.std.specs.Prelude.{IsTrue, bit_and}
+use Rattle.std.proofs.Common.{◌≡◌, Bool, true, false, not, refl, sym, ap₂, ◌∙◌}
 use Rattle.state_sets.specs.declared.state.State.{State}
 use Rattle.state_sets.specs.declared.state.StateSet.{StateSet}
-use Rattle.state_sets.specs.States.{Has, no_states}
+use Rattle.state_sets.specs.States.{Has}
 use Rattle.state_sets.specs.FourStates.{four_states, four_state, four_steady, four_last}
 use Rattle.state_sets.specs.Starts.{IsInHalf}
 use Rattle.state_laws.proofs.SourceStates.{state_of_parts}
-use Rattle.hulls.proofs.Sets.{has_both, both_have, has_some, some_not_none, cut_within, ne_tells, ne_told}
 use Rattle.tree_laws.specs.Spent.{HasInHalf}
 
 -- a bit that is not both values on a set is one value on it

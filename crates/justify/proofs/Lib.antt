@@ -1,3 +1,4 @@
+mod Orders
 mod Assumed
 mod Resting
 mod SameNodes

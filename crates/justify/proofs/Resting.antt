@@ -1,9 +1,8 @@
 -- What a scope answers for a source is its set in the hull; and how conflicts are counted.
-use Rattle.std.proofs.Common.{◌≡◌, ℕ, ◌+◌, ◌-◌, ◌<◌, ◌≤◌, ◌^◌, ⊎_elim, inl, List, Option, Some, None, IsSome, sym, ◌∙◌, ap, subst, arith}
+use Rattle.std.proofs.Common.{◌≡◌, ℕ, ◌+◌, ◌-◌, ◌<◌, ◌≤◌, ◌^◌, ⊎_elim, List, Some, IsSome, sym, ◌∙◌, ap, subst, arith}
 use Rattle.std.specs.Prelude.{is_some}
 use Rattle.std.proofs.lemmas.Bool.{cases_lt}
-use Rattle.pd_base.specs.declared.ids.LineId.{LineId}
-use Rattle.netlist.specs.Circuit.{Circuit, source_count}
+use Rattle.netlist.specs.Circuit.{source_count}
 use Rattle.state_sets.specs.declared.state.StateSet.{StateSet}
 use Rattle.state_sets.specs.States.{IsWithin}
 use Rattle.state_sets.specs.FourStates.{four_states}
@@ -11,7 +10,7 @@ use Rattle.state_sets.specs.Labellings.{label_at}
 use Rattle.state_laws.proofs.Sets.{label_within}
 use Rattle.implication.specs.declared.assumption.Beginning.{Beginning}
 use Rattle.implication.specs.Moves.{risen}
-use Rattle.implication.specs.Standing.{Standing, IsLabels, IsToldBy, TellsLabel}
+use Rattle.implication.specs.Standing.{Standing, IsLabels, TellsLabel}
 use Rattle.tree_laws.proofs.ScopeLabels.{labels_once, labels_under}
 use Rattle.tree_laws.proofs.Told.{source_told}
 

@@ -1,5 +1,5 @@
 -- A scope that is restored stands at the same node: what holds of the one standing holds of the other.
-use Rattle.std.proofs.Common.{◌≡◌, ℕ, List, Option, Some, None, Result, Ok, Err, sym, ap, ◌∙◌, subst, arith}
+use Rattle.std.proofs.Common.{◌≡◌, ℕ, List, Option, Some, None, Result, Ok, Err, sym, ap, ◌∙◌, subst}
 use Rattle.std.specs.Prelude.{IfOk}
 use Rattle.pd_base.specs.Pair.{Vectors}
 use Rattle.pd_base.specs.Target.{Target}
@@ -20,6 +20,7 @@ use Rattle.tree_laws.specs.NodeScopes.{StandsAtNode, AllowAsNode}
 use Rattle.justify.specs.Tests.{IsFitTest}
 use Rattle.justify.specs.Trying.{HasFailed, IsTrialOf, HasLeast, IsSingle}
 use Rattle.tree_laws.proofs.ScopeLabels.{there_too}
+use Rattle.justify.proofs.Orders.{no_less}
 use Rattle.justify.proofs.Resting.{counted_before}
 
 -- the same circuit, rules, beginning, assumptions and conflict
@@ -56,7 +57,7 @@ restored_trans first middle last one two = record {
   beginning = two.beginning ∙ one.beginning;
   assumptions = two.assumptions ∙ one.assumptions;
   conflict = two.conflict ∙ one.conflict;
-  later = let e = one.later in let f = two.later in omega (arith, e, f);
+  later = no_less first.closings middle.closings last.closings one.later two.later;
 }
 
 module _ (target : Target) (first last : Standing) (same : IsSameNode first last) where

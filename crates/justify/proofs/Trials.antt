@@ -19,8 +19,7 @@ use Rattle.state_sets.specs.Hulls.{IsNarrowingOf, IsRestAmong, HasNoEmptySet, Cl
 use Rattle.state_laws.specs.declared.half.Half.{Half}
 use Rattle.state_laws.proofs.Deciding.{rest_decides}
 use Rattle.state_laws.proofs.Hulls.{closes_if_wider, widens_by_states, emptied_if_empty}
-use Rattle.state_laws.proofs.Sets.{label_within}
-use Rattle.hulls.proofs.Sets.{only_has, only_this, some_not_none}
+use Rattle.hulls.proofs.Sets.{only_has, only_this}
 use Rattle.tree_laws.specs.Spent.{IsInSupport, IsOpen, MayTry}
 use Rattle.implication.specs.declared.assumption.Beginning.{Beginning}
 use Rattle.implication.specs.declared.assumption.Assumption.{Assumption}

@@ -60,5 +60,10 @@ fn end(growth: Growth) -> Found
 fn has_waiting(nodes: &[Node]) -> bool
     ensures { IsTrue result ↔ Contains nodes.now Waiting }
 {
-    nodes.iter().any(|node| matches!(node, Node::Waiting))
+    for node in nodes {
+        if let Node::Waiting = node {
+            return true;
+        }
+    }
+    false
 }

@@ -138,14 +138,15 @@ fn propose<S: Setting>(
         desk.liked.as_slice(),
         desk.states.as_mut_slice(),
     );
-    let test = judge_states(alloc, scope, task, desk)?;
-    if test.is_some() {
-        return Ok(test);
+    match judge_states(alloc, scope, task, desk)? {
+        Some(pair) => Ok(Some(pair)),
+        None => justify_lines(alloc, scope, task, desk, Effort::Little),
     }
-    justify_lines(alloc, scope, task, desk, Effort::Little)
 }
 
-// What comes of a search in the end: what it found, or a test that is found where its budget was spent.
+// What comes of a search in the end: what it found, from which later ones learn, or a test that is found by more decisions where the
+// budget of a nonrobust search was spent. A robust one that is not found costs its fault the better verdict alone, and is not looked for
+// again.
 fn conclude<S: Setting>(
     alloc: Global,
     scope: &Scope<FourStates, S>,
@@ -159,30 +160,12 @@ fn conclude<S: Setting>(
     ensures found { IfOk result (IsOutcomeOf (standing scope.now).net (task_target task.now) ended) }
 {
     let found = ended?;
-    let again = propose_again(alloc, scope, task, desk, &found);
-    or_test(found, again)
-}
-
-// Learns from what was found; and a test that is found by more decisions where the budget of a nonrobust search was spent. A robust one
-// that is not found costs its fault the better verdict alone, and is not looked for again.
-fn propose_again<S: Setting>(
-    alloc: Global,
-    scope: &Scope<FourStates, S>,
-    task: &Task,
-    desk: &mut Desk,
-    found: &Found,
-) -> Result<Option<Pair>, OutOfMemory>
-    requires prefix { IsPrefix (standing scope.now).net task.now.path.now }
-    requires desk { IsDesk (standing scope.now).net task.now.path.now desk.old }
-    ensures desk { IsDesk (standing scope.now).net task.now.path.now desk.new }
-    ensures test { IfOk result (λ pair. IfSome pair (IsFitTest (standing scope.now).net (task_target task.now))) }
-{
     desk.justifier.learn(task.kind, found.is_refuted());
-    if task.kind == Kind::Nonrobust && found.is_spent() {
-        justify_lines(alloc, scope, task, desk, Effort::Much)
-    } else {
-        Ok(None)
+    if task.kind == Kind::Robust || !found.is_spent() {
+        return Ok(found);
     }
+    let again = justify_lines(alloc, scope, task, desk, Effort::Much);
+    or_test(found, again)
 }
 
 // A test with what decisions on lines of the cone come to, if they justify all of its lines.
@@ -256,8 +239,9 @@ fn grow<S: Setting>(
 {
     while let Some(place) = growth.places.pop() {
         let test = visit(alloc, scope, task, desk, growth, place)?;
-        if test.is_some() {
-            return Ok(test);
+        match test {
+            Some(pair) => return Ok(Some(pair)),
+            None => {}
         }
     }
     Ok(None)

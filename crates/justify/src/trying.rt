@@ -21,7 +21,8 @@ use state_sets::{FourStates, State};
 use std::alloc::Global;
 use test_judging::{Judgement, judge, least, read_test, take_least};
 
-// Tries the node at which the scope stands. A test is the answer; else there is none, the node's trial has failed, and a conflict was
+// Tries the node at which the scope stands: by the sources that were tried last; else judges the node's pair, and where it fails tries the
+// sources to blame for that, and then all. A test is the answer; else there is none, the node's trial has failed, and a conflict was
 // counted. The scope is afterwards as before, also where memory runs out, which is the one error; and the desk still serves.
 pub(crate) fn try_node<S: Setting>(
     alloc: Global,
@@ -40,7 +41,10 @@ pub(crate) fn try_node<S: Setting>(
     if closes_again(scope, task, desk) {
         return Ok(None);
     }
-    try_least(alloc, scope, task, desk)
+    match judge_least(alloc, scope, task, desk)? {
+        Some(pair) => Ok(Some(pair)),
+        None => try_blamed(alloc, scope, task, desk),
+    }
 }
 
 // Whether the node's trial closes by the sources that were tried last, where they still have the same least states.
@@ -56,27 +60,6 @@ fn closes_again<S: Setting>(scope: &mut Scope<FourStates, S>, task: &Task, desk:
         return false;
     }
     closes(scope, task, desk.tried.as_slice())
-}
-
-// Judges the pair of the node, and where it fails tries the sources to blame for that, and then all.
-fn try_least<S: Setting>(
-    alloc: Global,
-    scope: &mut Scope<FourStates, S>,
-    task: &Task,
-    desk: &mut Desk,
-) -> Result<Option<Pair>, OutOfMemory>
-    requires prefix { IsPrefix (standing scope.old).net task.now.path.now }
-    requires node { StandsAtNode (task_target task.now) (standing scope.old) }
-    requires desk { IsDesk (standing scope.old).net task.now.path.now desk.old }
-    ensures desk { IsDesk (standing scope.old).net task.now.path.now desk.new }
-    ensures scope { IsSameScope scope.old scope.new }
-    ensures restored { IsRestored (standing scope.old) (standing scope.new) }
-    ensures answer { IfOk result (IsTrialOf (task_target task.now) (standing scope.old) (standing scope.new)) }
-{
-    match judge_least(alloc, scope, task, desk)? {
-        Some(pair) => Ok(Some(pair)),
-        None => try_blamed(alloc, scope, task, desk),
-    }
 }
 
 // Judges the pair that has the least states of the labels at the sources of the cone, and leaves these states at the desk.

@@ -126,5 +126,12 @@ fn lead_from<S: Setting>(
         labels: scope.labels(),
         liked,
     };
-    follow(&sight, scope.changes(), task.path, task.kind, frontier)
+    follow(
+        &sight,
+        scope.begun_lines(),
+        scope.changes(),
+        task.path,
+        task.kind,
+        frontier,
+    )
 }

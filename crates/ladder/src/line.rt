@@ -7,7 +7,7 @@ use pd_base::{OutOfMemory, push_decimal};
 use std::alloc::Global;
 
 /// The lines of a stage, by the letters of their names.
-#[derive(Clone, Copy, Debug)]
+#[derive(Clone, Copy)]
 pub enum Letter {
     /// The line that leaves the stage. That of stage 0 is the source before the first stage.
     X,
@@ -37,7 +37,7 @@ impl Letter {
 }
 
 /// A line of a ladder.
-#[derive(Clone, Copy, Debug)]
+#[derive(Clone, Copy)]
 pub(crate) struct LadderLine {
     pub(crate) letter: Letter,
     /// The number of its stage.

@@ -57,9 +57,7 @@ fn all_true(pins: &[LineId], values: &[bool]) -> bool
     requires { HasPlaces values.now pins.now }
     ensures { result ≡ all_true (map (λ pin. bit_at values.now pin.0) pins.now) }
 {
-    pins.iter()
-        .map(|pin| values[pin.0 as usize])
-        .all(|value| value)
+    pins.iter().all(|pin| values[pin.0 as usize])
 }
 
 // Whether some pin is 1.
@@ -67,9 +65,7 @@ fn any_true(pins: &[LineId], values: &[bool]) -> bool
     requires { HasPlaces values.now pins.now }
     ensures { result ≡ any_true (map (λ pin. bit_at values.now pin.0) pins.now) }
 {
-    pins.iter()
-        .map(|pin| values[pin.0 as usize])
-        .any(|value| value)
+    pins.iter().any(|pin| values[pin.0 as usize])
 }
 
 // Whether an odd number of pins is 1.

@@ -4,7 +4,7 @@ ghost use Rattle.netlist.specs.Steadiness.{is_known_as};
 ghost use Rattle.logic_values.specs.Known.{known};
 
 /// What hazard analysis with three values tells of a line under a pair of vectors: the value at which it is steady, if it is.
-#[derive(Clone, Copy, Debug, PartialEq, Eq, PartialOrd, Ord, Hash)]
+#[derive(Clone, Copy, Debug, PartialEq, Eq)]
 pub enum Steady {
     /// Steady at 0.
     Zero,

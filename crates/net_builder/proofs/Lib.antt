@@ -9,6 +9,7 @@ pub mod Exclusive
 mod FirstBytes
 mod GatePlaces
 mod GreatestMore
+mod Idle
 mod Inserting
 pub mod KnownUses
 pub mod Levelled

@@ -4,9 +4,15 @@ ghost use Rattle.std.specs.Prelude.{◌≡◌, ◌+◌, ◌<◌, ◌≤◌, [], 
 ghost use Rattle.pd_base.specs.FlatLists.{items_between};
 ghost use Rattle.net_builder.specs.Filling.{FillRooms, filled_lists};
 
-use pd_base::{FlatLists, OutOfMemory, PinRef};
+use pd_base::{FlatLists, GateId, OutOfMemory, PinRef};
 use std::alloc::Global;
 use std::marker::Model;
+
+// What stands in a room where no pin was put yet.
+const NO_PIN: PinRef = PinRef {
+    gate: GateId(0),
+    pin: 0,
+};
 
 /// Lists of pins, each with room for so many. Contracts see the lists so far, and the rooms.
 #[derive(Drop)]
@@ -42,11 +48,11 @@ impl Filling {
         let mut limits = Vec::with_capacity(alloc, rooms.len())?;
         let mut total = 0;
         for room in rooms {
-            ends.push(total)?;
+            ends.push_reserved(total);
             total += *room;
-            limits.push(total)?;
+            limits.push_reserved(total);
         }
-        let items = vec![in alloc; PinRef::default(); total as usize]?;
+        let items = vec![in alloc; NO_PIN; total as usize]?;
         Ok(Filling {
             items,
             ends,

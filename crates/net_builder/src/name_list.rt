@@ -9,7 +9,7 @@ use std::marker::Model;
 
 /// A list that names are only put behind. Contracts see it as the list of the names. They stand in the text one after
 /// another, with nothing between, so the end of each is kept alone. All of them have less than 2^32 bytes.
-#[derive(Debug, Drop)]
+#[derive(Drop)]
 pub(crate) struct NameList {
     text: Vec<u8>,
     ends: Vec<u32>,

@@ -15,7 +15,7 @@ use std::alloc::Global;
 use std::marker::Model;
 
 /// The form of a statement, without its names.
-#[derive(Clone, Copy, Debug)]
+#[derive(Clone, Copy)]
 pub enum Form {
     /// It defines a source.
     Input,
@@ -28,7 +28,7 @@ pub enum Form {
 }
 
 /// A statement as it is kept: its names are `count` names from `first` on, at most one more than a gate may have arguments.
-#[derive(Clone, Copy, Debug)]
+#[derive(Clone, Copy)]
 pub(crate) struct Placed {
     pub(crate) line: u32,
     pub(crate) form: Form,
@@ -40,7 +40,7 @@ pub(crate) struct Placed {
 const _: () = prove!(std::mem::size_of::<Placed>() == 16);
 
 /// A list of statements, each with the number of its line in the text. Contracts see it as that list.
-#[derive(Debug, Drop)]
+#[derive(Drop)]
 pub struct RawNet {
     pub(crate) names: NameList,
     pub(crate) statements: Vec<Placed>,

@@ -5,7 +5,7 @@ ghost use Rattle.netlist.specs.Gates.{op_of, is_inverting};
 use crate::Op;
 
 /// What a gate computes of its pins. NOT and BUFF have one pin, the others one or more.
-#[derive(Clone, Copy, Debug, PartialEq, Eq, PartialOrd, Ord, Hash)]
+#[derive(Clone, Copy, Debug, PartialEq, Eq)]
 pub enum GateKind {
     /// 1 where all pins are 1.
     And,

@@ -14,7 +14,7 @@ use std::cmp::Ordering;
 use std::marker::Model;
 
 /// What a netlist keeps of its circuit.
-#[derive(Debug, Drop)]
+#[derive(Drop)]
 pub struct Layout {
     /// The number of sources.
     pub sources: u32,
@@ -45,7 +45,7 @@ pub struct Layout {
 }
 
 /// A circuit of named lines. Contracts see it as the circuit that it stands for.
-#[derive(Debug, Drop)]
+#[derive(Drop)]
 pub struct Netlist {
     layout: Layout,
 }

@@ -1,5 +1,5 @@
 // Where each arc leads and what its delay is, and at which nodes a walk may stop.
-ghost use Rattle.std.specs.Prelude.{◌≡◌, ◌++◌, All, IfOk, length, map, replicate, take};
+ghost use Rattle.std.specs.Prelude.{◌≡◌, ◌+◌, ◌++◌, All, IfOk, length, map, replicate, take};
 ghost use Rattle.netlist.specs.Circuit.{gate_line, line_count, source_count};
 ghost use Rattle.netlist.specs.Pins.{IsPin};
 ghost use Rattle.delay_annotation.specs.Annotation.{delays_of, Fits};
@@ -76,12 +76,21 @@ fn arc_delays(
     ensures { IfOk result (λ times. times.items ≡ replicate (source_count net.now) 0 ++ map (delays_of net.now delays.now) pins.now) }
 {
     let sources = net.sources() as usize;
-    let mut times = Vec::with_capacity(alloc, sources + net.pin_total() as usize)?;
-    times.resize(sources, 0)?;
-    for pin in pins {
-        times.push(delays.delay(net, *pin))?;
-    }
+    let mut times = vec![in alloc; 0u32; sources + pins.len()]?;
+    write_delays(net, delays, pins, sources, times.as_mut_slice());
     Ok(times)
+}
+
+// Writes the delays of these pins from a place on, up to the end.
+fn write_delays(net: &Netlist, delays: &Delays, pins: &[PinRef], begin: usize, times: &mut [u32])
+    requires fits { Fits net.now delays.now }
+    requires pins { All (IsPin net.now) pins.now }
+    requires long { length times.old ≡ begin + length pins.now }
+    ensures { times.new ≡ take begin times.old ++ map (delays_of net.now delays.now) pins.now }
+{
+    for (place, pin) in pins.iter().enumerate() {
+        times[begin + place] = delays.delay(net, *pin);
+    }
 }
 
 // Whether a walk may stop, by node: at those of the observed lines.

@@ -19,7 +19,7 @@ use std::marker::Model;
 
 /// Room for what `meets` computes of the lines of a circuit. Contracts see the number of lines, which is all that counts:
 /// what an earlier call left there is written over.
-#[derive(Debug, Drop)]
+#[derive(Drop)]
 pub struct Scratch {
     finals: Vec<bool>,
     steadiness: Vec<Steady>,

@@ -2,6 +2,8 @@
 use Rattle.std.specs.Prelude.{◌≡◌, ◌≢◌, ⊤, ℕ, ◌+◌, List, [], ◌∷◌, decimal, Option, Some, None, Result, Ok, Err}
 use Rattle.std.specs.Borrow.{Bor}
 use Rattle.std.specs.Global.{Vec}
+use Rattle.pd_base.specs.declared.fault.Direction.{Direction}
+use Rattle.pd_base.specs.declared.fault.Kind.{Kind}
 use Rattle.pd_base.specs.declared.test.Test.{Test}
 use Rattle.netlist.specs.Circuit.{Circuit}
 use Rattle.runs.specs.Lawful.{AreLawfulTests, IsPathNumber}
@@ -36,6 +38,22 @@ TestLinesAnswer c text (Err (Malformed number)) =
     Reads (lines_text (tests_form c) 1) (IsWhole (tests_form c) 1) text None
     × ((number' : ℕ) × (number ≡ number' + 3) × LacksForm (tests_form c) 1 text number')
 TestLinesAnswer c text (Err NoMemory) = ⊤
+
+-- the words of a test's number and of its path's, where those behind them are these
+abbrev pub numbered_path_words : ℕ → ℕ × List (List ℕ) → List (List ℕ)
+numbered_path_words number read = decimal number ∷ decimal read.0 ∷ read.1
+
+-- the path's number, with the words that are left
+abbrev pub numbered_path_lent : ℕ × Option (Bor (List ℕ)) → ℕ × List (List ℕ)
+numbered_path_lent read = (read.0, words_left read.1)
+
+-- the words of a test's transition and of its kind, where those behind them are these
+abbrev pub direction_and_kind_words : Direction × Kind × List (List ℕ) → List (List ℕ)
+direction_and_kind_words read = direction_word read.0 ∷ kind_word read.1 ∷ read.2
+
+-- the two, with the words that are left
+abbrev pub direction_and_kind_lent : Direction × Kind × Option (Bor (List ℕ)) → Direction × Kind × List (List ℕ)
+direction_and_kind_lent read = (read.0, read.1, words_left read.2)
 
 -- the words of a test's line, where those of its bits are these
 abbrev pub test_head_words : ℕ → TestHead × List (List ℕ) → List (List ℕ)

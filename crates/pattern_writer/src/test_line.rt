@@ -1,10 +1,10 @@
 // One line of the tests file, read.
 ghost use Rattle.std.specs.Prelude.{⊤, [], ◌∷◌, ℕ, List, option_map, IfOk};
-ghost use Rattle.runs.specs.Lawful.{IsLawfulTest};
+ghost use Rattle.runs.specs.Lawful.{IsLawfulTest, IsPathNumber};
 ghost use Rattle.text_pieces.specs.Cuts.{words_left, words_of};
 ghost use Rattle.text_pieces.specs.Reads.{Reads};
 ghost use Rattle.pattern_writer.specs.TestsText.{test_words};
-ghost use Rattle.pattern_writer.specs.TestsReading.{bit_words_lent, test_head_lent, test_head_words, IsTestHead, three_words};
+ghost use Rattle.pattern_writer.specs.TestsReading.{bit_words_lent, direction_and_kind_lent, direction_and_kind_words, numbered_path_lent, numbered_path_words, test_head_lent, test_head_words, IsTestHead, three_words};
 
 use netlist::Netlist;
 use pd_base::{Direction, Items, Kind, MOST_PATHS, OutOfMemory, Pair, Test};
@@ -64,6 +64,15 @@ struct TestHead {
 fn read_head(number: u32, line: &[u8]) -> Option<(TestHead, Option<&[u8]>)>
     ensures { Reads (test_head_words number) IsTestHead (words_of line.now) (option_map test_head_lent result) }
 {
+    let (path, left) = read_path(number, line)?;
+    let (dir, kind, left) = read_direction_and_kind(left)?;
+    Some((TestHead { path, dir, kind }, left))
+}
+
+// The number of the path that the test of this number is for, and what is left behind it.
+fn read_path(number: u32, line: &[u8]) -> Option<(u32, Option<&[u8]>)>
+    ensures { Reads (numbered_path_words number) (λ read. IsPathNumber read.0) (words_of line.now) (option_map numbered_path_lent result) }
+{
     let (word, left) = next_word(Some(line))?;
     if !is_number(word, number) {
         return None;
@@ -73,11 +82,20 @@ fn read_head(number: u32, line: &[u8]) -> Option<(TestHead, Option<&[u8]>)>
     if path == 0 {
         return None;
     }
+    Some((path, left))
+}
+
+// The transition and the kind of the test, and what is left behind them.
+fn read_direction_and_kind<'a>(
+    left: Option<&'a [u8]>,
+) -> Option<(Direction, Kind, Option<&'a [u8]>)>
+    ensures { Reads direction_and_kind_words (λ read. ⊤) (words_left left.entry) (option_map direction_and_kind_lent result) }
+{
     let (word, left) = next_word(left)?;
     let dir = read_direction(word)?;
     let (word, left) = next_word(left)?;
     let kind = read_kind(word)?;
-    Some((TestHead { path, dir, kind }, left))
+    Some((dir, kind, left))
 }
 
 // The words of the bits, where three are left.

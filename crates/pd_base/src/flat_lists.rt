@@ -8,7 +8,7 @@ use std::alloc::Global;
 use std::marker::Model;
 
 /// A list of lists whose items stand one after another. Contracts see the list of the lists.
-#[derive(Debug, Drop)]
+#[derive(Drop)]
 pub struct FlatLists<T> {
     items: Vec<T>,
     // Where each list begins, and where the last one ends.
@@ -36,7 +36,7 @@ impl<T> FlatLists<T> {
         ensures { IfOk result (λ made. made ≡ []) }
     {
         let mut bounds = Vec::with_capacity(alloc, lists.saturating_add(1))?;
-        bounds.push(0)?;
+        bounds.push_reserved(0);
         Ok(FlatLists {
             items: Vec::with_capacity(alloc, items)?,
             bounds,

@@ -5,11 +5,11 @@
 pub struct LineId(pub u32);
 
 /// The number of a gate, from 0 in the order of the file.
-#[derive(Clone, Copy, Debug, Default, PartialEq, Eq, PartialOrd, Ord, Hash)]
+#[derive(Clone, Copy, Debug, PartialEq, Eq, PartialOrd, Ord, Hash)]
 pub struct GateId(pub u32);
 
 /// A pin, by its gate and its place there: pin 0 takes the first argument of the gate, pin 1 the second, and so on.
-#[derive(Clone, Copy, Debug, Default, PartialEq, Eq, PartialOrd, Ord, Hash)]
+#[derive(Clone, Copy, Debug, PartialEq, Eq, PartialOrd, Ord, Hash)]
 pub struct PinRef {
     /// The gate.
     pub gate: GateId,

@@ -39,15 +39,3 @@ impl<T> Items<T> {
         self.items
     }
 }
-
-impl<T: PartialEq> PartialEq for Items<T> {
-    ghost use Rattle.std.specs.Cmp.Lexicographic.{pointwise, lists_per};
-
-    ghost eq = { pointwise T.eq };
-
-    ghost laws = { lists_per T.laws };
-
-    fn eq(&self, other: &Items<T>) -> bool {
-        self.items == other.items
-    }
-}

@@ -5,7 +5,7 @@ use crate::Items;
 use std::marker::Model;
 
 /// A pair of vectors of one length, with one bit per source in the order of the sources.
-#[derive(Debug, Drop)]
+#[derive(Drop)]
 pub struct Pair {
     first: Items<bool>,
     second: Items<bool>,

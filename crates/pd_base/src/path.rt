@@ -7,7 +7,7 @@ use std::marker::Model;
 
 /// A source and the steps behind it, each through one pin of one gate. Whether the steps connect is a
 /// question to a circuit.
-#[derive(Debug, Drop)]
+#[derive(Drop)]
 pub struct Path {
     source: LineId,
     steps: Vec<PinRef>,

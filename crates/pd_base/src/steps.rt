@@ -8,7 +8,7 @@ use std::marker::Model;
 ///
 /// A counter is made from a mark, so code that is generic in `L` and has no value of it can make no counter of its own: it
 /// counts on the one that it was given.
-#[derive(Debug, Drop)]
+#[derive(Drop)]
 pub struct Steps<L> {
     mark: L,
     count: u64,

@@ -2,7 +2,7 @@
 use crate::{Direction, Items, Kind, Pair};
 
 /// A vector pair for one path and direction, and what it leads to.
-#[derive(Debug, Drop)]
+#[derive(Drop)]
 pub struct Test {
     /// The number of the listed path, from 1.
     pub path: u32,

@@ -7,7 +7,7 @@ use Rattle.pd_io.specs.declared.fault.FileFault.{FileFault}
 use Rattle.pd_io.specs.OpenFile.{AppendsTo, TakesFront, TakesUpTo, KeepsOpen}
 use Rattle.pd_io.specs.Telling.{Tells}
 use Rattle.pd_io.specs.Folder.{Folder, Contents, bytes_at, put, contents_after_write}
-use Rattle.pd_io.specs.Folder.HoldsFront.{front}
+use Rattle.pd_io.specs.Folder.HoldsFront.{front, untouched}
 use Rattle.pd_io.specs.Seen.{FilesSeen}
 use Rattle.pd_io.specs.Whole.{folder_with, HoldsPart}
 use Rattle.pd_io.proofs.Tellings.{tells_chain, tells_same, tells_weaker}
@@ -167,6 +167,13 @@ keeps_both old mid new first second = record {
   writer = second.writer ∙ first.writer;
   read_faults = second.read_faults ∙ first.read_faults;
 }
+
+-- where no name's bytes changed, what stood under the name is still there
+pub untouched_part : (before now : Option Folder) (name text : List ℕ) → Tells before now (λ old new. new ≡ old)
+    → Tells before now (HoldsPart name text)
+untouched_part before now name text same =
+    tells_weaker before now (λ old new. new ≡ old) (HoldsPart name text) same
+    (λ x y s. record { held = untouched (ap (λ (f : Folder). f.held) s); asked = ap (λ (f : Folder). f.asked) s })
 
 -- a whole text is a front of itself
 pub stored_part : (before now : Option Folder) (name text : List ℕ) → Tells before now (Stores name text) → Tells before now (HoldsPart name text)

@@ -95,6 +95,13 @@ module _ (before now : Option Folder) (reader : Option Reader) (name bytes : Lis
       (λ x y (asks, front) given. next_none (bytes_at x.held name) bytes buffer front
       (given_at y x.held reader name bytes buffer 0 h.place (ap (λ f. f.held) asks) given))
 
+  -- the same of a read whose count is 0
+  pub reading_ended : (next : Option Folder) (buffer : List ℕ) (count : ℕ) → count ≡ 0
+      → Tells now next (λ old _. GivesNext old reader count buffer) → next ≡ now
+      → Tells before next (λ old _. bytes ≡ bytes_at old.held name)
+  reading_ended next buffer count none t same =
+      reading_end next buffer (subst (λ n. Tells now next (λ old _. GivesNext old reader n buffer)) none t) same
+
   -- the file is no shorter than what was read
   pub reading_over : (limit : ℕ) → limit < length bytes → Tells before now (λ old _. limit < length (bytes_at old.held name))
   reading_over limit l =
@@ -106,3 +113,8 @@ module _ (before now : Option Folder) (reader : Option Reader) (name bytes : Lis
   -- the name was asked once, whatever came
   pub reading_asks : {T : Type 0} (result : Result T ReadFault) → Tells before now (AsksFor result name)
   reading_asks result = tells_weaker before now (ReadsFront name bytes) (AsksFor result name) h.told (λ x y p. asked p.0)
+
+  -- the same behind one more read
+  pub reading_asked : (next : Option Folder) → next ≡ now → {T : Type 0} (result : Result T ReadFault)
+      → Tells before next (AsksFor result name)
+  reading_asked next same result = subst (λ f. Tells before f (AsksFor result name)) (sym same) (reading_asks result)

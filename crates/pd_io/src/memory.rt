@@ -99,13 +99,12 @@ impl MemoryFiles {
         ensures write_faults { memory_write_faults self.new ≡ memory_write_faults self.old }
     {
         match call {
-            FileCall::BeginRead => self.begin_reads.fail(nth)?,
-            FileCall::Read => self.reads.fail(nth)?,
-            FileCall::BeginWrite => self.begin_writes.fail(nth)?,
-            FileCall::Write => self.writes.fail(nth)?,
-            FileCall::Finish => self.finishes.fail(nth)?,
+            FileCall::BeginRead => self.begin_reads.fail(nth),
+            FileCall::Read => self.reads.fail(nth),
+            FileCall::BeginWrite => self.begin_writes.fail(nth),
+            FileCall::Write => self.writes.fail(nth),
+            FileCall::Finish => self.finishes.fail(nth),
         }
-        Ok(())
     }
 }
 
@@ -299,8 +298,7 @@ impl MemorySink {
         ensures bytes { memory_bytes self.new ≡ memory_bytes self.old }
         ensures faults { memory_faults self.new ≡ memory_faults self.old }
     {
-        self.writes.fail(nth)?;
-        Ok(())
+        self.writes.fail(nth)
     }
 }
 

@@ -2,7 +2,8 @@
 ghost use Rattle.std.specs.Prelude.{◌≡◌, OnOk, OnErr};
 ghost use Rattle.pd_io.specs.Plan.{plan_of, empty_plan, fails_next, plan_after_call, plan_with};
 
-use std::alloc::{AllocError, Global};
+use pd_base::OutOfMemory;
+use std::alloc::Global;
 
 /// How often a method was called, and the numbers of the calls that are to fail, from 1.
 #[derive(Drop)]
@@ -23,7 +24,7 @@ impl Plan {
     }
 
     /// Plans that the call of this number is to fail. If memory runs out, the plan is as it was.
-    pub(crate) fn fail(&mut self, nth: u64) -> Result<(), AllocError>
+    pub(crate) fn fail(&mut self, nth: u64) -> Result<(), OutOfMemory>
         ensures ok { OnOk result (plan_of self.new ≡ plan_with (plan_of self.old) nth) }
         ensures err { OnErr result (plan_of self.new ≡ plan_of self.old) }
     {

@@ -1,10 +1,18 @@
 -- No prefix is counted twice in the searches for one aim, and so all searches count each prefix of the paths a few times at most.
-use Rattle.std.proofs.Common.{ℕ, ◌+◌, ◌*◌, ◌≤◌, List, subst, arith}
+use Rattle.std.proofs.Common.{ℕ, ◌+◌, ◌*◌, ◌≤◌, List, [], subst, arith}
 use Rattle.pd_base.specs.Route.{Route}
 use Rattle.prefix_sensitize.specs.PathOrder.{OrderedPaths}
 use Rattle.prefix_sensitize.specs.Readiness.{CountsAtMost, IsTreeFor}
 use Rattle.prefix_sensitize.specs.Walks.{CountsPrefixes}
 use Rattle.prefix_sensitize.proofs.Prefixes.{few_entered, same_count}
+
+-- where no prefix was entered nothing is counted
+pub none_counted : (routes : List Route) (steps : ℕ) → CountsPrefixes routes steps steps
+none_counted routes steps = record {
+  entered = [];
+  are_prefixes = record { each = λ k d within. absurd (omega arith); once = λ i j d before within. absurd (omega arith) };
+  counts = omega arith;
+}
 
 -- the count rises by no more than the number of prefixes
 pub counted : (routes : List Route) (tree : OrderedPaths) → IsTreeFor routes tree → (old new : ℕ) → CountsPrefixes routes old new

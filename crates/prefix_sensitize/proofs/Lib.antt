@@ -14,6 +14,7 @@ mod NewRefutations
 mod Ahead
 mod SettledRows
 mod Visits
+mod Ready
 mod Reached
 mod Ended
 mod Passing

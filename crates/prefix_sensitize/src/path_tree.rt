@@ -16,7 +16,7 @@ use std::marker::Model;
 
 /// The rows of listed paths in the order of a walk, and the number of the paths' prefixes of at least one step: the tree that these
 /// prefixes make, each of them one step longer than the one that it branches from, is never built.
-#[derive(Debug, Drop)]
+#[derive(Drop)]
 pub struct PathTree {
     order: Vec<usize>,
     prefixes: u64,

@@ -32,8 +32,8 @@ use test_judging::ends_of;
 
 /// A good run for the first `count` paths of a circuit, which are given, at most `MOST_PATHS` of them, and a budget of splits for each
 /// search, 1 to `MOST_BUDGET`: each verdict has the test or the proofs that it asks for, and each test and each proof is what it says,
-/// under these rules (this project's own). The run can be written as files, and each of its refutations stands as near to the source as
-/// it can.
+/// under these rules (this project's own). The run can be written as files. A refutation whose prefix implication alone refutes is one
+/// closed leaf, at the shortest prefix of its path that implication alone refutes.
 ///
 /// `steps` stands at no more than 2^63, and counts the pins that are entered: at most four times as many as the paths have different
 /// prefixes of at least one step, once for each transition and kind of test, whatever the answer is. The one error is that memory ran

@@ -52,7 +52,7 @@ pub(crate) fn walk<S: Setting, L>(
     ensures outcomes { IfOk result (λ outcomes. AreOutcomes engine.old.net paths.now proofs.new.items needed.items aim outcomes.items) }
     ensures found { OnOk result (AreFoundProofs engine.old.net engine.old.rules aim.budget paths.now proofs.new.items) }
     ensures adds { OnOk result (AddsProofs aim proofs.old.items proofs.new.items) }
-    ensures steps { steps.new ≤ steps.old + tree.now.prefixes }
+    ensures counted { CountsPrefixes paths.now steps.old steps.new }
 {
     // the netlist knows itself as a circuit
     let _ = engine.net().lines();

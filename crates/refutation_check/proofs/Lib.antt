@@ -1,9 +1,9 @@
 mod Checking
 mod Closing
-mod KeptStates
 mod NodeLabels
 mod Roots
 mod Spending
 mod Telling
+mod TrialStates
 mod Trying
 mod Walking

@@ -21,23 +21,12 @@ use Rattle.implication.specs.Moves.{with_assumed, grown, closed_at, back_at}
 use Rattle.implication.specs.Standing.{Standing, IsFree, IsOpenIn, IsEmptiedIn}
 use Rattle.implication.proofs.Restoring.{extends_restored, extends_trans}
 use Rattle.tree_laws.specs.NodeScopes.{beginning_of, AllowAsNode}
-use Rattle.tree_laws.specs.Settings.{IsSameSetting}
 use Rattle.tree_laws.proofs.Assuming.{entered_assumed}
 use Rattle.tree_laws.proofs.AssumedHalves.{IsStatesOf, half_assumed}
 use Rattle.tree_laws.proofs.ScopeLabels.{open_under}
 use Rattle.refutation_check.specs.declared.walk.Pending.{Pending}
 use Rattle.refutation_check.specs.Walks.{ClosesAtLine, IsNodeBy, IsScopeAt, IsPending, ArePending, WalksAt, IsWalk}
 use Rattle.refutation_check.proofs.Closing.{closes_below, closes_at_line}
-
--- what stays of an engine while its innermost scope goes on
-pub same_of_extended : (old new : Standing) → ExtendsStanding old new → IsSameSetting old new
-same_of_extended old new on = record { net = on.net; rules = on.rules; ends = on.ends }
-
-pub same_twice : (first middle last : Standing) → IsSameSetting first middle → IsSameSetting middle last → IsSameSetting first last
-same_twice first middle last one two = record { net = two.net ∙ one.net; rules = two.rules ∙ one.rules; ends = two.ends ∙ one.ends }
-
-pub same_itself : (standing : Standing) → IsSameSetting standing standing
-same_itself standing = record { net = refl; rules = refl; ends = refl }
 
 -- what was assumed of the source of a half, at a node
 module _ (old new : Standing) (half : Half) (set : StateSet) (states : IsStatesOf half set) (target : Target) (halves : List Half)

@@ -1,6 +1,6 @@
 pub mod Walks
 pub mod Entering
-pub mod KeptStates
+pub mod TrialStates
 pub mod Trials
 pub mod Judges
 pub mod Answers

@@ -14,7 +14,7 @@ use Rattle.test_judging.specs.KeptCones.{IsConeFor, IsConeAt}
 use Rattle.test_judging.specs.LeastStates.{IsTakenOf}
 use Rattle.refutation_check.specs.declared.asked.Asked.{Asked}
 use Rattle.refutation_check.specs.declared.trial.TrialRoom.{TrialRoom}
-use Rattle.refutation_check.specs.KeptStates.{AreKeptStates}
+use Rattle.refutation_check.specs.TrialStates.{AreTrialStates}
 
 -- the target that is asked for
 abbrev pub asked_target : Asked → Target
@@ -23,7 +23,7 @@ asked_target asked = target_of asked.path.now asked.dir asked.kind
 -- the room is made for this circuit
 pub record IsTrialRoomFor (c : Circuit) (room : TrialRoom) : Type 0 where
   pub cone : IsConeFor c room.cone
-  pub kept : AreKeptStates c room.kept
+  pub kept : AreTrialStates c room.kept
 
 -- each pair that has these states at the sources in the fan-in of the end of the target's path is a test, or none is
 abbrev pub EachIsTest : Circuit → Target → List State → Type 0

@@ -12,7 +12,7 @@ pub enum TreeCheck {
 }
 
 /// What is left at a node of a tree of cases.
-#[derive(Debug, Drop)]
+#[derive(Drop)]
 pub enum Hull {
     /// The hull, in which each line has some state.
     Rest(Labels<FourStates>),

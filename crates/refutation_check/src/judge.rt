@@ -17,6 +17,7 @@ ghost use Rattle.refutation_check.specs.Answers.{TellsOfRefutation, TellsOfSpent
 
 use crate::TreeCheck;
 use crate::asked::Asked;
+use crate::dropping::drop_engine;
 use crate::refutation::refutes;
 use crate::spent::spends;
 use crate::trial::TrialRoom;
@@ -136,6 +137,12 @@ impl<'n> TreeJudge<'n> {
             &asked,
             tree,
         )
+    }
+
+    // Drops the judge.
+    pub(crate) fn drop_judge(self) {
+        let TreeJudge { engine, .. } = self;
+        drop_engine(engine);
     }
 }
 

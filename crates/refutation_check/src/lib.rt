@@ -6,16 +6,17 @@
 
 mod answer;
 mod asked;
+mod dropping;
 mod due;
 mod entering;
 mod halves;
 mod judge;
-mod kept_states;
 mod node_hull;
 mod refutation;
 mod single;
 mod spent;
 mod trial;
+mod trial_states;
 mod walk;
 
 pub use answer::{Hull, TreeCheck};

@@ -11,6 +11,7 @@ ghost use Rattle.refutation_check.specs.NodeHulls.{IsAtNode, LosesNoPair, Decide
 ghost use Rattle.refutation_check.specs.Walks.{IsScopeAt};
 
 use crate::Hull;
+use crate::dropping::drop_engine;
 use crate::entering::enter_all;
 use crate::walk::assume_half;
 use implication::{Engine, RuledNetlist, Scope, Setting};
@@ -43,7 +44,9 @@ pub fn hull(
     // a netlist knows itself as a circuit
     let _ = net.sources();
     let mut engine = Engine::new(alloc, RuledNetlist { net, rules })?;
-    hull_on(alloc, &mut engine, prefix, dir, kind, halves)
+    let found = hull_on(alloc, &mut engine, prefix, dir, kind, halves);
+    drop_engine(engine);
+    found
 }
 
 // The same on an engine that tells all lines and on which no scope is open, without what it tells of pairs.

@@ -47,7 +47,9 @@ pub fn check_tree(
     let _ = net.lines();
     let ends = [end_of(net, prefix)];
     let mut judge = TreeJudge::new(alloc, net, rules, &ends)?;
-    judge.check_tree(prefix, dir, kind, tree)
+    let told = judge.check_tree(prefix, dir, kind, tree);
+    judge.drop_judge();
+    told
 }
 
 /// Whether a tree shows that a budget was spent on a path and a transition under the conditions of a kind of test, under these rules.
@@ -75,5 +77,7 @@ pub fn check_spent(
 {
     let ends = [end_of(net, path)];
     let mut judge = TreeJudge::new(alloc, net, rules, &ends)?;
-    judge.check_spent(path, dir, kind, budget, tree)
+    let told = judge.check_spent(path, dir, kind, budget, tree);
+    judge.drop_judge();
+    told
 }

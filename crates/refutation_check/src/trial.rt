@@ -11,12 +11,12 @@ ghost use Rattle.implication.specs.Standing.{IsTold};
 ghost use Rattle.tree_laws.specs.Spent.{IsOpen};
 ghost use Rattle.test_judging.specs.KeptCones.{IsConeAt};
 ghost use Rattle.test_judging.specs.Taken.{AreLeast};
-ghost use Rattle.refutation_check.specs.KeptStates.{AreKeptStates};
+ghost use Rattle.refutation_check.specs.TrialStates.{AreTrialStates};
 ghost use Rattle.refutation_check.specs.Trials.{asked_target, IsTrialRoomFor, IsTrialRoomAt, AreLeastOf, EachIsTest, NoneIsTest};
 ghost use Rattle.refutation_check.specs.Walks.{IsScopeAt};
 
 use crate::asked::Asked;
-use crate::kept_states::KeptStates;
+use crate::trial_states::TrialStates;
 use implication::{Scope, Setting};
 use netlist::Netlist;
 use pd_base::{LineId, OutOfMemory};
@@ -29,7 +29,7 @@ use test_judging::{Cone, Judgement, judge_steps, least};
 #[derive(Drop)]
 pub(crate) struct TrialRoom {
     pub(crate) cone: Cone,
-    pub(crate) kept: KeptStates,
+    pub(crate) kept: TrialStates,
     pub(crate) failed: bool,
 }
 
@@ -38,7 +38,7 @@ impl TrialRoom {
     pub(crate) fn new(alloc: Global, net: &Netlist) -> Result<TrialRoom, OutOfMemory>
         ensures { IfOk result (IsTrialRoomFor net.now) }
     {
-        let kept = KeptStates::new(alloc, net)?;
+        let kept = TrialStates::new(alloc, net)?;
         let cone = Cone::new(alloc, net)?;
         Ok(TrialRoom {
             cone,
@@ -109,13 +109,13 @@ fn are_tests(
     labels: &[StateSet],
     asked: &Asked,
     cone: &Cone,
-    kept: &mut KeptStates,
+    kept: &mut TrialStates,
 ) -> bool
     requires prefix { IsPrefix net.now asked.now.path.now }
     requires labels { length labels.now ≡ line_count net.now }
     requires cone { IsConeAt net.now (end_of net.now asked.now.path.now) cone.now }
-    requires kept { AreKeptStates net.now kept.old }
-    ensures kept { AreKeptStates net.now kept.new }
+    requires kept { AreTrialStates net.now kept.old }
+    ensures kept { AreTrialStates net.now kept.new }
     ensures least { AreLeastOf net.now (end_of net.now asked.now.path.now) labels.now kept.new.states.items }
     ensures each { IsTrue result → EachIsTest net.now (asked_target asked.now) kept.new.states.items }
     ensures none { result ≡ false → NoneIsTest net.now (asked_target asked.now) kept.new.states.items }
@@ -123,7 +123,7 @@ fn are_tests(
     // a netlist knows itself as a circuit
     let _ = net.lines();
     kept.take_least(net, cone.sources(), labels);
-    kept.settle(net, cone.gates());
+    kept.refresh(net, cone.gates());
     let judgement = judge_steps(
         net,
         asked.path,

@@ -16,7 +16,7 @@ use std::alloc::Global;
 use text_pieces::{push_spaced, push_spaced_digits};
 
 /// Why the text of a replay was not made.
-#[derive(Clone, Copy, Debug, Drop)]
+#[derive(Clone, Copy, Drop)]
 pub(crate) enum ReplayTextFault {
     /// The first test, by its number from 1, under whose pair some line changes too often, and the first such line in rank order.
     TooManyChanges(u32, LineId),

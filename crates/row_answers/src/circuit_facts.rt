@@ -2,91 +2,88 @@
 ghost use Rattle.std.specs.Prelude.{◌<◌};
 ghost use Rattle.netlist.specs.Circuit.{line_count};
 
-use crate::circuits::name;
-use crate::lines::add_number;
+use crate::text::Text;
 use crate::trouble::Trouble;
 use bench_reader::bench_text;
 use netlist::Netlist;
-use pd_base::{LineId, PinRef};
-use std::alloc::{AllocError, Global};
+use pd_base::{LineId, OutOfMemory, PinRef};
+use std::alloc::Global;
 
-/// The canonical text of a netlist.
-pub fn netlist_text(alloc: Global, net: &Netlist) -> Result<String, Trouble> {
+/// Adds the canonical text of a netlist.
+pub fn netlist_text(alloc: Global, net: &Netlist, answer: &mut Text) -> Result<(), Trouble> {
     let bytes = bytes_of(alloc, net)?;
-    let text = str::from_utf8(bytes.as_slice()).map_err(|_| Trouble::NoText)?;
-    Ok(String::from_str(alloc, text)?)
+    answer.add_bytes(bytes.as_slice());
+    Ok(())
 }
 
 // The bytes of that text. It promises nothing, so that the answers are not proved over again under the contract of `bench_text`.
-fn bytes_of(alloc: Global, net: &Netlist) -> Result<Vec<u8>, Trouble> {
-    Ok(bench_text(alloc, net)?)
+fn bytes_of(alloc: Global, net: &Netlist) -> Result<Vec<u8>, OutOfMemory> {
+    bench_text(alloc, net)
 }
 
-/// The canonical text, the counts, the orders, and a line for each line of the circuit.
-pub fn netlist_facts(alloc: Global, net: &Netlist) -> Result<String, Trouble> {
-    let mut facts = netlist_text(alloc, net)?;
-    add_facts(alloc, net, &mut facts)?;
-    Ok(facts)
+/// Adds the canonical text, the counts, the orders, and a line for each line of the circuit.
+pub fn netlist_facts(alloc: Global, net: &Netlist, answer: &mut Text) -> Result<(), Trouble> {
+    netlist_text(alloc, net, answer)?;
+    add_facts(net, answer);
+    Ok(())
 }
 
 // The counts, the orders and the lines.
-fn add_facts(alloc: Global, net: &Netlist, facts: &mut String) -> Result<(), Trouble> {
-    add_counts(alloc, net, facts)?;
-    add_order(alloc, net, facts)?;
-    add_observed(alloc, net, facts)?;
+fn add_facts(net: &Netlist, answer: &mut Text) {
+    add_counts(net, answer);
+    add_order(net, answer);
+    add_observed(net, answer);
     for line in 0..net.lines() {
-        add_line(alloc, net, LineId(line), facts)?;
+        add_line(net, LineId(line), answer);
     }
-    Ok(())
 }
 
 // How many there are of what.
-fn add_counts(alloc: Global, net: &Netlist, facts: &mut String) -> Result<(), AllocError> {
-    add_number(alloc, "  sources ", net.sources() as u64, facts)?;
-    add_number(alloc, " gates ", net.gates() as u64, facts)?;
-    add_number(alloc, " lines ", net.lines() as u64, facts)?;
-    add_number(alloc, " pins ", net.pin_total() as u64, facts)?;
-    add_number(alloc, " levels ", net.levels() as u64, facts)?;
-    add_number(alloc, " longest name ", net.longest_name() as u64, facts)?;
-    facts.push('\n')
+fn add_counts(net: &Netlist, answer: &mut Text) {
+    answer.add_number("  sources ", net.sources() as u64);
+    answer.add_number(" gates ", net.gates() as u64);
+    answer.add_number(" lines ", net.lines() as u64);
+    answer.add_number(" pins ", net.pin_total() as u64);
+    answer.add_number(" levels ", net.levels() as u64);
+    answer.add_number(" longest name ", net.longest_name() as u64);
+    answer.add("\n");
 }
 
 // The gates in rank order.
-fn add_order(alloc: Global, net: &Netlist, facts: &mut String) -> Result<(), AllocError> {
-    facts.push_str("  rank order")?;
+fn add_order(net: &Netlist, answer: &mut Text) {
+    answer.add("  rank order");
     for gate in net.order() {
-        add_number(alloc, " ", gate.0 as u64, facts)?;
+        answer.add_number(" ", gate.0 as u64);
     }
-    facts.push('\n')
+    answer.add("\n");
 }
 
 // The observed lines in order.
-fn add_observed(alloc: Global, net: &Netlist, facts: &mut String) -> Result<(), AllocError> {
-    facts.push_str("  observed")?;
+fn add_observed(net: &Netlist, answer: &mut Text) {
+    answer.add("  observed");
     for line in net.observed() {
-        add_number(alloc, " ", line.0 as u64, facts)?;
+        answer.add_number(" ", line.0 as u64);
     }
-    facts.push('\n')
+    answer.add("\n");
 }
 
 // A line of the circuit: its number, its name, its level, and the pins that read it.
-fn add_line(alloc: Global, net: &Netlist, line: LineId, facts: &mut String) -> Result<(), Trouble>
+fn add_line(net: &Netlist, line: LineId, answer: &mut Text)
     requires { line.0 < line_count net.now }
 {
-    add_number(alloc, "  line ", line.0 as u64, facts)?;
-    facts.push(' ')?;
-    facts.push_str(name(net, line)?)?;
-    add_number(alloc, " level ", net.level(line) as u64, facts)?;
-    facts.push_str(" read by")?;
-    for reader in net.fanout(line) {
-        add_pin(alloc, *reader, facts)?;
-    }
-    facts.push('\n')?;
-    Ok(())
+    answer.add_number("  line ", line.0 as u64);
+    answer.add(" ");
+    answer.add_bytes(net.name(line));
+    answer.add_number(" level ", net.level(line) as u64);
+    add_readers(net.fanout(line), answer);
 }
 
-// A pin.
-fn add_pin(alloc: Global, pin: PinRef, facts: &mut String) -> Result<(), AllocError> {
-    add_number(alloc, " ", pin.gate.0 as u64, facts)?;
-    add_number(alloc, ":", pin.pin as u64, facts)
+// These pins, and the end of the line.
+fn add_readers(pins: &[PinRef], answer: &mut Text) {
+    answer.add(" read by");
+    for pin in pins {
+        answer.add_number(" ", pin.gate.0 as u64);
+        answer.add_number(":", pin.pin as u64);
+    }
+    answer.add("\n");
 }

@@ -1,14 +1,14 @@
 // Netlists, names of their lines, and vectors of rows.
-ghost use Rattle.std.specs.Prelude.{◌≡◌, ◌≤◌, ◌<◌, length, vec_len, IfOk};
-ghost use Rattle.netlist.specs.Circuit.{line_count, source_count};
+ghost use Rattle.std.specs.Prelude.{◌≡◌, ◌≤◌, length, vec_len, IfOk};
+ghost use Rattle.netlist.specs.Circuit.{source_count};
 ghost use Rattle.row_answers.specs.declared.circuits.TheConstants.{MOST_BYTES};
 
 use crate::texts::spelled_out;
 use crate::trouble::Trouble;
 use bench_reader::read_bench;
 use netlist::Netlist;
-use pd_base::{LineId, Pair};
-use std::alloc::Global;
+use pd_base::Pair;
+use std::alloc::{AllocError, Global};
 
 // The most bytes of a text that a row may have.
 const MOST_BYTES: usize = 65_536;
@@ -32,13 +32,6 @@ fn netlist_of(alloc: Global, text: &[u8]) -> Option<Netlist>
     }
 }
 
-/// The name of a line.
-pub fn name(net: &Netlist, line: LineId) -> Result<&str, Trouble>
-    requires { line.0 < line_count net.now }
-{
-    str::from_utf8(net.name(line)).map_err(|_| Trouble::NoText)
-}
-
 /// A pair of vectors with one bit for each source.
 pub fn pair(alloc: Global, net: &Netlist, first: &str, second: &str) -> Result<Pair, Trouble>
     ensures { IfOk result (λ pair. length pair.first ≡ source_count net.now) }
@@ -52,13 +45,19 @@ pub fn pair(alloc: Global, net: &Netlist, first: &str, second: &str) -> Result<P
 pub fn vector(alloc: Global, net: &Netlist, bits: &str) -> Result<Vec<bool>, Trouble>
     ensures { IfOk result (λ vector. vec_len vector ≡ source_count net.now) }
 {
-    let mut vector = Vec::new(alloc);
-    for byte in bits.bytes() {
-        vector.push(byte == b'1')?;
-    }
+    let vector = bits_of(alloc, bits)?;
     if vector.len() == net.sources() as usize {
         Ok(vector)
     } else {
         Err(Trouble::NoRow)
     }
+}
+
+// The bits of a word.
+fn bits_of(alloc: Global, bits: &str) -> Result<Vec<bool>, AllocError> {
+    let mut vector = Vec::new(alloc);
+    for byte in bits.bytes() {
+        vector.push(byte == b'1')?;
+    }
+    Ok(vector)
 }

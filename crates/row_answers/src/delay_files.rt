@@ -3,86 +3,68 @@ ghost use Rattle.std.specs.Prelude.{◌<◌};
 ghost use Rattle.delay_annotation.specs.Annotation.{Fits};
 ghost use Rattle.netlist.specs.Circuit.{gate_count};
 
-use crate::circuits::name;
-use crate::lines::add_number;
 use crate::paths::delays;
+use crate::text::Text;
 use crate::trouble::Trouble;
 use delay_annotation::{DelayFault, Delays};
 use netlist::Netlist;
 use pd_base::{GateId, PinRef};
-use std::alloc::{AllocError, Global};
+use std::alloc::Global;
 
-/// The delays of the pins of each gate, or why the delay file is refused.
-pub fn delays_text(alloc: Global, net: &Netlist, file: Option<&str>) -> Result<String, Trouble> {
+/// Adds the delays of the pins of each gate, or why the delay file is refused.
+pub fn delays_text(
+    alloc: Global,
+    net: &Netlist,
+    file: Option<&str>,
+    answer: &mut Text,
+) -> Result<(), Trouble> {
     match delays(alloc, net, file)? {
-        Ok(delays) => gates_text(alloc, net, &delays),
-        Err(fault) => Ok(refusal(alloc, fault)?),
+        Ok(delays) => add_gates(net, &delays, answer),
+        Err(fault) => add_refusal(fault, answer),
     }
+    Ok(())
 }
 
 // Why a delay file is refused.
-fn refusal(alloc: Global, fault: DelayFault) -> Result<String, AllocError> {
+fn add_refusal(fault: DelayFault, answer: &mut Text) {
     match fault {
-        DelayFault::Header => String::from_str(alloc, "  refused header\n"),
-        DelayFault::Fields(row) => row_refusal(alloc, row, "fields"),
-        DelayFault::UnknownGate(row) => row_refusal(alloc, row, "unknown gate"),
-        DelayFault::BadPin(row) => row_refusal(alloc, row, "bad pin"),
-        DelayFault::BadNumber(row) => row_refusal(alloc, row, "bad number"),
-        DelayFault::NoMemory => String::from_str(alloc, "  refused want of memory\n"),
+        DelayFault::Header => answer.add("  refused header\n"),
+        DelayFault::Fields(row) => add_row_refusal(row, " fields\n", answer),
+        DelayFault::UnknownGate(row) => add_row_refusal(row, " unknown gate\n", answer),
+        DelayFault::BadPin(row) => add_row_refusal(row, " bad pin\n", answer),
+        DelayFault::BadNumber(row) => add_row_refusal(row, " bad number\n", answer),
+        DelayFault::NoMemory => answer.add("  refused want of memory\n"),
     }
 }
 
 // What is wrong with a row.
-fn row_refusal(alloc: Global, row: u32, wrong: &str) -> Result<String, AllocError> {
-    format!(in alloc; "  refused row {row} {wrong}\n")
+fn add_row_refusal(row: u32, wrong: &str, answer: &mut Text) {
+    answer.add_number("  refused row ", row as u64);
+    answer.add(wrong);
 }
 
 // A line for each gate: its name, and the delays of its pins.
-fn gates_text(alloc: Global, net: &Netlist, delays: &Delays) -> Result<String, Trouble>
+fn add_gates(net: &Netlist, delays: &Delays, answer: &mut Text)
     requires { Fits net.now delays.now }
 {
-    let mut text = String::new(alloc);
     for gate in 0..net.gates() {
-        add_gate(alloc, net, delays, GateId(gate), &mut text)?;
+        let gate = GateId(gate);
+        answer.add("  ");
+        answer.add_bytes(net.name(net.line_of(gate)));
+        add_delays(net, delays, gate, answer);
     }
-    Ok(text)
-}
-
-// The line of a gate.
-fn add_gate(
-    alloc: Global,
-    net: &Netlist,
-    delays: &Delays,
-    gate: GateId,
-    text: &mut String,
-) -> Result<(), Trouble>
-    requires fits { Fits net.now delays.now }
-    requires gate { gate.0 < gate_count net.now }
-{
-    text.push_str("  ")?;
-    text.push_str(name(net, net.line_of(gate))?)?;
-    add_delays(alloc, net, delays, gate, text)?;
-    text.push('\n')?;
-    Ok(())
 }
 
 // The delays of the pins of a gate.
-fn add_delays(
-    alloc: Global,
-    net: &Netlist,
-    delays: &Delays,
-    gate: GateId,
-    text: &mut String,
-) -> Result<(), Trouble>
+fn add_delays(net: &Netlist, delays: &Delays, gate: GateId, answer: &mut Text)
     requires fits { Fits net.now delays.now }
     requires gate { gate.0 < gate_count net.now }
 {
     for pin in 0..net.pins(gate).len() {
-        let Ok(pin) = u32::try_from(pin) else {
-            return Err(Trouble::NoRow);
-        };
-        let pin = PinRef { gate, pin };
-        add_number(alloc, " ", delays.delay(net, pin) as u64, text)?;
+        if let Ok(pin) = u32::try_from(pin) {
+            let pin = PinRef { gate, pin };
+            answer.add_number(" ", delays.delay(net, pin) as u64);
+        }
     }
-    Ok(())
+    answer.add("\n");
 }

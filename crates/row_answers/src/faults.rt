@@ -1,5 +1,5 @@
 // Rules, transitions and kinds of tests by their names.
-use crate::texts::parted;
+use crate::texts::{number_of, parted};
 use crate::trouble::Trouble;
 use pd_base::{Direction, Kind, Rules};
 
@@ -12,13 +12,38 @@ pub struct Fault {
     pub kind: Kind,
 }
 
+/// The same under rules for pairs.
+#[derive(Clone, Copy)]
+pub struct RuledFault {
+    /// The rules.
+    pub rules: &'static Rules,
+    /// The transition and the kind of test.
+    pub fault: Fault,
+}
+
 // Rules of rows, which nothing has to drop.
 const ONE: &Rules = &Rules::One;
 
 const TWO: &Rules = &Rules::Two;
 
-/// The rules that a row begins with, and what stands behind them: rules Two if it begins with this word, and else rules One.
-pub fn rules_of(row: &str) -> (&'static Rules, &str) {
+/// The rules, transition and kind that a row begins with, and what stands behind them.
+pub fn ruled_fault_of(row: &str) -> Result<(RuledFault, &str), Trouble> {
+    let (rules, row) = rules_of(row);
+    let (fault, rest) = fault_of(row)?;
+    Ok((RuledFault { rules, fault }, rest))
+}
+
+/// The same with a number between the rules and the transition, which comes first here.
+pub fn numbered_fault_of(row: &str) -> Result<(u32, RuledFault, &str), Trouble> {
+    let (rules, row) = rules_of(row);
+    let (number, row) = parted(row)?;
+    let number = number_of(number)?;
+    let (fault, rest) = fault_of(row)?;
+    Ok((number, RuledFault { rules, fault }, rest))
+}
+
+// The rules that a row begins with, and what stands behind them: rules Two if it begins with this word, and else rules One.
+fn rules_of(row: &str) -> (&'static Rules, &str) {
     match row.strip_prefix("two ") {
         Some(rest) => (TWO, rest),
         None => (ONE, row),

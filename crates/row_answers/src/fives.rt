@@ -2,36 +2,49 @@
 ghost use Rattle.std.specs.Prelude.{◌≡◌, length, vec_len, IfOk};
 ghost use Rattle.netlist.specs.Circuit.{source_count};
 
+use crate::text::Text;
 use crate::trouble::Trouble;
 use five_valued::{Five, simulate};
 use netlist::Netlist;
 use std::alloc::{AllocError, Global};
 
-/// The values of all lines, by line number, where the sources have those that the words spell, in their order.
-pub fn five_values(alloc: Global, net: &Netlist, words: &str) -> Result<String, Trouble> {
+/// Adds the values of all lines, by line number, where the sources have those that the words spell, in their order.
+pub fn five_values(
+    alloc: Global,
+    net: &Netlist,
+    words: &str,
+    answer: &mut Text,
+) -> Result<(), Trouble> {
     let partial = sources(alloc, net, words)?;
-    let values = simulated(alloc, net, partial.as_slice())?;
-    Ok(values_text(alloc, values.as_slice())?)
+    add_values_under(alloc, net, partial.as_slice(), answer)
+}
+
+// The values of all lines under these of the sources.
+fn add_values_under(
+    alloc: Global,
+    net: &Netlist,
+    partial: &[Five],
+    answer: &mut Text,
+) -> Result<(), Trouble>
+    requires { length partial.now ≡ source_count net.now }
+{
+    let values = simulated(alloc, net, partial)?;
+    add_values(values.as_slice(), answer);
+    Ok(())
 }
 
 // The words of these values.
-fn values_text(alloc: Global, values: &[Five]) -> Result<String, AllocError> {
-    let mut text = String::from_str(alloc, " ")?;
+fn add_values(values: &[Five], answer: &mut Text) {
+    answer.add(" ");
     for value in values {
-        add_word(word_of(*value), &mut text)?;
+        answer.add(" ");
+        answer.add(word_of(*value));
     }
-    text.push('\n')?;
-    Ok(text)
-}
-
-// A space and a word.
-fn add_word(word: &str, text: &mut String) -> Result<(), AllocError> {
-    text.push(' ')?;
-    text.push_str(word)
+    answer.add("\n");
 }
 
 // The values of all lines. It promises nothing, so that the answers are not proved over again under the contract of `simulate`.
-fn simulated(alloc: Global, net: &Netlist, partial: &[Five]) -> Result<Vec<Five>, Trouble>
+fn simulated(alloc: Global, net: &Netlist, partial: &[Five]) -> Result<Vec<Five>, AllocError>
     requires { length partial.now ≡ source_count net.now }
 {
     let mut values = vec![in alloc; Five::XX; net.lines() as usize]?;
@@ -43,15 +56,21 @@ fn simulated(alloc: Global, net: &Netlist, partial: &[Five]) -> Result<Vec<Five>
 fn sources(alloc: Global, net: &Netlist, words: &str) -> Result<Vec<Five>, Trouble>
     ensures { IfOk result (λ values. vec_len values ≡ source_count net.now) }
 {
-    let mut values = Vec::new(alloc);
-    for word in words.split(' ') {
-        values.push(value_of(word)?)?;
-    }
+    let values = values_of(alloc, words)?;
     if values.len() == net.sources() as usize {
         Ok(values)
     } else {
         Err(Trouble::NoRow)
     }
+}
+
+// The values that words spell.
+fn values_of(alloc: Global, words: &str) -> Result<Vec<Five>, Trouble> {
+    let mut values = Vec::new(alloc);
+    for word in words.split(' ') {
+        values.push(value_of(word)?)?;
+    }
+    Ok(values)
 }
 
 // The value that a word spells.

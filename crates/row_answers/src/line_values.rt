@@ -4,7 +4,7 @@ ghost use Rattle.std.specs.Prelude.{◌≡◌, ◌<◌, length};
 ghost use Rattle.netlist.specs.Circuit.{line_count, source_count};
 
 use crate::circuits::{pair, vector};
-use crate::lines::bits_line;
+use crate::text::Text;
 use crate::texts::{number_of, parted};
 use crate::trouble::Trouble;
 use logic_values::{Steady, evaluate, steady, support};
@@ -12,15 +12,16 @@ use netlist::Netlist;
 use pd_base::{LineId, Pair};
 use std::alloc::{AllocError, Global};
 
-/// The values of all lines under a vector, by line number.
-pub fn values(alloc: Global, net: &Netlist, bits: &str) -> Result<String, Trouble> {
+/// Adds the values of all lines under a vector, by line number.
+pub fn values(alloc: Global, net: &Netlist, bits: &str, answer: &mut Text) -> Result<(), Trouble> {
     let vector = vector(alloc, net, bits)?;
     let values = values_under(alloc, net, vector.as_slice())?;
-    Ok(bits_line(alloc, values.as_slice())?)
+    answer.add_bits_line(values.as_slice());
+    Ok(())
 }
 
 // The values of all lines under a vector.
-fn values_under(alloc: Global, net: &Netlist, vector: &[bool]) -> Result<Vec<bool>, Trouble>
+fn values_under(alloc: Global, net: &Netlist, vector: &[bool]) -> Result<Vec<bool>, AllocError>
     requires { length vector.now ≡ source_count net.now }
 {
     let mut values = vec![in alloc; false; net.lines() as usize]?;
@@ -28,18 +29,24 @@ fn values_under(alloc: Global, net: &Netlist, vector: &[bool]) -> Result<Vec<boo
     Ok(values)
 }
 
-/// Which lines stand in the transitive fan-in of the line of a number, by line number.
-pub fn support_of(alloc: Global, net: &Netlist, number: &str) -> Result<String, Trouble> {
+/// Adds which lines stand in the transitive fan-in of the line of a number, by line number.
+pub fn support_of(
+    alloc: Global,
+    net: &Netlist,
+    number: &str,
+    answer: &mut Text,
+) -> Result<(), Trouble> {
     let line = number_of(number)?;
     if line >= net.lines() {
         return Err(Trouble::NoRow);
     }
     let cone = cone_of(alloc, net, LineId(line))?;
-    Ok(bits_line(alloc, cone.as_slice())?)
+    answer.add_bits_line(cone.as_slice());
+    Ok(())
 }
 
 // For each line whether it stands in the transitive fan-in of this one.
-fn cone_of(alloc: Global, net: &Netlist, line: LineId) -> Result<Vec<bool>, Trouble>
+fn cone_of(alloc: Global, net: &Netlist, line: LineId) -> Result<Vec<bool>, AllocError>
     requires { line.0 < line_count net.now }
 {
     let mut cone = vec![in alloc; true; net.lines() as usize]?;
@@ -47,26 +54,31 @@ fn cone_of(alloc: Global, net: &Netlist, line: LineId) -> Result<Vec<bool>, Trou
     Ok(cone)
 }
 
-/// At which values all lines are steady under a pair of vectors, by line number; `x` where one is not.
-pub fn steadiness(alloc: Global, net: &Netlist, vectors: &str) -> Result<String, Trouble> {
+/// Adds at which values all lines are steady under a pair of vectors, by line number; `x` where one is not.
+pub fn steadiness(
+    alloc: Global,
+    net: &Netlist,
+    vectors: &str,
+    answer: &mut Text,
+) -> Result<(), Trouble> {
     let (first, second) = parted(vectors)?;
     let pair = pair(alloc, net, first, second)?;
     let steadiness = steadiness_under(alloc, net, &pair)?;
-    Ok(steadiness_text(alloc, steadiness.as_slice())?)
+    add_steadiness(steadiness.as_slice(), answer);
+    Ok(())
 }
 
 // A sign for each line.
-fn steadiness_text(alloc: Global, steadiness: &[Steady]) -> Result<String, AllocError> {
-    let mut text = String::from_str(alloc, "  ")?;
+fn add_steadiness(steadiness: &[Steady], answer: &mut Text) {
+    answer.add("  ");
     for found in steadiness {
-        text.push(sign_of(*found))?;
+        answer.add(sign_of(*found));
     }
-    text.push('\n')?;
-    Ok(text)
+    answer.add("\n");
 }
 
 // The steadiness of all lines under a pair.
-fn steadiness_under(alloc: Global, net: &Netlist, pair: &Pair) -> Result<Vec<Steady>, Trouble>
+fn steadiness_under(alloc: Global, net: &Netlist, pair: &Pair) -> Result<Vec<Steady>, AllocError>
     requires { length pair.now.first ≡ source_count net.now }
 {
     let mut steadiness = vec![in alloc; Steady::Moving; net.lines() as usize]?;
@@ -75,10 +87,10 @@ fn steadiness_under(alloc: Global, net: &Netlist, pair: &Pair) -> Result<Vec<Ste
 }
 
 // How the steadiness of a line is shown.
-fn sign_of(found: Steady) -> char {
+fn sign_of(found: Steady) -> &'static str {
     match found {
-        Steady::Zero => '0',
-        Steady::One => '1',
-        Steady::Moving => 'x',
+        Steady::Zero => "0",
+        Steady::One => "1",
+        Steady::Moving => "x",
     }
 }

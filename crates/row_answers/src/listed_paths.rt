@@ -3,10 +3,9 @@ ghost use Rattle.std.specs.Prelude.{All, IfOk};
 ghost use Rattle.delay_annotation.specs.Annotation.{Fits};
 ghost use Rattle.netlist.specs.Paths.{IsPath};
 
-use crate::circuits::name;
-use crate::lines::add_number;
 use crate::paths::accepted_delays;
 use crate::single_paths::length_of;
+use crate::text::Text;
 use crate::texts::number_of;
 use crate::trouble::Trouble;
 use delay_annotation::Delays;
@@ -15,34 +14,42 @@ use path_lister::first_paths;
 use pd_base::{MOST_PATHS, Path, PinRef};
 use std::alloc::Global;
 
-/// The first paths, so many, a line each: the length, the source, and the steps.
+/// Adds the first paths, so many, a line each: the length, the source, and the steps.
 pub fn listing(
     alloc: Global,
     net: &Netlist,
     file: Option<&str>,
     count: &str,
-) -> Result<String, Trouble> {
+    answer: &mut Text,
+) -> Result<(), Trouble> {
     let count = number_of(count)?;
     let delays = accepted_delays(alloc, net, file)?;
-    let paths = listed(alloc, net, &delays, count)?;
-    paths_text(alloc, net, &delays, paths.as_slice())
+    add_listed(alloc, net, &delays, count, answer)
 }
 
-// A line for each path.
-fn paths_text(
+// The first paths under these delays.
+fn add_listed(
     alloc: Global,
     net: &Netlist,
     delays: &Delays,
-    paths: &[Path],
-) -> Result<String, Trouble>
+    count: u32,
+    answer: &mut Text,
+) -> Result<(), Trouble>
+    requires { Fits net.now delays.now }
+{
+    let paths = listed(alloc, net, delays, count)?;
+    add_paths(net, delays, paths.as_slice(), answer);
+    Ok(())
+}
+
+// A line for each path.
+fn add_paths(net: &Netlist, delays: &Delays, paths: &[Path], answer: &mut Text)
     requires fits { Fits net.now delays.now }
     requires paths { All (IsPath net.now) paths.now }
 {
-    let mut text = String::new(alloc);
     for path in paths {
-        add_path(alloc, net, delays, path, &mut text)?;
+        add_path(net, delays, path, answer);
     }
-    Ok(text)
 }
 
 // The first paths. It promises only that they are paths, so that the lines are not proved under the contract of `first_paths`.
@@ -57,33 +64,24 @@ fn listed(alloc: Global, net: &Netlist, delays: &Delays, count: u32) -> Result<V
 }
 
 // The line of a path.
-fn add_path(
-    alloc: Global,
-    net: &Netlist,
-    delays: &Delays,
-    path: &Path,
-    text: &mut String,
-) -> Result<(), Trouble>
+fn add_path(net: &Netlist, delays: &Delays, path: &Path, answer: &mut Text)
     requires fits { Fits net.now delays.now }
     requires path { IsPath net.now path.now }
 {
-    add_number(alloc, "  ", length_of(net, delays, path), text)?;
-    text.push(' ')?;
-    text.push_str(name(net, path.source())?)?;
+    answer.add_number("  ", length_of(net, delays, path));
+    answer.add(" ");
+    answer.add_bytes(net.name(path.source()));
     for step in path.steps() {
-        add_step(alloc, net, *step, text)?;
+        add_step(net, *step, answer);
     }
-    text.push('\n')?;
-    Ok(())
+    answer.add("\n");
 }
 
-// A step: its gate and its pin.
-fn add_step(alloc: Global, net: &Netlist, step: PinRef, text: &mut String) -> Result<(), Trouble> {
-    if step.gate.0 >= net.gates() {
-        return Err(Trouble::NoRow);
+// A step: its gate, if the circuit has it, and its pin.
+fn add_step(net: &Netlist, step: PinRef, answer: &mut Text) {
+    if step.gate.0 < net.gates() {
+        answer.add(" ");
+        answer.add_bytes(net.name(net.line_of(step.gate)));
     }
-    text.push(' ')?;
-    text.push_str(name(net, net.line_of(step.gate))?)?;
-    add_number(alloc, ":", step.pin as u64, text)?;
-    Ok(())
+    answer.add_number(":", step.pin as u64);
 }

@@ -3,9 +3,9 @@ ghost use Rattle.std.specs.Prelude.{◌≡◌, length, vec_len, IfOk};
 ghost use Rattle.delay_annotation.specs.Annotation.{Fits};
 ghost use Rattle.netlist.specs.Circuit.{line_count};
 
-use crate::circuits::{name, pair};
-use crate::lines::{bits_line, yes_or_no};
+use crate::circuits::pair;
 use crate::paths::{accepted_delays, path};
+use crate::text::Text;
 use crate::texts::parted;
 use crate::trouble::Trouble;
 use delay_annotation::Delays;
@@ -14,62 +14,39 @@ use netlist::Netlist;
 use pd_base::LineId;
 use std::alloc::{AllocError, Global};
 
-/// A line for each line of the circuit under these vectors: its name, its value before all changes, and the times of its changes.
+/// Adds a line for each line of the circuit under these vectors: its name, its value before all changes, and the times of its changes.
 pub fn waves(
     alloc: Global,
     net: &Netlist,
     file: Option<&str>,
     vectors: &str,
-) -> Result<String, Trouble> {
-    let waves = waves_under(alloc, net, file, vectors)?;
-    waves_text(alloc, net, waves.as_slice())
+    answer: &mut Text,
+) -> Result<(), Trouble> {
+    let (first, second) = parted(vectors)?;
+    let delays = accepted_delays(alloc, net, file)?;
+    let waves = replayed(alloc, net, &delays, first, second)?;
+    add_waves(net, waves.as_slice(), answer);
+    Ok(())
 }
 
 // A line for each line of the circuit.
-fn waves_text(alloc: Global, net: &Netlist, waves: &[Wave]) -> Result<String, Trouble>
+fn add_waves(net: &Netlist, waves: &[Wave], answer: &mut Text)
     requires { length waves.now ≡ line_count net.now }
 {
-    let mut text = String::new(alloc);
     for line in 0..net.lines() {
-        add_line(
-            alloc,
-            name(net, LineId(line))?,
-            &waves[line as usize],
-            &mut text,
-        )?;
+        answer.add("  ");
+        answer.add_bytes(net.name(LineId(line)));
+        add_wave(&waves[line as usize], answer);
     }
-    Ok(text)
 }
 
-// A line: a name, the value before all changes, and the times of the changes.
-fn add_line(alloc: Global, name: &str, wave: &Wave, text: &mut String) -> Result<(), AllocError> {
-    text.push_str("  ")?;
-    text.push_str(name)?;
-    text.push_str(if wave.earliest() { " 1" } else { " 0" })?;
+// The value before all changes, and the times of the changes.
+fn add_wave(wave: &Wave, answer: &mut Text) {
+    answer.add(if wave.earliest() { " 1" } else { " 0" });
     for time in wave.changes() {
-        add_time(alloc, *time, text)?;
+        answer.add_time(*time);
     }
-    text.push('\n')
-}
-
-// A time.
-fn add_time(alloc: Global, time: i64, text: &mut String) -> Result<(), AllocError> {
-    let time = format!(in alloc; " {time}")?;
-    text.push_str(time.as_str())
-}
-
-// The waves of all lines under two vectors.
-fn waves_under(
-    alloc: Global,
-    net: &Netlist,
-    file: Option<&str>,
-    vectors: &str,
-) -> Result<Vec<Wave>, Trouble>
-    ensures { IfOk result (λ waves. vec_len waves ≡ line_count net.now) }
-{
-    let (first, second) = parted(vectors)?;
-    let delays = accepted_delays(alloc, net, file)?;
-    replayed(alloc, net, &delays, first, second)
+    answer.add("\n");
 }
 
 // The waves of all lines under two vectors and these delays.
@@ -90,29 +67,39 @@ fn replayed(
     }
 }
 
-/// What the observed lines have at a time under two vectors, in their order.
+/// Adds what the observed lines have at a time under two vectors, in their order.
 pub fn samples(
     alloc: Global,
     net: &Netlist,
     file: Option<&str>,
     row: &str,
-) -> Result<String, Trouble> {
+    answer: &mut Text,
+) -> Result<(), Trouble> {
     let (time, vectors) = parted(row)?;
     let time = time_of(time)?;
-    let waves = waves_under(alloc, net, file, vectors)?;
-    sampled_line(alloc, net, waves.as_slice(), time)
+    let (first, second) = parted(vectors)?;
+    let delays = accepted_delays(alloc, net, file)?;
+    let waves = replayed(alloc, net, &delays, first, second)?;
+    add_sample(alloc, net, waves.as_slice(), time, answer)
 }
 
 // The line of a sample.
-fn sampled_line(alloc: Global, net: &Netlist, waves: &[Wave], time: i64) -> Result<String, Trouble>
+fn add_sample(
+    alloc: Global,
+    net: &Netlist,
+    waves: &[Wave],
+    time: i64,
+    answer: &mut Text,
+) -> Result<(), Trouble>
     requires { length waves.now ≡ line_count net.now }
 {
     let sampled = sampled(alloc, net, waves, time)?;
-    Ok(bits_line(alloc, sampled.as_slice())?)
+    answer.add_bits_line(sampled.as_slice());
+    Ok(())
 }
 
 // What the observed lines have at a time.
-fn sampled(alloc: Global, net: &Netlist, waves: &[Wave], time: i64) -> Result<Vec<bool>, Trouble>
+fn sampled(alloc: Global, net: &Netlist, waves: &[Wave], time: i64) -> Result<Vec<bool>, AllocError>
     requires { length waves.now ≡ line_count net.now }
 {
     let mut sampled = vec![in alloc; false; net.observed().len()]?;
@@ -120,31 +107,36 @@ fn sampled(alloc: Global, net: &Netlist, waves: &[Wave], time: i64) -> Result<Ve
     Ok(sampled)
 }
 
-/// Whether the sides of a path have settled: the time, both vectors, and the path.
+/// Adds whether the sides of a path have settled: the time, both vectors, and the path.
 pub fn sides(
     alloc: Global,
     net: &Netlist,
     file: Option<&str>,
     row: &str,
-) -> Result<String, Trouble> {
+    answer: &mut Text,
+) -> Result<(), Trouble> {
     let (time, rest) = parted(row)?;
-    let settled = have_settled(alloc, net, file, rest, time_of(time)?)?;
-    Ok(yes_or_no(alloc, settled)?)
+    let time = time_of(time)?;
+    let delays = accepted_delays(alloc, net, file)?;
+    let settled = have_settled(alloc, net, &delays, rest, time)?;
+    answer.add_yes_or_no(settled);
+    Ok(())
 }
 
 // Whether the sides of a path have settled at a time: both vectors, and the path.
 fn have_settled(
     alloc: Global,
     net: &Netlist,
-    file: Option<&str>,
+    delays: &Delays,
     row: &str,
     time: i64,
-) -> Result<bool, Trouble> {
+) -> Result<bool, Trouble>
+    requires { Fits net.now delays.now }
+{
     let (first, rest) = parted(row)?;
     let (second, row) = parted(rest)?;
-    let delays = accepted_delays(alloc, net, file)?;
-    let waves = replayed(alloc, net, &delays, first, second)?;
-    is_settled(alloc, net, &delays, waves.as_slice(), row, time)
+    let waves = replayed(alloc, net, delays, first, second)?;
+    is_settled(alloc, net, delays, waves.as_slice(), row, time)
 }
 
 // The same of these waves.
@@ -165,5 +157,8 @@ fn is_settled(
 
 // A time.
 fn time_of(text: &str) -> Result<i64, Trouble> {
-    text.parse::<i64>().map_err(|_| Trouble::NoRow)
+    match text.parse::<i64>() {
+        Ok(time) => Ok(time),
+        Err(_) => Err(Trouble::NoRow),
+    }
 }

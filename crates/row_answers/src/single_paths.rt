@@ -7,47 +7,48 @@ ghost use Rattle.netlist.specs.Paths.{IsPath};
 
 use crate::circuits::pair;
 use crate::faults::{Fault, fault_of};
-use crate::lines::yes_or_no;
 use crate::paths::{accepted_delays, path, route};
+use crate::text::Text;
 use crate::texts::parted;
 use crate::trouble::Trouble;
 use delay_annotation::Delays;
 use netlist::Netlist;
 use path_model::{Scratch, compare, is_path, length, meets};
-use pd_base::{Pair, Path};
-use std::alloc::{AllocError, Global};
+use pd_base::{OutOfMemory, Pair, Path};
+use std::alloc::Global;
 use std::cmp::Ordering;
 
-/// Whether the route is a path, and how long it is.
+/// Adds whether the route is a path, and how long it is.
 pub fn path_facts(
     alloc: Global,
     net: &Netlist,
     file: Option<&str>,
     row: &str,
-) -> Result<String, Trouble> {
+    answer: &mut Text,
+) -> Result<(), Trouble> {
     let route = route(alloc, net, row)?;
-    if !is_path(net, &route) {
-        return Ok(String::from_str(alloc, "  no path\n")?);
+    if is_path(net, &route) {
+        add_length_under(alloc, net, file, &route, answer)
+    } else {
+        answer.add("  no path\n");
+        Ok(())
     }
-    length_under(alloc, net, file, &route)
 }
 
 // How long a path is under the delays of a file.
-fn length_under(
+fn add_length_under(
     alloc: Global,
     net: &Netlist,
     file: Option<&str>,
     path: &Path,
-) -> Result<String, Trouble>
+    answer: &mut Text,
+) -> Result<(), Trouble>
     requires { IsPath net.now path.now }
 {
     let delays = accepted_delays(alloc, net, file)?;
-    Ok(length_line(alloc, length_of(net, &delays, path))?)
-}
-
-// The line of a length.
-fn length_line(alloc: Global, length: u64) -> Result<String, AllocError> {
-    format!(in alloc; "  length {length}\n")
+    answer.add_number("  length ", length_of(net, &delays, path));
+    answer.add("\n");
+    Ok(())
 }
 
 // The length of a path.
@@ -58,32 +59,32 @@ pub(crate) fn length_of(net: &Netlist, delays: &Delays, path: &Path) -> u64
     length(net, delays, path)
 }
 
-/// How two paths compare, between which a slash stands.
+/// Adds how two paths compare, between which a slash stands.
 pub fn comparison(
     alloc: Global,
     net: &Netlist,
     file: Option<&str>,
     row: &str,
-) -> Result<String, Trouble> {
-    let (one, other) = row.split_once(" / ").ok_or(Trouble::NoRow)?;
-    let one = path(alloc, net, one)?;
-    let other = path(alloc, net, other)?;
-    compared(alloc, net, file, &one, &other)
+    answer: &mut Text,
+) -> Result<(), Trouble> {
+    let delays = accepted_delays(alloc, net, file)?;
+    answer.add(compared(alloc, net, &delays, row)?);
+    Ok(())
 }
 
-// How two paths compare under the delays of a file.
+// How the two paths of a row compare, as a line.
 fn compared(
     alloc: Global,
     net: &Netlist,
-    file: Option<&str>,
-    one: &Path,
-    other: &Path,
-) -> Result<String, Trouble>
-    requires one { IsPath net.now one.now }
-    requires other { IsPath net.now other.now }
+    delays: &Delays,
+    row: &str,
+) -> Result<&'static str, Trouble>
+    requires { Fits net.now delays.now }
 {
-    let delays = accepted_delays(alloc, net, file)?;
-    Ok(String::from_str(alloc, order_line(net, &delays, one, other))?)
+    let (one, other) = row.split_once(" / ").ok_or(Trouble::NoRow)?;
+    let one = path(alloc, net, one)?;
+    let other = path(alloc, net, other)?;
+    Ok(order_line(net, delays, &one, &other))
 }
 
 // How two paths compare, as a line.
@@ -99,10 +100,11 @@ fn order_line(net: &Netlist, delays: &Delays, one: &Path, other: &Path) -> &'sta
     }
 }
 
-/// Whether a pair is a test: transition, kind, both vectors, and the path.
-pub fn verdict(alloc: Global, net: &Netlist, row: &str) -> Result<String, Trouble> {
+/// Adds whether a pair is a test: transition, kind, both vectors, and the path.
+pub fn verdict(alloc: Global, net: &Netlist, row: &str, answer: &mut Text) -> Result<(), Trouble> {
     let is_test = is_met(alloc, net, question_of(row)?)?;
-    Ok(yes_or_no(alloc, is_test)?)
+    answer.add_yes_or_no(is_test);
+    Ok(())
 }
 
 // A question to a pair of vectors: is it a test of this kind, for this transition and path.
@@ -131,7 +133,7 @@ fn question_of(row: &str) -> Result<Question<'_>, Trouble> {
 fn is_met(alloc: Global, net: &Netlist, question: Question<'_>) -> Result<bool, Trouble> {
     let pair = pair(alloc, net, question.first, question.second)?;
     let path = path(alloc, net, question.path)?;
-    is_test(alloc, net, &path, question.fault, &pair)
+    Ok(is_test(alloc, net, &path, question.fault, &pair)?)
 }
 
 // Whether a pair is a test.
@@ -141,7 +143,7 @@ fn is_test(
     path: &Path,
     fault: Fault,
     pair: &Pair,
-) -> Result<bool, Trouble>
+) -> Result<bool, OutOfMemory>
     requires path { IsPath net.now path.now }
     requires bits { length pair.now.first ≡ source_count net.now }
 {

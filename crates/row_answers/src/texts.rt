@@ -5,6 +5,12 @@ use std::alloc::{AllocError, Global};
 /// The text that a row spells, with each sign exchanged for what it stands for.
 pub fn spelled_out(alloc: Global, row: &str) -> Result<String, AllocError> {
     let mut text = String::new(alloc);
+    add_spelled_out(row, &mut text)?;
+    Ok(text)
+}
+
+// Adds that text.
+fn add_spelled_out(row: &str, text: &mut String) -> Result<(), AllocError> {
     let mut in_sign = false;
     for letter in row.chars() {
         if letter == '\\' && !in_sign {
@@ -14,7 +20,7 @@ pub fn spelled_out(alloc: Global, row: &str) -> Result<String, AllocError> {
             in_sign = false;
         }
     }
-    Ok(text)
+    Ok(())
 }
 
 // What a sign with this letter stands for.
@@ -32,24 +38,6 @@ fn meant(letter: char) -> char {
     }
 }
 
-/// The text as a row shows it, in one line: LF by its sign.
-pub fn shown(alloc: Global, text: &str) -> Result<String, AllocError> {
-    let mut shown = String::new(alloc);
-    for letter in text.chars() {
-        add_shown(letter, &mut shown)?;
-    }
-    Ok(shown)
-}
-
-// A letter, or the sign of LF.
-fn add_shown(letter: char, shown: &mut String) -> Result<(), AllocError> {
-    if letter == '\n' {
-        shown.push_str("\\n")
-    } else {
-        shown.push(letter)
-    }
-}
-
 /// The first word, and what stands behind the space after it.
 pub fn parted(row: &str) -> Result<(&str, &str), Trouble> {
     row.split_once(' ').ok_or(Trouble::NoRow)
@@ -57,5 +45,8 @@ pub fn parted(row: &str) -> Result<(&str, &str), Trouble> {
 
 /// The number that a part of a row spells.
 pub fn number_of(text: &str) -> Result<u32, Trouble> {
-    text.parse::<u32>().map_err(|_| Trouble::NoRow)
+    match text.parse::<u32>() {
+        Ok(number) => Ok(number),
+        Err(_) => Err(Trouble::NoRow),
+    }
 }

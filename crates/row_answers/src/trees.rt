@@ -1,40 +1,58 @@
-// What the judge says of trees.
-use crate::faults::{Fault, fault_of, rules_of};
+// What the judge says of trees. Its calls stand alone, in functions that promise nothing, so that the answers are not proved over again
+// under their contracts.
+ghost use Rattle.netlist.specs.Paths.{IsPath};
+
+use crate::faults::{Fault, RuledFault, numbered_fault_of, ruled_fault_of};
 use crate::nodes::{tree_of, whole};
 use crate::paths::path;
-use crate::texts::{number_of, parted};
+use crate::text::Text;
 use crate::trouble::Trouble;
 use netlist::Netlist;
-use pd_base::Rules;
+use pd_base::{OutOfMemory, Path};
 use refutation_check::{TreeCheck, check_spent, check_tree};
 use runs::{Node, Tree};
-use std::alloc::{AllocError, Global};
+use std::alloc::Global;
 
-/// What `check_tree` says: the rules, if they are not rules One, transition, kind, and the nodes of a tree.
-pub fn refutes(alloc: Global, net: &Netlist, prefix: &str, row: &str) -> Result<String, Trouble> {
-    let (rules, row) = rules_of(row);
-    let (fault, nodes) = fault_of(row)?;
+/// Adds what `check_tree` says: the rules, if they are not rules One, transition, kind, and the nodes of a tree.
+pub fn refutes(
+    alloc: Global,
+    net: &Netlist,
+    prefix: &str,
+    row: &str,
+    answer: &mut Text,
+) -> Result<(), Trouble> {
+    let (fault, nodes) = ruled_fault_of(row)?;
     let tree = tree_of(alloc, nodes)?;
-    judged(alloc, net, rules, prefix, fault, &tree)
+    add_judged(alloc, net, prefix, fault, &tree, answer)
 }
 
-/// What `check_tree` says of a tree of so many splits, all on the first source, each in the first half of the one before: the
+/// Adds what `check_tree` says of a tree of so many splits, all on the first source, each in the first half of the one before: the
 /// rules, if they are not rules One, the number, transition and kind.
-pub fn deep(alloc: Global, net: &Netlist, prefix: &str, row: &str) -> Result<String, Trouble> {
-    let (rules, row) = rules_of(row);
-    let (splits, rest) = parted(row)?;
-    let (fault, _) = fault_of(rest)?;
-    let tree = deep_tree(alloc, number_of(splits)?)?;
-    judged(alloc, net, rules, prefix, fault, &tree)
+pub fn deep(
+    alloc: Global,
+    net: &Netlist,
+    prefix: &str,
+    row: &str,
+    answer: &mut Text,
+) -> Result<(), Trouble> {
+    let (splits, fault, _) = numbered_fault_of(row)?;
+    let tree = deep_tree(alloc, splits)?;
+    add_judged(alloc, net, prefix, fault, &tree, answer)
 }
 
 // The tree of so many splits.
 fn deep_tree(alloc: Global, splits: u32) -> Result<Tree, Trouble> {
     let mut nodes = Vec::new(alloc);
-    push_each(&mut nodes, Node::Value(0), splits)?;
-    push_each(&mut nodes, Node::Closed, splits)?;
-    nodes.push(Node::Closed)?;
+    push_all(&mut nodes, splits)?;
     whole(nodes)
+}
+
+// Its nodes.
+fn push_all(nodes: &mut Vec<Node>, splits: u32) -> Result<(), Trouble> {
+    push_each(nodes, Node::Value(0), splits)?;
+    push_each(nodes, Node::Closed, splits)?;
+    nodes.push(Node::Closed)?;
+    Ok(())
 }
 
 // So many of these nodes.
@@ -46,65 +64,95 @@ fn push_each(nodes: &mut Vec<Node>, node: Node, count: u32) -> Result<(), Troubl
 }
 
 // What `check_tree` says of a tree.
-fn judged(
+fn add_judged(
     alloc: Global,
     net: &Netlist,
-    rules: &Rules,
     prefix: &str,
-    fault: Fault,
+    fault: RuledFault,
     tree: &Tree,
-) -> Result<String, Trouble> {
+    answer: &mut Text,
+) -> Result<(), Trouble> {
     let prefix = path(alloc, net, prefix)?;
-    let told = check_tree(
-        alloc,
-        net,
-        rules,
-        &prefix,
-        fault.direction,
-        fault.kind,
-        tree,
-    )?;
-    Ok(line_of(alloc, told)?)
+    add_told(judged(alloc, net, &prefix, fault, tree)?, answer);
+    Ok(())
 }
 
-/// What `check_spent` says: the rules, if they are not rules One, a budget, transition, kind, and the nodes of a tree.
-pub fn spent(alloc: Global, net: &Netlist, prefix: &str, row: &str) -> Result<String, Trouble> {
-    let (rules, row) = rules_of(row);
-    let (budget, rest) = parted(row)?;
-    let budget = number_of(budget)?;
-    let (fault, nodes) = fault_of(rest)?;
+/// What `check_tree` says.
+pub fn judged(
+    alloc: Global,
+    net: &Netlist,
+    prefix: &Path,
+    fault: RuledFault,
+    tree: &Tree,
+) -> Result<TreeCheck, OutOfMemory>
+    requires { IsPath net.now prefix.now }
+{
+    let Fault { direction, kind } = fault.fault;
+    check_tree(alloc, net, fault.rules, prefix, direction, kind, tree)
+}
+
+/// Adds what `check_spent` says: the rules, if they are not rules One, a budget, transition, kind, and the nodes of a tree.
+pub fn spent(
+    alloc: Global,
+    net: &Netlist,
+    prefix: &str,
+    row: &str,
+    answer: &mut Text,
+) -> Result<(), Trouble> {
+    let (budget, fault, nodes) = numbered_fault_of(row)?;
     let tree = tree_of(alloc, nodes)?;
-    judged_spent(alloc, net, rules, prefix, fault, budget, &tree)
+    add_judged_spent(alloc, net, prefix, fault, budget, &tree, answer)
 }
 
 // What `check_spent` says of a budget and a tree.
-fn judged_spent(
+fn add_judged_spent(
     alloc: Global,
     net: &Netlist,
-    rules: &Rules,
     prefix: &str,
-    fault: Fault,
+    fault: RuledFault,
     budget: u32,
     tree: &Tree,
-) -> Result<String, Trouble> {
+    answer: &mut Text,
+) -> Result<(), Trouble> {
     let prefix = path(alloc, net, prefix)?;
-    let told = check_spent(
+    add_told(
+        judged_spent(alloc, net, &prefix, fault, budget, tree)?,
+        answer,
+    );
+    Ok(())
+}
+
+/// What `check_spent` says.
+pub fn judged_spent(
+    alloc: Global,
+    net: &Netlist,
+    prefix: &Path,
+    fault: RuledFault,
+    budget: u32,
+    tree: &Tree,
+) -> Result<TreeCheck, OutOfMemory>
+    requires { IsPath net.now prefix.now }
+{
+    let Fault { direction, kind } = fault.fault;
+    check_spent(
         alloc,
         net,
-        rules,
-        &prefix,
-        fault.direction,
-        fault.kind,
+        fault.rules,
+        prefix,
+        direction,
+        kind,
         budget,
         tree,
-    )?;
-    Ok(line_of(alloc, told)?)
+    )
 }
 
 // What a check told, as a line.
-fn line_of(alloc: Global, told: TreeCheck) -> Result<String, AllocError> {
+fn add_told(told: TreeCheck, answer: &mut Text) {
     match told {
-        TreeCheck::Yes => String::from_str(alloc, "  Yes\n"),
-        TreeCheck::No(place) => format!(in alloc; "  No({place})\n"),
+        TreeCheck::Yes => answer.add("  Yes\n"),
+        TreeCheck::No(place) => {
+            answer.add_number("  No(", place as u64);
+            answer.add(")\n");
+        }
     }
 }

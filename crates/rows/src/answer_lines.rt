@@ -1,47 +1,48 @@
 // What came of calls, as lines: the status, what err and out took, and files that changed.
-use row_answers::{Trouble, shown};
-use std::alloc::{AllocError, Global};
+use row_answers::Text;
 
-/// What came of a call with this status, where err and out took these bytes.
-pub fn came_of(alloc: Global, status: u8, err: &[u8], out: &[u8]) -> Result<String, Trouble> {
-    let mut came = format!(in alloc; "  status {status}\n")?;
-    add_taken(alloc, &mut came, "err", err)?;
-    add_taken(alloc, &mut came, "out", out)?;
-    Ok(came)
+/// Adds what came of a call with this status, where err and out took these bytes.
+pub fn add_came(status: u8, err: &[u8], out: &[u8], answer: &mut Text) {
+    answer.add_number("  status ", status as u64);
+    answer.add("\n");
+    add_taken("err", err, answer);
+    add_taken("out", out, answer);
 }
 
 // A line with what was taken, if it is anything.
-fn add_taken(alloc: Global, came: &mut String, name: &str, bytes: &[u8]) -> Result<(), Trouble> {
-    if bytes.is_empty() {
-        return Ok(());
+fn add_taken(name: &str, bytes: &[u8], answer: &mut Text) {
+    if !bytes.is_empty() {
+        add(name, bytes, answer);
     }
-    add(alloc, came, name, bytes)
 }
 
 /// Adds a line with a name and a text.
-pub fn add(alloc: Global, came: &mut String, name: &str, bytes: &[u8]) -> Result<(), Trouble> {
-    let text = str::from_utf8(bytes).map_err(|_| Trouble::NoText)?;
-    let shown = shown(alloc, text)?;
-    Ok(add_line(came, name, shown.as_str())?)
+pub fn add(name: &str, bytes: &[u8], answer: &mut Text) {
+    add_name(name, answer);
+    answer.add_shown(bytes);
+    answer.add("\n");
 }
 
 /// Adds a line with a name and what is told of it.
-pub fn add_line(came: &mut String, name: &str, told: &str) -> Result<(), AllocError> {
-    came.push_str("  ")?;
-    came.push_str(name)?;
-    came.push(' ')?;
-    came.push_str(told)?;
-    came.push('\n')
+pub fn add_line(name: &str, told: &str, answer: &mut Text) {
+    add_name(name, answer);
+    answer.add(told);
+    answer.add("\n");
 }
 
-/// The lines of what came of a call as one, commas between.
-pub fn in_one_line(alloc: Global, came: &str) -> Result<String, AllocError> {
-    let mut line = String::new(alloc);
+// A name at the front of a line.
+fn add_name(name: &str, answer: &mut Text) {
+    answer.add("  ");
+    answer.add(name);
+    answer.add(" ");
+}
+
+/// Adds the lines of what came of a call as one, commas between.
+pub fn add_in_one_line(came: &str, answer: &mut Text) {
+    let mut is_first = true;
     for part in came.lines() {
-        if !line.is_empty() {
-            line.push_str(", ")?;
-        }
-        line.push_str(part.trim_start())?;
+        answer.add(if is_first { "" } else { ", " });
+        answer.add(part.trim_start());
+        is_first = false;
     }
-    Ok(line)
 }

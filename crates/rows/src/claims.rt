@@ -5,44 +5,58 @@ ghost use Rattle.rows.specs.declared.claims.TheConstants.{MOST_BYTES};
 
 use netlist::Netlist;
 use pattern_writer::{TestsFault, read_tests};
-use row_answers::{Trouble, spelled_out};
+use row_answers::{Text, Trouble, spelled_out};
 use std::alloc::Global;
 use verdict_report::{TextFault, read_proofs, read_report};
 
 // The most bytes of a text that a row may have.
 const MOST_BYTES: usize = 65_536;
 
-/// How many tests, paths or proofs such a file has, a proofs file with its version; or the first line that lacks its form.
+/// Adds how many tests, paths or proofs such a file has, a proofs file with its version; or the first line that lacks its form.
 /// Another word is none of a row.
-pub fn read(alloc: Global, net: &Netlist, word: &str, row: &str) -> Result<String, Trouble> {
+pub fn read(
+    alloc: Global,
+    net: &Netlist,
+    word: &str,
+    row: &str,
+    answer: &mut Text,
+) -> Result<(), Trouble> {
     let text = spelled_out(alloc, row)?;
     if text.len() > MOST_BYTES {
         return Err(Trouble::NoRow);
     }
-    told(alloc, net, word, text.as_bytes())
+    add_claim(alloc, net, word, text.as_bytes(), answer)
 }
 
 // The same of these bytes.
-fn told(alloc: Global, net: &Netlist, word: &str, text: &[u8]) -> Result<String, Trouble>
+fn add_claim(
+    alloc: Global,
+    net: &Netlist,
+    word: &str,
+    text: &[u8],
+    answer: &mut Text,
+) -> Result<(), Trouble>
     requires { length text.now ≤ MOST_BYTES }
 {
     match word {
-        "tests" => tests(alloc, net, text),
-        "report" => report(alloc, net, text),
-        "proofs" => proofs(alloc, net, text),
+        "tests" => add_tests(alloc, net, text, answer),
+        "report" => add_report(alloc, net, text, answer),
+        "proofs" => add_proofs(alloc, net, text, answer),
         _ => Err(Trouble::NoRow),
     }
 }
 
 // What a tests file says.
-fn tests(alloc: Global, net: &Netlist, text: &[u8]) -> Result<String, Trouble>
+fn add_tests(alloc: Global, net: &Netlist, text: &[u8], answer: &mut Text) -> Result<(), Trouble>
     requires { length text.now ≤ MOST_BYTES }
 {
     match count_tests(alloc, net, text) {
-        Ok(count) => Ok(format!(in alloc; "  tests {count}\n")?),
-        Err(TestsFault::Malformed(line)) => malformed(alloc, line),
-        Err(TestsFault::NoMemory) => Err(Trouble::NoMemory),
+        Ok(count) => answer.add_number("  tests ", count as u64),
+        Err(TestsFault::Malformed(line)) => add_malformed(line, answer),
+        Err(TestsFault::NoMemory) => return Err(Trouble::NoMemory),
     }
+    answer.add("\n");
+    Ok(())
 }
 
 // How many tests a tests file has.
@@ -54,14 +68,16 @@ fn count_tests(alloc: Global, net: &Netlist, text: &[u8]) -> Result<usize, Tests
 }
 
 // What a report says.
-fn report(alloc: Global, net: &Netlist, text: &[u8]) -> Result<String, Trouble>
+fn add_report(alloc: Global, net: &Netlist, text: &[u8], answer: &mut Text) -> Result<(), Trouble>
     requires { length text.now ≤ MOST_BYTES }
 {
     match count_paths(alloc, net, text) {
-        Ok(count) => Ok(format!(in alloc; "  paths {count}\n")?),
-        Err(TextFault::Malformed(line)) => malformed(alloc, line),
-        Err(TextFault::NoMemory) => Err(Trouble::NoMemory),
+        Ok(count) => answer.add_number("  paths ", count as u64),
+        Err(TextFault::Malformed(line)) => add_malformed(line, answer),
+        Err(TextFault::NoMemory) => return Err(Trouble::NoMemory),
     }
+    answer.add("\n");
+    Ok(())
 }
 
 // How many paths a report has.
@@ -73,14 +89,19 @@ fn count_paths(alloc: Global, net: &Netlist, text: &[u8]) -> Result<usize, TextF
 }
 
 // What a proofs file says.
-fn proofs(alloc: Global, net: &Netlist, text: &[u8]) -> Result<String, Trouble>
+fn add_proofs(alloc: Global, net: &Netlist, text: &[u8], answer: &mut Text) -> Result<(), Trouble>
     requires { length text.now ≤ MOST_BYTES }
 {
     match count_proofs(alloc, net, text) {
-        Ok((version, count)) => Ok(format!(in alloc; "  version {version} proofs {count}\n")?),
-        Err(TextFault::Malformed(line)) => malformed(alloc, line),
-        Err(TextFault::NoMemory) => Err(Trouble::NoMemory),
+        Ok((version, count)) => {
+            answer.add_number("  version ", version as u64);
+            answer.add_number(" proofs ", count as u64);
+        }
+        Err(TextFault::Malformed(line)) => add_malformed(line, answer),
+        Err(TextFault::NoMemory) => return Err(Trouble::NoMemory),
     }
+    answer.add("\n");
+    Ok(())
 }
 
 // The version of a proofs file, and how many proofs it has.
@@ -92,6 +113,7 @@ fn count_proofs(alloc: Global, net: &Netlist, text: &[u8]) -> Result<(u32, usize
 }
 
 // The line that lacks its form.
-fn malformed(alloc: Global, line: u32) -> Result<String, Trouble> {
-    Ok(format!(in alloc; "  line {line} malformed\n")?)
+fn add_malformed(line: u32, answer: &mut Text) {
+    answer.add_number("  line ", line as u64);
+    answer.add(" malformed");
 }

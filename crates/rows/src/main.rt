@@ -18,8 +18,9 @@ mod subject;
 mod table;
 
 use commands::serve;
-use row::Row;
-use row_answers::Trouble;
+use row::{Manner, Row};
+use row_answers::{Text, Trouble};
+use shape::Shape;
 use std::alloc::{AllocError, Global};
 use std::process::ExitCode;
 use subject::Subject;
@@ -57,16 +58,34 @@ fn play(
 ) -> Result<(), Trouble> {
     match Row::of(line)? {
         Row::Put(name, text) => table.put(name, text)?,
-        Row::Build(shape, size) => table.put_as_is("net", shape.text(rt.alloc(), size)?)?,
+        Row::Build(shape, size) => build(rt.alloc(), table, shape, size)?,
         Row::Remove(name) => table.remove(name),
         Row::Show(names) => table.show(names)?,
         Row::Fail(object, nth) => table.fail(object, nth)?,
-        row => {
-            let answer = answer(rt.alloc(), table, subject, row)?;
-            print(rt, line, answer.as_str())?;
-        }
+        row => play_aloud(rt, table, subject, line, row)?,
     }
     Ok(())
+}
+
+// From now on each call finds a netlist of this shape and size.
+fn build(alloc: Global, table: &mut Table, shape: Shape, size: u32) -> Result<(), Trouble> {
+    let mut text = Text::new(alloc);
+    shape.add(size, &mut text);
+    table.put_as_is("net", text.read()?)?;
+    Ok(())
+}
+
+// Plays a row that prints itself.
+fn play_aloud(
+    rt: &HostRuntime,
+    table: &mut Table,
+    subject: &mut Subject,
+    line: &str,
+    row: Row<'_>,
+) -> Result<(), Trouble> {
+    let mut answer = Text::new(rt.alloc());
+    add_answer(rt.alloc(), table, subject, row, &mut answer)?;
+    print(rt, line, answer.read()?)
 }
 
 // Prints a row and its answer.
@@ -77,50 +96,49 @@ fn print(rt: &HostRuntime, line: &str, answer: &str) -> Result<(), Trouble> {
 }
 
 // What came of a row that prints itself.
-fn answer(
+fn add_answer(
     alloc: Global,
     table: &mut Table,
     subject: &mut Subject,
     row: Row<'_>,
-) -> Result<String, Trouble> {
+    answer: &mut Text,
+) -> Result<(), Trouble> {
     match row {
-        Row::Call(words) => called(alloc, table, words),
-        Row::Unfailing(words) => called_unfailing(alloc, table, words),
-        Row::BareCall => table.call(&[]),
-        Row::Ask(word, rest) => subject.answer(alloc, word, rest),
-        row => of_series(alloc, table, row),
+        Row::BareCall => Ok(table.call(&[], answer)?),
+        Row::Call(manner, words) => called(alloc, table, manner, words, answer),
+        Row::Ask(word, rest) => subject.answer(alloc, word, rest, answer),
+        // a heading
+        _ => Ok(()),
     }
 }
 
-// What came of a series of calls, or nothing where the row is none.
-fn of_series(alloc: Global, table: &Table, row: Row<'_>) -> Result<String, Trouble> {
-    match row {
-        Row::Cuts(name, words) => {
-            let words = words_of(alloc, words)?;
-            series::cuts(alloc, table, name, words.as_slice())
-        }
-        Row::Repeats(name, words) => {
-            let words = words_of(alloc, words)?;
-            series::repeats(alloc, table, name, words.as_slice())
-        }
-        Row::Failing(object, words) => {
-            let words = words_of(alloc, words)?;
-            series::failing(alloc, table, object, words.as_slice())
-        }
-        _ => Ok(String::new(alloc)),
+// What came of calls with these words.
+fn called(
+    alloc: Global,
+    table: &mut Table,
+    manner: Manner<'_>,
+    words: &str,
+    answer: &mut Text,
+) -> Result<(), Trouble> {
+    let words = words_of(alloc, words)?;
+    called_with(alloc, table, manner, words.as_slice(), answer)
+}
+
+// The same of these words.
+fn called_with(
+    alloc: Global,
+    table: &mut Table,
+    manner: Manner<'_>,
+    words: &[&str],
+    answer: &mut Text,
+) -> Result<(), Trouble> {
+    match manner {
+        Manner::Planned => Ok(table.call(words, answer)?),
+        Manner::Unfailing => Ok(table.call_unfailing(words, answer)?),
+        Manner::Cuts(name) => series::cuts(alloc, table, name, words, answer),
+        Manner::Repeats(name) => series::repeats(alloc, table, name, words, answer),
+        Manner::Failing(object) => series::failing(alloc, table, object, words, answer),
     }
-}
-
-// What came of a call with these words.
-fn called(alloc: Global, table: &mut Table, words: &str) -> Result<String, Trouble> {
-    let words = words_of(alloc, words)?;
-    table.call(words.as_slice())
-}
-
-// The same over files and streams whose calls never fail.
-fn called_unfailing(alloc: Global, table: &Table, words: &str) -> Result<String, Trouble> {
-    let words = words_of(alloc, words)?;
-    table.call_unfailing(words.as_slice())
 }
 
 // The words of a call, between single spaces.

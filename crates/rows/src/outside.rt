@@ -1,9 +1,10 @@
 // What a call finds and leaves: files, out and err, all in memory; and the call itself.
-use crate::answer_lines::came_of;
+use crate::answer_lines::add_came;
 use crate::row::Object;
 use commands::run;
+use pd_base::OutOfMemory;
 use pd_io::{Files, MemoryFiles, MemorySink, Sink, SteadyFiles, SteadySink};
-use row_answers::Trouble;
+use row_answers::Text;
 use std::alloc::Global;
 
 /// Files and streams of one call.
@@ -27,9 +28,8 @@ impl Outside {
     }
 
     /// Puts bytes under a name.
-    pub fn put(&mut self, name: &str, bytes: &[u8]) -> Result<(), Trouble> {
-        self.files.put(name, bytes)?;
-        Ok(())
+    pub fn put(&mut self, name: &str, bytes: &[u8]) -> Result<(), OutOfMemory> {
+        self.files.put(name, bytes)
     }
 
     /// What stands under a name.
@@ -38,17 +38,16 @@ impl Outside {
     }
 
     /// Plans that the call of this number fails.
-    pub fn fail(&mut self, object: Object, nth: u64) -> Result<(), Trouble> {
+    pub fn fail(&mut self, object: Object, nth: u64) -> Result<(), OutOfMemory> {
         match object {
-            Object::Files(call) => self.files.fail(call, nth)?,
-            Object::Out => self.out.fail(nth)?,
-            Object::Err => self.err.fail(nth)?,
+            Object::Files(call) => self.files.fail(call, nth),
+            Object::Out => self.out.fail(nth),
+            Object::Err => self.err.fail(nth),
         }
-        Ok(())
     }
 
-    /// A call with these words: its status, and what err and out took, line by line.
-    pub fn call(&mut self, words: &[&str]) -> Result<String, Trouble> {
+    /// A call with these words: adds its status, and what err and out took, line by line.
+    pub fn call(&mut self, words: &[&str], answer: &mut Text) {
         let status = status_of(
             self.alloc,
             words,
@@ -56,20 +55,16 @@ impl Outside {
             &mut self.out,
             &mut self.err,
         );
-        came_of(self.alloc, status, self.err.bytes(), self.out.bytes())
+        add_came(status, self.err.bytes(), self.out.bytes(), answer);
     }
 }
 
 /// The same over these files, and over streams, whose calls never fail.
-pub fn call_unfailing(
-    alloc: Global,
-    words: &[&str],
-    files: &mut SteadyFiles,
-) -> Result<String, Trouble> {
+pub fn call_unfailing(alloc: Global, words: &[&str], files: &mut SteadyFiles, answer: &mut Text) {
     let mut out = SteadySink::new(alloc);
     let mut err = SteadySink::new(alloc);
     let status = status_of(alloc, words, files, &mut out, &mut err);
-    came_of(alloc, status, err.bytes(), out.bytes())
+    add_came(status, err.bytes(), out.bytes(), answer);
 }
 
 // The status of a call. It promises nothing, so that what is printed is not proved over again under the contract of `run`.

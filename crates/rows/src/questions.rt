@@ -1,49 +1,55 @@
 // The rows that are questions to the last netlist.
 use crate::searches;
 use crate::subject::Subject;
-use row_answers::Trouble;
+use row_answers::{Text, Trouble};
 use std::alloc::Global;
 
-/// What came of a question.
-pub fn asked(alloc: Global, subject: &Subject, word: &str, row: &str) -> Result<String, Trouble> {
-    let net = subject.net.as_ref().ok_or(Trouble::NoRow)?;
-    let delays = subject.delays.as_ref().map(|text| text.as_str());
+/// Adds what came of a question, or of one about searches. In those about hulls and trees the word two may stand first, for rules Two.
+pub fn asked(
+    alloc: Global,
+    subject: &Subject,
+    word: &str,
+    row: &str,
+    answer: &mut Text,
+) -> Result<(), Trouble> {
+    let Some(net) = &subject.net else {
+        return Err(Trouble::NoRow);
+    };
+    let delays = subject.delay_text();
     let prefix = subject.prefix.as_str();
     match word {
         // the values of all lines under a vector
-        "values" => row_answers::values(alloc, net, row),
+        "values" => row_answers::values(alloc, net, row, answer),
         // their steadiness under two vectors
-        "steady" => row_answers::steadiness(alloc, net, row),
+        "steady" => row_answers::steadiness(alloc, net, row, answer),
         // which lines stand in the transitive fan-in of the line of this number
-        "support" => row_answers::support_of(alloc, net, row),
+        "support" => row_answers::support_of(alloc, net, row, answer),
         // the delays of the gates' pins, or why the delay file is refused
-        "delays" => row_answers::delays_text(alloc, net, delays),
+        "delays" => row_answers::delays_text(alloc, net, delays, answer),
         // the first paths, so many
-        "paths" => row_answers::listing(alloc, net, delays, row),
+        "paths" => row_answers::listing(alloc, net, delays, row, answer),
         // whether this is a path, and how long it is
-        "path" => row_answers::path_facts(alloc, net, delays, row),
+        "path" => row_answers::path_facts(alloc, net, delays, row, answer),
         // how two paths compare, between which a slash stands
-        "compare" => row_answers::comparison(alloc, net, delays, row),
+        "compare" => row_answers::comparison(alloc, net, delays, row, answer),
         // whether a pair is a test: transition, kind, both vectors, and the path
-        "meets" => row_answers::verdict(alloc, net, row),
+        "meets" => row_answers::verdict(alloc, net, row, answer),
         // the waves of all lines under two vectors
-        "waves" => row_answers::waves(alloc, net, delays, row),
+        "waves" => row_answers::waves(alloc, net, delays, row, answer),
         // what the observed lines have: the time, and both vectors
-        "sample" => row_answers::samples(alloc, net, delays, row),
+        "sample" => row_answers::samples(alloc, net, delays, row, answer),
         // whether the sides of a path have settled: the time, both vectors, and the path
-        "settled" => row_answers::sides(alloc, net, delays, row),
+        "settled" => row_answers::sides(alloc, net, delays, row, answer),
         // the five values of all lines where the sources have these
-        "five" => row_answers::five_values(alloc, net, row),
-        // the hull below these halves: transition, kind, and for each half a split, as in a tree, and behind a dot 1 or 2; here and
-        // below the word two may stand first, for rules Two
-        "hull" => row_answers::hull_at(alloc, net, prefix, row),
+        "five" => row_answers::five_values(alloc, net, row, answer),
+        // the hull below these halves: transition, kind, and for each half a split, as in a tree, and behind a dot 1 or 2
+        "hull" => row_answers::hull_at(alloc, net, prefix, row, answer),
         // whether a tree refutes: transition, kind, and its nodes
-        "refutes" => row_answers::refutes(alloc, net, prefix, row),
+        "refutes" => row_answers::refutes(alloc, net, prefix, row, answer),
         // whether a tree spent a budget: the budget, transition, kind, and the nodes
-        "spent" => row_answers::spent(alloc, net, prefix, row),
+        "spent" => row_answers::spent(alloc, net, prefix, row, answer),
         // whether a tree of so many splits refutes, each in the first half of the one before: the number, transition, kind
-        "deep" => row_answers::deep(alloc, net, prefix, row),
-        // a question about searches, or none
-        _ => searches::asked(alloc, net, delays, prefix, word, row),
+        "deep" => row_answers::deep(alloc, net, prefix, row, answer),
+        _ => searches::asked(alloc, net, delays, prefix, word, row, answer),
     }
 }

@@ -30,6 +30,21 @@ impl Object {
     }
 }
 
+/// How a call is made, or a series of calls.
+#[derive(Clone, Copy)]
+pub enum Manner<'a> {
+    /// One call, in which fails what is planned.
+    Planned,
+    /// One over files and streams whose calls never fail.
+    Unfailing,
+    /// Calls in which the file of this name is cut to nothing, then behind each of its bytes but the last.
+    Cuts(&'a str),
+    /// Calls in which one line after another of the file of this name stands twice.
+    Repeats(&'a str),
+    /// Calls in which one call after another of this object fails. No failures are planned beside these.
+    Failing(Object),
+}
+
 /// One row.
 #[derive(Clone, Copy)]
 pub enum Row<'a> {
@@ -47,16 +62,8 @@ pub enum Row<'a> {
     Fail(Object, u64),
     /// A call without words.
     BareCall,
-    /// A call with these words, single spaces between.
-    Call(&'a str),
-    /// The same over files and streams whose calls never fail.
-    Unfailing(&'a str),
-    /// Calls with these words in which the file of this name is cut to nothing, then behind each of its bytes but the last.
-    Cuts(&'a str, &'a str),
-    /// Calls with these words in which one line after another of the file of this name stands twice.
-    Repeats(&'a str, &'a str),
-    /// Calls with these words in which one call after another of this object fails. No failures are planned beside these.
-    Failing(Object, &'a str),
+    /// Calls in a manner with these words, single spaces between.
+    Call(Manner<'a>, &'a str),
     /// A word of the rows about netlists, and what stands behind it.
     Ask(&'a str, &'a str),
 }
@@ -74,8 +81,8 @@ impl<'a> Row<'a> {
         match word {
             "remove" => Ok(Row::Remove(rest)),
             "show" => Ok(Row::Show(rest)),
-            "call" => Ok(Row::Call(rest)),
-            "unfailing" => Ok(Row::Unfailing(rest)),
+            "call" => Ok(Row::Call(Manner::Planned, rest)),
+            "unfailing" => Ok(Row::Call(Manner::Unfailing, rest)),
             "put" | "build" | "fail" | "cuts" | "repeats" | "failing" => {
                 let (first, more) = rest.split_once(' ').ok_or(Trouble::NoRow)?;
                 of_two_parts(word, first, more)
@@ -91,9 +98,12 @@ fn of_two_parts<'a>(word: &str, first: &'a str, more: &'a str) -> Result<Row<'a>
         "put" => Ok(Row::Put(first, more)),
         "build" => Ok(Row::Build(Shape::of(first)?, number_of(more)?)),
         "fail" => Ok(Row::Fail(Object::of(first)?, u64::from(number_of(more)?))),
-        "cuts" => Ok(Row::Cuts(first, more)),
-        "repeats" => Ok(Row::Repeats(first, more)),
-        "failing" => Ok(Row::Failing(Object::of(first)?, more)),
+        "cuts" => Ok(Row::Call(Manner::Cuts(first), more)),
+        "repeats" => Ok(Row::Call(Manner::Repeats(first), more)),
+        "failing" => {
+            let object = Object::of(first)?;
+            Ok(Row::Call(Manner::Failing(object), more))
+        }
         _ => Err(Trouble::NoRow),
     }
 }

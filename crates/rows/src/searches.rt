@@ -1,10 +1,10 @@
 // The rows about searches.
 use crate::claims;
 use netlist::Netlist;
-use row_answers::Trouble;
+use row_answers::{Text, Trouble};
 use std::alloc::Global;
 
-/// What came of a question about the search for tests of a path, or about what it stands on.
+/// Adds what came of a question about the search for tests of a path, or about what it stands on.
 pub fn asked(
     alloc: Global,
     net: &Netlist,
@@ -12,19 +12,20 @@ pub fn asked(
     path: &str,
     word: &str,
     row: &str,
-) -> Result<String, Trouble> {
+    answer: &mut Text,
+) -> Result<(), Trouble> {
     match word {
         // what a search for a test of the path ends with: transition, kind and budget; here and below the word two may stand first
-        "search" => search_answers::searched(alloc, net, path, row),
+        "search" => search_answers::searched(alloc, net, path, row, answer),
         // whether sweeps over all gates and the worklist end alike on the path
-        "alike" => search_answers::ends_alike(alloc, net, path),
+        "alike" => search_answers::ends_alike(alloc, net, path, answer),
         // the labels when a transition is launched, and what comes of the path's first pin: transition, kind
-        "launch" => search_answers::launched(alloc, net, path, row),
+        "launch" => search_answers::launched(alloc, net, path, row, answer),
         // how many prefixes the first paths have, so many
-        "walk" => search_answers::walked(alloc, net, delays, row),
+        "walk" => search_answers::walked(alloc, net, delays, row, answer),
         // what writes to a list are undone to: values, writes, and writes that are undone, bars between them
-        "undo" => search_answers::undone(alloc, row),
+        "undo" => search_answers::undone(alloc, row, answer),
         // what is read of a file of a run, or no question
-        _ => claims::read(alloc, net, word, row),
+        _ => claims::read(alloc, net, word, row, answer),
     }
 }

@@ -1,6 +1,5 @@
 // Texts of netlists of one shape and any size, for rows on what is large: wide, deep, with long names, or with a gate of many pins.
-use row_answers::Trouble;
-use std::alloc::{AllocError, Global};
+use row_answers::{Text, Trouble};
 
 /// A shape of netlists. All have one source.
 #[derive(Clone, Copy)]
@@ -27,35 +26,65 @@ impl Shape {
         }
     }
 
-    /// The text of the netlist of this shape and size.
-    pub fn text(self, alloc: Global, size: u32) -> Result<String, AllocError> {
-        let mut text = self.head(alloc, size)?;
+    /// Adds the text of the netlist of this shape and size.
+    pub fn add(self, size: u32, text: &mut Text) {
+        self.add_head(size, text);
         for number in 1..=size {
-            let part = self.part(alloc, number)?;
-            text.push_str(part.as_str())?;
+            self.add_part(number, text);
         }
-        text.push_str(self.end())?;
-        Ok(text)
+        text.add(self.end());
     }
 
     // What stands before the parts.
-    fn head(self, alloc: Global, size: u32) -> Result<String, AllocError> {
+    fn add_head(self, size: u32, text: &mut Text) {
         match self {
-            Shape::Wide => String::from_str(alloc, "INPUT(a)\n"),
-            Shape::Chain => format!(in alloc; "INPUT(n0)\nOUTPUT(n{size})\n"),
-            Shape::LongNames => format!(in alloc; "INPUT({:0100})\nOUTPUT({size:0100})\n", 0),
-            Shape::Pins => String::from_str(alloc, "INPUT(a)\nOUTPUT(y)\ny = AND("),
+            Shape::Wide => text.add("INPUT(a)\n"),
+            Shape::Chain | Shape::LongNames => self.add_chain_head(size, text),
+            Shape::Pins => text.add("INPUT(a)\nOUTPUT(y)\ny = AND("),
         }
     }
 
+    // The source of a chain, and its last line, which is observed.
+    fn add_chain_head(self, size: u32, text: &mut Text) {
+        text.add("INPUT(");
+        self.add_name(0, text);
+        text.add(")\nOUTPUT(");
+        self.add_name(size, text);
+        text.add(")\n");
+    }
+
     // The buffer or the pin of this number, from 1.
-    fn part(self, alloc: Global, number: u32) -> Result<String, AllocError> {
-        let before = number.saturating_sub(1);
+    fn add_part(self, number: u32, text: &mut Text) {
         match self {
-            Shape::Wide => format!(in alloc; "OUTPUT(b{number})\nb{number} = BUFF(a)\n"),
-            Shape::Chain => format!(in alloc; "n{number} = BUFF(n{before})\n"),
-            Shape::LongNames => format!(in alloc; "{number:0100} = BUFF({before:0100})\n"),
-            Shape::Pins => String::from_str(alloc, if number == 1 { "a" } else { ", a" }),
+            Shape::Wide => self.add_observed_buffer(number, text),
+            Shape::Chain | Shape::LongNames => self.add_chained_buffer(number, text),
+            Shape::Pins => text.add(if number == 1 { "a" } else { ", a" }),
+        }
+    }
+
+    // A buffer of the source.
+    fn add_observed_buffer(self, number: u32, text: &mut Text) {
+        text.add("OUTPUT(");
+        self.add_name(number, text);
+        text.add(")\n");
+        self.add_name(number, text);
+        text.add(" = BUFF(a)\n");
+    }
+
+    // A buffer behind the one before.
+    fn add_chained_buffer(self, number: u32, text: &mut Text) {
+        self.add_name(number, text);
+        text.add(" = BUFF(");
+        self.add_name(number.saturating_sub(1), text);
+        text.add(")\n");
+    }
+
+    // The name of the line of this number.
+    fn add_name(self, number: u32, text: &mut Text) {
+        match self {
+            Shape::Wide => text.add_number("b", number as u64),
+            Shape::LongNames => text.add_long_number(number),
+            _ => text.add_number("n", number as u64),
         }
     }
 

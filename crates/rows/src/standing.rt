@@ -2,7 +2,7 @@
 use crate::answer_lines::add_line;
 use crate::outside::Outside;
 use crate::table::{NAMES, Table};
-use std::alloc::AllocError;
+use row_answers::Text;
 
 // What a file holds behind a call.
 #[derive(Clone, Copy)]
@@ -58,19 +58,13 @@ impl Standing {
 }
 
 /// Adds a line for each file that the call changes where nothing fails, or that was changed by this one.
-pub fn add_standings(
-    came: &mut String,
-    table: &Table,
-    outside: &Outside,
-    unfailed: &Outside,
-) -> Result<(), AllocError> {
+pub fn add_standings(table: &Table, outside: &Outside, unfailed: &Outside, answer: &mut Text) {
     for name in NAMES {
         let before = table.held(name);
         let now = outside.get(name);
         let whole = unfailed.get(name);
         if now != before || whole != before {
-            add_line(came, name, Standing::of(before, now, whole).word())?;
+            add_line(name, Standing::of(before, now, whole).word(), answer);
         }
     }
-    Ok(())
 }

@@ -2,7 +2,7 @@
 // there for LF, and so on. A question is to the last netlist and its delays.
 use crate::questions::asked;
 use netlist::Netlist;
-use row_answers::{Trouble, read, spelled_out};
+use row_answers::{Text, Trouble, read, spelled_out};
 use std::alloc::Global;
 
 /// What rows speak of.
@@ -29,6 +29,14 @@ impl Subject {
         }
     }
 
+    /// The text of the delay file, if there is one.
+    pub fn delay_text(&self) -> Option<&str> {
+        match &self.delays {
+            Some(text) => Some(text.as_str()),
+            None => None,
+        }
+    }
+
     // From now on questions are to the netlist of this text, with unit delays.
     fn take(&mut self, alloc: Global, text: &str) -> Result<(), Trouble> {
         self.net = read(alloc, text)?;
@@ -36,22 +44,39 @@ impl Subject {
         Ok(())
     }
 
-    /// What came of a row of this word.
-    pub fn answer(&mut self, alloc: Global, word: &str, rest: &str) -> Result<String, Trouble> {
+    /// Adds what came of a row of this word.
+    pub fn answer(
+        &mut self,
+        alloc: Global,
+        word: &str,
+        rest: &str,
+        answer: &mut Text,
+    ) -> Result<(), Trouble> {
         match word {
             // the canonical text of the netlist of this text, or that it is refused
-            "text" => text(alloc, rest),
+            "text" => add_text(alloc, rest, answer),
             // the same, and what else is said of it; from now on questions are to this netlist, with unit delays
             "net" => {
                 self.take(alloc, rest)?;
-                facts(alloc, self)
+                self.add_facts(alloc, answer)
             }
             _ => {
                 if self.set(alloc, word, rest)? {
-                    Ok(String::new(alloc))
+                    Ok(())
                 } else {
-                    asked(alloc, self, word, rest)
+                    asked(alloc, self, word, rest, answer)
                 }
+            }
+        }
+    }
+
+    // What is said of the last netlist.
+    fn add_facts(&self, alloc: Global, answer: &mut Text) -> Result<(), Trouble> {
+        match &self.net {
+            Some(net) => row_answers::netlist_facts(alloc, net, answer),
+            None => {
+                answer.add("  refused\n");
+                Ok(())
             }
         }
     }
@@ -79,22 +104,12 @@ impl Subject {
 }
 
 // The canonical text of the netlist of a text.
-fn text(alloc: Global, text: &str) -> Result<String, Trouble> {
+fn add_text(alloc: Global, text: &str, answer: &mut Text) -> Result<(), Trouble> {
     match read(alloc, text)? {
-        Some(net) => row_answers::netlist_text(alloc, &net),
-        None => refused(alloc),
+        Some(net) => row_answers::netlist_text(alloc, &net, answer),
+        None => {
+            answer.add("  refused\n");
+            Ok(())
+        }
     }
-}
-
-// What is said of the last netlist.
-fn facts(alloc: Global, subject: &Subject) -> Result<String, Trouble> {
-    match subject.net.as_ref() {
-        Some(net) => row_answers::netlist_facts(alloc, net),
-        None => refused(alloc),
-    }
-}
-
-// That a netlist is refused.
-fn refused(alloc: Global) -> Result<String, Trouble> {
-    Ok(String::from_str(alloc, "  refused\n")?)
 }

@@ -1,9 +1,10 @@
 // What stands between two calls: the files that a call finds, and what is to fail in the next one.
-use crate::answer_lines::add;
+use crate::answer_lines::{add, add_line};
 use crate::outside::{Outside, call_unfailing};
 use crate::row::Object;
+use pd_base::OutOfMemory;
 use pd_io::SteadyFiles;
-use row_answers::{Trouble, spelled_out};
+use row_answers::{Text, spelled_out};
 use std::alloc::{AllocError, Global};
 use std::collections::BTreeMap;
 
@@ -33,12 +34,13 @@ impl Table {
     /// Puts a text under a name, with its signs exchanged for what they stand for.
     pub fn put(&mut self, name: &str, text: &str) -> Result<(), AllocError> {
         let text = spelled_out(self.alloc, text)?;
-        self.put_as_is(name, text)
+        self.put_as_is(name, text.as_str())
     }
 
     /// Puts a text under a name as it is.
-    pub fn put_as_is(&mut self, name: &str, text: String) -> Result<(), AllocError> {
-        self.held.insert(String::from_str(self.alloc, name)?, text)?;
+    pub fn put_as_is(&mut self, name: &str, text: &str) -> Result<(), AllocError> {
+        let name = String::from_str(self.alloc, name)?;
+        self.held.insert(name, String::from_str(self.alloc, text)?)?;
         Ok(())
     }
 
@@ -49,12 +51,18 @@ impl Table {
 
     /// What stands under a name.
     pub fn text(&self, name: &str) -> Option<&str> {
-        self.held.get(name).map(|text| text.as_str())
+        match self.held.get(name) {
+            Some(text) => Some(text.as_str()),
+            None => None,
+        }
     }
 
     /// The same as bytes.
     pub fn held(&self, name: &str) -> Option<&[u8]> {
-        self.held.get(name).map(|text| text.as_bytes())
+        match self.held.get(name) {
+            Some(text) => Some(text.as_bytes()),
+            None => None,
+        }
     }
 
     /// Of the files that a call changes tells only these, single spaces between.
@@ -69,36 +77,59 @@ impl Table {
         Ok(())
     }
 
-    /// A call with these words: what came of it, line by line.
-    pub fn call(&mut self, words: &[&str]) -> Result<String, Trouble> {
+    /// A call with these words: adds what came of it, line by line.
+    pub fn call(&mut self, words: &[&str], answer: &mut Text) -> Result<(), OutOfMemory> {
         let mut outside = self.outside()?;
-        self.plan_failures(&mut outside)?;
-        self.failing.clear();
-        let mut came = outside.call(words)?;
-        self.add_changed(&mut came, &outside)?;
-        Ok(came)
+        self.call_over(words, &mut outside, answer)
     }
 
-    /// A call with these words over files and streams whose calls never fail: its status, and what err and out took.
-    pub fn call_unfailing(&self, words: &[&str]) -> Result<String, Trouble> {
+    // The same over this outside.
+    fn call_over(
+        &mut self,
+        words: &[&str],
+        outside: &mut Outside,
+        answer: &mut Text,
+    ) -> Result<(), OutOfMemory> {
+        self.plan_failures(outside)?;
+        self.failing.clear();
+        outside.call(words, answer);
+        self.add_changed(outside, answer);
+        Ok(())
+    }
+
+    /// A call with these words over files and streams whose calls never fail: adds its status, and what err and out took.
+    pub fn call_unfailing(&self, words: &[&str], answer: &mut Text) -> Result<(), OutOfMemory> {
         let mut files = SteadyFiles::new(self.alloc);
+        self.put_steady(&mut files)?;
+        call_unfailing(self.alloc, words, &mut files, answer);
+        Ok(())
+    }
+
+    // Puts all files there.
+    fn put_steady(&self, files: &mut SteadyFiles) -> Result<(), OutOfMemory> {
         for (name, text) in self.held.iter() {
             files.put(name.as_str(), text.as_bytes())?;
         }
-        call_unfailing(self.alloc, words, &mut files)
+        Ok(())
     }
 
     /// What a call finds, and nothing that is to fail.
-    pub fn outside(&self) -> Result<Outside, Trouble> {
+    pub fn outside(&self) -> Result<Outside, OutOfMemory> {
         let mut outside = Outside::new(self.alloc);
-        for (name, text) in self.held.iter() {
-            outside.put(name.as_str(), text.as_bytes())?;
-        }
+        self.put_held(&mut outside)?;
         Ok(outside)
     }
 
+    // Puts all files there.
+    fn put_held(&self, outside: &mut Outside) -> Result<(), OutOfMemory> {
+        for (name, text) in self.held.iter() {
+            outside.put(name.as_str(), text.as_bytes())?;
+        }
+        Ok(())
+    }
+
     // Makes the calls fail that are to fail.
-    fn plan_failures(&self, outside: &mut Outside) -> Result<(), Trouble> {
+    fn plan_failures(&self, outside: &mut Outside) -> Result<(), OutOfMemory> {
         for (object, nth) in self.failing.iter() {
             outside.fail(*object, *nth)?;
         }
@@ -108,24 +139,36 @@ impl Table {
     // Whether a change of this file is told.
     fn shows(&self, name: &str) -> bool {
         match &self.shown {
-            Some(names) => names.as_str().split(' ').any(|shown| shown == name),
+            Some(names) => has_word(names.as_str(), name),
             None => true,
         }
     }
 
     // A line for each file that holds another text than before, if it is told.
-    fn add_changed(&self, came: &mut String, outside: &Outside) -> Result<(), Trouble> {
+    fn add_changed(&self, outside: &Outside, answer: &mut Text) {
         for name in NAMES {
-            let before = self.held(name);
             let after = outside.get(name);
-            if after == before || !self.shows(name) {
-                continue;
-            }
-            match after {
-                Some(bytes) => add(self.alloc, came, name, bytes)?,
-                None => add(self.alloc, came, name, b"absent")?,
+            if after != self.held(name) && self.shows(name) {
+                add_file(name, after, answer);
             }
         }
-        Ok(())
     }
+}
+
+// The line of a file that holds these bytes.
+fn add_file(name: &str, bytes: Option<&[u8]>, answer: &mut Text) {
+    match bytes {
+        Some(bytes) => add(name, bytes, answer),
+        None => add_line(name, "absent", answer),
+    }
+}
+
+// Whether a word is among these, single spaces between.
+fn has_word(words: &str, word: &str) -> bool {
+    for other in words.split(' ') {
+        if other == word {
+            return true;
+        }
+    }
+    false
 }

@@ -32,7 +32,7 @@ pub enum Verdict {
 }
 
 /// A path of the list, with one verdict per direction.
-#[derive(Debug, Drop)]
+#[derive(Drop)]
 pub struct ListedPath {
     /// The path.
     pub path: Path,
@@ -45,7 +45,7 @@ pub struct ListedPath {
 }
 
 /// A tree of cases for a prefix of a listed path: a refutation, or a record of how a budget was spent.
-#[derive(Debug, Drop)]
+#[derive(Drop)]
 pub struct Proof {
     /// Whether the tree shows that the budget was spent. Otherwise it is a refutation.
     pub spent: bool,
@@ -63,7 +63,7 @@ pub struct Proof {
 
 /// The listed paths, the tests and the proofs, each numbered from 1 in the order of its list. The type binds none
 /// of them to another: what they promise is said by the call that makes the run.
-#[derive(Debug, Drop)]
+#[derive(Drop)]
 pub struct Run {
     /// The rules under which tests were looked for, and under which the proofs are judged.
     pub rules: Rules,

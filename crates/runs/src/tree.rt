@@ -18,7 +18,7 @@ pub enum Node {
 }
 
 /// One whole tree of case splits, of fewer than 2^31 nodes.
-#[derive(Debug, Drop)]
+#[derive(Drop)]
 pub struct Tree {
     nodes: Vec<Node>,
 }

@@ -2,16 +2,14 @@
 // or both leave some line without a state. Scopes are played in scopes.rt.
 ghost use Rattle.std.specs.Prelude.{◌<◌, All, IsTrue};
 ghost use Rattle.netlist.specs.Circuit.{source_count};
-ghost use Rattle.netlist.specs.Paths.{IsPath};
 
 use crate::scopes::{whole_alike, within_alike};
-use crate::sweeping::{Assumed, swept};
+use crate::sweeping::Assumed;
 use netlist::Netlist;
 use pd_base::Direction::{Fall, Rise};
 use pd_base::Kind::{Nonrobust, Robust};
 use pd_base::{Direction, Kind, OutOfMemory, Path, Rules};
-use refutation_check::{Hull, hull};
-use row_answers::{Trouble, path, yes_or_no};
+use row_answers::{Text, Trouble, path};
 use state_laws::Half;
 use std::alloc::Global;
 
@@ -57,13 +55,19 @@ const FAULTS: [(Direction, Kind); 4] = [
     (Fall, Nonrobust),
 ];
 
-/// Whether sweeps and the worklist end alike on a path: under both rules, for each transition and kind of test, under several lists of
+/// Adds whether sweeps and the worklist end alike on a path: under both rules, for each transition and kind of test, under several lists of
 /// halves of the first two sources.
-pub fn ends_alike(alloc: Global, net: &Netlist, route: &str) -> Result<String, Trouble> {
+pub fn ends_alike(
+    alloc: Global,
+    net: &Netlist,
+    route: &str,
+    answer: &mut Text,
+) -> Result<(), Trouble> {
     let path = path(alloc, net, route)?;
     let alike = rules_alike(alloc, net, &path, &Rules::One)?
         && rules_alike(alloc, net, &path, &Rules::Two)?;
-    Ok(yes_or_no(alloc, alike)?)
+    answer.add_yes_or_no(alike);
+    Ok(())
 }
 
 // The same under these rules.
@@ -72,9 +76,7 @@ fn rules_alike(
     net: &Netlist,
     path: &Path,
     rules: &Rules,
-) -> Result<bool, OutOfMemory>
-    requires { IsPath net.now path.now }
-{
+) -> Result<bool, OutOfMemory> {
     for (direction, kind) in FAULTS {
         if !fault_alike(alloc, net, path, rules, direction, kind)? {
             return Ok(false);
@@ -91,9 +93,7 @@ fn fault_alike<'x>(
     rules: &'x Rules,
     direction: Direction,
     kind: Kind,
-) -> Result<bool, OutOfMemory>
-    requires { IsPath net.now path.now }
-{
+) -> Result<bool, OutOfMemory> {
     for halves in HALVES {
         let assumed = Assumed {
             rules,
@@ -103,46 +103,21 @@ fn fault_alike<'x>(
             steps: path.steps(),
             halves,
         };
-        if !all_alike(alloc, net, path, &assumed)? {
+        if !all_alike(alloc, net, &assumed)? {
             return Ok(false);
         }
     }
     Ok(true)
 }
 
-// Whether the hull, an engine that tells all lines, and one that tells those in the fan-in of the path's end alone end like the sweeps.
-fn all_alike(
-    alloc: Global,
-    net: &Netlist,
-    path: &Path,
-    assumed: &Assumed,
-) -> Result<bool, OutOfMemory>
-    requires { IsPath net.now path.now }
-{
+// Whether an engine that tells all lines, and one that tells those in the fan-in of the path's end alone, end like the sweeps.
+fn all_alike(alloc: Global, net: &Netlist, assumed: &Assumed) -> Result<bool, OutOfMemory> {
     // a netlist without these sources has no such row
     if assumed.source.0 < net.sources() && are_on_sources(net, assumed.halves) {
-        fit_alike(alloc, net, path, assumed)
+        Ok(whole_alike(alloc, net, assumed)? && within_alike(alloc, net, assumed)?)
     } else {
         Ok(false)
     }
-}
-
-// The same where all are sources.
-fn fit_alike(
-    alloc: Global,
-    net: &Netlist,
-    path: &Path,
-    assumed: &Assumed,
-) -> Result<bool, OutOfMemory>
-    requires path { IsPath net.now path.now }
-    requires source { assumed.now.source.0 < source_count net.now }
-    requires halves { All (λ half. half.source < source_count net.now) assumed.now.halves.now }
-{
-    Ok(
-        hull_alike(alloc, net, path, assumed)?
-            && whole_alike(alloc, net, assumed)?
-            && within_alike(alloc, net, assumed)?,
-    )
 }
 
 // Whether each half is on a source.
@@ -151,44 +126,4 @@ fn are_on_sources(net: &Netlist, halves: &[Half]) -> bool
 {
     let sources = net.sources();
     halves.iter().all(|half| half.source < sources)
-}
-
-// Whether `hull` ends like the sweeps.
-fn hull_alike(
-    alloc: Global,
-    net: &Netlist,
-    path: &Path,
-    assumed: &Assumed,
-) -> Result<bool, OutOfMemory>
-    requires path { IsPath net.now path.now }
-    requires halves { All (λ half. half.source < source_count net.now) assumed.now.halves.now }
-{
-    let swept = swept(alloc, net, assumed)?;
-    let rest = rest_of(alloc, net, path, assumed)?;
-    Ok(match (rest, swept) {
-        (Hull::Rest(labels), Some(swept)) => labels.as_slice() == swept.as_slice(),
-        (Hull::Empty(_), None) => true,
-        _ => false,
-    })
-}
-
-// The hull. It promises nothing, so that the answers are not proved over again under the contract of `hull`.
-fn rest_of(
-    alloc: Global,
-    net: &Netlist,
-    path: &Path,
-    assumed: &Assumed,
-) -> Result<Hull, OutOfMemory>
-    requires path { IsPath net.now path.now }
-    requires halves { All (λ half. half.source < source_count net.now) assumed.now.halves.now }
-{
-    hull(
-        alloc,
-        net,
-        assumed.rules,
-        path,
-        assumed.direction,
-        assumed.kind,
-        assumed.halves,
-    )
 }

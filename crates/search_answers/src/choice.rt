@@ -3,7 +3,7 @@ use pd_base::LineId;
 use state_sets::StateSet;
 
 /// Two sets of states that a source may be assumed to be in.
-#[derive(Clone, Copy, Debug)]
+#[derive(Clone, Copy)]
 pub struct Choice {
     /// The source.
     pub source: LineId,

@@ -4,8 +4,9 @@ ghost use Rattle.netlist.specs.Paths.{IsPath};
 use crate::found::Wanted;
 use justify::Found;
 use netlist::Netlist;
-use refutation_check::{TreeCheck, check_spent, check_tree};
-use row_answers::Trouble;
+use pd_base::OutOfMemory;
+use refutation_check::TreeCheck;
+use row_answers::{judged, judged_spent};
 use runs::Tree;
 use std::alloc::Global;
 
@@ -15,7 +16,7 @@ pub(crate) fn is_accepted(
     net: &Netlist,
     wanted: &Wanted,
     found: &Found,
-) -> Result<bool, Trouble>
+) -> Result<bool, OutOfMemory>
     requires { IsPath net.now wanted.now.path.now }
 {
     match found {
@@ -31,34 +32,18 @@ fn is_refutation(
     net: &Netlist,
     wanted: &Wanted,
     tree: &Tree,
-) -> Result<bool, Trouble>
+) -> Result<bool, OutOfMemory>
     requires { IsPath net.now wanted.now.path.now }
 {
-    let told = check_tree(
-        alloc,
-        net,
-        wanted.rules,
-        wanted.path,
-        wanted.direction,
-        wanted.kind,
-        tree,
-    )?;
+    let told = judged(alloc, net, wanted.path, wanted.fault, tree)?;
     Ok(tree.splits() <= wanted.budget && matches!(told, TreeCheck::Yes))
 }
 
 // Whether a tree spent the budget.
-fn is_spent(alloc: Global, net: &Netlist, wanted: &Wanted, tree: &Tree) -> Result<bool, Trouble>
+fn is_spent(alloc: Global, net: &Netlist, wanted: &Wanted, tree: &Tree) -> Result<bool, OutOfMemory>
     requires { IsPath net.now wanted.now.path.now }
 {
-    let told = check_spent(
-        alloc,
-        net,
-        wanted.rules,
-        wanted.path,
-        wanted.direction,
-        wanted.kind,
-        wanted.budget,
-        tree,
-    )?;
-    Ok(tree.splits() == wanted.budget && matches!(told, TreeCheck::Yes))
+    let budget = wanted.budget;
+    let told = judged_spent(alloc, net, wanted.path, wanted.fault, budget, tree)?;
+    Ok(tree.splits() == budget && matches!(told, TreeCheck::Yes))
 }

@@ -9,23 +9,42 @@ use crate::entering::is_on;
 use implication::{Engine, RuledNetlist, Scope, Setting};
 use netlist::Netlist;
 use pd_base::{LineId, Path, PinRef, Steps};
-use row_answers::{Fault, Trouble, add_number, fault_of, path, rules_of, states_text};
+use row_answers::{Fault, RuledFault, Text, Trouble, add_labels, path, ruled_fault_of};
 use state_sets::{FourStates, StateSet};
-use std::alloc::{AllocError, Global};
+use std::alloc::Global;
 
 // A set of one state: not steady and 1 at last.
 const RISES: StateSet = StateSet(8);
 
-/// A line for each line of the circuit, when a transition is launched at the source of a path: its name, and the numbers of its states.
-/// Then whether the path's first pin leads to a conflict, and whether an assumption about the source leaves it so; how many steps and
-/// how many conflicts were counted. The row: the rules, if they are not rules One, transition and kind.
-pub fn launched(alloc: Global, net: &Netlist, route: &str, row: &str) -> Result<String, Trouble> {
-    let (rules, row) = rules_of(row);
-    let (fault, _) = fault_of(row)?;
+/// Adds a line for each line of the circuit, when a transition is launched at the source of a path: its name, and the numbers of its
+/// states. Then whether the path's first pin leads to a conflict, and whether an assumption about the source leaves it so; how many steps
+/// and how many conflicts were counted. The row: the rules, if they are not rules One, transition and kind.
+pub fn launched(
+    alloc: Global,
+    net: &Netlist,
+    route: &str,
+    row: &str,
+    answer: &mut Text,
+) -> Result<(), Trouble> {
+    let (fault, _) = ruled_fault_of(row)?;
     let path = path(alloc, net, route)?;
+    add_launch(alloc, net, &path, fault, answer)
+}
+
+// The same on an engine of its own.
+fn add_launch(
+    alloc: Global,
+    net: &Netlist,
+    path: &Path,
+    fault: RuledFault,
+    answer: &mut Text,
+) -> Result<(), Trouble>
+    requires { IsPath net.now path.now }
+{
+    let RuledFault { rules, fault } = fault;
     let setting = RuledNetlist { net, rules };
     let mut engine = Engine::<FourStates, RuledNetlist>::new(alloc, setting)?;
-    launch(alloc, &mut engine, &path, fault)
+    launch(&mut engine, path, fault, answer)
 }
 
 // What comes of the first pin.
@@ -43,32 +62,27 @@ struct Entered {
 
 // The same on an engine on which no scope is open, and which tells all lines.
 fn launch<S: Setting>(
-    alloc: Global,
     engine: &mut Engine<FourStates, S>,
     path: &Path,
     fault: Fault,
-) -> Result<String, Trouble>
+    answer: &mut Text,
+) -> Result<(), Trouble>
     requires idle { engine.old.beginning ≡ None }
     requires all { engine.old.ends ≡ None }
     requires path { IsPath engine.old.net path.now }
 {
     let mut scope = Scope::begin(engine, path.source(), fault.direction, fault.kind);
-    let text = states_text(alloc, scope.net(), scope.labels())?;
+    add_labels(scope.net(), scope.labels(), answer);
     let mut inner = scope.engine.scope();
     let entered = enter_first(&mut inner, path.source(), path.steps());
     inner.close();
-    with_entered(alloc, text, entered)
-}
-
-// The text, with the line of what came of the first pin.
-fn with_entered(
-    alloc: Global,
-    mut text: String,
-    entered: Option<Entered>,
-) -> Result<String, Trouble> {
-    let entered = entered.ok_or(Trouble::NoRow)?;
-    add_entered(alloc, entered, &mut text)?;
-    Ok(text)
+    match entered {
+        Some(entered) => {
+            add_entered(entered, answer);
+            Ok(())
+        }
+        None => Err(Trouble::NoRow),
+    }
 }
 
 // Enters the first pin, if it is on the source, and then assumes that the source rises.
@@ -97,14 +111,14 @@ fn enter_first<S: Setting>(
 }
 
 // The line that tells of it.
-fn add_entered(alloc: Global, entered: Entered, text: &mut String) -> Result<(), AllocError> {
-    text.push_str(if entered.conflict {
+fn add_entered(entered: Entered, answer: &mut Text) {
+    answer.add(if entered.conflict {
         "  a conflict"
     } else {
         "  no conflict"
-    })?;
-    text.push_str(if entered.stays { "" } else { ", then another" })?;
-    add_number(alloc, "; steps ", entered.steps, text)?;
-    add_number(alloc, " conflicts ", entered.closings, text)?;
-    text.push('\n')
+    });
+    answer.add(if entered.stays { "" } else { ", then another" });
+    answer.add_number("; steps ", entered.steps);
+    answer.add_number(" conflicts ", entered.closings);
+    answer.add("\n");
 }

@@ -182,14 +182,23 @@ fn entered_alike<S: Setting>(
     ensures scope { IsSameScope scope.old scope.new }
     ensures restored { IsRestored (standing scope.old) (standing scope.new) }
 {
-    let alone = without_halves(assumed);
     Ok(
-        labels_alike(alloc, scope, &alone, marks)?
+        labels_alike(alloc, scope, &without_halves(assumed), marks)?
             && halves_alike(alloc, scope, assumed, marks)?
-            && labels_alike(alloc, scope, &alone, marks)?
-            && inner_alike(alloc, scope, assumed, marks)?
-            && labels_alike(alloc, scope, &alone, marks)?,
+            && inner_alike(alloc, scope, assumed, marks)?,
     )
+}
+
+// Whether a scope that has gone back ends like the sweeps without halves, and tells so many changes.
+fn back_alike<S: Setting>(
+    alloc: Global,
+    scope: &Scope<FourStates, S>,
+    assumed: &Assumed,
+    marks: &[bool],
+    changes: usize,
+) -> Result<bool, OutOfMemory> {
+    let alike = labels_alike(alloc, scope, &without_halves(assumed), marks)?;
+    Ok(alike && scope.changes().len() == changes)
 }
 
 // The same without halves.
@@ -216,7 +225,7 @@ fn halves_alike<S: Setting>(
     assume_all(scope, assumed.halves);
     let alike = labels_alike(alloc, scope, assumed, marks);
     scope.back_to(mark);
-    Ok(alike? && scope.changes().len() == changes)
+    Ok(alike? && back_alike(alloc, scope, assumed, marks, changes)?)
 }
 
 // The same in a scope within this one, which is closed.
@@ -235,7 +244,7 @@ fn inner_alike<S: Setting>(
     assume_all(&mut inner, assumed.halves);
     let alike = labels_alike(alloc, &inner, assumed, marks);
     inner.close();
-    Ok(alike? && scope.changes().len() == changes)
+    Ok(alike? && back_alike(alloc, scope, assumed, marks, changes)?)
 }
 
 // Assumes these halves.
@@ -267,8 +276,9 @@ fn labels_alike<S: Setting>(
 
 // Whether the marked lines have these sets.
 fn have_sets(labels: &[StateSet], sets: &[StateSet], marks: &[bool]) -> bool {
-    for (line, label) in labels.iter().enumerate() {
-        if marks.get(line) == Some(&true) && sets.get(line) != Some(label) {
+    for line in 0..labels.len() {
+        let is_marked = matches!(marks.get(line), Some(true));
+        if is_marked && labels.get(line) != sets.get(line) {
             return false;
         }
     }

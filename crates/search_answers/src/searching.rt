@@ -9,57 +9,80 @@ ghost use Rattle.justify.specs.Scoping.{IsStart};
 ghost use Rattle.search_answers.specs.Told.{AreMarkedTold};
 
 use crate::entering::enter_all;
-use crate::found::{Came, Wanted, line_of};
+use crate::found::{Came, Wanted, add_line};
 use crate::judged::is_accepted;
 use implication::{Engine, RuledNetlist, Scope, Setting};
 use justify::{Found, search};
 use netlist::Netlist;
 use pd_base::MOST_BUDGET;
-use row_answers::{Trouble, fault_of, number_of, path, rules_of};
+use row_answers::{Fault, Text, Trouble, number_of, path, ruled_fault_of};
 use state_sets::{FourStates, StateSet};
 use std::alloc::Global;
 
-/// What a search for a test of a path ends with: the rules, if they are not rules One, transition, kind, and the budget.
-pub fn searched(alloc: Global, net: &Netlist, route: &str, row: &str) -> Result<String, Trouble> {
-    let (rules, row) = rules_of(row);
-    let (fault, budget) = fault_of(row)?;
+/// Adds what a search for a test of a path ends with: the rules, if they are not rules One, transition, kind, and the budget.
+pub fn searched(
+    alloc: Global,
+    net: &Netlist,
+    route: &str,
+    row: &str,
+    answer: &mut Text,
+) -> Result<(), Trouble> {
+    let (fault, budget) = ruled_fault_of(row)?;
     let budget = number_of(budget)?;
     let path = path(alloc, net, route)?;
+    let path = &path;
     let wanted = Wanted {
-        rules,
-        path: &path,
-        direction: fault.direction,
-        kind: fault.kind,
+        path,
+        fault,
         budget,
     };
-    told(alloc, net, &wanted)
+    add_search(alloc, net, &wanted, answer)
 }
 
 // The line of a search.
-fn told(alloc: Global, net: &Netlist, wanted: &Wanted) -> Result<String, Trouble>
+fn add_search(
+    alloc: Global,
+    net: &Netlist,
+    wanted: &Wanted,
+    answer: &mut Text,
+) -> Result<(), Trouble>
     requires { IsPath net.now wanted.now.path.now }
 {
     let came = search_for(alloc, net, wanted)?;
-    line(alloc, net, wanted, &came)
+    add_came(alloc, net, wanted, &came, answer)
 }
 
 // The line of what came of it.
-fn line(alloc: Global, net: &Netlist, wanted: &Wanted, came: &Came) -> Result<String, Trouble>
+fn add_came(
+    alloc: Global,
+    net: &Netlist,
+    wanted: &Wanted,
+    came: &Came,
+    answer: &mut Text,
+) -> Result<(), Trouble>
     requires { IsPath net.now wanted.now.path.now }
 {
     let accepted = is_accepted(alloc, net, wanted, &came.found)?;
-    Ok(line_of(alloc, came, accepted)?)
+    add_line(came, accepted, answer);
+    Ok(())
 }
 
-// Searches on an engine of its own.
-#[tactic(auto, using(crate::proofs::Told::all_told))]
+// Searches on an engine of its own, where all lines are marked.
 fn search_for(alloc: Global, net: &Netlist, wanted: &Wanted) -> Result<Came, Trouble>
     requires { IsPath net.now wanted.now.path.now }
 {
     let marks = vec![in alloc; true; net.lines() as usize]?;
-    let rules = wanted.rules;
+    search_at(alloc, net, wanted, marks.as_slice())
+}
+
+// The same with these marks.
+#[tactic(auto, using(crate::proofs::Told::all_told))]
+fn search_at(alloc: Global, net: &Netlist, wanted: &Wanted, marks: &[bool]) -> Result<Came, Trouble>
+    requires { IsPath net.now wanted.now.path.now }
+{
+    let rules = wanted.fault.rules;
     let mut engine = Engine::<FourStates, RuledNetlist>::new(alloc, RuledNetlist { net, rules })?;
-    search_on(alloc, &mut engine, wanted, marks.as_slice())
+    search_on(alloc, &mut engine, wanted, marks)
 }
 
 // Searches on an engine on which no scope is open.
@@ -75,7 +98,8 @@ fn search_on<S: Setting>(
     requires told { AreMarkedTold engine.old marks.now }
 {
     let path = wanted.path;
-    let mut scope = Scope::begin(engine, path.source(), wanted.direction, wanted.kind);
+    let Fault { direction, kind } = wanted.fault.fault;
+    let mut scope = Scope::begin(engine, path.source(), direction, kind);
     if !enter_all(&mut scope, path.steps(), marks) {
         return Err(Trouble::NoRow);
     }
@@ -89,7 +113,7 @@ fn search_in<S: Setting>(
     wanted: &Wanted,
 ) -> Result<Came, Trouble>
     requires path { IsPrefix (standing scope.old).net wanted.now.path.now }
-    requires start { IsStart (target_of wanted.now.path.now wanted.now.direction wanted.now.kind) (standing scope.old) }
+    requires start { IsStart (target_of wanted.now.path.now wanted.now.fault.fault.direction wanted.now.fault.fault.kind) (standing scope.old) }
 {
     let labels = Vec::from_slice(alloc, scope.labels())?;
     search_beside(alloc, scope, wanted, labels.as_slice())
@@ -103,7 +127,7 @@ fn search_beside<S: Setting>(
     labels: &[StateSet],
 ) -> Result<Came, Trouble>
     requires path { IsPrefix (standing scope.old).net wanted.now.path.now }
-    requires start { IsStart (target_of wanted.now.path.now wanted.now.direction wanted.now.kind) (standing scope.old) }
+    requires start { IsStart (target_of wanted.now.path.now wanted.now.fault.fault.direction wanted.now.fault.fault.kind) (standing scope.old) }
 {
     let mark = scope.mark();
     let closings = scope.closings();
@@ -122,20 +146,14 @@ fn find<S: Setting>(
     wanted: &Wanted,
 ) -> Result<Found, Trouble>
     requires path { IsPrefix (standing scope.old).net wanted.now.path.now }
-    requires start { IsStart (target_of wanted.now.path.now wanted.now.direction wanted.now.kind) (standing scope.old) }
+    requires start { IsStart (target_of wanted.now.path.now wanted.now.fault.fault.direction wanted.now.fault.fault.kind) (standing scope.old) }
 {
     let budget = wanted.budget;
     if budget == 0 || budget > MOST_BUDGET {
         return Err(Trouble::NoRow);
     }
-    Ok(search(
-        alloc,
-        scope,
-        wanted.path,
-        wanted.direction,
-        wanted.kind,
-        budget,
-    )?)
+    let Fault { direction, kind } = wanted.fault.fault;
+    Ok(search(alloc, scope, wanted.path, direction, kind, budget)?)
 }
 
 // Whether no conflict stands, and the lines have these sets.

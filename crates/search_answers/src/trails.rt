@@ -2,21 +2,22 @@
 ghost use Rattle.std.specs.Prelude.{◌≡◌};
 ghost use Rattle.search_answers.specs.declared.trails.TheConstants.{ROOM};
 
-use row_answers::{Trouble, add_number, number_of};
-use std::alloc::{AllocError, Global};
+use row_answers::{Text, Trouble, number_of};
+use std::alloc::Global;
 use undo_trail::Trail;
 
 // The most writes of a row.
 const ROOM: usize = 8;
 
-/// What a list has when its writes were undone down to a mark, and how many are still noted. The row: its values, the writes before the
+/// Adds what a list has when its writes were undone down to a mark, and how many are still noted. The row: its values, the writes before the
 /// mark, and those behind it, each a place, an equals sign and a value; bars between the three.
-pub fn undone(alloc: Global, row: &str) -> Result<String, Trouble> {
+pub fn undone(alloc: Global, row: &str, answer: &mut Text) -> Result<(), Trouble> {
     let (values, writes) = row.split_once('|').ok_or(Trouble::NoRow)?;
     let (before, since) = writes.split_once('|').ok_or(Trouble::NoRow)?;
     let mut values = values_of(alloc, values)?;
     let left = undo(alloc, values.as_mut_slice(), before, since)?;
-    Ok(line_of(alloc, values.as_slice(), left)?)
+    add_line(values.as_slice(), left, answer);
+    Ok(())
 }
 
 // The values of a row.
@@ -70,12 +71,11 @@ fn write(trail: &mut Trail<u32>, values: &mut [u32], word: &str) -> Result<(), T
 }
 
 // The values, and how many notes are left.
-fn line_of(alloc: Global, values: &[u32], left: usize) -> Result<String, AllocError> {
-    let mut line = String::from_str(alloc, " ")?;
+fn add_line(values: &[u32], left: usize, answer: &mut Text) {
+    answer.add(" ");
     for value in values {
-        add_number(alloc, " ", *value as u64, &mut line)?;
+        answer.add_number(" ", *value as u64);
     }
-    add_number(alloc, ", ", left as u64, &mut line)?;
-    line.push_str(" noted\n")?;
-    Ok(line)
+    answer.add_number(", ", left as u64);
+    answer.add(" noted\n");
 }

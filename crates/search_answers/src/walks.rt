@@ -10,36 +10,54 @@ use netlist::{MOST_LEVELS, Netlist};
 use path_lister::first_paths;
 use pd_base::{MOST_PATHS, OutOfMemory, Path, Rules, Steps};
 use prefix_sensitize::{PathTree, sensitize_all};
-use row_answers::{Trouble, accepted_delays, number_of};
-use std::alloc::{AllocError, Global};
+use row_answers::{Text, Trouble, accepted_delays, number_of};
+use std::alloc::Global;
 
 // The budget of each search.
 const BUDGET: u32 = 1_000;
 
-/// How many prefixes of at least one step the first paths have, so many, and whether the walk counts at least as many steps, and at
+/// Adds how many prefixes of at least one step the first paths have, so many, and whether the walk counts at least as many steps, and at
 /// most four times as many.
 pub fn walked(
     alloc: Global,
     net: &Netlist,
     file: Option<&str>,
     count: &str,
-) -> Result<String, Trouble> {
+    answer: &mut Text,
+) -> Result<(), Trouble> {
     let count = number_of(count)?;
     if count > MOST_PATHS {
         return Err(Trouble::NoRow);
     }
     let delays = accepted_delays(alloc, net, file)?;
-    let prefixes = prefixes_of(alloc, net, &delays, count)?;
-    let steps = steps_of(alloc, net, &delays, count)?;
-    Ok(line_of(alloc, prefixes, steps)?)
+    add_walk(alloc, net, &delays, count, answer)
+}
+
+// The same under these delays.
+fn add_walk(
+    alloc: Global,
+    net: &Netlist,
+    delays: &Delays,
+    count: u32,
+    answer: &mut Text,
+) -> Result<(), Trouble>
+    requires fits { Fits net.now delays.now }
+    requires count { count ≤ MOST_PATHS }
+{
+    let prefixes = prefixes_of(alloc, net, delays, count)?;
+    let steps = steps_of(alloc, net, delays, count)?;
+    add_line(prefixes, steps, answer);
+    Ok(())
 }
 
 // The line that tells of it.
-fn line_of(alloc: Global, prefixes: u64, steps: u64) -> Result<String, AllocError> {
+fn add_line(prefixes: u64, steps: u64, answer: &mut Text) {
+    answer.add_number("  prefixes ", prefixes);
     if prefixes <= steps && steps <= prefixes.saturating_mul(4) {
-        format!(in alloc; "  prefixes {prefixes}, each entered\n")
+        answer.add(", each entered\n");
     } else {
-        format!(in alloc; "  prefixes {prefixes}, steps {steps}\n")
+        answer.add_number(", steps ", steps);
+        answer.add("\n");
     }
 }
 

@@ -36,8 +36,8 @@ impl Blame {
         ensures { IfOk result (λ blame. blame ≡ record { room = line_count net.now; sources = [] }) }
     {
         let lines = net.lines() as usize;
-        let found = FoundLines::new(alloc, lines)?;
         let sources = Vec::with_capacity(alloc, lines)?;
+        let found = FoundLines::new(alloc, lines)?;
         Ok(Blame { found, sources })
     }
 

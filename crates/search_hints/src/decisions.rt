@@ -91,8 +91,9 @@ impl Decisions {
     pub(crate) fn new(alloc: Global, net: &Netlist) -> Result<Decisions, OutOfMemory>
         ensures { IfOk result (IsSizedFor net.now) }
     {
-        let draft = Draft::new(alloc, net)?;
+        // What has most parts is made last, since each refusal drops what was made before.
         let culprits = Culprits::new(alloc, net)?;
+        let draft = Draft::new(alloc, net)?;
         Ok(Decisions {
             draft,
             made: Vec::new(alloc),

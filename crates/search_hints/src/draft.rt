@@ -55,9 +55,10 @@ impl Draft {
     pub(crate) fn new(alloc: Global, net: &Netlist) -> Result<Draft, OutOfMemory>
         ensures { IfOk result (IsSizedFor net.now) }
     {
+        // What has most parts is made last, since each refusal drops what was made before.
+        let scratch = NarrowScratch::new(alloc, net)?;
         let labels = vec![in alloc; every_state::<FourStates>(); net.lines() as usize]?;
         let waiting = Waiting::new(alloc, vec![in alloc; true; net.gates() as usize]?)?;
-        let scratch = NarrowScratch::new(alloc, net)?;
         Ok(Draft {
             labels,
             changes: Vec::new(alloc),

@@ -1,7 +1,8 @@
-// Where to split: at the frontier of the labels, that is at what the conditions of the path's steps and the labels that changed since
-// the scope began still leave open, and from there back to a source. A hint alone: what it leads to is tried before it is taken.
+// Where to split: at the frontier of the labels, that is at what the conditions of the path's steps, the lines that the scope began and
+// the labels that changed since still leave open, and from there back to a source. A hint alone: what it leads to is tried before it is
+// taken.
 ghost use Rattle.std.specs.Prelude.{◌≡◌, ◌<◌, length, All, IfSome};
-ghost use Rattle.netlist.specs.Circuit.{line_count};
+ghost use Rattle.netlist.specs.Circuit.{line_count, HasLines};
 
 use crate::open_lines::{is_justified, open_side};
 use crate::picking::{Cut, Sight, pick};
@@ -9,11 +10,14 @@ use pd_base::{Kind, LineId, Path};
 use state_sets::StateSet;
 use undo_trail::Note;
 
-/// How many of the path's steps, and of the changes of labels, are known to leave nothing open, at a node and below it.
+/// How many of the path's steps, of the lines that the scope began, and of the changes of labels are known to leave nothing open, at a
+/// node and, but for what changes there, below it.
 #[derive(Clone, Copy)]
 pub struct Frontier {
     /// So many steps, from the first one on.
     pub steps: usize,
+    /// So many of the lines begun, from the first one on.
+    pub begun: usize,
     /// So many changes, from the first one on.
     pub changes: usize,
 }
@@ -28,22 +32,28 @@ pub struct Lead {
 }
 
 /// Leads from the first thing that is open to a source: first what the conditions of a kind of tests need at the path's steps, then what
-/// the lines need whose labels have changed, in the order of these changes.
+/// the lines begun need, in their order, then the lines whose labels have changed, in the order of these changes.
 pub fn follow(
     sight: &Sight,
+    begun: &[LineId],
     changes: &[Note<StateSet>],
     path: &Path,
     kind: Kind,
     frontier: Frontier,
 ) -> Lead
-    requires { All (λ change. change.index < line_count sight.now.net.now) changes.now }
+    requires begun { HasLines sight.now.net.now begun.now }
+    requires changes { All (λ change. change.index < line_count sight.now.net.now) changes.now }
 {
     let mut frontier = frontier;
     if let Some(cut) = open_step(sight, path, kind, &mut frontier) {
         let source = descend(sight, cut);
         return Lead { source, frontier };
     }
-    let source = match open_line(sight, changes, &mut frontier) {
+    if let Some(cut) = open_begun(sight, begun, &mut frontier) {
+        let source = descend(sight, cut);
+        return Lead { source, frontier };
+    }
+    let source = match open_change(sight, changes, &mut frontier) {
         Some(cut) => descend(sight, cut),
         None => None,
     };
@@ -68,25 +78,52 @@ fn open_step(sight: &Sight, path: &Path, kind: Kind, frontier: &mut Frontier) ->
     None
 }
 
-// The first line, in the order of the changes, whose label its gate does not justify, with that label.
-fn open_line(sight: &Sight, changes: &[Note<StateSet>], frontier: &mut Frontier) -> Option<Cut>
+// What the first of the lines begun needs that is open.
+fn open_begun(sight: &Sight, begun: &[LineId], frontier: &mut Frontier) -> Option<Cut>
+    requires { HasLines sight.now.net.now begun.now }
+    ensures { IfSome result (λ cut. cut.line.0 < line_count sight.now.net.now) }
+{
+    for place in frontier.begun..begun.len() {
+        let cut = open_line(sight, begun[place]);
+        if cut.is_some() {
+            frontier.begun = place;
+            return cut;
+        }
+    }
+    frontier.begun = begun.len();
+    None
+}
+
+// What the first line needs, in the order of the changes, that is open.
+fn open_change(sight: &Sight, changes: &[Note<StateSet>], frontier: &mut Frontier) -> Option<Cut>
     requires { All (λ change. change.index < line_count sight.now.net.now) changes.now }
     ensures { IfSome result (λ cut. cut.line.0 < line_count sight.now.net.now) }
 {
     for place in frontier.changes..changes.len() {
         let line = LineId(changes[place].index);
-        if let Some(gate) = sight.net.gate_of(line)
-            && !is_justified(sight.net, sight.labels, gate)
-        {
+        let cut = open_line(sight, line);
+        if cut.is_some() {
             frontier.changes = place;
-            return Some(Cut {
-                line,
-                to: sight.labels[line.0 as usize],
-            });
+            return cut;
         }
     }
     frontier.changes = changes.len();
     None
+}
+
+// The label of a line, if its gate does not justify it.
+fn open_line(sight: &Sight, line: LineId) -> Option<Cut>
+    requires { line.0 < line_count sight.now.net.now }
+    ensures { IfSome result (λ cut. cut.line ≡ line) }
+{
+    let gate = sight.net.gate_of(line)?;
+    if is_justified(sight.net, sight.labels, gate) {
+        return None;
+    }
+    Some(Cut {
+        line,
+        to: sight.labels[line.0 as usize],
+    })
 }
 
 // From a line back to a source, by what is wanted of it.

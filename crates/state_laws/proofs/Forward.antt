@@ -1,11 +1,11 @@
 -- Where sources are in one set each and lines of gates in any state, the hull of the narrowings without steps is computed forward, and
--- none of its sets is empty. Where a transition is launched at a source, it changes at the lines reached from the source alone: the labels
--- with all states there have each labelling at rest that lies in the start.
+-- none of its sets is empty. Each labelling at rest lies in labels that are full or made of their pins' sets. Where a transition is launched
+-- with states that the set of the start has, the labels are cut at its source alone.
 use Rattle.std.proofs.Common.{◌≡◌, ◌≢◌, ℕ, zero, suc, ◌<◌, ◌≤◌, ◌^◌, ◌↔◌, ◌⊎◌, inl, inr, ⊎_elim, Bool, true, false, List, [], ◌∷◌, length, map, get_or, Some, None, refl, sym, ap, ◌∙◌, subst, arith, set}
 use Rattle.std.specs.List.{All, Contains}
 use Rattle.std.proofs.lemmas.Bool.{cases_Bool, cases_eq, false≢true}
 use Rattle.std.proofs.lemmas.List.{length-set, get_or-set_same, get_or-set_other}
-use Rattle.std.proofs.lemmas.List.Elements.{All-nil, All-set, All-push, All-contains}
+use Rattle.std.proofs.lemmas.List.Elements.{All-nil, All-set, All-push}
 use Rattle.std.proofs.lemmas.Nat.{pow_pos}
 use Rattle.std.proofs.lemmas.Nat.Bits.{bit_at_ones}
 use Rattle.pd_base.specs.declared.fault.Direction.{Direction}
@@ -15,7 +15,6 @@ use Rattle.pd_base.specs.declared.ids.PinRef.{PinRef}
 use Rattle.pd_base.specs.declared.rules.Rules.{Rules}
 use Rattle.netlist.specs.Circuit.{Circuit, source_count, gate_count, line_count, gate_line, kind_at, pins_at}
 use Rattle.netlist.specs.Lawful.{ReadsLines, IsLoopFree}
-use Rattle.netlist.specs.declared.op.Op.TheVariants.{And}
 use Rattle.netlist.proofs.Evaluation.{map_agree, all_from_places, line_induction}
 use Rattle.state_sets.specs.declared.state.State.{State}
 use Rattle.state_sets.specs.declared.state.StateSet.{StateSet}
@@ -27,11 +26,11 @@ use Rattle.state_sets.specs.Narrowing.{IsChoice, IsNarrowing, gate_lines, gate_s
 use Rattle.state_sets.specs.Hulls.{IsNarrowingOf, IsAtRest, IsRestAmong, IsAmong, IsHull, IsEmptied, HasNoEmptySet, HasAt}
 use Rattle.state_sets.specs.Hulls.Narrowing.{at_gate, along_link}
 use Rattle.state_laws.specs.Cones.{IsClosedBack, IsNarrowingIn, IsLineIn, IsPartOfHull}
-use Rattle.state_laws.specs.Forward.{IsForward, AreReached, IsLaunchedFrom}
+use Rattle.state_laws.specs.Forward.{IsForward}
 use Rattle.state_laws.proofs.Choices.{choice_into}
 use Rattle.state_laws.proofs.Cones.{whole, whole_hull, whole_some, whole_same, made, rest_inside, pins_inside, same_rests, part_of_hull}
 use Rattle.state_laws.proofs.Hulls.{hull_once}
-use Rattle.state_laws.proofs.Sets.{none_has, has_in_circuit}
+use Rattle.state_laws.proofs.Sets.{has_in_circuit}
 
 -- all states are in the set of all, which is not empty
 all_have : (count : ℕ) (state : State) → state.0 < count → Has count (all_states count) state
@@ -232,122 +231,7 @@ module _ (a : StateAlgebra) (c : Circuit) (reads : ReadsLines c) (loop_free : Is
       line_induction c reads Lies (λ source within s s_has. at_sources source within s s_has.in_range (among.among source s s_has))
       lies_at_gate loop_free line (has_in_circuit a.count c other among.labelling line state has) state has
 
-module _ (a : StateAlgebra) (c : Circuit) (laws : HasLaws a) (reads : ReadsLines c) (loop_free : IsLoopFree c) (inside : ℕ → Bool)
-    (start : StateSet) (base : List StateSet) (forward : IsForward a c inside start base) (rules : Rules) (source : ℕ)
-    (others : (line : ℕ) → line < source_count c → line ≢ source → (state : State) → state.0 < a.count
-    → IsOtherStart a rules state ↔ Has a.count start state)
-    (direction : Direction) (reached : List LineId) (of : AreReached c inside source reached)
-    (labels : List StateSet) (from : IsLaunchedFrom a c source direction reached base labels) (kind : Kind) where
-  abbrev May : ℕ → State → Type 0
-  May = MayStart a c rules source direction
-
-  abbrev line_of : ℕ → LineId
-  line_of line = record { 0 = line }
-
-  -- another source is not reached
-  not_reached : (line : ℕ) → line < source_count c → line ≢ source → ¬ Contains reached (line_of line)
-  not_reached line is_source away stands = ⊎_elim away (λ (above : source_count c ≤ line). absurd (omega arith))
-      (All-contains (λ (l : LineId). (l.0 ≡ source) ⊎ (source_count c ≤ l.0)) reached (line_of line) of.behind stands)
-
-  -- a line has only states that it may start in
-  pub launched_among : IsAmong a.count May labels
-  launched_among line state has = record {
-    own = λ here. ((from.launched state).0 (subst (λ (l : ℕ). Has a.count (label_at labels l) state) here has)).1;
-    other = λ is_source away.
-        let base_has : Has a.count (label_at base line) state =
-        subst (λ (s : StateSet). Has a.count s state) (from.same (line_of line) (not_reached line is_source away)) has in
-        (others line is_source away state has.in_range).1
-        (subst (λ (s : StateSet). Has a.count s state) (forward.sources line is_source) base_has);
-  }
-
-  -- the sets of a gate's pins, where its line is not reached
-  pins_same : (gate : ℕ) → gate < gate_count c → inside gate ≡ true → ¬ Contains reached (line_of (gate_line c gate))
-      → All (λ pin. label_at labels pin.0 ≡ label_at base pin.0) (pins_at c gate)
-  pins_same gate within is_in not = all_from_places (λ (pin : LineId). label_at labels pin.0 ≡ label_at base pin.0) (pins_at c gate)
-      (λ place pin reads_pin. from.same pin (λ stands. not (of.readers gate place pin within is_in reads_pin stands)))
-
-  -- a source has the states that it may start in
-  at_sources : (line : ℕ) → line < source_count c → (state : State) → state.0 < a.count → May line state → Has a.count (label_at labels line) state
-  at_sources line is_source state below may = ⊎_elim
-      (λ (here : line ≡ source).
-      subst (λ (l : ℕ). Has a.count (label_at labels l) state) (sym here) ((from.launched state).1 (below, may.own here)))
-      (λ (away : line ≢ source).
-      subst (λ (s : StateSet). Has a.count s state)
-      (sym (forward.sources line is_source) ∙ sym (from.same (line_of line) (not_reached line is_source away)))
-      ((others line is_source away state below).0 (may.other is_source away)))
-      (cases_eq line source)
-
-  -- a gate inside whose line is not reached has what it makes of its pins' lines
-  images_kept : (gate : ℕ) → gate < gate_count c → inside gate ≡ true → ¬ Contains reached (line_of (gate_line c gate))
-      → HasImages a c labels gate
-  images_kept gate within is_in not choice each =
-      subst (λ (s : StateSet). Has a.count s (gate_state a (kind_at c gate) choice)) (sym (from.same (line_of (gate_line c gate)) not))
-      (forward.images gate within is_in choice
-      (subst (λ (sets : List StateSet). IsChoice a.count sets choice)
-      (map_agree (λ (pin : LineId). label_at labels pin.0) (λ (pin : LineId). label_at base pin.0) (pins_at c gate)
-      (pins_same gate within is_in not)) each))
-
-  at_gates : source < source_count c → (gate : ℕ) → gate < gate_count c
-      → IsFullAt a labels (gate_line c gate)
-      ⊎ ((inside gate ≡ true) × HasImages a c labels gate)
-  at_gates is_source gate within = ⊎_elim
-      (λ (stands : Contains reached (line_of (gate_line c gate))).
-      inl (λ state below. subst (λ (s : StateSet). Has a.count s state)
-      (sym (from.full (line_of (gate_line c gate)) stands (λ here. absurd (omega arith)))) (all_have a.count state below)))
-      (λ (not : ¬ Contains reached (line_of (gate_line c gate))).
-      ⊎_elim (λ (is_in : inside gate ≡ true). inr (is_in, images_kept gate within is_in not))
-      (λ (is_out : inside gate ≡ false).
-      inl (λ state below. subst (λ (s : StateSet). Has a.count s state) (sym (from.same (line_of (gate_line c gate)) not))
-      (forward.outside gate within is_out state below)))
-      (cases_Bool (inside gate)))
-      (stands_or_not reached (line_of (gate_line c gate)))
-
-  -- each labelling at rest lies in the labels
-  pub launched_keeps : source < source_count c → (other : List StateSet) → IsRestAmong a c (IsNarrowingIn c inside kind []) May other
-      → LiesIn a.count other labels
-  launched_keeps is_source = rest_lies a c reads loop_free inside kind May labels at_sources (at_gates is_source)
-
-  -- so their hull is that of the start, and what is emptied in them is emptied in the start
-  pub launched_hull : source < source_count c → (hull : List StateSet)
-      → IsHull a c (IsNarrowingIn c inside kind []) (HasAt a.count labels) hull → IsHull a c (IsNarrowingIn c inside kind []) May hull
-  launched_hull is_source hull is = record {
-    rest = record {
-      labelling = is.rest.labelling;
-      rest = is.rest.rest;
-      among = λ line state has. launched_among line state (is.rest.among line state has);
-    };
-    greatest = λ other among. is.greatest other
-        (record { labelling = among.labelling; rest = among.rest; among = launched_keeps is_source other among });
-  }
-
-  pub launched_emptied : source < source_count c → (line : ℕ)
-      → IsEmptied a c (IsNarrowingIn c inside kind []) (HasAt a.count labels) line → IsEmptied a c (IsNarrowingIn c inside kind []) May line
-  launched_emptied is_source line emptied other among =
-      emptied other (record { labelling = among.labelling; rest = among.rest; among = launched_keeps is_source other among })
-
-  -- a gate inside whose line is not reached rests
-  pub launched_rests : (gate : ℕ) → gate < gate_count c → inside gate ≡ true → ¬ Contains reached (line_of (gate_line c gate))
-      → IsNarrowing a c gate None labels labels
-  launched_rests gate within is_in not =
-      same_rests a c gate None base labels
-      (All-push (λ (line : LineId). label_at labels line.0 ≡ label_at base line.0) (pins_at c gate) (line_of (gate_line c gate))
-      (pins_same gate within is_in not) (from.same (line_of (gate_line c gate)) not))
-      (forward.rests kind (at_gate gate None) (within, is_in, refl))
-
-  -- and no set is empty, if the source's is not
-  pub launched_some : label_at labels source ≢ no_states → HasNoEmptySet c labels
-  launched_some some line within = ⊎_elim
-      (λ (stands : Contains reached (line_of line)). ⊎_elim
-      (λ (here : line ≡ source) (e : label_at labels line ≡ no_states). some (ap (label_at labels) (sym here) ∙ e))
-      (λ (away : line ≢ source) (e : label_at labels line ≡ no_states).
-      none_has a.count (a.unit And) (subst (λ (s : StateSet). Has a.count s (a.unit And)) (sym (from.full (line_of line) stands away) ∙ e)
-      (all_have a.count (a.unit And) (laws.unit_within And))))
-      (cases_eq line source))
-      (λ (not : ¬ Contains reached (line_of line)) (e : label_at labels line ≡ no_states).
-      forward.none_empty line within (sym (from.same (line_of line) not) ∙ e))
-      (stands_or_not reached (line_of line))
-
--- Where the set of the start has the states that launch the transition too, nothing has to be widened: the labels are cut at the source alone.
+-- Where the set of the start has the states that launch the transition, the labels are cut at the source alone.
 module _ (a : StateAlgebra) (c : Circuit) (reads : ReadsLines c) (loop_free : IsLoopFree c) (inside : ℕ → Bool) (start : StateSet)
     (base : List StateSet) (forward : IsForward a c inside start base) (rules : Rules) (source : ℕ)
     (others : (line : ℕ) → line < source_count c → line ≢ source → (state : State) → state.0 < a.count

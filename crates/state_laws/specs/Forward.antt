@@ -1,16 +1,14 @@
--- Labels that are computed forward from the sources, and the start of a search that they lead to (this project's own).
-use Rattle.std.specs.Prelude.{◌≡◌, ◌≢◌, ℕ, ◌<◌, ◌≤◌, ◌⊎◌, ◌↔◌, Bool, true, false, List, [], map, slice_get, Some, All, Contains}
-use Rattle.pd_base.specs.declared.fault.Direction.{Direction}
+-- Labels that are computed forward from the sources, and the lines that are reached from one of these (this project's own).
+use Rattle.std.specs.Prelude.{◌≡◌, ℕ, ◌<◌, ◌≤◌, ◌⊎◌, Bool, true, false, List, [], map, slice_get, Some, All, Contains}
 use Rattle.pd_base.specs.declared.fault.Kind.{Kind}
 use Rattle.pd_base.specs.declared.ids.LineId.{LineId}
 use Rattle.netlist.specs.Circuit.{Circuit, source_count, gate_count, gate_line, kind_at, pins_at}
 use Rattle.state_sets.specs.declared.state.State.{State}
 use Rattle.state_sets.specs.declared.state.StateSet.{StateSet}
-use Rattle.state_sets.specs.States.{Has, all_states}
+use Rattle.state_sets.specs.States.{Has}
 use Rattle.state_sets.specs.StateAlgebra.{StateAlgebra}
 use Rattle.state_sets.specs.Labellings.{label_at, IsLabelling}
 use Rattle.state_sets.specs.Narrowing.{IsChoice, gate_state}
-use Rattle.state_sets.specs.Starts.{IsLaunching}
 use Rattle.state_sets.specs.Hulls.{IsAtRest, HasNoEmptySet}
 use Rattle.state_laws.specs.Cones.{IsNarrowingIn}
 
@@ -33,12 +31,3 @@ pub record AreReached (c : Circuit) (inside : ℕ → Bool) (source : ℕ) (reac
   pub behind : All (λ line. (line.0 ≡ source) ⊎ (source_count c ≤ line.0)) reached
   pub readers : (gate pin : ℕ) (line : LineId) → gate < gate_count c → inside gate ≡ true → slice_get (pins_at c gate) pin ≡ Some line
       → Contains reached line → Contains reached (record { 0 = gate_line c gate })
-
--- A transition is launched at a source: that has the states that launch it, the other lines reached have all states, and the rest have
--- the sets of the labels from which this starts.
-pub record IsLaunchedFrom (a : StateAlgebra) (c : Circuit) (source : ℕ) (direction : Direction) (reached : List LineId)
-    (base labels : List StateSet) : Type 0 where
-  pub labelling : IsLabelling a.count c labels
-  pub launched : (state : State) → Has a.count (label_at labels source) state ↔ ((state.0 < a.count) × IsLaunching a direction state)
-  pub full : (line : LineId) → Contains reached line → line.0 ≢ source → label_at labels line.0 ≡ all_states a.count
-  pub same : (line : LineId) → ¬ Contains reached line → label_at labels line.0 ≡ label_at base line.0

@@ -1,7 +1,7 @@
 // One half of a split of the cases at a source.
 
 /// The part of a source's states that one half of a split leaves: those of one last value, or those that are steady, or not.
-#[derive(Clone, Copy, Debug, PartialEq, Eq)]
+#[derive(Clone, Copy)]
 pub struct Half {
     /// The number of the source.
     pub source: u32,

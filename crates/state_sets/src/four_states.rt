@@ -11,7 +11,7 @@ use crate::{Algebra, State, StateSet};
 use netlist::{Op, SideCondition};
 
 /// S0, S1, N0, N1 as states 0 to 3: S where the line is steady, N where not, and the digit is the value under the second vector.
-#[derive(Clone, Copy, Debug, PartialEq, Eq)]
+#[derive(Clone, Copy)]
 pub struct FourStates;
 
 impl Algebra for FourStates {

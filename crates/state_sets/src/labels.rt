@@ -13,7 +13,7 @@ use std::alloc::Global;
 use std::marker::{Model, PhantomData};
 
 /// The labels of all lines, by line number. Contracts see the list of the sets.
-#[derive(Debug, Drop)]
+#[derive(Drop)]
 pub struct Labels<A: Algebra> {
     sets: Vec<StateSet>,
     of: PhantomData<A>,

@@ -8,7 +8,7 @@ use std::alloc::Global;
 use std::marker::Model;
 
 /// A write that can be undone: the place, and what stood there before.
-#[derive(Clone, Copy, Debug)]
+#[derive(Clone, Copy)]
 pub struct Note<T> {
     /// The place in the list.
     pub index: u32,
@@ -17,7 +17,7 @@ pub struct Note<T> {
 }
 
 /// The notes of the writes to a list, from the first on, with room for so many. Contracts see the notes and the room.
-#[derive(Debug, Drop)]
+#[derive(Drop)]
 pub struct Trail<T> {
     notes: Vec<Note<T>>,
     room: usize,

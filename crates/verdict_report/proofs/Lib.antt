@@ -6,6 +6,7 @@ pub mod KnownTexts
 pub mod ProofLines
 pub mod WholeProofs
 pub mod ProofFiles
+mod ProofHeads
 mod ReportVerdicts
 mod ReportNames
 mod ReportSteps

@@ -3,12 +3,16 @@ use Rattle.std.proofs.Common.{◌≡◌, ◌≢◌, ◌⊎◌, ⊎_elim, ◌<◌
 use Rattle.std.proofs.lemmas.Bool.{cases_order}
 use Rattle.std.proofs.lemmas.List.Elements.{Contains-get_or, recursion_from_All}
 use Rattle.pd_base.specs.declared.ids.GateId.{GateId}
-use Rattle.netlist.specs.Circuit.{Circuit, gate_count, gate_line, line_count, line_names}
+use Rattle.netlist.specs.Circuit.{Circuit, gate_count, gate_line, line_count, line_names, source_count}
 use Rattle.netlist.specs.Lawful.{IsCircuit}
 use Rattle.netlist.specs.Names.{name_at, IsNameByte}
 use Rattle.netlist.proofs.CircuitLines.{line_names-length, name_of_gate}
 use Rattle.text_pieces.specs.Cuts.{Lacks}
 use Rattle.verdict_report.specs.ReportReading.{gate_name}
+
+-- the name of a source is that of a line
+pub has_source_name : (c : Circuit) (source : ℕ) → source < source_count c → Contains (line_names c) (name_at c source)
+has_source_name c source within = Contains-get_or (line_names c) source _ (omega (arith, within, line_names-length c))
 
 module _ (c : Circuit) (is : IsCircuit c) where
   pub lines_apart : (i j : ℕ) → i < line_count c → j < line_count c → name_at c i ≡ name_at c j → i ≡ j

@@ -15,7 +15,9 @@ use Rattle.text_pieces.specs.Reads.{Reads}
 use Rattle.verdict_report.specs.ProofsText.{claim_word, proofs_form, proofs_text, version_line, version_of}
 use Rattle.verdict_report.specs.declared.fault.TextFault.{TextFault}
 use Rattle.verdict_report.specs.declared.fault.TextFault.TheVariants.{Malformed, NoMemory}
+use Rattle.verdict_report.specs.declared.proof_head.ProofClaim.{ProofClaim}
 use Rattle.verdict_report.specs.declared.proof_head.ProofHead.{ProofHead}
+use Rattle.verdict_report.specs.declared.proof_head.ProofPrefix.{ProofPrefix}
 
 -- a proof that a proofs file of this circuit may list. That its nodes are those of one tree is known of each value of the
 -- program, and is said here of any value
@@ -81,3 +83,24 @@ pub record IsProofHead (read : ProofHead × List (List ℕ)) : Type 0 where
 -- what was read before the tree, with the words that are left
 abbrev pub proof_head_lent : ProofHead × Option (Bor (List ℕ)) → ProofHead × List (List ℕ)
 proof_head_lent read = (read.0, words_left read.1)
+
+-- the words of a proof's number and of what it claims, where those behind them are these
+abbrev pub numbered_claim_words : ℕ → ProofClaim × List (List ℕ) → List (List ℕ)
+numbered_claim_words number read = decimal number ∷ claim_word read.0.spent ∷ kind_word read.0.kind ∷ read.1
+
+-- what it claims, with the words that are left
+abbrev pub claim_lent : ProofClaim × Option (Bor (List ℕ)) → ProofClaim × List (List ℕ)
+claim_lent read = (read.0, words_left read.1)
+
+-- the words of where it claims that, where those behind them are these
+abbrev pub prefix_words : ProofPrefix × List (List ℕ) → List (List ℕ)
+prefix_words read = direction_word read.0.dir ∷ decimal read.0.path ∷ decimal read.0.steps ∷ read.1
+
+-- its numbers are within their limits
+pub record IsProofPrefix (read : ProofPrefix × List (List ℕ)) : Type 0 where
+  pub path : IsPathNumber read.0.path
+  pub steps : read.0.steps ≤ MOST_LEVELS
+
+-- where it claims that, with the words that are left
+abbrev pub prefix_lent : ProofPrefix × Option (Bor (List ℕ)) → ProofPrefix × List (List ℕ)
+prefix_lent read = (read.0, words_left read.1)

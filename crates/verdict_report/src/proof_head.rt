@@ -1,9 +1,9 @@
 // The words of a proof's line before its tree.
 ghost use Rattle.std.specs.Prelude.{⊤, option_map};
-ghost use Rattle.text_pieces.specs.Cuts.{words_of};
+ghost use Rattle.text_pieces.specs.Cuts.{words_left, words_of};
 ghost use Rattle.text_pieces.specs.Reads.{Reads};
 ghost use Rattle.verdict_report.specs.ProofsText.{claim_word};
-ghost use Rattle.verdict_report.specs.ProofsReading.{proof_head_lent, proof_head_words, IsProofHead};
+ghost use Rattle.verdict_report.specs.ProofsReading.{claim_lent, numbered_claim_words, prefix_lent, prefix_words, proof_head_lent, proof_head_words, IsProofHead, IsProofPrefix};
 
 use netlist::MOST_LEVELS;
 use pd_base::{Direction, Kind, MOST_PATHS};
@@ -19,9 +19,40 @@ pub(crate) struct ProofHead {
     pub(crate) steps: u32,
 }
 
+// What a proof claims of tests of a kind: that the budget was spent on one, or else that there is none.
+#[derive(Clone, Copy)]
+struct ProofClaim {
+    spent: bool,
+    kind: Kind,
+}
+
+// Where it claims that: for a transition, at the first steps of a listed path.
+#[derive(Clone, Copy)]
+struct ProofPrefix {
+    dir: Direction,
+    path: u32,
+    steps: u32,
+}
+
 /// What stands before the tree, and what is left behind it.
 pub(crate) fn read_head(number: u32, line: &[u8]) -> Option<(ProofHead, Option<&[u8]>)>
     ensures { Reads (proof_head_words number) IsProofHead (words_of line.now) (option_map proof_head_lent result) }
+{
+    let (claim, left) = read_numbered_claim(number, line)?;
+    let (prefix, left) = read_prefix(left)?;
+    let head = ProofHead {
+        spent: claim.spent,
+        kind: claim.kind,
+        dir: prefix.dir,
+        path: prefix.path,
+        steps: prefix.steps,
+    };
+    Some((head, left))
+}
+
+// What the proof of this number claims, and what is left behind it.
+fn read_numbered_claim(number: u32, line: &[u8]) -> Option<(ProofClaim, Option<&[u8]>)>
+    ensures { Reads (numbered_claim_words number) (λ read. ⊤) (words_of line.now) (option_map claim_lent result) }
 {
     let (word, left) = next_word(Some(line))?;
     if !is_number(word, number) {
@@ -31,6 +62,13 @@ pub(crate) fn read_head(number: u32, line: &[u8]) -> Option<(ProofHead, Option<&
     let spent = read_claim(word)?;
     let (word, left) = next_word(left)?;
     let kind = read_kind(word)?;
+    Some((ProofClaim { spent, kind }, left))
+}
+
+// Where a proof claims it, and what is left behind that.
+fn read_prefix<'a>(left: Option<&'a [u8]>) -> Option<(ProofPrefix, Option<&'a [u8]>)>
+    ensures { Reads prefix_words IsProofPrefix (words_left left.entry) (option_map prefix_lent result) }
+{
     let (word, left) = next_word(left)?;
     let dir = read_direction(word)?;
     let (word, left) = next_word(left)?;
@@ -40,14 +78,7 @@ pub(crate) fn read_head(number: u32, line: &[u8]) -> Option<(ProofHead, Option<&
     }
     let (word, left) = next_word(left)?;
     let steps = read_number(word, MOST_LEVELS)?;
-    let head = ProofHead {
-        spent,
-        kind,
-        dir,
-        path,
-        steps,
-    };
-    Some((head, left))
+    Some((ProofPrefix { dir, path, steps }, left))
 }
 
 // What a proof claims: that the budget was spent, or else a refutation.

@@ -1,7 +1,7 @@
 // A line of the report, cut into fields: what it tells of a path, and what of a verdict. Which verdict that is, report_verdicts.rt tells,
 // and which path report_paths.rt.
-ghost use Rattle.std.specs.Prelude.{◌≡◌, [], ◌∷◌, ⊤, option_map, MatchOption};
-ghost use Rattle.text_pieces.specs.Tokens.{comma};
+ghost use Rattle.std.specs.Prelude.{◌≡◌, ℕ, List, [], ◌∷◌, ⊤, decimal, option_map, MatchOption};
+ghost use Rattle.text_pieces.specs.Tokens.{comma, direction_word};
 ghost use Rattle.text_pieces.specs.Cuts.{pieces, pieces_left};
 ghost use Rattle.text_pieces.specs.Reads.{Reads};
 ghost use Rattle.verdict_report.specs.ReportReading.{fields_lent, fields_with, four_fields, verdict_lent};
@@ -34,6 +34,14 @@ pub(crate) fn read_path_fields(
 ) -> Option<(PathFields<'_>, Option<&[u8]>)>
     ensures { Reads (fields_with number direction) (λ read. ⊤) (pieces comma line.now) (option_map fields_lent result) }
 {
+    next_path_fields(behind_number(number, direction, line)?)
+}
+
+// What is left of a line behind the number of its path and its transition, where it is the line for these.
+fn behind_number(number: u32, direction: Direction, line: &[u8]) -> Option<Option<&[u8]>>
+    ensures { Reads (λ (rest : List (List ℕ)). decimal number ∷ direction_word direction ∷ rest) (λ rest. ⊤) (pieces comma line.now)
+        (option_map (pieces_left comma) result) }
+{
     let (field, left) = next_field(Some(line))?;
     if !is_number(field, number) {
         return None;
@@ -42,6 +50,14 @@ pub(crate) fn read_path_fields(
     if field != direction_word(direction) {
         return None;
     }
+    Some(left)
+}
+
+// The next fields, which tell of a path, and what is left behind them.
+fn next_path_fields<'a>(left: Option<&'a [u8]>) -> Option<(PathFields<'a>, Option<&'a [u8]>)>
+    ensures { Reads (λ (read : (List ℕ × List ℕ × List ℕ) × List (List ℕ)). read.0.0 ∷ read.0.1 ∷ read.0.2 ∷ read.1) (λ read. ⊤)
+        (pieces_left comma left.entry) (option_map fields_lent result) }
+{
     let (length, left) = next_field(left)?;
     let (source, left) = next_field(left)?;
     let (steps, left) = next_field(left)?;

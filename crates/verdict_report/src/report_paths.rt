@@ -17,7 +17,7 @@ use std::alloc::Global;
 use text_pieces::{cut_last, next_word, read_long, read_number};
 
 /// A path with its length, in delay units.
-#[derive(Debug, Drop)]
+#[derive(Drop)]
 pub(crate) struct MeasuredPath {
     pub(crate) path: Path,
     pub(crate) length: u64,

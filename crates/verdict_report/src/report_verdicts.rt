@@ -13,7 +13,7 @@ use runs::Verdict;
 use text_pieces::{is_number, read_number};
 
 /// What the verdicts of the lines so far have named: so many tests, and proofs up to this number.
-#[derive(Clone, Copy, Debug)]
+#[derive(Clone, Copy)]
 pub(crate) struct NamedSoFar {
     pub(crate) tests: u32,
     pub(crate) proofs: u32,

@@ -43,6 +43,13 @@ wrong_without_proofs-requires-clause-routes c =
     let P : List ListedPath → Type 0 = λ paths. (item : ℕ) (reason : Reason) → IsRightPathAt delays first paths item reason in
     sym (routes_are delays c.args.run.now first c.in_default.ensures.counts (subst P c.as_slice.ensures c.in_default-wrong_path.ensures))
 
+pub wrong_without_proofs-requires-clause-no_proofs : goal.wrong_without_proofs-requires-clause-no_proofs
+wrong_without_proofs-requires-clause-no_proofs c =
+    sym c.as_slice-2.ensures ∙ nil_from_length _ (eqb-true _ _ (sym c.is_empty.ensures ∙ c.if-is_empty.true))
+
+pub wrong_without_proofs-requires-clause-lawful : goal.wrong_without_proofs-requires-clause-lawful
+wrong_without_proofs-requires-clause-lawful c = c.requires.lawful.tests
+
 pub returns-then-is_empty : goal.returns-then-is_empty
 returns-then-is_empty c =
     let net = c.args.net.now in
@@ -82,6 +89,9 @@ wrong_verdict-requires-clause-routes c =
     let first = c.args.first.now in
     let P : List ListedPath → Type 0 = λ paths. (item : ℕ) (reason : Reason) → IsRightPathAt delays first paths item reason in
     sym (routes_are delays c.args.run.now first c.in_default.ensures.counts (subst P c.as_slice.ensures c.in_default-wrong_path.ensures))
+
+pub wrong_verdict-requires-clause-lawful : goal.wrong_verdict-requires-clause-lawful
+wrong_verdict-requires-clause-lawful c = c.requires.lawful.tests
 
 pub wrong_verdict-requires-clause-names : goal.wrong_verdict-requires-clause-names
 wrong_verdict-requires-clause-names c =

@@ -1,4 +1,6 @@
-use Rattle.std.proofs.Common.{sym, ◌∙◌, subst, List}
+use Rattle.std.proofs.Common.{◌≡◌, Option, Some, None, true, sym, ◌∙◌, subst, List}
+use Rattle.std.specs.Prelude.{is_some, IfNone}
+use Rattle.std.proofs.lemmas.Bool.{false≢true}
 use Rattle.std.specs.List.{All}
 use Rattle.std.proofs.lemmas.List.{take_all}
 use Rattle.std.proofs.lemmas.List.Elements.{All-more, All-contains}
@@ -9,6 +11,17 @@ use Rattle.justify.specs.Tasks.{task_target}
 use Rattle.justify.proofs.SplitChoices.{useful_at, read_in_support}
 use Rattle.justify.proofs.Visits.{from_none}
 use Rattle.justify.proofs.choosing.choose.Goals as goal
+
+-- nothing has to hold where there is a split
+where_some : {T : Type 0} (X : Type 0) (value : Option T) → is_some value ≡ true → IfNone value X
+where_some X (Some found) given = tt
+where_some X None given = absurd (false≢true given)
+
+pub returns-then-is_some-clause-none : goal.returns-then-is_some-clause-none
+returns-then-is_some-clause-none g c = where_some _ c.split_at_lead-split.result (sym c.is_some.ensures ∙ c.if-is_some.true)
+
+pub returns-then-is_some-2-clause-none : goal.returns-then-is_some-2-clause-none
+returns-then-is_some-2-clause-none g c = where_some _ c.split_at-split.result (sym c.is_some-in-loop-source.ensures ∙ c.if-is_some-2.true)
 
 pub split_at-split-requires-clause-source : goal.split_at-split-requires-clause-source
 split_at-split-requires-clause-source g c =

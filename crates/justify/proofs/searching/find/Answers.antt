@@ -1,10 +1,23 @@
 -- The desk's cone is that of the path's end.
-use Rattle.std.proofs.Common.{refl, arith}
+use Rattle.std.proofs.Common.{◌<◌, refl, sym, ap, subst, arith}
+use Rattle.std.specs.Prelude.{is_some}
 use Rattle.std.proofs.lemmas.Grind.{common_steps}
+use Rattle.netlist.specs.Circuit.{Circuit, line_count}
 use Rattle.implication.specs.Scopes.{standing}
+use Rattle.test_judging.specs.KeptCones.{IsConeFor}
 use Rattle.justify.specs.Tasks.{task_target}
+use Rattle.justify.proofs.Orders.{at_least}
 use Rattle.justify.proofs.Starting.{start_under_way, start_desk}
 use Rattle.justify.proofs.searching.find.Goals as goal
+
+pub set_end-requires-clause-made : goal.set_end-requires-clause-made
+set_end-requires-clause-made g c =
+    let P : Circuit → Type 0 = λ n. IsConeFor n c.args.desk.now.cone in subst P (sym c.net.ensures) c.requires.desk.cone
+
+pub set_end-requires-clause-end : goal.set_end-requires-clause-end
+set_end-requires-clause-end g c =
+    let P : Circuit → Type 0 = λ n. c.last_line.result.0 < line_count n in
+    subst P (sym c.net.ensures) (c.last_line.ensures.in_circuit (ap is_some c.requires.start.beginning))
 
 pub propose-requires-clause-desk : goal.propose-requires-clause-desk
 propose-requires-clause-desk g c =
@@ -16,7 +29,7 @@ returns-in-Some-clause-goes_on g c = record {
   setting = record { net = refl; rules = refl; ends = refl };
   under_way = start_under_way (task_target c.args.task.now) (standing c.args.scope.now) c.requires.start;
   serves = c.propose.ensures.desk;
-  later = omega arith;
+  later = at_least _ _ refl;
 }
 
 pub returns-in_err-pair-clause-goes_on : goal.returns-in_err-pair-clause-goes_on
@@ -24,7 +37,7 @@ returns-in_err-pair-clause-goes_on g c = record {
   setting = record { net = refl; rules = refl; ends = refl };
   under_way = start_under_way (task_target c.args.task.now) (standing c.args.scope.now) c.requires.start;
   serves = c.propose.ensures.desk;
-  later = omega arith;
+  later = at_least _ _ refl;
 }
 
 pub returns-in-Some-clause-found : goal.returns-in-Some-clause-found

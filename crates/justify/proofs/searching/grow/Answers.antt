@@ -2,6 +2,7 @@ use Rattle.std.proofs.Common.{ℕ, length, sym, ◌∙◌, subst, arith}
 use Rattle.implication.specs.Scopes.{standing}
 use Rattle.justify.specs.Answers.{HasCounted}
 use Rattle.justify.proofs.Ended.{counted_more}
+use Rattle.justify.proofs.Orders.{no_less}
 use Rattle.std.proofs.lemmas.Grind.{common_steps}
 use Rattle.justify.proofs.GoingOn.{goes_further, grown_some, visit_none, searching_on}
 use Rattle.tree_laws.proofs.Settings.{same_twice}
@@ -13,16 +14,16 @@ returns-in_err-test-clause-goes_on g c =
     goes_further c.args.task.now (standing c.args.scope.now) (standing c.loop-place.scope) (standing c.visit.new.scope) c.visit.new.desk
     inv.setting inv.later c.visit.ensures.goes_on
 
-pub returns-then-is_some-clause-goes_on : goal.returns-then-is_some-clause-goes_on
-returns-then-is_some-clause-goes_on g c =
+pub returns-in-Some-test-clause-goes_on : goal.returns-in-Some-test-clause-goes_on
+returns-in-Some-test-clause-goes_on g c =
     let inv = c.loop-place.invariant in
     goes_further c.args.task.now (standing c.args.scope.now) (standing c.loop-place.scope) (standing c.visit.new.scope) c.visit.new.desk
     inv.setting inv.later c.visit.ensures.goes_on
 
-pub returns-then-is_some-clause-answer : goal.returns-then-is_some-clause-answer
-returns-then-is_some-clause-answer g c =
+pub returns-in-Some-test-clause-answer : goal.returns-in-Some-test-clause-answer
+returns-in-Some-test-clause-answer g c =
     grown_some c.args.task.now (standing c.args.scope.now) (standing c.loop-place.scope) (standing c.visit.new.scope) _ c.visit.new.growth c.visit.new.growth
-    c.in_ok-test.test (sym c.is_some.ensures ∙ c.if-is_some.true) c.loop-place.invariant.setting.net c.in_ok-test.ensures.answer
+    c.in_ok-test.test c.in-Some-test.pair c.in-Some-test.is c.loop-place.invariant.setting.net c.in_ok-test.ensures.answer
 
 pub loop-place-preserved : goal.loop-place-preserved
 loop-place-preserved g c =
@@ -30,17 +31,15 @@ loop-place-preserved g c =
     let first = standing c.args.scope.now in let middle = standing c.loop-place.scope in let last = standing c.visit.new.scope in
     let inv = c.loop-place.invariant in
     let goes = c.visit.ensures.goes_on in
-    let adds = visit_none task middle last _ c.visit.new.growth c.in_ok-test.test (sym c.is_some.ensures ∙ c.if-is_some.false) c.in_ok-test.ensures.answer in
+    let adds = visit_none task middle last _ c.visit.new.growth c.in_ok-test.test c.in-None.is c.in_ok-test.ensures.answer in
     let P : ℕ → Type 0 = λ n. HasCounted n first last in
-    let rising = inv.later in
-    let more = goes.later in
     record {
       scope = record {
         engine = c.visit.ensures.scope.engine ∙ inv.scope.engine;
         origin = c.visit.ensures.scope.origin ∙ inv.scope.origin;
       };
       setting = same_twice first middle last inv.setting goes.setting;
-      later = omega (arith, rising, more);
+      later = no_less first.closings middle.closings last.closings inv.later goes.later;
       searching = searching_on task middle last c.loop-place.desk c.visit.new.desk _ _ _ c.visit.new.growth inv.searching goes adds;
       counted = subst P (sym adds.one_more) (counted_more (length c.loop-place.growth.nodes.items) first middle last inv.counted adds.counted);
     }

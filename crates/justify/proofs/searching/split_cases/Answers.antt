@@ -6,6 +6,7 @@ use Rattle.implication.specs.Scopes.{standing}
 use Rattle.justify.specs.declared.growing.Place.{Place}
 use Rattle.justify.specs.Growths.{root_place}
 use Rattle.justify.specs.Tasks.{task_target}
+use Rattle.justify.proofs.Orders.{at_least}
 use Rattle.justify.proofs.Starting.{start_under_way, start_growing}
 use Rattle.justify.proofs.Ended.{grown_whole, grown_few, answer_found, answer_counts}
 use Rattle.justify.proofs.searching.split_cases.Goals as goal
@@ -15,7 +16,7 @@ returns-in_err-growth-clause-goes_on g c = record {
   setting = record { net = refl; rules = refl; ends = refl };
   under_way = start_under_way (task_target c.args.task.now) (standing c.args.scope.now) c.requires.start;
   serves = c.requires.desk;
-  later = omega arith;
+  later = at_least _ _ refl;
 }
 
 pub grow-grown-requires-clause-searching : goal.grow-grown-requires-clause-searching

@@ -1,20 +1,70 @@
-use Rattle.std.proofs.Common.{arith}
+-- The last sources close the trial again; or all is as before, and the trial goes on.
+use Rattle.std.proofs.Common.{sym, ◌∙◌, subst, arith}
 use Rattle.std.proofs.lemmas.Grind.{common_steps}
+use Rattle.netlist.specs.Circuit.{Circuit}
+use Rattle.netlist.specs.Paths.{IsPrefix}
 use Rattle.implication.specs.Scopes.{standing}
+use Rattle.justify.specs.Desks.{IsDesk}
 use Rattle.justify.specs.Tasks.{task_target}
-use Rattle.justify.proofs.SameNodes.{ok_answer}
+use Rattle.justify.proofs.SameNodes.{ok_answer, restored_trans, same_restored, stays_at_node}
 use Rattle.justify.proofs.trying.try_node.Goals as goal
 
-pub returns-clause-answer : goal.returns-clause-answer
-returns-clause-answer g c =
-    ok_answer (task_target c.args.task.now) (standing c.args.scope.now) (standing c.closes_again.new.scope) (standing c.try_least.new.scope)
-    c.closes_again.ensures.restored c.try_least.result c.try_least.ensures.answer
+pub returns-then-closes_again-clause-answer : goal.returns-then-closes_again-clause-answer
+returns-then-closes_again-clause-answer g c = c.closes_again.ensures.failed c.if-closes_again.true
 
-pub try_least-requires-clause-prefix : goal.try_least-requires-clause-prefix
-try_least-requires-clause-prefix g c = grind (arith, common_steps)
+pub judge_least-requires-clause-node : goal.judge_least-requires-clause-node
+judge_least-requires-clause-node g c =
+    let first = standing c.args.scope.now in let now = standing c.closes_again.new.scope in
+    stays_at_node (task_target c.args.task.now) first now (same_restored first now c.closes_again.ensures.restored) c.requires.node
 
-pub try_least-requires-clause-node : goal.try_least-requires-clause-node
-try_least-requires-clause-node g c = grind (arith, common_steps)
+pub judge_least-requires-clause-prefix : goal.judge_least-requires-clause-prefix
+judge_least-requires-clause-prefix g c =
+    let P : Circuit → Type 0 = λ n. IsPrefix n c.args.task.now.path.now in subst P (sym c.closes_again.ensures.restored.net) c.requires.prefix
 
-pub try_least-requires-clause-desk : goal.try_least-requires-clause-desk
-try_least-requires-clause-desk g c = grind (arith, common_steps)
+pub judge_least-requires-clause-desk : goal.judge_least-requires-clause-desk
+judge_least-requires-clause-desk g c =
+    let P : Circuit → Type 0 = λ n. IsDesk n c.args.task.now.path.now c.args.desk.now in
+    subst P (sym c.closes_again.ensures.restored.net) c.requires.desk
+
+pub returns-in_err-pair-clause-desk : goal.returns-in_err-pair-clause-desk
+returns-in_err-pair-clause-desk g c =
+    let P : Circuit → Type 0 = λ n. IsDesk n c.args.task.now.path.now c.judge_least.new.desk in
+    subst P c.closes_again.ensures.restored.net c.judge_least.ensures.desk
+
+pub try_blamed-requires-clause-prefix : goal.try_blamed-requires-clause-prefix
+try_blamed-requires-clause-prefix g c =
+    let P : Circuit → Type 0 = λ n. IsPrefix n c.args.task.now.path.now in subst P (sym c.closes_again.ensures.restored.net) c.requires.prefix
+
+pub try_blamed-requires-clause-node : goal.try_blamed-requires-clause-node
+try_blamed-requires-clause-node g c =
+    let first = standing c.args.scope.now in let now = standing c.closes_again.new.scope in
+    stays_at_node (task_target c.args.task.now) first now (same_restored first now c.closes_again.ensures.restored) c.requires.node
+
+pub returns-in-Some-clause-desk : goal.returns-in-Some-clause-desk
+returns-in-Some-clause-desk g c =
+    let P : Circuit → Type 0 = λ n. IsDesk n c.args.task.now.path.now c.judge_least.new.desk in
+    subst P c.closes_again.ensures.restored.net c.judge_least.ensures.desk
+
+pub returns-in-Some-clause-answer : goal.returns-in-Some-clause-answer
+returns-in-Some-clause-answer g c = grind (arith, common_steps)
+
+pub returns-in-None-clause-desk : goal.returns-in-None-clause-desk
+returns-in-None-clause-desk g c =
+    let P : Circuit → Type 0 = λ n. IsDesk n c.args.task.now.path.now c.try_blamed.new.desk in
+    subst P c.closes_again.ensures.restored.net c.try_blamed.ensures.desk
+
+pub returns-in-None-clause-scope : goal.returns-in-None-clause-scope
+returns-in-None-clause-scope g c = record {
+  engine = c.try_blamed.ensures.scope.engine ∙ c.closes_again.ensures.scope.engine;
+  origin = c.try_blamed.ensures.scope.origin ∙ c.closes_again.ensures.scope.origin;
+}
+
+pub returns-in-None-clause-restored : goal.returns-in-None-clause-restored
+returns-in-None-clause-restored g c =
+    restored_trans (standing c.args.scope.now) (standing c.closes_again.new.scope) (standing c.try_blamed.new.scope)
+    c.closes_again.ensures.restored c.try_blamed.ensures.restored
+
+pub returns-in-None-clause-answer : goal.returns-in-None-clause-answer
+returns-in-None-clause-answer g c =
+    ok_answer (task_target c.args.task.now) (standing c.args.scope.now) (standing c.closes_again.new.scope) (standing c.try_blamed.new.scope)
+    c.closes_again.ensures.restored c.try_blamed.result c.try_blamed.ensures.answer

@@ -28,6 +28,11 @@ extend-requires-clause-two g c =
     two_where_failed (task_target c.args.task.now) last
     (failed_stays (task_target c.args.task.now) first last (same_restored first last c.try_node.ensures.restored) fails.failed)
 
+pub returns-in-Some-clause-answer : goal.returns-in-Some-clause-answer
+returns-in-Some-clause-answer g c =
+    let P : Option Vectors → Type 0 = λ t. IsTrialOf (task_target c.args.task.now) (standing c.args.scope.now) (standing c.try_node.new.scope) t in
+    subst P c.in-Some.is c.in_ok-test.ensures.answer
+
 pub returns-in_ok-extend-in-None-clause-answer : goal.returns-in_ok-extend-in-None-clause-answer
 returns-in_ok-extend-in-None-clause-answer g c =
     let P : Option Vectors → Type 0 = λ t. IsTrialOf (task_target c.args.task.now) (standing c.args.scope.now) (standing c.try_node.new.scope) t in

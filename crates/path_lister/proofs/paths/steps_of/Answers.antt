@@ -5,3 +5,6 @@ use Rattle.path_lister.proofs.paths.steps_of.Goals as goal
 
 pub loop-arc-preserved : goal.loop-arc-preserved
 loop-arc-preserved c = grind (arith, common_steps)
+
+pub returns : goal.returns
+returns c = grind (arith, common_steps)

@@ -3,6 +3,7 @@ use Rattle.std.proofs.Common.{◌≡◌, ◌+◌, ℕ, [], ◌∷◌, ◌++◌, 
 use Rattle.netlist.specs.Circuit.{source_count}
 use Rattle.path_lister.specs.Rows.{AreRows}
 use Rattle.path_lister.proofs.RowsMore.{rows_begin, rows_few, rows_next}
+use Rattle.std.proofs.lemmas.Grind.{common_steps}
 use Rattle.path_lister.proofs.rows.push_rows.Goals as goal
 
 pub loop-line-init : goal.loop-line-init
@@ -54,3 +55,6 @@ loop-line-preserved c =
     subst₂ (AreRows net (take (c.loop-line.line-index + 1) c.args.lines.now))
     (ap (λ (first : ℕ). firsts ++ first ∷ []) behind ∙ sym c.in_ok-push.ensures.items)
     (sym c.in_ok-extend_from_slice.ensures.items) next
+
+pub returns : goal.returns
+returns c = grind (arith, common_steps)

@@ -8,3 +8,6 @@ pub loop-line-preserved : goal.loop-line-preserved
 loop-line-preserved c =
     let more = observed_names_more c.args.net.now c.observed-line-items.result.now c.loop-line.line-index (record { 0 = 0 }) c.observed-line-items.ensures.observed c.loop-line-test.true in
     grind (arith, common_steps, more)
+
+pub returns : goal.returns
+returns c = grind (arith, common_steps)

@@ -1,5 +1,8 @@
-use Rattle.std.proofs.Common.{◌∙◌}
-use Rattle.std.proofs.lemmas.List.{take_rest}
+use Rattle.std.proofs.Common.{List, ℕ, sym, subst, ◌∙◌}
+use Rattle.std.proofs.lemmas.Bool.{eqb-true}
+use Rattle.std.proofs.lemmas.List.{nil_from_length, take_rest}
+use Rattle.pd_io.specs.OpenFile.{TakesUpTo}
+use Rattle.pd_io.specs.Telling.{Tells}
 use Rattle.pd_io.proofs.Tellings.{on_err}
 use Rattle.pd_io.proofs.OpenFile.{told_both, told_both_front, told_failed, told_written}
 use Rattle.pd_io.proofs.appending.append_all.Goals as goal
@@ -27,3 +30,11 @@ returns-in_err-count-clause-err g c =
     on_err c.from_residual.result
     (told_both_front writer _ _ _ _ _ c.loop-rest.invariant.taken
     (told_failed writer _ c.loop-rest.invariant.keeps.writer _ _ _ _ c.in_err-count.ensures.told))
+
+-- in the end all bytes were taken
+pub returns-clause-ok : goal.returns-clause-ok
+returns-clause-ok g c =
+    let files = g.F.Files in
+    subst (λ (left : List ℕ). Tells (files.folder c.args.files.now) (files.folder c.loop-rest.files)
+    (TakesUpTo (files.writer c.args.files.now) c.args.bytes.now left))
+    (nil_from_length _ (eqb-true _ _ (sym c.is_empty.ensures ∙ c.loop-rest-test.false))) c.loop-rest.invariant.taken

@@ -1,9 +1,9 @@
 -- The item is behind what the buffer held; then the open file takes nothing, all that the buffer holds, or a front of it.
-use Rattle.std.proofs.Common.{List, ℕ, ◌+◌, ◌++◌, ap, subst, sym, ◌∙◌}
-use Rattle.pd_io.specs.OpenFile.{TakesFront, TakesUpTo}
+use Rattle.std.proofs.Common.{List, ℕ, ◌+◌, ◌++◌, ap, subst, ◌∙◌}
+use Rattle.pd_io.specs.OpenFile.{TakesFront}
 use Rattle.pd_io.specs.Telling.{Tells}
 use Rattle.pd_io.proofs.Tellings.{on_err}
-use Rattle.pd_io.proofs.OpenFile.{told_before, told_front, told_front_before, told_none}
+use Rattle.pd_io.proofs.OpenFile.{told_front, told_front_before, told_none}
 use Rattle.pd_io.proofs.appending.append_item.Goals as goal
 
 pub returns-in_err-push_item-clause-err : goal.returns-in_err-push_item-clause-err

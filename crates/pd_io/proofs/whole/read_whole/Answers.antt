@@ -1,6 +1,7 @@
-use Rattle.std.proofs.Common.{◌≡◌, ◌≤◌, ◌++◌, ℕ, length, sym, ap, subst, ◌∙◌, refl, take, drop, arith, length-append}
+use Rattle.std.proofs.Common.{◌≡◌, ◌≤◌, ◌++◌, ℕ, length, sym, ap, subst, ◌∙◌, refl, take, drop, arith, length-append, Ok, Err, Vec, Global}
 use Rattle.std.proofs.lemmas.List.{length-drop, length-take, length-take-le}
-use Rattle.pd_io.proofs.Reading.{Reading, more_bytes, reading_begun, reading_more}
+use Rattle.pd_io.specs.declared.fault.ReadFault.TheVariants.{TooLong}
+use Rattle.pd_io.proofs.Reading.{Reading, more_bytes, reading_asked, reading_asks, reading_begun, reading_ended, reading_more, reading_over}
 use Rattle.pd_io.proofs.whole.read_whole.Goals as goal
 
 -- the file was opened, and nothing was read yet
@@ -42,3 +43,31 @@ loop-buffer-preserved g c =
       counted = omega arith;
       write_faults = c.read.ensures.write_faults ∙ c.loop-buffer.invariant.write_faults;
     }
+
+-- the name was asked once, however the reading ends
+pub returns-in_err-count-clause-told : goal.returns-in_err-count-clause-told
+returns-in_err-count-clause-told g c =
+    reading_asked _ _ _ _ _ c.loop-buffer.invariant.reading _ c.read.ensures.folder c.from_residual-in_err-count.result
+
+pub returns-then-count-eq0-clause-told : goal.returns-then-count-eq0-clause-told
+returns-then-count-eq0-clause-told g c =
+    reading_asked _ _ _ _ _ c.loop-buffer.invariant.reading _ c.read.ensures.folder (Ok c.loop-buffer.bytes)
+
+pub returns-in_err-extend_from_slice-clause-told : goal.returns-in_err-extend_from_slice-clause-told
+returns-in_err-extend_from_slice-clause-told g c =
+    reading_asked _ _ _ _ _ c.loop-buffer.invariant.reading _ c.read.ensures.folder
+    c.from_residual-in_err-extend_from_slice.result
+
+-- at its end all bytes were read
+pub returns-then-count-eq0-clause-bytes : goal.returns-then-count-eq0-clause-bytes
+returns-then-count-eq0-clause-bytes g c =
+    reading_ended _ _ _ _ _ c.loop-buffer.invariant.reading _ c.read.new.buf c.in_ok-count.count c.if-count-eq0.true
+    c.in_ok-count.ensures.bytes c.read.ensures.folder
+
+-- over the limit the file holds more
+pub returns-clause-too_long : goal.returns-clause-too_long
+returns-clause-too_long g c = λ _. reading_over _ _ _ _ _ c.loop-buffer.invariant.reading c.args.limit (omega arith)
+
+pub returns-clause-told : goal.returns-clause-told
+returns-clause-told g c =
+    reading_asks _ _ _ _ _ c.loop-buffer.invariant.reading {T = Vec ℕ Global} (Err TooLong)

@@ -1,7 +1,11 @@
 -- A file that was begun holds all bytes, or a front of them.
 use Rattle.pd_io.proofs.Tellings.{on_err}
-use Rattle.pd_io.proofs.OpenFile.{begun_part, ended_part, ended_whole}
+use Rattle.pd_io.proofs.OpenFile.{begun_part, ended_part, ended_whole, untouched_part}
 use Rattle.pd_io.proofs.whole.write_whole.Goals as goal
+
+pub returns-in_err-begin_write-clause-err : goal.returns-in_err-begin_write-clause-err
+returns-in_err-begin_write-clause-err g c =
+    on_err c.from_residual.result (untouched_part _ _ _ _ c.in_err-begin_write.ensures.told)
 
 pub returns-in_err-append_all-clause-err : goal.returns-in_err-append_all-clause-err
 returns-in_err-append_all-clause-err g c =

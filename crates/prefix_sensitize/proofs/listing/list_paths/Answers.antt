@@ -1,15 +1,88 @@
 -- Each turn lists one path more, by the outcomes of its row.
-use Rattle.std.proofs.Common.{◌≡◌, ℕ, ◌+◌, ◌∷◌, ◌++◌, List, [], length, refl, sym, ap, subst, ◌∙◌, append_assoc, arith}
+use Rattle.std.proofs.Common.{◌≡◌, ℕ, ◌+◌, ◌-◌, ◌∷◌, ◌++◌, List, [], length, refl, sym, ap, subst, ◌∙◌, append_assoc, arith}
 use Rattle.std.specs.Vec.Iter.{into_iter_items}
+use Rattle.std.proofs.lemmas.Grind.{common_steps}
 use Rattle.std.proofs.lemmas.List.{length_push}
+use Rattle.std.proofs.lemmas.Option.{slice_get_within}
 use Rattle.pd_base.specs.Route.{Route}
 use Rattle.pd_base.specs.declared.fault.Direction.TheVariants.{Rise, Fall}
 use Rattle.delay_annotation.specs.Annotation.{delays_of}
 use Rattle.prefix_sensitize.specs.Answers.{written_by}
 use Rattle.prefix_sensitize.specs.Searches.{AreBothOutcomesFrom}
-use Rattle.prefix_sensitize.proofs.ListedPaths.{is_listed, is_next, one_more}
-use Rattle.prefix_sensitize.proofs.Rows.{others_left, taken_are}
+use Rattle.prefix_sensitize.proofs.ListedPaths.{is_listed, is_next, none_listed, one_more}
+use Rattle.prefix_sensitize.proofs.Rows.{nonrobust_within, others_left, robust_within, taken_are}
 use Rattle.prefix_sensitize.proofs.listing.list_paths.Goals as goal
+
+pub loop-path-init : goal.loop-path-init
+loop-path-init g c =
+    let none = c.in_ok-listed.ensures.items in
+    let net = c.args.net.now in
+    let Rises : ℕ → Type 0 = λ from. AreBothOutcomesFrom net g.searches.routes g.searches.proofs Rise from c.args.rises.now in
+    let Falls : ℕ → Type 0 = λ from. AreBothOutcomesFrom net g.searches.routes g.searches.proofs Fall from c.args.falls.now in
+    record {
+      listed = none_listed net (delays_of net c.args.delays.now) g.searches c.in_ok-listed.listed.items (written_by c.args.writer.now) none
+          c.requires.1.1.1.1.1.1;
+      writer = c.requires.1.1.1.1.1.0;
+      rises = subst Rises (sym (ap length none)) c.requires.1.1.1.0;
+      falls = subst Falls (sym (ap length none)) c.requires.1.1.1.1.0;
+      rest = grind (arith, common_steps);
+    }
+
+pub take-rise-requires-clause-robust : goal.take-rise-requires-clause-robust
+take-rise-requires-clause-robust g c =
+    let net = c.args.net.now in
+    let turn = c.loop-path.invariant in
+    let row : c.len-row.result ≡ length c.loop-path.listed.items = omega (arith, c.len-row.ensures) in
+    let next : c.len-row.result + 1 ≡ length c.loop-path.listed.items + 1 = omega (arith, row) in
+    let listed = is_listed net (delays_of net c.args.delays.now) g.searches c.requires.1.1.0 c.loop-path.yielded _ turn.rest
+    c.loop-path.listed.items (written_by c.loop-path.writer) turn.listed c.in-Some.path _ c.in-Some.ensures.steps.0
+    (c.len-row.result + 1) next in
+    let within = slice_get_within g.searches.routes (c.len-row.result + 1 - 1) c.in-Some.path listed.found in
+    let Left : ℕ → Type 0 = λ from. AreBothOutcomesFrom net g.searches.routes g.searches.proofs Rise from c.loop-path.rises in
+    robust_within net g.searches.routes g.searches.proofs Rise c.len-row.result c.loop-path.rises (subst Left (sym row) turn.rises)
+    (omega (arith, within))
+
+pub take-rise-requires-clause-nonrobust : goal.take-rise-requires-clause-nonrobust
+take-rise-requires-clause-nonrobust g c =
+    let net = c.args.net.now in
+    let turn = c.loop-path.invariant in
+    let row : c.len-row.result ≡ length c.loop-path.listed.items = omega (arith, c.len-row.ensures) in
+    let next : c.len-row.result + 1 ≡ length c.loop-path.listed.items + 1 = omega (arith, row) in
+    let listed = is_listed net (delays_of net c.args.delays.now) g.searches c.requires.1.1.0 c.loop-path.yielded _ turn.rest
+    c.loop-path.listed.items (written_by c.loop-path.writer) turn.listed c.in-Some.path _ c.in-Some.ensures.steps.0
+    (c.len-row.result + 1) next in
+    let within = slice_get_within g.searches.routes (c.len-row.result + 1 - 1) c.in-Some.path listed.found in
+    let Left : ℕ → Type 0 = λ from. AreBothOutcomesFrom net g.searches.routes g.searches.proofs Rise from c.loop-path.rises in
+    nonrobust_within net g.searches.routes g.searches.proofs Rise c.len-row.result c.loop-path.rises (subst Left (sym row) turn.rises)
+    (omega (arith, within))
+
+pub take-fall-requires-clause-robust : goal.take-fall-requires-clause-robust
+take-fall-requires-clause-robust g c =
+    let net = c.args.net.now in
+    let turn = c.loop-path.invariant in
+    let row : c.len-row.result ≡ length c.loop-path.listed.items = omega (arith, c.len-row.ensures) in
+    let next : c.len-row.result + 1 ≡ length c.loop-path.listed.items + 1 = omega (arith, row) in
+    let listed = is_listed net (delays_of net c.args.delays.now) g.searches c.requires.1.1.0 c.loop-path.yielded _ turn.rest
+    c.loop-path.listed.items (written_by c.loop-path.writer) turn.listed c.in-Some.path _ c.in-Some.ensures.steps.0
+    (c.len-row.result + 1) next in
+    let within = slice_get_within g.searches.routes (c.len-row.result + 1 - 1) c.in-Some.path listed.found in
+    let Left : ℕ → Type 0 = λ from. AreBothOutcomesFrom net g.searches.routes g.searches.proofs Fall from c.loop-path.falls in
+    robust_within net g.searches.routes g.searches.proofs Fall c.len-row.result c.loop-path.falls (subst Left (sym row) turn.falls)
+    (omega (arith, within))
+
+pub take-fall-requires-clause-nonrobust : goal.take-fall-requires-clause-nonrobust
+take-fall-requires-clause-nonrobust g c =
+    let net = c.args.net.now in
+    let turn = c.loop-path.invariant in
+    let row : c.len-row.result ≡ length c.loop-path.listed.items = omega (arith, c.len-row.ensures) in
+    let next : c.len-row.result + 1 ≡ length c.loop-path.listed.items + 1 = omega (arith, row) in
+    let listed = is_listed net (delays_of net c.args.delays.now) g.searches c.requires.1.1.0 c.loop-path.yielded _ turn.rest
+    c.loop-path.listed.items (written_by c.loop-path.writer) turn.listed c.in-Some.path _ c.in-Some.ensures.steps.0
+    (c.len-row.result + 1) next in
+    let within = slice_get_within g.searches.routes (c.len-row.result + 1 - 1) c.in-Some.path listed.found in
+    let Left : ℕ → Type 0 = λ from. AreBothOutcomesFrom net g.searches.routes g.searches.proofs Fall from c.loop-path.falls in
+    nonrobust_within net g.searches.routes g.searches.proofs Fall c.len-row.result c.loop-path.falls (subst Left (sym row) turn.falls)
+    (omega (arith, within))
 
 pub list_path-requires : goal.list_path-requires
 list_path-requires g c =

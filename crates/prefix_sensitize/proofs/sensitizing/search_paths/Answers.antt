@@ -1,12 +1,18 @@
 -- The engine is made within the last lines of the paths, and tells each of them.
-use Rattle.std.proofs.Common.{◌≡◌, ◌<◌, List, All, Some, sym, ap, subst, ◌∙◌}
+use Rattle.std.proofs.Common.{◌≡◌, ◌<◌, List, All, Some, sym, ap, subst, subst₂, ◌∙◌}
+use Rattle.std.proofs.lemmas.Result.{IfOk-weaker}
 use Rattle.pd_base.specs.declared.ids.LineId.{LineId}
 use Rattle.pd_base.specs.Route.{Route}
+use Rattle.pd_base.specs.declared.rules.Rules.{Rules}
 use Rattle.netlist.specs.Circuit.{Circuit, line_count}
 use Rattle.netlist.specs.Paths.{end_of}
 use Rattle.implication.specs.Standing.{IsToldBy, Standing}
 use Rattle.tree_laws.proofs.Told.{ends_told}
 use Rattle.test_judging.specs.PathEnds.{ends_of}
+use Rattle.prefix_sensitize.specs.declared.all_outcomes.AllOutcomes.{AllOutcomes}
+use Rattle.prefix_sensitize.specs.Listed.{AreAllOutcomes}
+use Rattle.prefix_sensitize.specs.Searches.{searches_of}
+use Rattle.prefix_sensitize.specs.Walks.{AreSearchablePaths}
 use Rattle.prefix_sensitize.proofs.sensitizing.search_paths.Goals as goal
 
 pub within-requires : goal.within-requires
@@ -23,3 +29,30 @@ search_on-requires-clause-told g c =
     ap (λ (s : Standing). s.ends) c.in_ok-engine.ensures ∙ ap Some (c.as_slice.ensures.value ∙ c.in_ok-ends.ensures.ends) in
     let P : Circuit → Type 0 = λ n. All (λ (route : Route). IsToldBy n engine.ends (end_of n route)) c.args.paths.now in
     subst P (sym (ap (λ (s : Standing). s.net) c.in_ok-engine.ensures)) (ends_told net c.args.paths.now engine.ends are)
+
+pub search_on-requires-clause-net : goal.search_on-requires-clause-net
+search_on-requires-clause-net g c = ap (λ (s : Standing). s.net) c.in_ok-engine.ensures
+
+pub search_on-requires-clause-idle : goal.search_on-requires-clause-idle
+search_on-requires-clause-idle g c = ap (λ (s : Standing). s.beginning) c.in_ok-engine.ensures
+
+pub search_on-requires-clause-listed : goal.search_on-requires-clause-listed
+search_on-requires-clause-listed g c =
+    let P : Circuit → Type 0 = λ n. AreSearchablePaths n c.args.paths.now in
+    subst P (sym (ap (λ (s : Standing). s.net) c.in_ok-engine.ensures)) c.requires.listed
+
+pub returns-clause-outcomes : goal.returns-clause-outcomes
+returns-clause-outcomes g c =
+    let engine = c.in_ok-engine.engine in
+    IfOk-weaker c.search_on.result
+    (λ (outcomes : AllOutcomes).
+    AreAllOutcomes engine.net (searches_of engine.rules c.args.budget c.args.paths.now outcomes) outcomes)
+    (λ (outcomes : AllOutcomes).
+    AreAllOutcomes c.args.net.now (searches_of c.args.rules.now c.args.budget c.args.paths.now outcomes) outcomes)
+    (λ outcomes are.
+    let P : Circuit → Rules → Type 0 = λ n rules. AreAllOutcomes n (searches_of rules c.args.budget c.args.paths.now outcomes) outcomes in
+    subst₂ P (ap (λ (s : Standing). s.net) c.in_ok-engine.ensures) (ap (λ (s : Standing). s.rules) c.in_ok-engine.ensures) are)
+    c.search_on.ensures.outcomes
+
+pub returns-clause-steps : goal.returns-clause-steps
+returns-clause-steps g c = c.search_on.ensures.steps

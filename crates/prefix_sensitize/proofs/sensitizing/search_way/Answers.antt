@@ -1,14 +1,52 @@
 -- The two walks give the outcomes for the transition, and all that they add is for it.
-use Rattle.std.proofs.Common.{map, not, refl, sym, ap, subst, subst₂, ◌∙◌}
-use Rattle.pd_base.specs.declared.fault.Kind.TheVariants.{Nonrobust}
+use Rattle.std.proofs.Common.{length, map, not, true, refl, sym, ap, subst, subst₂, ◌∙◌, arith}
+use Rattle.std.proofs.lemmas.List.{length-replicate}
+use Rattle.pd_base.specs.declared.fault.Kind.TheVariants.{Robust, Nonrobust}
 use Rattle.pd_base.specs.declared.rules.Rules.{Rules}
 use Rattle.netlist.specs.Circuit.{Circuit}
 use Rattle.prefix_sensitize.specs.declared.outcome.Outcome.{Outcome}
 use Rattle.prefix_sensitize.specs.Outcomes.{AreFoundProofs, AreOutcomes}
 use Rattle.prefix_sensitize.specs.Searches.{is_test}
 use Rattle.prefix_sensitize.specs.Walks.{AreExcused}
-use Rattle.prefix_sensitize.proofs.BothKinds.{both_add, both_are, nonrobust_is_new, untested_excused}
+use Rattle.prefix_sensitize.proofs.BothKinds.{all_excused, both_add, both_are, none_about, nonrobust_is_new, some_each, untested_excused}
+use Rattle.prefix_sensitize.proofs.Counting.{counted}
 use Rattle.prefix_sensitize.proofs.sensitizing.search_way.Goals as goal
+
+pub walk-requires-clause-ready : goal.walk-requires-clause-ready
+walk-requires-clause-ready g c = c.requires.ready
+
+pub walk-requires-clause-needed : goal.walk-requires-clause-needed
+walk-requires-clause-needed g c =
+    ap length (c.in_ok-all.ensures.items_if_clones_equal (λ y same. same)) ∙ length-replicate (length c.args.paths.now) true
+
+pub walk-requires-clause-excused : goal.walk-requires-clause-excused
+walk-requires-clause-excused g c =
+    all_excused c.args.engine.now.net c.args.paths.now c.args.dir c.args.budget c.in_ok-all.all.items
+    (c.in_ok-all.ensures.items_if_clones_equal (λ y same. same)) Robust
+
+pub walk-requires-clause-found : goal.walk-requires-clause-found
+walk-requires-clause-found g c = c.requires.found
+
+pub walk-requires-clause-fresh : goal.walk-requires-clause-fresh
+walk-requires-clause-fresh g c =
+    none_about c.args.engine.now.net c.args.paths.now c.args.dir c.args.budget Robust c.args.proofs.now.items c.requires.fresh
+
+pub walk-requires-clause-room : goal.walk-requires-clause-room
+walk-requires-clause-room g c = let room = c.requires.room in omega (arith, room)
+
+pub walk-requires-2-clause-needed : goal.walk-requires-2-clause-needed
+walk-requires-2-clause-needed g c =
+    some_each c.args.engine.now.net c.args.paths.now c.args.dir c.args.budget c.in_ok-all.all.items
+    (c.in_ok-all.ensures.items_if_clones_equal (λ y same. same)) c.walk.new.proofs.items c.in_ok-robust.robust.items
+    c.in_ok-robust.ensures.outcomes c.in_ok-untested.untested.items
+    (c.in_ok-untested.ensures ∙ ap (map (λ (outcome : Outcome). not (is_test outcome))) c.as_slice.ensures.value)
+
+pub walk-requires-2-clause-room : goal.walk-requires-2-clause-room
+walk-requires-2-clause-room g c =
+    let few = c.requires.ready.tree.few in
+    let grown = counted c.args.paths.now c.args.tree.now c.requires.ready.tree c.args.steps.now c.walk.new.steps c.walk.ensures.counted in
+    let room = c.requires.room in
+    omega (arith, few, grown, room)
 
 pub walk-requires-2-clause-excused : goal.walk-requires-2-clause-excused
 walk-requires-2-clause-excused g c =
@@ -71,3 +109,25 @@ pub returns-clause-adds : goal.returns-clause-adds
 returns-clause-adds g c =
     both_add c.args.engine.now.net c.args.paths.now c.args.dir c.args.budget c.args.proofs.now.items c.walk.new.proofs.items
     c.walk-2.new.proofs.items c.in_ok-robust.ensures.adds c.in_ok-nonrobust.ensures.adds
+
+pub returns-in_err-robust-clause-steps : goal.returns-in_err-robust-clause-steps
+returns-in_err-robust-clause-steps g c =
+    let first = counted c.args.paths.now c.args.tree.now c.requires.ready.tree c.args.steps.now c.walk.new.steps c.walk.ensures.counted in
+    omega (arith, first)
+
+pub returns-in_err-untested-clause-steps : goal.returns-in_err-untested-clause-steps
+returns-in_err-untested-clause-steps g c =
+    let first = counted c.args.paths.now c.args.tree.now c.requires.ready.tree c.args.steps.now c.walk.new.steps c.walk.ensures.counted in
+    omega (arith, first)
+
+pub returns-in_err-nonrobust-clause-steps : goal.returns-in_err-nonrobust-clause-steps
+returns-in_err-nonrobust-clause-steps g c =
+    let first = counted c.args.paths.now c.args.tree.now c.requires.ready.tree c.args.steps.now c.walk.new.steps c.walk.ensures.counted in
+    let second = counted c.args.paths.now c.args.tree.now c.requires.ready.tree c.walk.new.steps c.walk-2.new.steps c.walk-2.ensures.counted in
+    omega (arith, first, second)
+
+pub returns-clause-steps : goal.returns-clause-steps
+returns-clause-steps g c =
+    let first = counted c.args.paths.now c.args.tree.now c.requires.ready.tree c.args.steps.now c.walk.new.steps c.walk.ensures.counted in
+    let second = counted c.args.paths.now c.args.tree.now c.requires.ready.tree c.walk.new.steps c.walk-2.new.steps c.walk-2.ensures.counted in
+    omega (arith, first, second)

@@ -1,12 +1,14 @@
 -- The first paths can be searched, and the run is good for them.
-use Rattle.std.proofs.Common.{ℕ, List, sym, subst}
+use Rattle.std.proofs.Common.{ℕ, List, refl, sym, subst, subst₂}
 use Rattle.std.proofs.lemmas.Result.{IfOk-weaker}
 use Rattle.pd_base.specs.Route.{Route}
 use Rattle.delay_annotation.specs.Annotation.{delays_of}
 use Rattle.netlist.specs.Order.{AreFirst}
 use Rattle.good_runs.specs.GoodRun.{IsGoodRun}
 use Rattle.runs.specs.declared.run.Run.{Run}
+use Rattle.prefix_sensitize.specs.Listed.{AreAllOutcomes}
 use Rattle.prefix_sensitize.specs.Readiness.{CountsAtMost}
+use Rattle.prefix_sensitize.specs.Searches.{searches_of}
 use Rattle.prefix_sensitize.specs.Walks.{AreSearchablePaths}
 use Rattle.prefix_sensitize.proofs.FirstPaths.{first_are_searchable}
 use Rattle.prefix_sensitize.proofs.sensitizing.sensitize_all.Goals as goal
@@ -16,6 +18,14 @@ search_paths-requires-clause-listed g c =
     subst (AreSearchablePaths c.args.net.now) (sym c.as_slice.ensures.value)
     (first_are_searchable c.args.net.now (delays_of c.args.net.now c.args.delays.now) c.args.count c.args.paths.items
     c.sources.ensures.circuit c.requires.first c.requires.count)
+
+pub run_of-requires : goal.run_of-requires
+run_of-requires g c =
+    let outcomes = c.in_ok-outcomes.outcomes in
+    let are = c.in_ok-outcomes.ensures.outcomes in
+    let P : ℕ → List Route → Type 0 =
+    λ budget routes. AreAllOutcomes c.args.net.now (searches_of c.args.rules budget routes outcomes) outcomes in
+    (c.requires.fits, (refl, (refl, subst₂ P (sym are.budget) c.as_slice.ensures.value are)))
 
 pub returns-clause-good : goal.returns-clause-good
 returns-clause-good g c =

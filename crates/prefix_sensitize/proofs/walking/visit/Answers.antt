@@ -9,7 +9,7 @@ use Rattle.prefix_sensitize.specs.Outcomes.{AddsProofs}
 use Rattle.prefix_sensitize.specs.PathOrder.{StandsInOrder}
 use Rattle.prefix_sensitize.specs.Settling.{HasItsSteps, Settles}
 use Rattle.prefix_sensitize.proofs.Along.{counted_on, gone_to, its_steps, room_for, visited_along}
-use Rattle.prefix_sensitize.proofs.Passing.{all_counted, come_past}
+use Rattle.prefix_sensitize.proofs.Passing.{adds_none, all_counted, come_past}
 use Rattle.prefix_sensitize.proofs.PathOrder.{stands_once, stands_there}
 use Rattle.prefix_sensitize.proofs.walking.visit.Goals as goal
 
@@ -31,6 +31,30 @@ returns-then-not-course-row-clause-come g c =
           true≢false (sym need ∙ ap (λ (n : ℕ). get_or course.needed.now n false) (sym same) ∙ c.if-not-course-row.true))
           (record { source = come.source; steps = c.args.descent.now }) come.come;
     }
+
+pub returns-then-not-course-row-clause-desk : goal.returns-then-not-course-row-clause-desk
+returns-then-not-course-row-clause-desk g c = c.requires.1.1.1.1.0
+
+pub returns-then-not-course-row-clause-adds : goal.returns-then-not-course-row-clause-adds
+returns-then-not-course-row-clause-adds g c = adds_none c.args.course.now.aim c.args.proofs.now.items
+
+pub returns-in_err-ended-clause-desk : goal.returns-in_err-ended-clause-desk
+returns-in_err-ended-clause-desk g c = c.search.ensures.desk
+
+pub returns-in_err-ended-clause-scope : goal.returns-in_err-ended-clause-scope
+returns-in_err-ended-clause-scope g c = c.search.ensures.scope
+
+pub returns-in_err-ended-clause-same : goal.returns-in_err-ended-clause-same
+returns-in_err-ended-clause-same g c = c.search.ensures.same
+
+pub returns-clause-desk : goal.returns-clause-desk
+returns-clause-desk g c = c.in_ok-ended.ensures.desk
+
+pub returns-clause-scope : goal.returns-clause-scope
+returns-clause-scope g c = c.in_ok-ended.ensures.scope
+
+pub returns-clause-same : goal.returns-clause-same
+returns-clause-same g c = c.in_ok-ended.ensures.same
 
 pub returns-then-not-course-row-clause-within : goal.returns-then-not-course-row-clause-within
 returns-then-not-course-row-clause-within g c =
@@ -89,6 +113,9 @@ search-requires-clause-room g c =
 
 pub settle-requires-clause-order : goal.settle-requires-clause-order
 settle-requires-clause-order g c = c.requires.1.1.1.0.order
+
+pub settle-requires-clause-few : goal.settle-requires-clause-few
+settle-requires-clause-few g c = let few = c.requires.1.1.1.0.searchable.few in omega (arith, few)
 
 pub settle-requires-clause-short : goal.settle-requires-clause-short
 settle-requires-clause-short g c = c.requires.1.1.1.0.searchable.short

@@ -8,8 +8,9 @@ use Rattle.prefix_sensitize.specs.declared.outcome.Outcome.{Outcome}
 use Rattle.prefix_sensitize.specs.Outcomes.{AreOutcomes}
 use Rattle.prefix_sensitize.specs.PathOrder.{IsOrder}
 use Rattle.prefix_sensitize.specs.Walks.{AreExcused}
-use Rattle.prefix_sensitize.proofs.Counting.{counted}
+use Rattle.prefix_sensitize.proofs.Counting.{none_counted}
 use Rattle.prefix_sensitize.proofs.Passing.{all_outcomes, come_none}
+use Rattle.prefix_sensitize.proofs.Ready.{ready_again}
 use Rattle.prefix_sensitize.proofs.walking.walk.Goals as goal
 
 pub walk_course-requires : goal.walk_course-requires
@@ -68,14 +69,25 @@ returns-clause-outcomes g c =
     (all_outcomes engine.net engine.rules course (subst O (sym c.order.ensures) c.requires.ready.tree.order) c.args.steps.now after proofs
     c.walk_course.new.steps c.in_ok-walk_course.ensures.come))
 
+pub returns-clause-ready : goal.returns-clause-ready
+returns-clause-ready g c =
+    ready_again c.args.paths.now c.args.tree.now c.args.aim.budget c.args.engine.now c.walk_course.new.engine c.args.desk.now
+    c.walk_course.new.desk c.requires.ready c.in_ok-walk_course.ensures.rest c.in_ok-walk_course.ensures.desk
+
+pub returns-clause-rest : goal.returns-clause-rest
+returns-clause-rest g c = c.in_ok-walk_course.ensures.rest
+
+pub returns-clause-adds : goal.returns-clause-adds
+returns-clause-adds g c = c.in_ok-walk_course.ensures.adds
+
 pub returns-clause-found : goal.returns-clause-found
 returns-clause-found g c = let come = c.in_ok-walk_course.ensures.come in come.come.found
 
-pub returns-clause-steps : goal.returns-clause-steps
-returns-clause-steps g c =
-    counted c.args.paths.now c.args.tree.now c.requires.ready.tree c.args.steps.now c.walk_course.new.steps
-    c.in_ok-walk_course.ensures.counted
+pub returns-in_err-outcomes-clause-counted : goal.returns-in_err-outcomes-clause-counted
+returns-in_err-outcomes-clause-counted g c = none_counted c.args.paths.now c.args.steps.now
 
-pub returns-in_err-walk_course-clause-steps : goal.returns-in_err-walk_course-clause-steps
-returns-in_err-walk_course-clause-steps g c =
-    counted c.args.paths.now c.args.tree.now c.requires.ready.tree c.args.steps.now c.walk_course.new.steps c.walk_course.ensures.counted
+pub returns-in_err-walk_course-clause-counted : goal.returns-in_err-walk_course-clause-counted
+returns-in_err-walk_course-clause-counted g c = c.walk_course.ensures.counted
+
+pub returns-clause-counted : goal.returns-clause-counted
+returns-clause-counted g c = c.in_ok-walk_course.ensures.counted

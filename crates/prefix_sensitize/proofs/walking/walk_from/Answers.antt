@@ -95,6 +95,24 @@ paths-smaller g c =
     let within = c.in_ok-at.ensures.within in
     omega (arith, on, within)
 
+pub begins_at-requires : goal.begins_at-requires
+begins_at-requires g c = c.requires.1.1.1.1.0.order.inside
+
+pub returns-in_err-at-clause-desk : goal.returns-in_err-at-clause-desk
+returns-in_err-at-clause-desk g c =
+    let P : Circuit → Type 0 = λ n. IsDeskFor n c.visit.new.desk in
+    subst P c.paths.invariant.same.net c.visit.ensures.desk
+
+pub returns-in_err-at-clause-scope : goal.returns-in_err-at-clause-scope
+returns-in_err-at-clause-scope g c = record {
+  engine = c.visit.ensures.scope.engine ∙ c.paths.invariant.scope.engine;
+  origin = c.visit.ensures.scope.origin ∙ c.paths.invariant.scope.origin;
+}
+
+pub returns-in_err-at-clause-same : goal.returns-in_err-at-clause-same
+returns-in_err-at-clause-same g c =
+    same_twice (standing c.args.scope.now) (standing c.paths.scope) (standing c.visit.new.scope) c.paths.invariant.same c.visit.ensures.same
+
 pub returns-clause-come : goal.returns-clause-come
 returns-clause-come g c =
     come_behind (standing c.args.scope.now) (standing c.paths.scope) c.paths.invariant.same c.args.course.now c.requires.1.1.1.1.0

@@ -1,10 +1,10 @@
 -- A scope is opened at the source of the path at this place, and left behind the last path from it.
-use Rattle.std.proofs.Common.{ℕ, ◌+◌, true≢false, List, [], get_or, Option, sym, subst, subst₂, ◌∙◌, refl}
+use Rattle.std.proofs.Common.{ℕ, ◌+◌, ◌<◌, true≢false, List, [], get_or, Option, sym, subst, subst₂, ◌∙◌, refl}
 use Rattle.std.proofs.lemmas.Result.{IfOk-weaker}
 use Rattle.pd_base.specs.declared.ids.LineId.{LineId}
 use Rattle.pd_base.specs.declared.rules.Rules.{Rules}
 use Rattle.pd_base.specs.Route.{Route}
-use Rattle.netlist.specs.Circuit.{Circuit}
+use Rattle.netlist.specs.Circuit.{Circuit, source_count}
 use Rattle.implication.specs.Scopes.{standing}
 use Rattle.justify.specs.Desks.{IsDeskFor}
 use Rattle.prefix_sensitize.specs.Coming.{HasComeApart}
@@ -28,6 +28,16 @@ returns-then-not-course-row-clause-come g c =
     (λ need. true≢false (sym need ∙ c.if-not-course-row.true)) (record { source = source; steps = [] })
     (come_from old.net old.rules course is_order g.begin place c.args.outcomes.now c.args.proofs.now.items c.args.steps.now source
     c.requires.1.1.1.1.1.1.1))
+
+pub begin-scope-requires-clause-source : goal.begin-scope-requires-clause-source
+begin-scope-requires-clause-source g c =
+    let course = c.args.course.now in
+    let row = get_or course.order.now c.args.place 0 in
+    let path =
+    c.requires.1.1.1.0.searchable.are_paths row c.index-course-row.result
+    (c.requires.1.1.1.0.order.inside c.args.place 0 c.requires.1.1.1.1.1.0) in
+    let P : LineId → Type 0 = λ line. line.0 < source_count c.args.engine.now.net in
+    subst P (sym c.source-source.ensures) path.prefix.source
 
 pub walk_from-requires : goal.walk_from-requires
 walk_from-requires g c κs lives =

@@ -11,7 +11,7 @@ use Rattle.implication.specs.Scopes.{standing}
 use Rattle.implication.specs.Standing.{IsFree, IsToldBy, IsOpenIn, IsEmptiedIn}
 use Rattle.state_sets.specs.FourStates.{four_states}
 use Rattle.refutation_check.proofs.Roots.{ok_of, err_of, err_both, read_pin, at_root, next_on, next_told, next_entered, next_closed}
-use Rattle.refutation_check.proofs.Walking.{same_twice, same_itself, same_of_extended}
+use Rattle.tree_laws.proofs.Settings.{same_twice, same_itself, same_of_extended}
 use Rattle.refutation_check.proofs.entering.enter_all.Goals as goal
 
 abbrev no_pin : PinRef

@@ -5,7 +5,7 @@ use Rattle.netlist.specs.Circuit.{Circuit, source_count}
 use Rattle.state_laws.specs.declared.half.Half.{Half}
 use Rattle.implication.specs.Scopes.{standing}
 use Rattle.refutation_check.specs.Walks.{IsScopeAt}
-use Rattle.refutation_check.proofs.Walking.{same_itself, same_twice, same_of_extended}
+use Rattle.tree_laws.proofs.Settings.{same_itself, same_twice, same_of_extended}
 use Rattle.refutation_check.proofs.node_hull.assume_halves.Goals as goal
 
 abbrev no_half : Half

@@ -12,7 +12,7 @@ use Rattle.refutation_check.specs.declared.answer.TreeCheck.TheVariants.{Yes}
 use Rattle.refutation_check.specs.Answers.{TellsOfNodes}
 use Rattle.refutation_check.specs.Walks.{IsOn}
 use Rattle.refutation_check.proofs.Checking.{checked_none, checked_walk, checked_right, checked_fault, checked_more, checked_all, refutes_there, refutation_on}
-use Rattle.refutation_check.proofs.Walking.{same_itself, same_twice}
+use Rattle.tree_laws.proofs.Settings.{same_itself, same_twice}
 use Rattle.refutation_check.proofs.refutation.walk_refutation.Goals as goal
 
 pub loop-place-init : goal.loop-place-init

@@ -8,18 +8,18 @@ use Rattle.refutation_check.specs.Judges.{MadeFor}
 use Rattle.refutation_check.proofs.Checking.{told_at_end}
 use Rattle.refutation_check.proofs.single.check_spent.Goals as goal
 
-pub check_spent-requires-clause-told : goal.check_spent-requires-clause-told
-check_spent-requires-clause-told c =
+pub check_spent-told-requires-clause-told : goal.check_spent-told-requires-clause-told
+check_spent-told-requires-clause-told c =
     told_at_end c.in_ok-judge.judge c.args.net.now c.args.rules.now c.end_of.result c.args.path.now c.in_ok-judge.ensures c.end_of.ensures.end
 
 pub returns-clause-tells : goal.returns-clause-tells
 returns-clause-tells c =
-    let P : MadeFor → Type 0 = λ m. IfOk c.check_spent.result
+    let P : MadeFor → Type 0 = λ m. IfOk c.check_spent-told.result
     (TellsOfSpent m.net m.rules (target_of c.args.path.now c.args.dir c.args.kind) c.args.budget c.args.tree.now) in
-    subst P c.in_ok-judge.ensures c.check_spent.ensures.tells
+    subst P c.in_ok-judge.ensures c.check_spent-told.ensures.tells
 
 pub returns-clause-exactly : goal.returns-clause-exactly
 returns-clause-exactly c =
-    let P : MadeFor → Type 0 = λ m. IfOk c.check_spent.result (λ check.
+    let P : MadeFor → Type 0 = λ m. IfOk c.check_spent-told.result (λ check.
     (check ≡ Yes) ↔ IsSpent m.net m.rules (target_of c.args.path.now c.args.dir c.args.kind) c.args.budget c.args.tree.now) in
-    subst P c.in_ok-judge.ensures c.check_spent.ensures.exactly
+    subst P c.in_ok-judge.ensures c.check_spent-told.ensures.exactly

@@ -8,15 +8,15 @@ use Rattle.refutation_check.specs.Judges.{MadeFor}
 use Rattle.refutation_check.proofs.Checking.{told_at_end}
 use Rattle.refutation_check.proofs.single.check_tree.Goals as goal
 
-pub check_tree-requires-clause-told : goal.check_tree-requires-clause-told
-check_tree-requires-clause-told c =
+pub check_tree-told-requires-clause-told : goal.check_tree-told-requires-clause-told
+check_tree-told-requires-clause-told c =
     told_at_end c.in_ok-judge.judge c.args.net.now c.args.rules.now c.end_of.result c.args.prefix.now c.in_ok-judge.ensures c.end_of.ensures.end
 
 pub returns-clause-exactly : goal.returns-clause-exactly
 returns-clause-exactly c =
-    let P : MadeFor → Type 0 = λ m. IfOk c.check_tree.result (λ check.
+    let P : MadeFor → Type 0 = λ m. IfOk c.check_tree-told.result (λ check.
     (check ≡ Yes) ↔ IsRefutation m.net m.rules (target_of c.args.prefix.now c.args.dir c.args.kind) c.args.tree.now) in
-    subst P c.in_ok-judge.ensures c.check_tree.ensures.exactly
+    subst P c.in_ok-judge.ensures c.check_tree-told.ensures.exactly
 
 pub returns-clause-steadied : goal.returns-clause-steadied
 returns-clause-steadied c = λ pair meets.

@@ -16,7 +16,7 @@ use Rattle.refutation_check.specs.Answers.{TellsOfNodes}
 use Rattle.refutation_check.specs.Trials.{asked_target, IsTrialRoomAt}
 use Rattle.refutation_check.specs.Walks.{IsOn}
 use Rattle.refutation_check.proofs.Checking.{checked_none, checked_walk, checked_right, checked_fault, checked_more, checked_all, spends_there, spent_on}
-use Rattle.refutation_check.proofs.Walking.{same_itself, same_twice}
+use Rattle.tree_laws.proofs.Settings.{same_itself, same_twice}
 use Rattle.refutation_check.proofs.spent.walk_spent.Goals as goal
 
 pub loop-place-init : goal.loop-place-init

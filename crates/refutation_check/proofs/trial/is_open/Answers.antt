@@ -5,7 +5,7 @@ use Rattle.netlist.specs.Lawful.{IsCircuit}
 use Rattle.netlist.specs.Paths.{end_of}
 use Rattle.implication.specs.Scopes.{standing}
 use Rattle.tree_laws.proofs.Told.{told_in_fan_in}
-use Rattle.refutation_check.specs.KeptStates.{AreKeptStates}
+use Rattle.refutation_check.specs.TrialStates.{AreTrialStates}
 use Rattle.refutation_check.specs.Trials.{asked_target, AreLeastOf, EachIsTest, NoneIsTest}
 use Rattle.refutation_check.proofs.Trying.{sources_within, least_in_cone, test_not_open, failed_open}
 use Rattle.refutation_check.proofs.trial.is_open.Goals as goal
@@ -49,7 +49,7 @@ returns-then-are_tests-clause-open g c = λ halves at.
 pub returns-clause-room : goal.returns-clause-room
 returns-clause-room g c =
     let now = standing c.args.scope.now in let target = asked_target c.args.asked.now in
-    let K : Circuit → Type 0 = λ n. AreKeptStates n c.are_tests.new.kept in
+    let K : Circuit → Type 0 = λ n. AreTrialStates n c.are_tests.new.kept in
     let N : Circuit → Type 0 = λ n. NoneIsTest n target c.are_tests.new.kept.states.items in
     record {
       made = record { cone = c.requires.room.made.cone; kept = subst K c.net-net.ensures c.are_tests.ensures.kept };

@@ -1,7 +1,8 @@
 -- The state of the source, and then those at the sides of one step after another.
-use Rattle.std.proofs.Common.{◌+◌, drop, get_or, sym, ap₂, subst, ◌∙◌, arith}
+use Rattle.std.proofs.Common.{◌+◌, List, drop, get_or, sym, ap₂, subst, subst₂, ◌∙◌, arith}
 use Rattle.std.proofs.lemmas.Bool.{false≢true}
 use Rattle.pd_base.specs.declared.ids.LineId.{LineId}
+use Rattle.pd_base.specs.declared.ids.PinRef.{PinRef}
 use Rattle.netlist.specs.Conditions.{side_condition}
 use Rattle.netlist.specs.Paths.{end_of}
 use Rattle.netlist.specs.Pins.{IsInFanIn}
@@ -10,7 +11,7 @@ use Rattle.state_sets.specs.Starts.{IsLaunching}
 use Rattle.state_laws.proofs.FanIns.{leads_in_fan_in}
 use Rattle.test_judging.specs.ConeStates.{state_in}
 use Rattle.test_judging.specs.Judged.{StatesPass, IsFailingSide}
-use Rattle.test_judging.proofs.StepStates.{no_step, IsLeftAt, left_in_fan_in, left_in_circuit, left_more, no_test, failing_in_fan_in, sides_meet, launches_if, launching_if}
+use Rattle.test_judging.proofs.StepStates.{no_step, IsLeftAt, left_whole, left_in_fan_in, left_in_circuit, left_more, no_test, failing_in_fan_in, sides_meet, launches_if, launching_if}
 use Rattle.test_judging.proofs.path_states.judge_steps.Goals as goal
 
 pub returns-then-not-launches-clause-within : goal.returns-then-not-launches-clause-within
@@ -28,6 +29,17 @@ returns-then-not-launches-clause-judged c = λ pair has meets.
     false≢true (sym c.if-not-launches.true ∙ c.launches.ensures.1
     (subst (λ (l : LineId). IsLaunching four_states c.args.dir (state_in states l.0)) (sym c.source-2.ensures)
     (launching_if c.args.net.now c.args.kind c.args.path.now states c.requires.prefix pair has c.args.dir meets.launches)))
+
+pub loop-step-init : goal.loop-step-init
+loop-step-init c =
+    let net = c.args.net.now in
+    let path = c.args.path.now in
+    let states = c.args.states.now in
+    subst₂ (λ (l : LineId) (steps : List PinRef). IsLeftAt net c.args.kind path states l.0 steps) (sym c.source-line.ensures)
+    (sym c.steps-step-items.ensures) (left_whole net c.args.kind path states c.requires.prefix)
+
+pub failing_side-requires-clause-pins : goal.failing_side-requires-clause-pins
+failing_side-requires-clause-pins c = λ k d inside. omega (arith, c.pins.ensures.in_circuit k d inside, c.requires.states.places)
 
 pub bounds-states-line : goal.bounds-states-line
 bounds-states-line c =

@@ -19,10 +19,14 @@ loop-room-preserved c =
     let limit : c.loop-room.total + room ≡ 0 + sum (take i rooms) + room = omega (arith, so_far.total) in
     record {
       total = total ∙ sym one ∙ ap sum (sym more);
-      ends = c.in_ok-push.ensures.items ∙ ap₂ (λ ends end. ends ++ end ∷ []) so_far.ends begin
+      ends = c.push_reserved.ensures.items ∙ ap₂ (λ ends end. ends ++ end ∷ []) so_far.ends begin
           ∙ sym (begins_more 0 (take i rooms) room) ∙ ap (begins_of 0) (sym more);
-      limits = c.in_ok-push-2.ensures.items ∙ ap₂ (λ limits limit. limits ++ limit ∷ []) so_far.limits limit
+      limits = c.push_reserved-in-loop-room.ensures.items ∙ ap₂ (λ limits limit. limits ++ limit ∷ []) so_far.limits limit
           ∙ sym (limits_more 0 (take i rooms) room) ∙ ap (limits_of 0) (sym more);
+      end_each = omega (arith, c.push_reserved.ensures.len, so_far.end_each);
+      limit_each = omega (arith, c.push_reserved-in-loop-room.ensures.len, so_far.limit_each);
+      end_room = omega (arith, c.push_reserved.ensures.capacity, so_far.end_room);
+      limit_room = omega (arith, c.push_reserved-in-loop-room.ensures.capacity, so_far.limit_room);
     }
 
 pub invariant_of-result : goal.invariant_of-result

@@ -1,5 +1,5 @@
 -- A gate gets its level: it is on the list, so that it waits for none, and its line's fan-out is that of the netlist.
-use Rattle.std.proofs.Common.{◌≡◌, ◌+◌, ◌<◌, ◌≤◌, [], length, get_or, set, slice_index, ap, refl, sym, subst, ◌∙◌, arith, slice_index_or}
+use Rattle.std.proofs.Common.{◌≡◌, ◌+◌, ◌<◌, ◌≤◌, [], length, get_or, set, slice_index, ap, refl, sym, subst, ◌∙◌, arith, slice_index_or, sum}
 use Rattle.std.proofs.lemmas.List.{get_or_read, with_items_is}
 use Rattle.netlist.specs.Greatest.{greatest}
 use Rattle.net_builder.specs.Progress.{AreReleased, IsProgress, levels_at}
@@ -74,3 +74,16 @@ returns-else-index-eq0-clause-progress c =
     let here = get_or_read self.levels.items (c.args.sources + c.args.gate.0) c.index.result.now
     (own_within _ _ _ _ _ _ c.requires.progress) c.index.ensures 0 in
     passed_over _ _ _ _ _ _ c.requires.progress (λ none. c.if-index-eq0.false (here ∙ none))
+
+pub returns-in_ok-release-clause-less_work : goal.returns-in_ok-release-clause-less_work
+returns-in_ok-release-clause-less_work c =
+    let self = c.args.self.now in
+    let left = c.release.new.waits in
+    let released : AreReleased c.list-then-index-eq0.result.now self.waits.items self.ready.items left c.release.new.ready.items =
+    subst (λ w. AreReleased c.list-then-index-eq0.result.now w self.ready.items left c.release.new.ready.items)
+    c.as_mut_slice.ensures.value c.in_ok-release.ensures in
+    omega (
+      arith,
+      released.less_work,
+      ap sum (with_items_is self.waits left (omega (arith, released.wait_each, self.waits.ok.0))),
+    )

@@ -1,11 +1,128 @@
 -- A conflict at a pin refutes the prefix up to it, and otherwise the search on the scope is one of the whole path.
-use Rattle.std.proofs.Common.{◌≡◌, ℕ, ◌+◌, ◌<◌, ◌≤◌, length, sym, ap, subst, arith}
-use Rattle.netlist.specs.Paths.{prefix_of}
+use Rattle.std.proofs.Common.{◌≡◌, ℕ, ◌+◌, ◌<◌, ◌≤◌, length, sym, ap, subst, ◌∙◌, arith}
+use Rattle.netlist.specs.Circuit.{Circuit}
+use Rattle.netlist.specs.Paths.{IsPrefix, prefix_of}
 use Rattle.implication.specs.Scopes.{standing}
+use Rattle.justify.specs.Desks.{IsDeskFor}
 use Rattle.prefix_sensitize.specs.declared.descent.Ended.{Ended}
 use Rattle.prefix_sensitize.specs.Entering.{HasMovedOn, IsEnded}
-use Rattle.prefix_sensitize.proofs.Descents.{closed_ends, counts_pins, moved_on, moved_to_end, same_twice, search_ends, still_closes}
+use Rattle.prefix_sensitize.proofs.Descents.{closed_ends, counts_pins, has_gone, leads_along, moved_on, moved_to_end, same_restored, same_twice, search_ends, starts_search, still_along, still_closes}
 use Rattle.prefix_sensitize.proofs.descent.Descent.search.Goals as goal
+
+pub go_on-requires-clause-along : goal.go_on-requires-clause-along
+go_on-requires-clause-along g c =
+    let old = standing c.args.scope.now in
+    let along = leads_along old c.args.path.now c.args.aim c.args.self.now c.requires.gone c.requires.path c.requires.told in
+    still_along old (standing c.go_back-shared.new.scope) c.args.path.now c.go_back-shared.ensures.same along
+
+pub go_on-requires-clause-at : goal.go_on-requires-clause-at
+go_on-requires-clause-at g c = c.go_back-shared.ensures.at
+
+pub search_at-requires-clause-prefix : goal.search_at-requires-clause-prefix
+search_at-requires-clause-prefix g c =
+    let old = standing c.args.scope.now in
+    let back = standing c.go_back-shared.new.scope in
+    let last = standing c.go_on.new.scope in
+    let same = same_twice old back last c.go_back-shared.ensures.same c.go_on.ensures.same in
+    let P : Circuit → Type 0 = λ net. IsPrefix net c.args.path.now in
+    subst P (sym same.net) c.requires.path.prefix
+
+pub search_at-requires-clause-start : goal.search_at-requires-clause-start
+search_at-requires-clause-start g c =
+    let path = c.args.path.now in
+    let old = standing c.args.scope.now in
+    let back = standing c.go_back-shared.new.scope in
+    let last = standing c.go_on.new.scope in
+    let kept = c.in_ok-kept.kept in
+    let long = ap length c.steps.ensures in
+    let all : length path.steps ≤ kept = omega (arith, long, c.if-kept-steps.false) in
+    starts_search old path c.args.aim c.args.self.now c.requires.gone last
+    (same_twice old back last c.go_back-shared.ensures.same c.go_on.ensures.same) c.go_on.new.self kept c.in_ok-kept.ensures.at all
+
+pub search_at-requires-clause-desk : goal.search_at-requires-clause-desk
+search_at-requires-clause-desk g c =
+    let old = standing c.args.scope.now in
+    let back = standing c.go_back-shared.new.scope in
+    let last = standing c.go_on.new.scope in
+    let same = same_twice old back last c.go_back-shared.ensures.same c.go_on.ensures.same in
+    let P : Circuit → Type 0 = λ net. IsDeskFor net c.args.desk.now in
+    subst P (sym same.net) c.requires.desk
+
+pub returns-in_err-kept-clause-same : goal.returns-in_err-kept-clause-same
+returns-in_err-kept-clause-same g c =
+    same_twice (standing c.args.scope.now) (standing c.go_back-shared.new.scope) (standing c.go_on.new.scope)
+    c.go_back-shared.ensures.same c.go_on.ensures.same
+
+pub returns-in_err-tree-clause-same : goal.returns-in_err-tree-clause-same
+returns-in_err-tree-clause-same g c =
+    same_twice (standing c.args.scope.now) (standing c.go_back-shared.new.scope) (standing c.go_on.new.scope)
+    c.go_back-shared.ensures.same c.go_on.ensures.same
+
+pub returns-then-kept-steps-clause-same : goal.returns-then-kept-steps-clause-same
+returns-then-kept-steps-clause-same g c =
+    same_twice (standing c.args.scope.now) (standing c.go_back-shared.new.scope) (standing c.go_on.new.scope)
+    c.go_back-shared.ensures.same c.go_on.ensures.same
+
+pub returns-then-kept-steps-clause-gone : goal.returns-then-kept-steps-clause-gone
+returns-then-kept-steps-clause-gone g c =
+    let old = standing c.args.scope.now in
+    let back = standing c.go_back-shared.new.scope in
+    let last = standing c.go_on.new.scope in
+    has_gone old c.args.path.now c.args.aim c.args.self.now c.requires.gone last
+    (same_twice old back last c.go_back-shared.ensures.same c.go_on.ensures.same) c.go_on.new.self c.in_ok-kept.kept
+    c.in_ok-kept.ensures.at
+
+pub returns-in_err-found-clause-same : goal.returns-in_err-found-clause-same
+returns-in_err-found-clause-same g c =
+    let old = standing c.args.scope.now in
+    let back = standing c.go_back-shared.new.scope in
+    let last = standing c.go_on.new.scope in
+    let end = standing c.search_at.new.scope in
+    same_twice old last end (same_twice old back last c.go_back-shared.ensures.same c.go_on.ensures.same)
+    (same_restored last end c.search_at.ensures.restored)
+
+pub returns-in_err-found-clause-desk : goal.returns-in_err-found-clause-desk
+returns-in_err-found-clause-desk g c =
+    let old = standing c.args.scope.now in
+    let back = standing c.go_back-shared.new.scope in
+    let last = standing c.go_on.new.scope in
+    let same = same_twice old back last c.go_back-shared.ensures.same c.go_on.ensures.same in
+    let P : Circuit → Type 0 = λ net. IsDeskFor net c.search_at.new.desk in
+    subst P same.net c.search_at.ensures.desk
+
+pub returns-clause-same : goal.returns-clause-same
+returns-clause-same g c =
+    let old = standing c.args.scope.now in
+    let back = standing c.go_back-shared.new.scope in
+    let last = standing c.go_on.new.scope in
+    let end = standing c.search_at.new.scope in
+    same_twice old last end (same_twice old back last c.go_back-shared.ensures.same c.go_on.ensures.same)
+    (same_restored last end c.search_at.ensures.restored)
+
+pub returns-clause-desk : goal.returns-clause-desk
+returns-clause-desk g c =
+    let old = standing c.args.scope.now in
+    let back = standing c.go_back-shared.new.scope in
+    let last = standing c.go_on.new.scope in
+    let same = same_twice old back last c.go_back-shared.ensures.same c.go_on.ensures.same in
+    let P : Circuit → Type 0 = λ net. IsDeskFor net c.search_at.new.desk in
+    subst P same.net c.search_at.ensures.desk
+
+pub returns-clause-gone : goal.returns-clause-gone
+returns-clause-gone g c =
+    let old = standing c.args.scope.now in
+    let back = standing c.go_back-shared.new.scope in
+    let last = standing c.go_on.new.scope in
+    let restored = c.search_at.ensures.restored in
+    let gone =
+    has_gone old c.args.path.now c.args.aim c.args.self.now c.requires.gone last
+    (same_twice old back last c.go_back-shared.ensures.same c.go_on.ensures.same) c.go_on.new.self c.in_ok-kept.kept
+    c.in_ok-kept.ensures.at in
+    record {
+      beginning = restored.beginning ∙ gone.beginning;
+      entered = restored.assumptions ∙ gone.entered;
+      free = restored.conflict ∙ gone.free;
+    }
 
 pub returns-then-kept-steps-clause-ended : goal.returns-then-kept-steps-clause-ended
 returns-then-kept-steps-clause-ended g c =

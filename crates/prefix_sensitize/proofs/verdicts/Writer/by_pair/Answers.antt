@@ -28,6 +28,16 @@ cite-requires-clause-found g c =
     let numbers = writer.numbers in
     omega arith
 
+pub returns-then-is_robust-clause-writer : goal.returns-then-is_robust-clause-writer
+returns-then-is_robust-clause-writer g c =
+    let writer = c.requires.0.is_writer in
+    record { judge = c.is_robust.ensures.judge; found = writer.found; numbers = writer.numbers }
+
+pub returns-clause-writer : goal.returns-clause-writer
+returns-clause-writer g c =
+    let writer = c.requires.0.is_writer in
+    record { judge = c.is_robust.ensures.judge; found = writer.found; numbers = c.cite.ensures.found ∙ writer.numbers }
+
 pub returns-then-is_robust-clause-answered : goal.returns-then-is_robust-clause-answered
 returns-then-is_robust-clause-answered g c =
     let asked = c.requires.0 in

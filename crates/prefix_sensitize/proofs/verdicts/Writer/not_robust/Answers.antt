@@ -1,12 +1,38 @@
 -- The proof of each search is among those that were found, and each verdict has what it asks for.
-use Rattle.std.proofs.Common.{◌-◌, subst}
+use Rattle.std.proofs.Common.{◌-◌, subst, ◌∙◌, arith}
 use Rattle.pd_base.specs.Target.{target_of}
 use Rattle.pd_base.specs.declared.fault.Kind.TheVariants.{Robust, Nonrobust}
 use Rattle.prefix_sensitize.specs.declared.outcome.Outcome.{Outcome}
 use Rattle.prefix_sensitize.specs.Answers.{written_by}
 use Rattle.prefix_sensitize.specs.Outcomes.{IsOutcome}
-use Rattle.prefix_sensitize.proofs.Answered.{aborted_answers, outcome_proof, read_proof, untestable_answers}
+use Rattle.prefix_sensitize.proofs.Answered.{aborted_answers, outcome_proof, proof_within, read_proof, untestable_answers}
 use Rattle.prefix_sensitize.proofs.verdicts.Writer.not_robust.Goals as goal
+
+pub by_pair-requires : goal.by_pair-requires
+by_pair-requires g c =
+    let nonrobust = target_of c.args.path.now c.args.dir Nonrobust in
+    let P : Outcome → Type 0 = λ outcome. IsOutcome c.args.net.now g.searches.routes g.searches.proofs (c.args.number - 1) nonrobust outcome in
+    (c.requires.0, (c.requires.1.0, subst P c.in-Tested.is c.requires.1.1))
+
+pub cite-requires-clause-found : goal.cite-requires-clause-found
+cite-requires-clause-found g c =
+    let within = proof_within g.searches c.args.number (target_of c.args.path.now c.args.dir Robust) c.args.proof c.requires.1.0 in
+    let numbers = c.requires.0.is_writer.numbers in
+    omega (arith, within, numbers)
+
+pub returns-in_ok-nonrobust-in-Proved-clause-writer : goal.returns-in_ok-nonrobust-in-Proved-clause-writer
+returns-in_ok-nonrobust-in-Proved-clause-writer g c =
+    let writer = c.requires.0.is_writer in
+    record {
+      judge = writer.judge;
+      found = writer.found;
+      numbers = c.cite-then-index.ensures.found ∙ c.cite.ensures.found ∙ writer.numbers;
+    }
+
+pub returns-in_ok-proof-in-Proved-clause-writer : goal.returns-in_ok-proof-in-Proved-clause-writer
+returns-in_ok-proof-in-Proved-clause-writer g c =
+    let writer = c.requires.0.is_writer in
+    record { judge = writer.judge; found = writer.found; numbers = c.cite-else-index.ensures.found ∙ writer.numbers }
 
 pub returns-in_ok-nonrobust-in-Proved-clause-answered : goal.returns-in_ok-nonrobust-in-Proved-clause-answered
 returns-in_ok-nonrobust-in-Proved-clause-answered g c =

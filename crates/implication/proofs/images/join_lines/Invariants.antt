@@ -1,6 +1,0 @@
--- The lines so far are joined.
-use Rattle.implication.proofs.Joining.{AreJoined}
-use Rattle.implication.proofs.images.join_lines.Given as goal
-
-abbrev pub invariant-loop-line : goal.invariant-loop-line
-invariant-loop-line g l = AreJoined g.A.Algebra.algebra l.fn.op l.labels l.lines l.line-index l.joined

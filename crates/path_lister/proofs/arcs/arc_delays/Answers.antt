@@ -1,7 +1,0 @@
--- The delay of one pin more is listed.
-use Rattle.std.proofs.Common.{arith}
-use Rattle.std.proofs.lemmas.Grind.{common_steps}
-use Rattle.path_lister.proofs.arcs.arc_delays.Goals as goal
-
-pub loop-pin-preserved : goal.loop-pin-preserved
-loop-pin-preserved c = grind (arith, common_steps)

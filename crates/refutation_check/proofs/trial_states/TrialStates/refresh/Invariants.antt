@@ -1,0 +1,12 @@
+use Rattle.std.proofs.Common.{◌≡◌, false, take}
+use Rattle.std.specs.List.{All}
+use Rattle.refutation_check.specs.TrialStates.{is_stale, AreTrialStates, KeepsSources}
+use Rattle.refutation_check.proofs.trial_states.TrialStates.refresh.Given as goal
+
+-- the gates before this one are not stale
+abbrev pub invariant-loop-gate : goal.invariant-loop-gate
+invariant-loop-gate l = record {
+  kept : AreTrialStates l.net l.self;
+  fresh : All (λ gate. is_stale l.self gate.0 ≡ false) (take l.gate-index l.gates);
+  sources : KeepsSources l.net l.initial.self l.self;
+}

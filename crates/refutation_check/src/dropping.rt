@@ -1,0 +1,7 @@
+// Where an engine is dropped. What that takes is long to prove, and each function that drops one would prove it anew: so those that make
+// one hand it over at their end.
+use implication::{Engine, RuledNetlist};
+use state_sets::FourStates;
+
+// Drops an engine.
+pub(crate) fn drop_engine(_engine: Engine<FourStates, RuledNetlist<'_>>) {}
