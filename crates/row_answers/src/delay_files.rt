@@ -61,9 +61,9 @@ fn add_delays(net: &Netlist, delays: &Delays, gate: GateId, answer: &mut Text)
     requires gate { gate.0 < gate_count net.now }
 {
     for pin in 0..net.pins(gate).len() {
-        if let Ok(pin) = u32::try_from(pin) {
-            let pin = PinRef { gate, pin };
-            answer.add_number(" ", delays.delay(net, pin) as u64);
+        match u32::try_from(pin) {
+            Ok(pin) => answer.add_number(" ", delays.delay(net, PinRef { gate, pin }) as u64),
+            Err(_) => answer.add(" no pin"),
         }
     }
     answer.add("\n");

@@ -73,6 +73,9 @@ pub fn add_labels(net: &Netlist, labels: &[StateSet], answer: &mut Text) {
             add_states(*label, answer);
         }
     }
+    if labels.len() as u64 > net.lines() as u64 {
+        answer.add("  more labels than lines\n");
+    }
 }
 
 // The numbers of the states of a set.

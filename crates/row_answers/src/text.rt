@@ -26,7 +26,7 @@ impl Text {
         }
     }
 
-    /// Begins again with no text.
+    /// Begins again with no text. What went wrong stays.
     pub fn clear(&mut self) {
         self.text.clear();
     }
@@ -96,13 +96,13 @@ impl Text {
     /// Adds a text as a row shows it, in one line: LF by its sign.
     pub fn add_shown(&mut self, bytes: &[u8]) {
         match str::from_utf8(bytes) {
-            Ok(text) => self.add_in_one_line(text),
+            Ok(text) => self.add_with_signs(text),
             Err(_) => self.trouble = Some(Trouble::NoText),
         }
     }
 
-    // The same of a text.
-    fn add_in_one_line(&mut self, text: &str) {
+    // Adds the letters of a text, LF by its sign.
+    fn add_with_signs(&mut self, text: &str) {
         for letter in text.chars() {
             if letter == '\n' {
                 self.add("\\n");

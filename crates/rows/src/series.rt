@@ -1,6 +1,7 @@
 // Calls in a series: with a file that is cut behind one byte after another, with one line after another that stands twice, and with one
 // call of the outside after another that fails. What came of each stands in one line; where the same came of calls that follow one
-// another, it is told once.
+// another, it is told once. Each function holds one value that has to be dropped where the next call fails, so a series is handed down
+// from function to function.
 use crate::answer_lines::add_in_one_line;
 use crate::outside::Outside;
 use crate::row::Object;

@@ -10,7 +10,7 @@ pub(crate) struct Wanted<'a> {
     /// The path.
     pub(crate) path: &'a Path,
     /// The rules for pairs, the transition at its source, and the kind of test.
-    pub(crate) fault: RuledFault,
+    pub(crate) ruled: RuledFault,
     /// The most splits.
     pub(crate) budget: u32,
 }

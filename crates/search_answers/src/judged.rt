@@ -35,7 +35,7 @@ fn is_refutation(
 ) -> Result<bool, OutOfMemory>
     requires { IsPath net.now wanted.now.path.now }
 {
-    let told = judged(alloc, net, wanted.path, wanted.fault, tree)?;
+    let told = judged(alloc, net, wanted.path, wanted.ruled, tree)?;
     Ok(tree.splits() <= wanted.budget && matches!(told, TreeCheck::Yes))
 }
 
@@ -44,6 +44,6 @@ fn is_spent(alloc: Global, net: &Netlist, wanted: &Wanted, tree: &Tree) -> Resul
     requires { IsPath net.now wanted.now.path.now }
 {
     let budget = wanted.budget;
-    let told = judged_spent(alloc, net, wanted.path, wanted.fault, budget, tree)?;
+    let told = judged_spent(alloc, net, wanted.path, wanted.ruled, budget, tree)?;
     Ok(tree.splits() == budget && matches!(told, TreeCheck::Yes))
 }

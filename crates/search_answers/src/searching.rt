@@ -27,13 +27,12 @@ pub fn searched(
     row: &str,
     answer: &mut Text,
 ) -> Result<(), Trouble> {
-    let (fault, budget) = ruled_fault_of(row)?;
+    let (ruled, budget) = ruled_fault_of(row)?;
     let budget = number_of(budget)?;
     let path = path(alloc, net, route)?;
-    let path = &path;
     let wanted = Wanted {
-        path,
-        fault,
+        path: &path,
+        ruled,
         budget,
     };
     add_search(alloc, net, &wanted, answer)
@@ -80,7 +79,7 @@ fn search_for(alloc: Global, net: &Netlist, wanted: &Wanted) -> Result<Came, Tro
 fn search_at(alloc: Global, net: &Netlist, wanted: &Wanted, marks: &[bool]) -> Result<Came, Trouble>
     requires { IsPath net.now wanted.now.path.now }
 {
-    let rules = wanted.fault.rules;
+    let rules = wanted.ruled.rules;
     let mut engine = Engine::<FourStates, RuledNetlist>::new(alloc, RuledNetlist { net, rules })?;
     search_on(alloc, &mut engine, wanted, marks)
 }
@@ -98,7 +97,7 @@ fn search_on<S: Setting>(
     requires told { AreMarkedTold engine.old marks.now }
 {
     let path = wanted.path;
-    let Fault { direction, kind } = wanted.fault.fault;
+    let Fault { direction, kind } = wanted.ruled.fault;
     let mut scope = Scope::begin(engine, path.source(), direction, kind);
     if !enter_all(&mut scope, path.steps(), marks) {
         return Err(Trouble::NoRow);
@@ -113,7 +112,8 @@ fn search_in<S: Setting>(
     wanted: &Wanted,
 ) -> Result<Came, Trouble>
     requires path { IsPrefix (standing scope.old).net wanted.now.path.now }
-    requires start { IsStart (target_of wanted.now.path.now wanted.now.fault.fault.direction wanted.now.fault.fault.kind) (standing scope.old) }
+    requires start { IsStart (target_of wanted.now.path.now wanted.now.ruled.fault.direction wanted.now.ruled.fault.kind)
+        (standing scope.old) }
 {
     let labels = Vec::from_slice(alloc, scope.labels())?;
     search_beside(alloc, scope, wanted, labels.as_slice())
@@ -127,7 +127,8 @@ fn search_beside<S: Setting>(
     labels: &[StateSet],
 ) -> Result<Came, Trouble>
     requires path { IsPrefix (standing scope.old).net wanted.now.path.now }
-    requires start { IsStart (target_of wanted.now.path.now wanted.now.fault.fault.direction wanted.now.fault.fault.kind) (standing scope.old) }
+    requires start { IsStart (target_of wanted.now.path.now wanted.now.ruled.fault.direction wanted.now.ruled.fault.kind)
+        (standing scope.old) }
 {
     let mark = scope.mark();
     let closings = scope.closings();
@@ -146,13 +147,14 @@ fn find<S: Setting>(
     wanted: &Wanted,
 ) -> Result<Found, Trouble>
     requires path { IsPrefix (standing scope.old).net wanted.now.path.now }
-    requires start { IsStart (target_of wanted.now.path.now wanted.now.fault.fault.direction wanted.now.fault.fault.kind) (standing scope.old) }
+    requires start { IsStart (target_of wanted.now.path.now wanted.now.ruled.fault.direction wanted.now.ruled.fault.kind)
+        (standing scope.old) }
 {
     let budget = wanted.budget;
     if budget == 0 || budget > MOST_BUDGET {
         return Err(Trouble::NoRow);
     }
-    let Fault { direction, kind } = wanted.fault.fault;
+    let Fault { direction, kind } = wanted.ruled.fault;
     Ok(search(alloc, scope, wanted.path, direction, kind, budget)?)
 }
 

@@ -9,8 +9,8 @@ use undo_trail::Trail;
 // The most writes of a row.
 const ROOM: usize = 8;
 
-/// Adds what a list has when its writes were undone down to a mark, and how many are still noted. The row: its values, the writes before the
-/// mark, and those behind it, each a place, an equals sign and a value; bars between the three.
+/// Adds what a list has when its writes were undone down to a mark, and how many are still noted. The row: its values, the writes before
+/// the mark, and those behind it, each a place, an equals sign and a value; bars between the three.
 pub fn undone(alloc: Global, row: &str, answer: &mut Text) -> Result<(), Trouble> {
     let (values, writes) = row.split_once('|').ok_or(Trouble::NoRow)?;
     let (before, since) = writes.split_once('|').ok_or(Trouble::NoRow)?;
