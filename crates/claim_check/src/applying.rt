@@ -42,7 +42,7 @@ fn least_by_rows(
 {
     let mut least = Vec::with_capacity(alloc, rows)?;
     for row in 0..rows {
-        least.push(least_mark(prefixes.nodes(row), marks))?;
+        least.push_reserved(least_mark(prefixes.nodes(row), marks));
     }
     Ok(least)
 }
@@ -59,9 +59,16 @@ fn marks_of(
     requires nodes { All (HasItsNode prefixes.now) proofs.now }
     ensures { IfOk result (λ marks. AreLeastMarks prefixes.now proofs.now kind dir marks.items) }
 {
-    let mut marks = vec![in alloc; None; prefixes.count() as usize]?;
+    let mut marks = no_numbers(alloc, prefixes.count() as usize)?;
     mark_refutations(prefixes, proofs, dir, kind, marks.as_mut_slice());
     Ok(marks)
+}
+
+// No number, so many times.
+pub(crate) fn no_numbers(alloc: Global, count: usize) -> Result<Vec<Option<u32>>, OutOfMemory>
+    ensures { IfOk result (λ none. none.items ≡ replicate count None) }
+{
+    Ok(vec![in alloc; None; count]?)
 }
 
 // Marks the nodes, none of which is marked.

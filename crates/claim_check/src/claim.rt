@@ -1,7 +1,7 @@
 // What is claimed of a run: that it is good, or its first flaw.
 
 /// What is wrong at an item of a run.
-#[derive(Clone, Copy, Debug, PartialEq, Eq)]
+#[derive(Clone, Copy)]
 pub enum Reason {
     /// The number of listed paths (item 1), of tests (item 2) or of proofs (item 3) is not the one that is due.
     WrongCount,
@@ -22,7 +22,7 @@ pub enum Reason {
 }
 
 /// What a check of a run comes to.
-#[derive(Clone, Copy, Debug, PartialEq, Eq)]
+#[derive(Clone, Copy)]
 pub enum Claim {
     /// The run is good.
     Holds,

@@ -132,9 +132,9 @@ fn nodes_of(
     ensures nodes { IfOk result (λ nodes. AreNodesOf prefixes.new.keys path.now nodes.items) }
     ensures put { IfOk result (λ nodes. ArePut prefixes.old.keys prefixes.new.keys nodes.items) }
 {
-    let mut nodes = Vec::with_capacity(alloc, path.steps().len())?;
+    let mut nodes = Vec::with_capacity(alloc, path.steps().len() + 1)?;
     let mut node = node_of(prefixes, Prefix::Source(path.source()))?;
-    nodes.push(node)?;
+    nodes.push_reserved(node);
     for pin in path.steps() {
         node = node_of(
             prefixes,
@@ -143,7 +143,7 @@ fn nodes_of(
                 pin: *pin,
             },
         )?;
-        nodes.push(node)?;
+        nodes.push_reserved(node);
     }
     Ok(nodes)
 }

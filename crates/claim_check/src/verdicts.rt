@@ -1,5 +1,5 @@
 // The verdicts of a run, fault by fault in the order of the report.
-ghost use Rattle.std.specs.Prelude.{◌≡◌, ◌<◌, ◌^◌, ◌≤◌, [], None, Some, All, IfOk, length, replicate, slice_get};
+ghost use Rattle.std.specs.Prelude.{◌≡◌, ◌<◌, ◌^◌, ◌≤◌, [], Some, All, IfOk, length, slice_get};
 ghost use Rattle.pd_base.specs.declared.limits.TheConstants.{MOST_PATHS};
 ghost use Rattle.pd_base.specs.Target.{target_of};
 ghost use Rattle.pd_base.specs.declared.fault.Direction.{Direction};
@@ -11,7 +11,7 @@ ghost use Rattle.claim_check.specs.Flaws.{TellsOfItem, TellsOfItems};
 ghost use Rattle.claim_check.specs.Prefixes.{AreTreeNodes, IsLeastRefutation, NamesPrefix};
 ghost use Rattle.claim_check.specs.Right.{IsRightFaultAt, IsRightVerdict};
 
-use crate::applying::least_refutations;
+use crate::applying::{least_refutations, no_numbers};
 use crate::citing::shares_proofs;
 use crate::claim::{Flaw, Reason};
 use crate::fault::Fault;
@@ -56,8 +56,7 @@ pub(crate) fn wrong_verdict(
 {
     let rises = least_of(alloc, run, paths, prefixes, Direction::Rise)?;
     let falls = least_of(alloc, run, paths, prefixes, Direction::Fall)?;
-    let mut judge = judge_for(alloc, net, run.tests.as_slice())?;
-    Ok(first_wrong(net, run, paths, &rises, &falls, &mut judge))
+    wrong_against(alloc, net, run, paths, &rises, &falls)
 }
 
 // The same of a run without proofs, of which no refutation applies to a path.
@@ -75,8 +74,28 @@ pub(crate) fn wrong_without_proofs(
     ensures { IfOk result (TellsOfItems (IsRightFaultAt net.now run.now)) }
 {
     let least = no_refutations(alloc, run)?;
+    wrong_against(alloc, net, run, paths, &least, &least)
+}
+
+// The same, where these are the refutations of the least numbers.
+fn wrong_against(
+    alloc: Global,
+    net: &Netlist,
+    run: &Run,
+    paths: &[Path],
+    rises: &Least,
+    falls: &Least,
+) -> Result<Option<Flaw>, OutOfMemory>
+    requires routes { paths.now ≡ routes_of run.now }
+    requires paths { All (IsPath net.now) paths.now }
+    requires few { length paths.now ≤ MOST_PATHS }
+    requires lawful { AreLawfulTests net.now run.now.tests }
+    requires rises { AreLeastFor run.now Direction.Rise rises.now }
+    requires falls { AreLeastFor run.now Direction.Fall falls.now }
+    ensures { IfOk result (TellsOfItems (IsRightFaultAt net.now run.now)) }
+{
     let mut judge = judge_for(alloc, net, run.tests.as_slice())?;
-    Ok(first_wrong(net, run, paths, &least, &least, &mut judge))
+    Ok(first_wrong(net, run, paths, rises, falls, &mut judge))
 }
 
 // No refutation for any listed path, where there are no proofs.
@@ -89,13 +108,6 @@ fn no_refutations(alloc: Global, run: &Run) -> Result<Least, OutOfMemory>
         robust: no_numbers(alloc, count)?,
         nonrobust: no_numbers(alloc, count)?,
     })
-}
-
-// No number, so many times.
-fn no_numbers(alloc: Global, count: usize) -> Result<Vec<Option<u32>>, OutOfMemory>
-    ensures { IfOk result (λ none. none.items ≡ replicate count None) }
-{
-    Ok(vec![in alloc; None; count]?)
 }
 
 // The refutations of the least numbers for a direction.

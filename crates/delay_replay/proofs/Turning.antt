@@ -147,6 +147,42 @@ at_later_change before times change time later =
     to_come : (change : ℤ) → time <ℤ change → int_le change time ≡ false
     to_come change later = grind (arith, ints)
 
+-- values that are told apart differ
+pub apart : (a b : Bool) → not (beq a b) ≡ true → a ≢ b
+apart true true is same = cc
+apart true false is same = cc
+apart false true is same = cc
+apart false false is same = cc
+
+-- and others are the same
+pub alike : (a b : Bool) → not (beq a b) ≡ false → a ≡ b
+alike true true is = refl
+alike true false is = cc
+alike false true is = cc
+alike false false is = refl
+
+-- a wave that has the value behind its changes has it from then on
+pub turned_by_none : (old : Changes) (time : ℤ) (value : Bool) → AreTimesRising old.times
+    → All (λ change. change <ℤ time) old.times
+    → ((other : ℤ) → All (λ change. change ≤ℤ other) old.times → wave_at old other ≡ value)
+    → IsTurned old old time value
+turned_by_none old time value rising earlier at_end = record {
+  rising = rising;
+  within = before time itself;
+  until = λ other less. refl;
+  from = λ other come. at_end other (before other come);
+  few = λ few. few;
+}
+  where
+    itself : time ≤ℤ time
+    itself = omega (arith, ints)
+
+    through : (a other : ℤ) → a <ℤ time → time ≤ℤ other → a ≤ℤ other
+    through a other e f = omega (arith, ints)
+
+    before : (other : ℤ) → time ≤ℤ other → All (λ change. change ≤ℤ other) old.times
+    before other come k d within = through (get_or old.times k d) other (earlier k d within) come
+
 -- a change behind all others turns the value from its time on
 pub turned_by_change : (old : Changes) (time : ℤ) (value latest : Bool) → AreTimesRising old.times
     → All (λ change. change <ℤ time) old.times
@@ -161,16 +197,10 @@ turned_by_change old time value latest rising earlier at_end differs room = reco
       ∙ ap (λ n. not (beq old.before (is_odd n))) (length-append old.times (time ∷ []) ∙ add-one (length old.times))
       ∙ ap (λ odd. not (beq old.before odd)) (odd_suc (length old.times))
       ∙ swapped old.before (is_odd (length old.times)) value
-      (λ same. told latest value differs (sym (at_end other (all_before other come)) ∙ at_latest old other (all_before other come) ∙ same));
+      (λ same. apart latest value differs (sym (at_end other (all_before other come)) ∙ at_latest old other (all_before other come) ∙ same));
   few = λ few. omega (arith, length-append old.times (time ∷ []));
 }
   where
-    told : (a b : Bool) → not (beq a b) ≡ true → a ≢ b
-    told true true is same = cc
-    told true false is same = cc
-    told false true is same = cc
-    told false false is same = cc
-
     itself : time ≤ℤ time
     itself = omega (arith, ints)
 

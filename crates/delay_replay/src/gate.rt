@@ -18,7 +18,7 @@ use std::alloc::{AllocFailed, Global};
 pub const MOST_CHANGES: usize = 65_536;
 
 /// Why a gate's wave was not made.
-#[derive(Clone, Copy, Debug, PartialEq, Eq, Drop)]
+#[derive(Clone, Copy, Drop)]
 pub enum WaveFault {
     /// The wave changes more than `MOST_CHANGES` times.
     TooMany,

@@ -22,7 +22,7 @@ use std::alloc::Global;
 pub const MOST_CHANGES_OF_ALL: usize = 16_777_216;
 
 /// Why a replay was not made.
-#[derive(Clone, Copy, Debug, PartialEq, Eq, Drop)]
+#[derive(Clone, Copy, Drop)]
 pub enum ReplayFault {
     /// The first line in rank order whose wave has more than `MOST_CHANGES` changes, or with which the lines up to it have more
     /// than `MOST_CHANGES_OF_ALL` together.
@@ -85,7 +85,7 @@ fn source_waves(alloc: Global, net: &Netlist, pair: &Pair) -> Result<Vec<Wave>, 
     let second = pair.second();
     let mut waves = Vec::with_capacity(alloc, net.lines() as usize)?;
     for source in 0..first.len() {
-        waves.push(source_wave(alloc, first[source], second[source])?)?;
+        waves.push_reserved(source_wave(alloc, first[source], second[source])?);
     }
     Ok(waves)
 }

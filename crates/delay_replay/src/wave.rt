@@ -107,7 +107,7 @@ pub fn pin_copy(alloc: Global, wave: &Wave, delay: u32) -> Result<Wave, OutOfMem
 {
     let mut times = Vec::with_capacity(alloc, wave.times.len())?;
     for change in &wave.times {
-        times.push(later(*change, delay))?;
+        times.push_reserved(later(*change, delay));
     }
     Ok(Wave {
         before: wave.before,

@@ -167,7 +167,8 @@ impl<A: Algebra> Board<A> {
         self.cut_in(net, line, to, None)
     }
 
-    // The same in the narrowing of a gate, which is passed by if it is given.
+    // The same in the narrowing of a gate, which is passed by if it is given. Most cuts take no states, and that is seen without a call.
+    #[inline(always)]
     pub(crate) fn cut_in(
         &mut self,
         net: &Netlist,
@@ -188,7 +189,8 @@ impl<A: Algebra> Board<A> {
         self.take_states(net, line, to, passed)
     }
 
-    // The same where that takes states. Most cuts take none, and that is seen before this is called.
+    // The same where that takes states: a call, so that `cut_in` is small.
+    #[inline(never)]
     fn take_states(
         &mut self,
         net: &Netlist,

@@ -41,6 +41,7 @@ pub(crate) fn keep_at_one<A: Algebra>(
 }
 
 // Leaves in `kept` the states that allowed choices have at the two pins, and gives those that they give at the gate's line.
+#[inline(always)]
 pub(crate) fn keep_at_two<A: Algebra>(
     gate: &GateView,
     condition: Option<Condition>,
@@ -60,6 +61,7 @@ pub(crate) fn keep_at_two<A: Algebra>(
 }
 
 // The same without a condition.
+#[inline(always)]
 fn two_freely<A: Algebra>(gate: &GateView, kept: &mut [StateSet]) -> StateSet
     requires lines { All (λ line. line.0 < length gate.now.labels.now) gate.now.pins.now }
     requires two { length gate.now.pins.now ≡ 2 }

@@ -1,4 +1,5 @@
-// Narrowing at one gate: all kept sets are collected from the labels as they are, and only then are labels cut.
+// Narrowing at one gate: all kept sets are collected from the labels as they are, and only then are labels cut. Most gates have two pins
+// and no condition: what leads to them is inlined, so that no call is made for them where narrowing runs in a loop.
 ghost use Rattle.std.specs.Prelude.{◌≡◌, ◌<◌, ◌≤◌, ℕ, length, All, IfSome};
 ghost use Rattle.netlist.specs.declared.limits.TheConstants.{MOST_FAN_IN};
 ghost use Rattle.netlist.specs.Circuit.{gate_count, line_count, pins_at};
@@ -67,6 +68,7 @@ fn narrow_sets<A: Algebra>(
 
 /// The states that narrowing at a gate keeps, with no label written: those at each pin stand in the scratch, and those at the gate's
 /// line are given. With a condition, its pin is the on-path pin of the gate, and its kind is that of the test. Takes no memory.
+#[inline(always)]
 pub fn kept_at<A: Algebra>(
     net: &Netlist,
     labels: &[StateSet],
@@ -92,6 +94,7 @@ pub fn kept_at<A: Algebra>(
 }
 
 // The same of what is seen at a gate.
+#[inline(always)]
 fn keep<A: Algebra>(
     gate: &GateView,
     condition: Option<Condition>,

@@ -1,4 +1,4 @@
--- Lines that are sorted with their levels stand by level.
+-- Whether lines stand by level, seen by one pass over them; and lines that were listed with their levels and sorted so stand by level.
 use Rattle.std.proofs.Common.{◌≡◌, ◌⊎◌, inl, inr, ⊎_elim, Ordering, Less, Equal, Greater, true≢false, ℕ, ◌+◌, ◌<◌, ◌≤◌, eqb, ltb, cond, false, List, [], ◌∷◌, ◌++◌, length, map, take, get_or, refl, sym, ap, subst, ◌∙◌, arith}
 use Rattle.std.specs.Cmp.{IsStrictWeakOrder}
 use Rattle.std.specs.List.{All}

@@ -33,12 +33,13 @@ use state_sets::{Algebra, StateSet, every_state};
 use std::alloc::Global;
 use std::marker::Model;
 
-// The idle labels of a board, and the lines reached from the source of the scope that is open.
+// The idle labels of a board, and the lines that the scope that is open began forward.
 #[derive(Drop)]
 pub(crate) struct IdleLabels {
     labels: Vec<StateSet>,
+    // In the order in which the transition reaches them; none where no scope is open, or where its beginning cut labels.
     reached: ReachedLines,
-    // The lines reached by level, each with its level.
+    // Room to list them by level, each with its level, where they were not reached so.
     ranked: Vec<(u32, LineId)>,
 }
 
@@ -271,7 +272,8 @@ fn begin_lines<A: Algebra>(
     }
 }
 
-// The same where each line comes with its level.
+// The same of a list of lines with their levels. It is a loop of its own, since the lines are not put back into their list by level:
+// hints read that in the order in which the transition reaches them.
 fn begin_ranked<A: Algebra>(
     net: &Netlist,
     ranked: &[(u32, LineId)],

@@ -29,10 +29,6 @@ use Rattle.justify.specs.Tasks.{task_target}
 use Rattle.justify.specs.Tests.{IsFitTest}
 use Rattle.tree_laws.proofs.ScopeLabels.{there_too}
 
--- what holds of no value
-pub at_none : {T : Type 0} {X : Type 0} (value : Option T) → value ≡ None → IfNone value X → X
-at_none {T} {X} value none holds = let P : Option T → Type 0 = λ v. IfNone v X in subst P none holds
-
 -- one conflict more was counted
 pub counted_more : (n : ℕ) (first middle last : Standing) → HasCounted n first middle → risen middle.closings ≤ last.closings
     → HasCounted (n + 1) first last

@@ -1,17 +1,15 @@
 -- What a scope answers for a source is its set in the hull; and how conflicts are counted.
-use Rattle.std.proofs.Common.{◌≡◌, ℕ, ◌+◌, ◌-◌, ◌<◌, ◌≤◌, ◌^◌, ⊎_elim, List, Some, IsSome, sym, ◌∙◌, ap, subst, arith}
+use Rattle.std.proofs.Common.{◌≡◌, ℕ, ◌+◌, ◌-◌, ◌<◌, ◌≤◌, ◌^◌, ⊎_elim, List, Some, IsSome, ◌∙◌, ap, arith}
 use Rattle.std.specs.Prelude.{is_some}
 use Rattle.std.proofs.lemmas.Bool.{cases_lt}
 use Rattle.netlist.specs.Circuit.{source_count}
 use Rattle.state_sets.specs.declared.state.StateSet.{StateSet}
-use Rattle.state_sets.specs.States.{IsWithin}
 use Rattle.state_sets.specs.FourStates.{four_states}
 use Rattle.state_sets.specs.Labellings.{label_at}
-use Rattle.state_laws.proofs.Sets.{label_within}
 use Rattle.implication.specs.declared.assumption.Beginning.{Beginning}
 use Rattle.implication.specs.Moves.{risen}
 use Rattle.implication.specs.Standing.{Standing, IsLabels, TellsLabel}
-use Rattle.tree_laws.proofs.ScopeLabels.{labels_once, labels_under}
+use Rattle.tree_laws.proofs.ScopeLabels.{labels_once}
 use Rattle.tree_laws.proofs.Told.{source_told}
 
 -- what a scope answers for a source is its set in the hull
@@ -27,12 +25,6 @@ module _ (standing : Standing) (begun : Beginning) (is : standing.beginning ≡ 
   pub label_is : (labels : List StateSet) → IsLabels four_states standing labels → answer ≡ label_at labels source
   label_is labels labelled =
       here ∙ ap (λ (ls : List StateSet). label_at ls source) (labels_once four_states standing tells.0 labels has_begun tells.1 labelled)
-
-  -- and a set of the four states
-  pub label_is_within : IsWithin 4 answer
-  label_is_within =
-      let P : StateSet → Type 0 = λ set. set.0 < 2 ^ 4 in
-      subst P (sym here) (label_within four_states.count standing.net tells.0 (labels_under four_states standing begun tells.0 is tells.1).rest.labelling source)
 
 -- what is counted where a conflict came later
 pub counted_later : (first middle last : ℕ) → first ≤ middle → last ≡ risen middle → risen first ≤ last

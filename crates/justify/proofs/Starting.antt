@@ -1,12 +1,12 @@
 -- The start of a search: only the path's pins are entered, and the tree's one place is its root.
-use Rattle.std.proofs.Common.{◌≡◌, ℕ, ◌<◌, ◌≤◌, List, [], ◌∷◌, length, take, map, reverse, refl, sym, ap, ◌∙◌, subst, arith, lit≤}
+use Rattle.std.proofs.Common.{◌≡◌, ℕ, ◌≤◌, List, [], ◌∷◌, length, take, map, reverse, refl, sym, ap, ◌∙◌, subst, arith, lit≤}
 use Rattle.std.specs.List.{All}
 use Rattle.std.proofs.lemmas.List.{length-map, take_all}
 use Rattle.std.proofs.lemmas.List.Elements.{All-nil, All-cons}
 use Rattle.pd_base.specs.Target.{Target}
 use Rattle.pd_base.specs.declared.ids.PinRef.{PinRef}
-use Rattle.netlist.specs.Circuit.{Circuit, line_count, gate_line}
-use Rattle.netlist.specs.Paths.{IsPrefix, Connects, end_of, line_after}
+use Rattle.netlist.specs.Circuit.{Circuit}
+use Rattle.netlist.specs.Paths.{IsPrefix, end_of, line_after}
 use Rattle.state_sets.specs.declared.state.State.{State}
 use Rattle.state_sets.specs.States.{all_states}
 use Rattle.state_sets.specs.FourStates.{four_states}
@@ -42,12 +42,6 @@ let_all count line state [] = All-nil (IsLetBy count line state)
 let_all count line state (step ∷ steps) =
     All-cons (IsLetBy count line state) (Entered step) (map (λ s. Entered s) steps) tt (let_all count line state steps)
 
--- steps that connect from a line of the circuit lead to one
-ends_within : (c : Circuit) (line : ℕ) (steps : List PinRef) → line < line_count c → Connects c line steps → line_after c line steps < line_count c
-ends_within c line [] within connects = within
-ends_within c line (step ∷ steps) within connects =
-    ends_within c (gate_line c step.gate.0) steps (omega (arith, connects.0.in_circuit)) connects.1
-
 module _ (target : Target) (standing : Standing) (start : IsStart target standing) where
   start_long : length standing.assumptions ≡ length target.path.steps
   start_long = ap length start.entered ∙ length-map target.path.steps (λ step. Entered step)
@@ -72,12 +66,6 @@ module _ (target : Target) (standing : Standing) (start : IsStart target standin
       ∙ ap (λ (steps : List PinRef). line_after standing.net target.path.source.0 steps) start_entered
 
   module _ (is : IsPrefix standing.net target.path) where
-    pub start_end_within : end_of_scope standing < line_count standing.net
-    start_end_within =
-        let P : ℕ → Type 0 = λ line. line < line_count standing.net in
-        let within = is.source in
-        subst P (sym start_end) (ends_within standing.net target.path.source.0 target.path.steps (omega (arith, within)) is.connects)
-
     -- a desk whose cone was set to the scope's last line is one for the path
     pub start_desk : (desk : Desk) (cone : KeptCone) (n : Circuit) (line : ℕ) → n ≡ standing.net → line ≡ end_of_scope standing
         → IsDeskFor standing.net desk → IsConeFor n cone → IsConeAt n line cone → IsDesk standing.net target.path (record desk { cone = cone })

@@ -95,9 +95,6 @@ tried_again target standing marks tried marked has = record {
 
 -- the list of what is tried, as it grows
 module _ (sources : List LineId) (states : List State) where
-  pub tried_none : AreTriedIn [] states []
-  tried_none = record { each = λ k d inside. absurd (omega (arith, inside)); whole = λ source has. let none = has.1 in absurd (omega (arith, none)) }
-
   pub tried_more : (place : ℕ) (d : LineId) (tried more : List Tried) → place < length sources → AreTriedIn (take place sources) states tried
       → more ≡ tried ++ (record { source = get_or sources place d; state = state_in states (get_or sources place d).0 }) ∷ []
       → AreTriedIn (take (place + 1) sources) states more

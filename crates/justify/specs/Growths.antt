@@ -57,7 +57,12 @@ pub data IsExtended (target : Target) (standing : Standing) (budget : ℕ) (old 
 
 -- the place of the root: nothing is assumed there
 abbrev pub root_place : ScopeMark → LineId → Place
-root_place mark source = record { mark = mark; source = source; set = all_states 4; frontier = record { steps = 0; begun = 0; changes = 0 } }
+root_place mark source = record {
+  mark = mark;
+  source = source;
+  set = all_states 4;
+  frontier = record { steps = 0; begun_lines = 0; changes = 0 };
+}
 
 -- with this set assumed of a source, the assumptions leave lines the same states as the node of a tree below these halves
 abbrev pub AllowAsNodeWith : Circuit → Rules → Target → List Assumption → LineId → StateSet → List Half → Type 0

@@ -52,7 +52,7 @@ impl Growth {
             set: every_state::<FourStates>(),
             frontier: Frontier {
                 steps: 0,
-                begun: 0,
+                begun_lines: 0,
                 changes: 0,
             },
         })?;

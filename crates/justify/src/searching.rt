@@ -239,9 +239,8 @@ fn grow<S: Setting>(
 {
     while let Some(place) = growth.places.pop() {
         let test = visit(alloc, scope, task, desk, growth, place)?;
-        match test {
-            Some(pair) => return Ok(Some(pair)),
-            None => {}
+        if let Some(pair) = test {
+            return Ok(Some(pair));
         }
     }
     Ok(None)

@@ -1,5 +1,5 @@
 // A runtime with one file, of which a call fails: what a real file can't be made to do in a test.
-use pd_io::{ReadFault, WriteFault, read_whole, write_whole};
+use crate::attempts;
 use std::alloc::{Allocator, Global};
 use std::fs::{Metadata, OpenFile, OpenOptions};
 use std::io::{Error, ErrorKind, Read, Seek, SeekFrom, Write};
@@ -166,29 +166,16 @@ fn a_failing_call_of_std_is_no_success(rt: HostRuntime) {
         (Failing::Sync(ErrorKind::InvalidInput), true, true),
         (Failing::Sync(ErrorKind::Unsupported), true, true),
     ];
-    for (row, (failing, reads, writes)) in rows.iter().enumerate() {
-        assert!(rt; ends_so(rt.alloc(), *failing, *reads, *writes), "row {row}");
+    for (row, (failing, is_read, is_written)) in rows.iter().enumerate() {
+        assert!(rt;
+            ends_so(rt.alloc(), *failing, *is_read, *is_written),
+            "row {row}"
+        );
     }
 }
 
-// Whether a file is read, or else reading has failed; and the same of writing.
-fn ends_so(alloc: Global, failing: Failing, reads: bool, writes: bool) -> bool {
+// Whether the one byte of a file is read, or else reading has failed; and the same of writing.
+fn ends_so(alloc: Global, failing: Failing, is_read: bool, is_written: bool) -> bool {
     let mut files = StdFiles::new(alloc, FailingRuntime { failing });
-    is_read_or_fails(alloc, &mut files, reads) && is_written_or_fails(&mut files, writes)
-}
-
-// Whether a file is read, or else reading has failed.
-fn is_read_or_fails(alloc: Global, files: &mut StdFiles<FailingRuntime>, reads: bool) -> bool {
-    match read_whole(alloc, files, "name", 9) {
-        Ok(_) => reads,
-        Err(fault) => !reads && matches!(fault, ReadFault::Failed),
-    }
-}
-
-// Whether a file is written, or else writing has failed.
-fn is_written_or_fails(files: &mut StdFiles<FailingRuntime>, writes: bool) -> bool {
-    match write_whole(files, "name", b"text") {
-        Ok(()) => writes,
-        Err(fault) => !writes && matches!(fault, WriteFault::Failed),
-    }
+    attempts::ends_so(alloc, &mut files, is_read, is_written)
 }

@@ -4,6 +4,8 @@
 #![tactic(auto)]
 
 #[cfg(test)]
+mod attempts;
+#[cfg(test)]
 mod failing_runtime;
 #[cfg(test)]
 mod memory;

@@ -2,11 +2,9 @@
 // one function, whose answer the test asserts. Each function makes few values that have to be dropped.
 ghost use Rattle.std.specs.Prelude.{◌<◌};
 
+use crate::attempts::{are_copied, ends_reading, ends_writing, fails_to_take, takes, writes};
 use pd_base::OutOfMemory;
-use pd_io::{
-    FileCall, FileFault, MOST_AT_ONCE, MemoryFiles, MemorySink, ReadFault, SteadyFiles, SteadySink,
-    WriteFault, read_whole, write_all, write_whole,
-};
+use pd_io::{FileCall, MOST_AT_ONCE, MemoryFiles, MemorySink, SteadyFiles, SteadySink};
 use std::alloc::Global;
 use system_files::StdSink;
 
@@ -47,39 +45,15 @@ fn is_read(alloc: Global, len: usize, limit: usize, whole: bool) -> Result<bool,
 fn is_read_as(alloc: Global, text: &[u8], limit: usize, whole: bool) -> Result<bool, OutOfMemory>
     requires { limit < usize.MAX }
 {
-    let mut files = files_with(alloc, "a", text)?;
-    Ok(if whole {
-        reads(alloc, &mut files, limit, text)
-    } else {
-        is_too_long(alloc, &mut files, limit)
-    })
+    let mut files = files_with(alloc, text)?;
+    Ok(ends_reading(alloc, &mut files, text, limit, whole))
 }
 
 // Files of which one is there.
-fn files_with(alloc: Global, name: &str, text: &[u8]) -> Result<MemoryFiles, OutOfMemory> {
+fn files_with(alloc: Global, text: &[u8]) -> Result<MemoryFiles, OutOfMemory> {
     let mut files = MemoryFiles::new(alloc);
-    files.put(name, text)?;
+    files.put("name", text)?;
     Ok(files)
-}
-
-// Whether the file is read as this text.
-fn reads(alloc: Global, files: &mut MemoryFiles, limit: usize, text: &[u8]) -> bool
-    requires { limit < usize.MAX }
-{
-    match read_whole(alloc, files, "a", limit) {
-        Ok(bytes) => bytes.as_slice() == text,
-        Err(_) => false,
-    }
-}
-
-// Whether the file is too long.
-fn is_too_long(alloc: Global, files: &mut MemoryFiles, limit: usize) -> bool
-    requires { limit < usize.MAX }
-{
-    matches!(
-        read_whole(alloc, files, "a", limit),
-        Err(ReadFault::TooLong)
-    )
 }
 
 #[test]
@@ -97,14 +71,9 @@ fn is_held(alloc: Global, len: usize) -> Result<bool, OutOfMemory> {
 
 // The same of this text.
 fn is_held_as(alloc: Global, text: &[u8]) -> Result<bool, OutOfMemory> {
-    let mut files = files_with(alloc, "b", b"old")?;
-    let written = is_written(&mut files, text);
-    Ok(written && files.get("b") == Some(text) && files.get("a").is_none())
-}
-
-// Whether a text is written.
-fn is_written(files: &mut MemoryFiles, text: &[u8]) -> bool {
-    write_whole(files, "b", text).is_ok()
+    let mut files = files_with(alloc, b"old")?;
+    let written = writes(&mut files, "name", text);
+    Ok(written && files.get("name") == Some(text) && files.get("other").is_none())
 }
 
 // A call that fails when two writes are written, whether they fail by it, and how many bytes are left.
@@ -148,27 +117,19 @@ fn is_left(alloc: Global, planned: Planned) -> Result<bool, OutOfMemory> {
 
 // The same of this text.
 fn is_left_of(alloc: Global, text: &[u8], planned: Planned) -> Result<bool, OutOfMemory> {
-    let mut files = files_with(alloc, "a", b"old")?;
+    let mut files = files_with(alloc, b"old")?;
     leaves(&mut files, text, planned)
 }
 
 // The same of these files.
 fn leaves(files: &mut MemoryFiles, text: &[u8], planned: Planned) -> Result<bool, OutOfMemory> {
     files.fail(planned.call, planned.nth)?;
-    Ok(ends_so(files, text, planned.fails) && held(files) == planned.left)
-}
-
-// Whether writing a text has failed, or else has succeeded.
-fn ends_so(files: &mut MemoryFiles, text: &[u8], fails: bool) -> bool {
-    match write_whole(files, "a", text) {
-        Ok(()) => !fails,
-        Err(fault) => fails && matches!(fault, WriteFault::Failed),
-    }
+    Ok(ends_writing(files, text, planned.fails) && held(files) == planned.left)
 }
 
 // How many bytes the file holds.
 fn held(files: &MemoryFiles) -> usize {
-    match files.get("a") {
+    match files.get("name") {
         Some(bytes) => bytes.len(),
         None => 0,
     }
@@ -190,28 +151,19 @@ fn are_taken(alloc: Global) -> Result<bool, OutOfMemory> {
 fn is_taken_in_memory(alloc: Global, text: &[u8]) -> Result<bool, OutOfMemory> {
     let mut sink = MemorySink::new(alloc);
     sink.fail(3)?;
-    Ok(takes(&mut sink, text) && refuses_more(&mut sink) && sink.bytes() == text)
-}
-
-// Whether a sink takes a text.
-fn takes(sink: &mut MemorySink, text: &[u8]) -> bool {
-    write_all(sink, text).is_ok() && sink.bytes() == text
-}
-
-// Whether a sink fails to take more.
-fn refuses_more(sink: &mut MemorySink) -> bool {
-    matches!(write_all(sink, b"more"), Err(FileFault::Failed))
+    let taken = takes(&mut sink, text) && sink.bytes() == text;
+    Ok(taken && fails_to_take(&mut sink, b"more") && sink.bytes() == text)
 }
 
 // Whether a steady sink takes a text.
 fn is_taken_steadily(alloc: Global, text: &[u8]) -> bool {
     let mut sink = SteadySink::new(alloc);
-    write_all(&mut sink, text).is_ok() && sink.bytes() == text
+    takes(&mut sink, text) && sink.bytes() == text
 }
 
 // Whether a sink over bytes of std takes a text.
 fn is_taken(alloc: Global, text: &[u8]) -> bool {
-    write_all(&mut StdSink::new(Vec::new(alloc)), text).is_ok()
+    takes(&mut StdSink::new(Vec::new(alloc)), text)
 }
 
 #[test]
@@ -219,32 +171,16 @@ fn an_absent_name_is_an_empty_steady_file(rt: HostRuntime) {
     assert!(rt; is_so(are_steady(rt.alloc())));
 }
 
-// Whether an absent file is read as empty, and a copy of another is not.
+// Whether an absent file is read as empty, holds the text of another once this is written to it, and no third one is there.
 fn are_steady(alloc: Global) -> Result<bool, OutOfMemory> {
     let mut files = SteadyFiles::new(alloc);
-    files.put("a", b"text")?;
-    Ok(is_empty(alloc, &mut files, "b") && is_copied(alloc, &mut files, "a", "b"))
+    files.put("name", b"text")?;
+    Ok(is_copied(alloc, &mut files))
 }
 
-// Whether a file is read as empty.
-fn is_empty(alloc: Global, files: &mut SteadyFiles, name: &str) -> bool {
-    match read_whole(alloc, files, name, 9) {
-        Ok(bytes) => bytes.is_empty(),
-        Err(_) => false,
-    }
-}
-
-// Whether a file holds the text of another, once it is written to it, and no third one is there.
-fn is_copied(alloc: Global, files: &mut SteadyFiles, from: &str, to: &str) -> bool {
-    match read_whole(alloc, files, from, 9) {
-        Ok(text) => is_written_to(files, to, text.as_slice()),
-        Err(_) => false,
-    }
-}
-
-// Whether a file holds a text, once this is written to it, and no third file is there.
-fn is_written_to(files: &mut SteadyFiles, name: &str, text: &[u8]) -> bool {
-    write_whole(files, name, text).is_ok()
-        && files.get(name) == Some(b"text".as_slice())
-        && files.get("c").is_none()
+// The same of these files.
+fn is_copied(alloc: Global, files: &mut SteadyFiles) -> bool {
+    are_copied(alloc, files, "copy", b"text")
+        && files.get("copy") == Some(b"text".as_slice())
+        && files.get("third").is_none()
 }

@@ -1,15 +1,10 @@
 // The files of the system. A test has a working folder of its own, which is empty when it begins. What a test repeats is one
 // function, whose answer it asserts. Each function makes few values that have to be dropped.
-use pd_io::{FileFault, Files, ReadFault, WriteFault, read_whole, write_all, write_whole};
+use crate::attempts::{Attempt, FOLDER, FULL, fails_to_take, reads_no_more, writes_no_more};
+use pd_io::Files;
 use std::os::fd::AsRawFd;
 use std::{fs, io};
 use system_files::{StdFiles, StdSink};
-
-/// A device that is full from the start.
-const FULL: &str = "/dev/full";
-
-/// The working folder.
-const FOLDER: &str = ".";
 
 // Whether all went well, and the answer is yes.
 fn is_so(answer: io::Result<bool>) -> bool {
@@ -21,37 +16,16 @@ fn real_files_are_written_and_read(rt: HostRuntime) {
     assert!(rt; is_so(is_written_and_read(&rt)));
 }
 
-// Whether a file is written with 9,000 bytes, read again, and too long for less.
+// Whether a file is written with 9,000 bytes, read again, and too long for a limit of a byte less.
 fn is_written_and_read(rt: &HostRuntime) -> io::Result<bool> {
     let text = vec![in rt.alloc(); 7u8; 9000]?;
-    Ok(is_again(rt, text.as_slice()))
+    Ok(ends_so(rt, Attempt::Again(text.as_slice())))
 }
 
-// The same of this text.
-fn is_again(rt: &HostRuntime, text: &[u8]) -> bool {
+// Whether an attempt at the files of the system ends as it has to.
+fn ends_so(rt: &HostRuntime, attempt: Attempt) -> bool {
     let mut files = StdFiles::new(rt.alloc(), rt);
-    is_written(&mut files, "name", text)
-        && is_read(rt, &mut files, text)
-        && is_too_long(rt, &mut files)
-}
-
-// Whether a file is written.
-fn is_written(files: &mut StdFiles<&HostRuntime>, name: &str, text: &[u8]) -> bool {
-    write_whole(files, name, text).is_ok()
-}
-
-// Whether the file is read as this text, under a limit of 9,000 bytes.
-fn is_read(rt: &HostRuntime, files: &mut StdFiles<&HostRuntime>, text: &[u8]) -> bool {
-    match read_whole(rt.alloc(), files, "name", 9000) {
-        Ok(bytes) => bytes.as_slice() == text,
-        Err(_) => false,
-    }
-}
-
-// Whether the file is too long for a limit of a byte less.
-fn is_too_long(rt: &HostRuntime, files: &mut StdFiles<&HostRuntime>) -> bool {
-    let over = read_whole(rt.alloc(), files, "name", 8999);
-    matches!(over, Err(ReadFault::TooLong))
+    attempt.ends_so(rt.alloc(), &mut files)
 }
 
 #[test]
@@ -62,8 +36,7 @@ fn a_longer_old_file_is_cut(rt: HostRuntime) {
 // Whether a file has the text that was written last.
 fn is_cut(rt: &HostRuntime) -> io::Result<bool> {
     fs::write(rt, "name", "a longer old text")?;
-    let mut files = StdFiles::new(rt.alloc(), rt);
-    Ok(is_written(&mut files, "name", b"text") && is_so(is_text(rt)))
+    Ok(ends_so(rt, Attempt::Written("name")) && is_so(is_text(rt)))
 }
 
 // Whether the file has this text.
@@ -73,54 +46,19 @@ fn is_text(rt: &HostRuntime) -> io::Result<bool> {
 
 #[test]
 fn what_the_system_refuses_has_failed(rt: HostRuntime) {
-    let mut files = StdFiles::new(rt.alloc(), &rt);
-    assert!(rt; all_fail_to_read(&rt, &mut files));
-    assert!(rt; all_fail_to_write(&mut files));
+    assert!(rt; ends_so(&rt, Attempt::Refused));
     assert!(rt; is_so(fails_to_fill(&rt)));
-}
-
-// Whether reading a folder, or what is absent, fails.
-fn all_fail_to_read(rt: &HostRuntime, files: &mut StdFiles<&HostRuntime>) -> bool {
-    for name in [FOLDER, "absent", "absent/name"] {
-        if !fails_to_read(rt, files, name) {
-            return false;
-        }
-    }
-    true
-}
-
-// Whether reading fails.
-fn fails_to_read(rt: &HostRuntime, files: &mut StdFiles<&HostRuntime>, name: &str) -> bool {
-    let read = read_whole(rt.alloc(), files, name, 9);
-    matches!(read, Err(ReadFault::Failed))
-}
-
-// Whether writing to a folder, to the full device, or into a folder that is absent fails.
-fn all_fail_to_write(files: &mut StdFiles<&HostRuntime>) -> bool {
-    for name in [FOLDER, FULL, "absent/name"] {
-        if !fails_to_write(files, name) {
-            return false;
-        }
-    }
-    true
-}
-
-// Whether writing fails.
-fn fails_to_write(files: &mut StdFiles<&HostRuntime>, name: &str) -> bool {
-    let written = write_whole(files, name, b"text");
-    matches!(written, Err(WriteFault::Failed))
 }
 
 // Whether a sink into the full device fails.
 fn fails_to_fill(rt: &HostRuntime) -> io::Result<bool> {
     let mut sink = StdSink::new(fs::create(rt, FULL)?);
-    Ok(matches!(write_all(&mut sink, b"text"), Err(FileFault::Failed)))
+    Ok(fails_to_take(&mut sink, b"text"))
 }
 
 #[test]
 fn a_device_is_written_that_cannot_be_synced(rt: HostRuntime) {
-    let mut files = StdFiles::new(rt.alloc(), &rt);
-    assert!(rt; is_written(&mut files, "/dev/null", b"text"));
+    assert!(rt; ends_so(&rt, Attempt::Written("/dev/null")));
 }
 
 #[test]
@@ -136,27 +74,25 @@ fn gives_back(rt: &HostRuntime) -> io::Result<bool> {
 }
 
 // Whether a file that is written has the free descriptor until a write fails, and then nothing more is written nor finished.
-fn gives_back_by_writing(rt: &HostRuntime, files: &mut StdFiles<&HostRuntime>, free: i32) -> bool {
+fn gives_back_by_writing<F: Files>(rt: &HostRuntime, files: &mut F, free: i32) -> bool {
     if files.begin_write(FULL).is_err() {
         return false;
     }
     let taken = is_taken(rt, free);
-    let failed = files.write(b"text").is_err();
+    let failed = writes_no_more(files);
     let back = is_free(rt, free);
-    let closed = files.write(b"text").is_err() && files.finish().is_err();
-    taken && failed && back && closed
+    taken && failed && back && writes_no_more(files) && files.finish().is_err()
 }
 
 // Whether a file that is read has the free descriptor until a read fails, and then nothing more is read.
-fn gives_back_by_reading(rt: &HostRuntime, files: &mut StdFiles<&HostRuntime>, free: i32) -> bool {
+fn gives_back_by_reading<F: Files>(rt: &HostRuntime, files: &mut F, free: i32) -> bool {
     if files.begin_read(FOLDER).is_err() {
         return false;
     }
     let taken = is_taken(rt, free);
-    let failed = files.read(&mut [0u8; 9]).is_err();
+    let failed = reads_no_more(files);
     let back = is_free(rt, free);
-    let closed = files.read(&mut [0u8; 9]).is_err();
-    taken && failed && back && closed
+    taken && failed && back && reads_no_more(files)
 }
 
 // Whether the next file that is opened gets another descriptor than this one.

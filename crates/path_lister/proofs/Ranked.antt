@@ -1,5 +1,5 @@
 -- The sources and then the gates in rank order are all lines by level, so that a gate's line stands behind the lines that it reads.
-use Rattle.std.proofs.Common.{◌≡◌, ◌≢◌, ⊎_elim, ℕ, ◌+◌, ◌-◌, ◌<◌, ◌≤◌, List, [], ◌∷◌, ◌++◌, length, map, get_or, Contains, sym, ap, subst, ◌∙◌, arith}
+use Rattle.std.proofs.Common.{◌≡◌, ◌≢◌, ⊎_elim, ℕ, ◌+◌, ◌-◌, ◌<◌, ◌≤◌, List, [], ◌∷◌, ◌++◌, length, length-append, map, get_or, Contains, sym, ap, subst, ◌∙◌, arith}
 use Rattle.std.specs.List.{All, AllPairs, range_with_len}
 use Rattle.std.proofs.lemmas.Bool.{cases_lt, cases_order}
 use Rattle.std.proofs.lemmas.List.{get_or-map, get_or_default, length-map}
@@ -199,3 +199,15 @@ module _ (c : Circuit) (lines : List LineId) (ranking : IsRanking c lines) where
 
       same : from ≡ to → from < to
       same one = absurd (omega (arith, raised, ap (λ place. level c (line_in lines place)) one))
+
+-- an order of all gates has as many as there are
+pub gates_listed : (c : Circuit) (order : List GateId) → IsRankOrder c order → source_count c + length order ≡ line_count c
+gates_listed c order rank =
+    let lines = map line_of (range_with_len 0 (source_count c)) in
+    omega (
+      arith,
+      ranking_length c (ranked c order) (is_ranking c order rank),
+      length-append lines (map (own_line c) order),
+      length-map-range_with_len line_of 0 (source_count c),
+      length-map order (own_line c),
+    )

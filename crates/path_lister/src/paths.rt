@@ -43,7 +43,7 @@ fn paths_of(
     let mut paths = Vec::with_capacity(alloc, listing.len())?;
     for place in 0..listing.len() {
         let walk = listing.walk(alloc, place)?;
-        paths.push(path_of(alloc, net, pins, walk.as_slice())?)?;
+        paths.push_reserved(path_of(alloc, net, pins, walk.as_slice())?);
     }
     Ok(paths)
 }
@@ -75,7 +75,7 @@ fn steps_of(
     let sources = net.sources();
     let mut steps = Vec::with_capacity(alloc, walk.len())?;
     for arc in walk {
-        steps.push(pins[(*arc - sources) as usize])?;
+        steps.push_reserved(pins[(*arc - sources) as usize]);
     }
     Ok(steps)
 }

@@ -14,10 +14,10 @@ pub(crate) fn ranked_lines(alloc: Global, net: &Netlist) -> Result<Vec<LineId>, 
 {
     let mut lines = Vec::with_capacity(alloc, net.lines() as usize)?;
     for source in 0..net.sources() {
-        lines.push(LineId(source))?;
+        lines.push_reserved(LineId(source));
     }
     for gate in net.order() {
-        lines.push(net.line_of(*gate))?;
+        lines.push_reserved(net.line_of(*gate));
     }
     Ok(lines)
 }

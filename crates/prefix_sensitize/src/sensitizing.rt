@@ -85,7 +85,10 @@ fn search_paths<L>(
     let ends = ends_of(alloc, net, paths)?;
     let setting = RuledNetlist { net, rules };
     let mut engine = Engine::within(alloc, setting, ends.as_slice())?;
-    search_on(alloc, net, &mut engine, paths, budget, steps)
+    let outcomes = search_on(alloc, net, &mut engine, paths, budget, steps);
+    // a call ends it, so that its many parts needn't be ended in this function's proof
+    drop(engine);
+    outcomes
 }
 
 // Does so with this engine, on which no scope is open.
@@ -107,7 +110,10 @@ fn search_on<S: Setting, L>(
     ensures steps { CountsAtMost paths.now 4 steps.old steps.new }
 {
     let mut desk = Desk::new(alloc, net)?;
-    search_in_order(alloc, engine, &mut desk, paths, budget, steps)
+    let outcomes = search_in_order(alloc, engine, &mut desk, paths, budget, steps);
+    // as the engine above
+    drop(desk);
+    outcomes
 }
 
 // Does so at this desk, in an order in which each prefix is entered once.

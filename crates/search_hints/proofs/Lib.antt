@@ -1,2 +1,4 @@
 mod Behind
 mod Cones
+mod Kept
+mod Noted

@@ -17,7 +17,7 @@ pub struct Frontier {
     /// So many steps, from the first one on.
     pub steps: usize,
     /// So many of the lines begun, from the first one on.
-    pub begun: usize,
+    pub begun_lines: usize,
     /// So many changes, from the first one on.
     pub changes: usize,
 }
@@ -35,13 +35,13 @@ pub struct Lead {
 /// the lines begun need, in their order, then the lines whose labels have changed, in the order of these changes.
 pub fn follow(
     sight: &Sight,
-    begun: &[LineId],
+    begun_lines: &[LineId],
     changes: &[Note<StateSet>],
     path: &Path,
     kind: Kind,
     frontier: Frontier,
 ) -> Lead
-    requires begun { HasLines sight.now.net.now begun.now }
+    requires begun_lines { HasLines sight.now.net.now begun_lines.now }
     requires changes { All (λ change. change.index < line_count sight.now.net.now) changes.now }
 {
     let mut frontier = frontier;
@@ -49,7 +49,7 @@ pub fn follow(
         let source = descend(sight, cut);
         return Lead { source, frontier };
     }
-    if let Some(cut) = open_begun(sight, begun, &mut frontier) {
+    if let Some(cut) = open_begun(sight, begun_lines, &mut frontier) {
         let source = descend(sight, cut);
         return Lead { source, frontier };
     }
@@ -79,18 +79,18 @@ fn open_step(sight: &Sight, path: &Path, kind: Kind, frontier: &mut Frontier) ->
 }
 
 // What the first of the lines begun needs that is open.
-fn open_begun(sight: &Sight, begun: &[LineId], frontier: &mut Frontier) -> Option<Cut>
-    requires { HasLines sight.now.net.now begun.now }
+fn open_begun(sight: &Sight, begun_lines: &[LineId], frontier: &mut Frontier) -> Option<Cut>
+    requires { HasLines sight.now.net.now begun_lines.now }
     ensures { IfSome result (λ cut. cut.line.0 < line_count sight.now.net.now) }
 {
-    for place in frontier.begun..begun.len() {
-        let cut = open_line(sight, begun[place]);
+    for place in frontier.begun_lines..begun_lines.len() {
+        let cut = open_line(sight, begun_lines[place]);
         if cut.is_some() {
-            frontier.begun = place;
+            frontier.begun_lines = place;
             return cut;
         }
     }
-    frontier.begun = begun.len();
+    frontier.begun_lines = begun_lines.len();
     None
 }
 

@@ -7,7 +7,7 @@ use Rattle.std.proofs.lemmas.List.{get_or_past}
 use Rattle.std.proofs.lemmas.List.Elements.{All-push, All-from_get_or}
 use Rattle.std.proofs.lemmas.List.FromFn.{get_or-map-range_with_len, length-map-range_with_len}
 use Rattle.std.proofs.lemmas.Nat.{pow_below}
-use Rattle.std.proofs.lemmas.Nat.Bits.{bit_at-zero, bit_at-pow_same, bit_at-pow_other}
+use Rattle.std.proofs.lemmas.Nat.Bits.{bit_at-pow_same, bit_at-pow_other}
 use Rattle.pd_base.specs.declared.ids.LineId.{LineId}
 use Rattle.pd_base.specs.declared.ids.PinRef.{PinRef}
 use Rattle.pd_base.specs.declared.fault.Kind.{Kind}
@@ -23,10 +23,7 @@ use Rattle.state_sets.specs.Narrowing.{AgreesAt, IsKept, IsNarrowing, gate_lines
 use Rattle.state_sets.specs.Hulls.{condition_at, IsNarrowingOf, IsAtRest, IsRestAmong, IsHull, Closes}
 use Rattle.state_sets.specs.Hulls.Narrowing.{at_gate, along_link}
 use Rattle.state_laws.proofs.Narrowing.{agreeing_kept}
-
--- no state is in the empty set
-pub none_has : (count : ℕ) (state : State) → Has count no_states state → ⊥
-none_has count state has = absurd (omega (arith, has.bit, bit_at-zero state.0))
+use Rattle.state_laws.proofs.Sets.{none_has}
 
 -- the set of one state alone
 abbrev pub only : State → StateSet

@@ -1,4 +1,4 @@
-use Rattle.std.proofs.Common.{◌≡◌, ◌+◌, ◌≤◌, ℕ, length, get_or}
+use Rattle.std.proofs.Common.{◌≡◌, ◌+◌, ◌≤◌, ℕ, length, get_or, vec_capacity}
 use Rattle.claim_check.specs.PrefixNodes.{ArePut, IsPrefixNode}
 use Rattle.claim_check.proofs.prefix_tree.nodes_of.Given as goal
 
@@ -9,4 +9,5 @@ invariant-loop-pin l = record {
   last : get_or l.nodes.items l.pin-index 0 ≡ l.node;
   own : (steps : ℕ) → steps ≤ l.pin-index → IsPrefixNode l.prefixes.keys l.path steps (get_or l.nodes.items steps 0);
   put : ArePut l.fn.prefixes.keys l.prefixes.keys l.nodes.items;
+  room : length l.path.steps + 1 ≤ vec_capacity l.nodes;
 }

@@ -1,6 +1,7 @@
 -- The pass begins with the pins' first values, each turn of the loop passes one change, and at its end the wave is the gate's.
-use Rattle.std.proofs.Common.{◌≡◌, ℤ, List, true, length, map, ap, sym, subst, ⊎_elim, ◌∙◌, arith, heap_items, rules, SFits, to_z, of_z, w64}
+use Rattle.std.proofs.Common.{◌≡◌, ℕ, ◌<◌, ◌≤◌, ℤ, ◌<ℤ◌, List, true, not, get_or, length, map, refl, sum_by, ap, sym, subst, ⊎_elim, ◌∙◌, arith, heap_items, rules, SFits, to_z, of_z, w64}
 use Rattle.std.proofs.lemmas.Int.{to_z-of_z}
+use Rattle.std.proofs.lemmas.List.Sums.{get_or-le-sum_by}
 use Rattle.std.proofs.lemmas.Bool.{cases_lt, false≢true}
 use Rattle.std.proofs.lemmas.Result.{err_from_is_err_and}
 use Rattle.pd_base.specs.declared.ids.LineId.{LineId}
@@ -10,7 +11,8 @@ use Rattle.delay_annotation.specs.Annotation.{delays_of}
 use Rattle.delay_replay.specs.declared.gate.TheConstants.{MOST_CHANGES}
 use Rattle.delay_replay.specs.Changes.{Changes}
 use Rattle.delay_replay.specs.GateWaves.{gate_wave, line_wave}
-use Rattle.delay_replay.specs.PinChanges.{AreAmong, IsBeforeAll}
+use Rattle.delay_replay.specs.declared.pin_changes.PinChange.{PinChange}
+use Rattle.delay_replay.specs.PinChanges.{one, AreAmong, IsBeforeAll}
 use Rattle.delay_replay.specs.AddedChanges.{IsTurned}
 use Rattle.delay_replay.proofs.ChangeTimes.{not_over}
 use Rattle.delay_replay.proofs.GatePins.{value_told}
@@ -133,3 +135,52 @@ returns-clause-not_over c =
     (ended waves (pin_values copy gate 0 (map (λ line. line_wave waves line.0) (pins_at net gate))) (kind_at net gate) pins
     c.loop-soonest.ones nexts c.loop-soonest.wave merged empty)
     merged.few
+
+pub is_before_all-requires : goal.is_before_all-requires
+is_before_all-requires c = c.pass.ensures.order c.loop-soonest.invariant.order
+
+pub returns-clause-few : goal.returns-clause-few
+returns-clause-few c = c.loop-soonest.invariant.merged.few
+
+pub returns-clause-wave : goal.returns-clause-wave
+returns-clause-wave c =
+    let net = c.args.net.now in
+    let gate = c.args.gate.0 in
+    let waves = c.args.waves.now in
+    let copy = delay_copy (delays_of c.args.net.now c.args.delays.now) in
+    let nexts = heap_items c.loop-soonest.nexts in
+    let empty : length nexts ≡ 0 =
+    ⊎_elim (λ some. absurd (false≢true (c.in_default.ensures.variant.1 some))) (λ none. omega (arith, none, c.loop-soonest.nexts.data.ok.0))
+    (cases_lt 0 c.loop-soonest.nexts.data.len) in
+    ended waves (pin_values copy gate 0 (map (λ line. line_wave waves line.0) (pins_at net gate))) (kind_at net gate)
+    (length c.pins-pins.result.now) c.loop-soonest.ones nexts c.loop-soonest.wave c.loop-soonest.invariant.merged empty
+
+pub turn-requires : goal.turn-requires
+turn-requires c =
+    let soonest = c.in-Some.soonest.now in
+    let times = c.loop-soonest.wave.times in
+    let some : 0 < length (heap_items c.loop-soonest.nexts) = omega (arith, c.in-Some.ensures.variant.0 refl, c.loop-soonest.nexts.data.ok.0) in
+    let fits : SFits w64 soonest.time = search rules in
+    λ k d within.
+    subst (λ (time : ℤ). get_or times k d <ℤ time) (sym (to_z-of_z w64 soonest.time fits))
+    (subst (λ (next : PinChange). get_or times k d <ℤ next.time) (sym c.in-Some.ensures.lookup)
+    (c.loop-soonest.invariant.merged.within k d within 0 soonest some))
+
+pub pass-requires-clause-line : goal.pass-requires-clause-line
+pass-requires-clause-line c =
+    let some : 0 < length (heap_items c.loop-soonest.nexts) = omega (arith, c.in-Some.ensures.variant.0 refl, c.loop-soonest.nexts.data.ok.0) in
+    subst (λ (next : PinChange). next.line.0 < length c.args.waves.now) (sym c.in-Some.ensures.lookup)
+    (c.loop-soonest.invariant.merged.each 0 c.in-Some.soonest.now some).line
+
+pub pass-requires-clause-soonest : goal.pass-requires-clause-soonest
+pass-requires-clause-soonest c = c.in-Some.ensures.lookup
+
+pub counted-ones-requires-clause-some : goal.counted-ones-requires-clause-some
+counted-ones-requires-clause-some c =
+    let soonest = c.in-Some.soonest.now in
+    let nexts = heap_items c.loop-soonest.nexts in
+    let some : 0 < length nexts = omega (arith, c.in-Some.ensures.variant.0 refl, c.loop-soonest.nexts.data.ok.0) in
+    let falls : PinChange → ℕ = λ next. one (not next.rises) in
+    let here : falls soonest ≤ sum_by falls nexts =
+    subst (λ (next : PinChange). falls next ≤ sum_by falls nexts) (sym c.in-Some.ensures.lookup) (get_or-le-sum_by falls nexts 0 soonest some) in
+    omega (arith, here, c.loop-soonest.invariant.merged.among.least)

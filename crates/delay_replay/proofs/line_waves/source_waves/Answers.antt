@@ -19,9 +19,9 @@ loop-source-preserved c =
     (ap (λ bits. bit_of bits source) c.first-first.ensures.bits)
     (ap (λ bits. bit_of bits source) c.second-second.ensures.bits) c.in_ok-source_wave.ensures in
     record {
-      so_many = ap length c.in_ok-push.ensures.items ∙ length_push old wave ∙ ap (λ n. n + 1) c.loop-source.invariant.so_many;
+      so_many = ap length c.push_reserved.ensures.items ∙ length_push old wave ∙ ap (λ n. n + 1) c.loop-source.invariant.so_many;
       each = λ other below. subst (λ all. AreChangesOf (source_wave pair other) (kept_wave all other))
-          (sym c.in_ok-push.ensures.items)
+          (sym c.push_reserved.ensures.items)
           (⊎_elim
           (λ less. subst (AreChangesOf (source_wave pair other))
           (sym (get_or_append_left old (wave ∷ []) no_changes other (omega (arith, c.loop-source.invariant.so_many))))
@@ -32,7 +32,20 @@ loop-source-preserved c =
           (subst (AreChangesOf (source_wave pair source))
           (sym (get_or_push old wave no_changes source c.loop-source.invariant.so_many)) own))
           (cases_lt other source));
+      room = omega (arith, c.push_reserved.ensures.capacity, c.loop-source.invariant.room);
     }
+
+pub push_reserved-requires : goal.push_reserved-requires
+push_reserved-requires c =
+    omega (
+      arith,
+      c.loop-source.invariant.so_many,
+      c.loop-source.invariant.room,
+      c.loop-source.waves.ok.0,
+      c.loop-source-test.true,
+      c.requires,
+      ap length c.first-first.ensures.bits,
+    )
 
 pub returns : goal.returns
 returns c =

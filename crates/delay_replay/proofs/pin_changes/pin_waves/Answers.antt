@@ -1,10 +1,15 @@
 -- Each turn of the loop adds the next change of one pin more.
-use Rattle.std.proofs.Common.{◌≡◌, ◌<◌, ◌+◌, false, [], length, get_or, ap, sym, subst, add-zero, ◌∙◌, arith}
+use Rattle.std.proofs.Common.{◌≡◌, ◌<◌, ◌+◌, List, false, [], length, map, get_or, ap, sym, subst, take_all, add-zero, refl, rules, ◌∙◌, arith}
+use Rattle.std.specs.BinaryHeap.{heap_items}
 use Rattle.std.proofs.lemmas.List.{get_or_default}
 use Rattle.pd_base.specs.declared.ids.LineId.{LineId}
+use Rattle.netlist.specs.Circuit.{pins_at}
+use Rattle.netlist.specs.Waves.{delay_copy, pin_values}
 use Rattle.delay_annotation.specs.Annotation.{delays_of}
-use Rattle.delay_replay.specs.Changes.{Changes}
-use Rattle.delay_replay.specs.PinChanges.{one, line_changes, IsNextOrNone}
+use Rattle.delay_replay.specs.Changes.{Changes, IsBounded}
+use Rattle.delay_replay.specs.GateWaves.{line_wave}
+use Rattle.delay_replay.specs.declared.pin_changes.PinChange.{PinChange}
+use Rattle.delay_replay.specs.PinChanges.{one, line_changes, AreAmong, AreCounted, IsNextOrNone}
 use Rattle.delay_replay.proofs.GatePins.{added_among, added_each, added_counted, one_more}
 use Rattle.delay_replay.proofs.pin_changes.pin_waves.Goals as goal
 use Rattle.delay_replay.proofs.pin_changes.pin_waves.Goals.{then-earliest, else-earliest}
@@ -52,3 +57,40 @@ bounds-waves-line c =
 
 pub delay-requires-clause-pin : goal.delay-requires-clause-pin
 delay-requires-clause-pin c = omega (arith, ap length c.pins-pins.ensures.pins)
+
+pub loop-place-init : goal.loop-place-init
+loop-place-init c =
+    let none = c.in_ok-nexts.ensures.items in record {
+      order = search rules;
+      among = subst (AreAmong 0 0) (sym none) (record { least = omega arith; most = omega arith });
+      each = λ k d within. absurd (omega (arith, ap length none, within));
+      counted = λ time. subst (λ (nexts : List PinChange). AreCounted c.args.waves.now [] 0 nexts time) (sym none) refl;
+    }
+
+pub next_change-first-requires : goal.next_change-first-requires
+next_change-first-requires c =
+    let none : LineId = record { 0 = 0 } in
+    let read = get_or c.pins-pins.result.now c.loop-place.place none in
+    let inside : read.0 < length c.args.waves.now =
+    omega (arith, c.pins-pins.ensures.in_circuit c.loop-place.place none c.loop-place-test.true, c.requires.one_each) in
+    subst IsBounded (sym c.index-waves-line.is) (c.requires.bounded read.0 c.index-waves-line.result inside)
+
+pub returns-clause-counted : goal.returns-clause-counted
+returns-clause-counted c =
+    let waves = c.args.waves.now in
+    let copy = delay_copy (delays_of c.args.net.now c.args.delays.now) in
+    let all = take_all c.loop-place.place c.pins-pins.result.now c.loop-place-test.false ∙ c.pins-pins.ensures.pins in
+    λ time.
+    subst (λ (pins : List LineId). AreCounted waves (pin_values copy c.args.gate.0 0 (map (λ line. line_wave waves line.0) pins) time)
+    c.loop-place.ones (heap_items c.loop-place.nexts) time) all (c.loop-place.invariant.counted time)
+
+pub returns-clause-among : goal.returns-clause-among
+returns-clause-among c =
+    let all : c.loop-place.place ≡ length (pins_at c.args.net.now c.args.gate.0) = omega (arith, ap length c.pins-pins.ensures.pins) in
+    subst (λ n. AreAmong n c.loop-place.ones (heap_items c.loop-place.nexts)) all c.loop-place.invariant.among
+
+pub returns-clause-each : goal.returns-clause-each
+returns-clause-each c = c.loop-place.invariant.each
+
+pub returns-clause-order : goal.returns-clause-order
+returns-clause-order c = c.loop-place.invariant.order

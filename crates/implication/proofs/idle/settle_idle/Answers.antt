@@ -1,8 +1,31 @@
 -- The board settles to the labels that are computed forward.
-use Rattle.std.proofs.Common.{ap, ◌∙◌}
+use Rattle.std.proofs.Common.{length, ap, ◌∙◌}
+use Rattle.std.proofs.lemmas.List.{length-replicate}
+use Rattle.netlist.specs.Circuit.{line_count}
+use Rattle.state_sets.specs.States.{all_states}
 use Rattle.hulls.specs.Boards.{OnBoard}
 use Rattle.implication.proofs.Idling.{idle_forward, as_many}
 use Rattle.implication.proofs.idle.settle_idle.Goals as goal
+
+pub write_sources-requires-clause-set : goal.write_sources-requires-clause-set
+write_sources-requires-clause-set g c = c.requires.set
+
+pub write_sources-requires-clause-lines : goal.write_sources-requires-clause-lines
+write_sources-requires-clause-lines g c =
+    ap length c.requires.board.labels ∙ length-replicate (line_count c.args.net.now) (all_states g.A.Algebra.algebra.count)
+
+pub write_sources-requires-clause-unnoted : goal.write_sources-requires-clause-unnoted
+write_sources-requires-clause-unnoted g c = c.requires.board.unnoted
+
+pub settle_all-requires-clause-of : goal.settle_all-requires-clause-of
+settle_all-requires-clause-of g c = record {
+  lines = c.write_sources.ensures.one_each ∙ ap length c.requires.board.labels
+      ∙ length-replicate (line_count c.args.net.now) (all_states g.A.Algebra.algebra.count);
+  gates = ap (λ (b : OnBoard). length b.inside) c.write_sources.ensures.board ∙ c.requires.board.gates;
+}
+
+pub settle_all-requires-clause-conditions : goal.settle_all-requires-clause-conditions
+settle_all-requires-clause-conditions g c = c.requires.conditions
 
 pub returns-clause-forward : goal.returns-clause-forward
 returns-clause-forward g c =

@@ -1,13 +1,21 @@
-use Rattle.std.proofs.Common.{refl, subst, arith}
+use Rattle.std.proofs.Common.{Option, Some, None, refl, subst, arith}
+use Rattle.std.specs.Prelude.{IfNone}
 use Rattle.std.proofs.lemmas.Grind.{common_steps}
 use Rattle.state_sets.specs.declared.state.StateSet.{StateSet}
 use Rattle.tree_laws.specs.Spent.{HasInHalf}
 use Rattle.implication.specs.Scopes.{standing}
 use Rattle.tree_laws.specs.NodeScopes.{beginning_of}
+use Rattle.justify.specs.Choices.{IsSingleAt}
 use Rattle.justify.specs.Tasks.{task_target}
+use Rattle.justify.specs.Trying.{IsSingle}
 use Rattle.justify.proofs.HalfStates.{in_both}
 use Rattle.justify.proofs.Resting.{label_is}
 use Rattle.justify.proofs.choosing.split_at.Goals as goal
+
+-- what holds anyway holds where there is no value
+if_none : {T : Type 0} (X : Type 0) (value : Option T) → X → IfNone value X
+if_none X None holds = holds
+if_none X (Some found) holds = tt
 
 pub returns-clause-some : goal.returns-clause-some
 returns-clause-some g c = record {
@@ -21,3 +29,14 @@ returns-clause-some g c = record {
 
 pub way_to_split-requires : goal.way_to_split-requires
 way_to_split-requires g c = grind (arith, common_steps)
+
+pub label-requires : goal.label-requires
+label-requires g c = let within = c.requires.source in omega (arith, within)
+
+pub returns-in_err-steadiness-clause-none : goal.returns-in_err-steadiness-clause-none
+returns-in_err-steadiness-clause-none g c =
+    if_none (IsSingleAt (standing c.args.scope.now) c.args.source.0) c.from_residual.result (λ labels is.
+    subst IsSingle
+    (label_is (standing c.args.scope.now) (beginning_of (task_target c.args.task.now)) c.requires.node.beginning c.args.source.0
+    c.label.result c.requires.source (c.label.ensures.told c.requires.node.free) labels is)
+    c.in_err-steadiness.ensures.none)

@@ -8,3 +8,9 @@ returns-else-by_steadiness-clause-none c =
     no_split_is_single c.args.set
     (λ first second. false≢true (sym c.if-by_value.false ∙ c.has_both_halves-by_value.ensures.1 (first, second)))
     (λ first second. false≢true (sym c.if-by_steadiness.false ∙ c.has_both_halves-by_steadiness.ensures.1 (first, second)))
+
+pub returns-then-by_value-clause-some : goal.returns-then-by_value-clause-some
+returns-then-by_value-clause-some c = c.has_both_halves-by_value.ensures.0 c.if-by_value.true
+
+pub returns-then-by_steadiness-clause-some : goal.returns-then-by_steadiness-clause-some
+returns-then-by_steadiness-clause-some c = c.has_both_halves-by_steadiness.ensures.0 c.if-by_steadiness.true

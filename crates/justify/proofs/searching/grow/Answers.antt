@@ -31,7 +31,7 @@ loop-place-preserved g c =
     let first = standing c.args.scope.now in let middle = standing c.loop-place.scope in let last = standing c.visit.new.scope in
     let inv = c.loop-place.invariant in
     let goes = c.visit.ensures.goes_on in
-    let adds = visit_none task middle last _ c.visit.new.growth c.in_ok-test.test c.in-None.is c.in_ok-test.ensures.answer in
+    let adds = visit_none task middle last _ c.visit.new.growth c.in_ok-test.test c.in_default-test.is c.in_ok-test.ensures.answer in
     let P : ℕ → Type 0 = λ n. HasCounted n first last in
     record {
       scope = record {

@@ -1,7 +1,10 @@
 use Rattle.std.proofs.Common.{refl, sym, ap, ◌∙◌, subst, length}
 use Rattle.std.proofs.lemmas.List.{with_items_is}
 use Rattle.netlist.specs.Circuit.{Circuit, line_count}
+use Rattle.netlist.specs.Paths.{IsPrefix, end_of}
 use Rattle.implication.specs.Scopes.{standing}
+use Rattle.test_judging.specs.ConeStates.{AreFourStates}
+use Rattle.test_judging.specs.KeptCones.{IsConeAt, IsConeFor}
 use Rattle.search_hints.specs.Drafts.{IsJustifierOf}
 use Rattle.justify.proofs.SplitChoices.{read_in_support}
 use Rattle.justify.proofs.TriedSources.{support_within, desk_again}
@@ -28,3 +31,64 @@ judge_states-requires-clause-desk g c =
     desk_again (standing c.args.scope.now).net c.args.task.now.path.now c.args.desk.now _ c.take_least.new.states c.requires.desk refl refl refl
     (with_items_is c.args.desk.now.states c.take_least.new.states (long ∙ sym c.args.desk.now.states.ok.0))
     c.take_least.ensures.states long (subst P c.net.ensures c.propose.ensures)
+
+pub invariant_of-sight : goal.invariant_of-sight
+invariant_of-sight g c = record {
+  one_each = c.labels.ensures.one_each ∙ sym (ap line_count c.net.ensures);
+  liked_each = ap length c.as_slice.ensures.value ∙ c.requires.desk.made.liked ∙ sym (ap line_count c.net.ensures);
+}
+
+pub propose-requires-clause-of : goal.propose-requires-clause-of
+propose-requires-clause-of g c =
+    let P : Circuit → Type 0 = λ n. IsJustifierOf n c.args.desk.now.justifier in subst P (sym c.net.ensures) c.requires.desk.made.justifier
+
+pub propose-requires-clause-cone_for : goal.propose-requires-clause-cone_for
+propose-requires-clause-cone_for g c =
+    let P : Circuit → Type 0 = λ n. IsConeFor n c.args.desk.now.cone in subst P (sym c.net.ensures) c.requires.desk.made.cone
+
+pub propose-requires-clause-cone_at : goal.propose-requires-clause-cone_at
+propose-requires-clause-cone_at g c =
+    let P : Circuit → Type 0 = λ n. IsConeAt n (end_of n c.args.task.now.path.now) c.args.desk.now.cone in
+    subst P (sym c.net.ensures) c.requires.desk.cone
+
+pub propose-requires-clause-prefix : goal.propose-requires-clause-prefix
+propose-requires-clause-prefix g c =
+    let P : Circuit → Type 0 = λ n. IsPrefix n c.args.task.now.path.now in subst P (sym c.net.ensures) c.requires.prefix
+
+pub returns-in_err-is_justified-clause-desk : goal.returns-in_err-is_justified-clause-desk
+returns-in_err-is_justified-clause-desk g c =
+    let P : Circuit → Type 0 = λ n. IsJustifierOf n c.propose.new.self in
+    let made = c.requires.desk.made in
+    record {
+      made = record {
+        cone = made.cone;
+        states = made.states;
+        four = made.four;
+        blame = made.blame;
+        liked = made.liked;
+        justifier = subst P c.net.ensures c.propose.ensures;
+      };
+      cone = c.requires.desk.cone;
+    }
+
+pub returns-then-not-is_justified-clause-desk : goal.returns-then-not-is_justified-clause-desk
+returns-then-not-is_justified-clause-desk g c =
+    let P : Circuit → Type 0 = λ n. IsJustifierOf n c.propose.new.self in
+    let made = c.requires.desk.made in
+    record {
+      made = record {
+        cone = made.cone;
+        states = made.states;
+        four = made.four;
+        blame = made.blame;
+        liked = made.liked;
+        justifier = subst P c.net.ensures c.propose.ensures;
+      };
+      cone = c.requires.desk.cone;
+    }
+
+pub take_least-requires-clause-states : goal.take_least-requires-clause-states
+take_least-requires-clause-states g c = subst AreFourStates (sym c.as_mut_slice.ensures.value) c.requires.desk.made.four
+
+pub judge_states-requires-clause-prefix : goal.judge_states-requires-clause-prefix
+judge_states-requires-clause-prefix g c = c.requires.prefix

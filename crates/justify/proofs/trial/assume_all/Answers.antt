@@ -1,19 +1,19 @@
 -- Each source more stays within the trial; a conflict closes it, and where none came all are held.
-use Rattle.std.proofs.Common.{ap, ◌∙◌, subst, take}
+use Rattle.std.proofs.Common.{refl, ap, ◌∙◌, subst, take, arith}
 use Rattle.std.specs.Prelude.{is_some}
 use Rattle.std.specs.List.{All}
 use Rattle.std.proofs.lemmas.List.{take_all}
 use Rattle.std.proofs.lemmas.List.Elements.{All-more}
 use Rattle.implication.specs.Scopes.{standing}
 use Rattle.implication.specs.Standing.{IsFree}
-use Rattle.implication.proofs.Restoring.{extends_trans}
+use Rattle.implication.proofs.Restoring.{extends_itself, extends_trans}
 use Rattle.justify.specs.Tasks.{task_target}
 use Rattle.tree_laws.specs.NodeScopes.{beginning_of}
 use Rattle.justify.specs.Trying.{IsHeldIn}
 use Rattle.justify.proofs.Assumed.{grown_list, grown_conflict, closed_list, closed_count}
 use Rattle.tree_laws.proofs.ScopeLabels.{closes_there}
 use Rattle.justify.proofs.Resting.{counted_later}
-use Rattle.justify.proofs.Trials.{within_more, held_here, held_before}
+use Rattle.justify.proofs.Trials.{within_itself, within_more, held_here, held_before}
 use Rattle.justify.proofs.trial.assume_all.Goals as goal
 
 pub returns-in-Err-clause-trial : goal.returns-in-Err-clause-trial
@@ -71,3 +71,37 @@ returns-clause-ends g c =
       left_open = c.loop-entry.invariant.held.left_open;
       held = subst P (take_all c.loop-entry.entry-index c.args.tried.now c.loop-entry-test.false) c.loop-entry.invariant.held.held;
     }
+
+pub loop-entry-init : goal.loop-entry-init
+loop-entry-init g c =
+    let first = standing c.args.scope.now in
+    record {
+      scope = record { engine = refl; origin = refl };
+      extends = extends_itself first;
+      trial = within_itself (task_target c.args.task.now) first;
+      held = record { free = c.requires.node.free; left_open = c.requires.node.left_open; held = λ k d inside. absurd (omega (arith, inside)) };
+    }
+
+pub assume-requires : goal.assume-requires
+assume-requires g c =
+    rw c.loop-entry.invariant.extends.net (c.requires.tried c.loop-entry.entry-index _ c.loop-entry-test.true).in_support.is_source
+
+pub returns-in-Err-clause-scope : goal.returns-in-Err-clause-scope
+returns-in-Err-clause-scope g c = record {
+  engine = c.assume.ensures.scope.engine ∙ c.loop-entry.invariant.scope.engine;
+  origin = c.assume.ensures.scope.origin ∙ c.loop-entry.invariant.scope.origin;
+}
+
+pub returns-in-Err-clause-extends : goal.returns-in-Err-clause-extends
+returns-in-Err-clause-extends g c =
+    extends_trans (standing c.args.scope.now) (standing c.loop-entry.scope) (standing c.assume.new.self)
+    c.loop-entry.invariant.extends c.assume.ensures.extends
+
+pub returns-clause-scope : goal.returns-clause-scope
+returns-clause-scope g c = c.loop-entry.invariant.scope
+
+pub returns-clause-extends : goal.returns-clause-extends
+returns-clause-extends g c = c.loop-entry.invariant.extends
+
+pub returns-clause-trial : goal.returns-clause-trial
+returns-clause-trial g c = c.loop-entry.invariant.trial

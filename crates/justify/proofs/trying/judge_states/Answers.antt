@@ -1,12 +1,14 @@
 use Rattle.std.proofs.Common.{◌<◌, refl, sym, ap, ◌∙◌, subst, length, List}
 use Rattle.std.proofs.lemmas.List.{with_items_is}
-use Rattle.netlist.specs.Circuit.{Circuit, source_count}
-use Rattle.netlist.specs.Paths.{IsPrefix}
+use Rattle.netlist.specs.Circuit.{Circuit, line_count, source_count}
+use Rattle.netlist.specs.Paths.{IsPrefix, end_of}
 use Rattle.state_sets.specs.declared.state.State.{State}
 use Rattle.implication.specs.Scopes.{standing}
-use Rattle.test_judging.specs.ConeStates.{state_in}
+use Rattle.test_judging.specs.KeptCones.{AreConeGates}
+use Rattle.test_judging.specs.ConeStates.{AreFourStates, state_in}
+use Rattle.justify.specs.Desks.{AreInSupport}
 use Rattle.justify.specs.Tasks.{task_target}
-use Rattle.justify.proofs.TriedSources.{in_cone_within, side_within, desk_again, kept_desk, read_at, sources_within, judged_fits}
+use Rattle.justify.proofs.TriedSources.{blamed_in_support, in_cone_within, side_within, desk_again, kept_desk, read_at, sources_within, judged_fits}
 use Rattle.justify.proofs.trying.judge_states.Goals as goal
 
 pub set_failure-requires-clause-line : goal.set_failure-requires-clause-line
@@ -94,3 +96,48 @@ returns-in-FailsAt-clause-kept g c =
           ∙ c.judge-judgement.ensures.sources source (subst (λ (n : Circuit). source < source_count n) (sym c.net-net.ensures) within)
           ∙ ap (λ (xs : List State). state_in xs source) c.as_mut_slice.ensures.value;
     }
+
+pub judge-judgement-requires-clause-prefix : goal.judge-judgement-requires-clause-prefix
+judge-judgement-requires-clause-prefix g c =
+    let P : Circuit → Type 0 = λ n. IsPrefix n c.args.task.now.path.now in subst P (sym c.net-net.ensures) c.requires.prefix
+
+pub judge-judgement-requires-clause-gates : goal.judge-judgement-requires-clause-gates
+judge-judgement-requires-clause-gates g c =
+    let P : Circuit → Type 0 = λ n. AreConeGates n (end_of n c.args.task.now.path.now) c.gates.result.now in
+    let net = (standing c.args.scope.now).net in
+    subst P (sym c.net-net.ensures) (subst (AreConeGates net (end_of net c.args.task.now.path.now)) (sym c.gates.ensures) c.requires.desk.cone.gates)
+
+pub judge-judgement-requires-clause-labels : goal.judge-judgement-requires-clause-labels
+judge-judgement-requires-clause-labels g c = c.labels.ensures.one_each ∙ sym (ap line_count c.net-net.ensures)
+
+pub judge-judgement-requires-clause-states : goal.judge-judgement-requires-clause-states
+judge-judgement-requires-clause-states g c = record {
+  places = ap length c.as_mut_slice.ensures.value ∙ c.requires.desk.made.states ∙ sym (ap line_count c.net-net.ensures);
+  four = subst AreFourStates (sym c.as_mut_slice.ensures.value) c.requires.desk.made.four;
+}
+
+pub read_test-requires-clause-places : goal.read_test-requires-clause-places
+read_test-requires-clause-places g c =
+    let long = c.judge-judgement.ensures.places ∙ ap length c.as_mut_slice.ensures.value in
+    ap length (c.as_slice.ensures.value ∙ with_items_is c.args.desk.now.states c.judge-judgement.new.states (long ∙ sym c.args.desk.now.states.ok.0))
+    ∙ long ∙ c.requires.desk.made.states ∙ sym (ap line_count c.net-net.ensures)
+
+pub read_test-requires-clause-states : goal.read_test-requires-clause-states
+read_test-requires-clause-states g c =
+    let long = c.judge-judgement.ensures.places ∙ ap length c.as_mut_slice.ensures.value in
+    subst AreFourStates
+    (sym (c.as_slice.ensures.value ∙ with_items_is c.args.desk.now.states c.judge-judgement.new.states (long ∙ sym c.args.desk.now.states.ok.0)))
+    c.judge-judgement.ensures.states
+
+pub set_failure-requires-clause-room : goal.set_failure-requires-clause-room
+set_failure-requires-clause-room g c = c.requires.desk.made.blame ∙ sym (ap line_count c.net-net.ensures)
+
+pub set_failure-requires-clause-labels : goal.set_failure-requires-clause-labels
+set_failure-requires-clause-labels g c = c.labels-in-FailsAt.ensures.one_each ∙ sym (ap line_count c.net-net.ensures)
+
+pub returns-in-FailsAt-clause-blamed : goal.returns-in-FailsAt-clause-blamed
+returns-in-FailsAt-clause-blamed g c =
+    let P : Circuit → Type 0 = λ n. AreInSupport n c.args.task.now.path.now c.set_failure.new.self.sources in
+    subst P c.net-net.ensures
+    (blamed_in_support c.net-net.result.now c.args.task.now.path.now c.in-FailsAt.line c.in-FailsAt.side c.set_failure.new.self.sources
+    c.set_failure.ensures.blamed c.in-FailsAt.ensures.within.0 c.in-FailsAt.ensures.within.1)

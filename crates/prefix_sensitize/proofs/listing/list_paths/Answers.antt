@@ -2,14 +2,14 @@
 use Rattle.std.proofs.Common.{◌≡◌, ℕ, ◌+◌, ◌-◌, ◌∷◌, ◌++◌, List, [], length, refl, sym, ap, subst, ◌∙◌, append_assoc, arith}
 use Rattle.std.specs.Vec.Iter.{into_iter_items}
 use Rattle.std.proofs.lemmas.Grind.{common_steps}
-use Rattle.std.proofs.lemmas.List.{length_push}
+use Rattle.std.proofs.lemmas.List.{length_push, nil_from_length}
 use Rattle.std.proofs.lemmas.Option.{slice_get_within}
 use Rattle.pd_base.specs.Route.{Route}
 use Rattle.pd_base.specs.declared.fault.Direction.TheVariants.{Rise, Fall}
 use Rattle.delay_annotation.specs.Annotation.{delays_of}
 use Rattle.prefix_sensitize.specs.Answers.{written_by}
 use Rattle.prefix_sensitize.specs.Searches.{AreBothOutcomesFrom}
-use Rattle.prefix_sensitize.proofs.ListedPaths.{is_listed, is_next, none_listed, one_more}
+use Rattle.prefix_sensitize.proofs.ListedPaths.{all_listed, is_listed, is_next, none_listed, one_more}
 use Rattle.prefix_sensitize.proofs.Rows.{nonrobust_within, others_left, robust_within, taken_are}
 use Rattle.prefix_sensitize.proofs.listing.list_paths.Goals as goal
 
@@ -133,3 +133,11 @@ loop-path-preserved g c =
       rest = append_assoc c.loop-path.yielded (c.in-Some.path ∷ []) (into_iter_items c.next.new.self)
           ∙ ap (λ (rest : List Route). c.loop-path.yielded ++ rest) (sym c.in-Some.ensures.steps.0) ∙ turn.rest;
     }
+
+pub returns-clause-listed : goal.returns-clause-listed
+returns-clause-listed g c =
+    let turn = c.loop-path.invariant in
+    all_listed c.args.net.now (delays_of c.args.net.now c.args.delays.now) g.searches c.requires.1.1.0 c.loop-path.yielded
+    (into_iter_items c.loop-path.path-iterator) turn.rest c.loop-path.listed.items (written_by c.loop-path.writer) turn.listed
+    (nil_from_length (into_iter_items c.loop-path.path-iterator)
+    (omega (arith, c.in-None.ensures.steps.0, c.loop-path.path-iterator.rest.ok.0)))

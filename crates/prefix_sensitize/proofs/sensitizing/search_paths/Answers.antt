@@ -21,8 +21,8 @@ within-requires g c =
     let P : List LineId → Type 0 = All (λ (end : LineId). end.0 < line_count net) in
     subst P (sym c.as_slice.ensures.value) c.in_ok-ends.ensures.lines
 
-pub search_on-requires-clause-told : goal.search_on-requires-clause-told
-search_on-requires-clause-told g c =
+pub search_on-outcomes-requires-clause-told : goal.search_on-outcomes-requires-clause-told
+search_on-outcomes-requires-clause-told g c =
     let net = c.args.net.now in
     let engine = c.in_ok-engine.engine in
     let are : engine.ends ≡ Some (ends_of net c.args.paths.now) =
@@ -30,21 +30,21 @@ search_on-requires-clause-told g c =
     let P : Circuit → Type 0 = λ n. All (λ (route : Route). IsToldBy n engine.ends (end_of n route)) c.args.paths.now in
     subst P (sym (ap (λ (s : Standing). s.net) c.in_ok-engine.ensures)) (ends_told net c.args.paths.now engine.ends are)
 
-pub search_on-requires-clause-net : goal.search_on-requires-clause-net
-search_on-requires-clause-net g c = ap (λ (s : Standing). s.net) c.in_ok-engine.ensures
+pub search_on-outcomes-requires-clause-net : goal.search_on-outcomes-requires-clause-net
+search_on-outcomes-requires-clause-net g c = ap (λ (s : Standing). s.net) c.in_ok-engine.ensures
 
-pub search_on-requires-clause-idle : goal.search_on-requires-clause-idle
-search_on-requires-clause-idle g c = ap (λ (s : Standing). s.beginning) c.in_ok-engine.ensures
+pub search_on-outcomes-requires-clause-idle : goal.search_on-outcomes-requires-clause-idle
+search_on-outcomes-requires-clause-idle g c = ap (λ (s : Standing). s.beginning) c.in_ok-engine.ensures
 
-pub search_on-requires-clause-listed : goal.search_on-requires-clause-listed
-search_on-requires-clause-listed g c =
+pub search_on-outcomes-requires-clause-listed : goal.search_on-outcomes-requires-clause-listed
+search_on-outcomes-requires-clause-listed g c =
     let P : Circuit → Type 0 = λ n. AreSearchablePaths n c.args.paths.now in
     subst P (sym (ap (λ (s : Standing). s.net) c.in_ok-engine.ensures)) c.requires.listed
 
 pub returns-clause-outcomes : goal.returns-clause-outcomes
 returns-clause-outcomes g c =
     let engine = c.in_ok-engine.engine in
-    IfOk-weaker c.search_on.result
+    IfOk-weaker c.search_on-outcomes.result
     (λ (outcomes : AllOutcomes).
     AreAllOutcomes engine.net (searches_of engine.rules c.args.budget c.args.paths.now outcomes) outcomes)
     (λ (outcomes : AllOutcomes).
@@ -52,7 +52,7 @@ returns-clause-outcomes g c =
     (λ outcomes are.
     let P : Circuit → Rules → Type 0 = λ n rules. AreAllOutcomes n (searches_of rules c.args.budget c.args.paths.now outcomes) outcomes in
     subst₂ P (ap (λ (s : Standing). s.net) c.in_ok-engine.ensures) (ap (λ (s : Standing). s.rules) c.in_ok-engine.ensures) are)
-    c.search_on.ensures.outcomes
+    c.search_on-outcomes.ensures.outcomes
 
 pub returns-clause-steps : goal.returns-clause-steps
-returns-clause-steps g c = c.search_on.ensures.steps
+returns-clause-steps g c = c.search_on-outcomes.ensures.steps

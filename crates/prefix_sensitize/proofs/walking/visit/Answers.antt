@@ -1,5 +1,5 @@
 -- The path at this place is passed by or visited.
-use Rattle.std.proofs.Common.{ℕ, ◌<◌, ◌≤◌, false, true≢false, length, get_or, sym, ap, subst, ◌∙◌, arith}
+use Rattle.std.proofs.Common.{ℕ, ◌<◌, ◌≤◌, false, true≢false, length, get_or, refl, sym, ap, subst, ◌∙◌, arith}
 use Rattle.std.proofs.lemmas.Option.{get_or_from_slice_get, slice_get_within}
 use Rattle.std.proofs.lemmas.Result.{IfOk-weaker}
 use Rattle.pd_base.specs.Route.{Route}
@@ -9,6 +9,7 @@ use Rattle.prefix_sensitize.specs.Outcomes.{AddsProofs}
 use Rattle.prefix_sensitize.specs.PathOrder.{StandsInOrder}
 use Rattle.prefix_sensitize.specs.Settling.{HasItsSteps, Settles}
 use Rattle.prefix_sensitize.proofs.Along.{counted_on, gone_to, its_steps, room_for, visited_along}
+use Rattle.prefix_sensitize.proofs.Descents.{same_at_once}
 use Rattle.prefix_sensitize.proofs.Passing.{adds_none, all_counted, come_past}
 use Rattle.prefix_sensitize.proofs.PathOrder.{stands_once, stands_there}
 use Rattle.prefix_sensitize.proofs.walking.visit.Goals as goal
@@ -262,3 +263,37 @@ returns-clause-counted g c =
     (stands_there course.paths.now course.order.now c.requires.1.1.1.0.order.inside place 0 c.index-course-row.result within)
     c.args.descent.now c.args.outcomes.now c.args.proofs.now.items c.args.steps.now c.requires.1.1.1.1.1.1.0 c.search.new.steps
     c.search.ensures.counted
+
+pub bounds-course-place : goal.bounds-course-place
+bounds-course-place g c =
+    let at = c.requires.1.1.1.1.1.1.1 in
+    slice_get_within c.args.course.now.order.now c.args.place at.row at.stands.is_placed
+
+pub bounds-course-row : goal.bounds-course-row
+bounds-course-row g c =
+    let at = c.requires.1.1.1.1.1.1.1 in
+    let within = slice_get_within c.args.course.now.order.now c.args.place at.row at.stands.is_placed in
+    let inside = c.requires.1.1.1.0.order.inside c.args.place 0 within in
+    omega (arith, inside, c.requires.1.1.1.0.one_each)
+
+pub bounds-course-row-2 : goal.bounds-course-row-2
+bounds-course-row-2 g c =
+    let at = c.requires.1.1.1.1.1.1.1 in
+    c.requires.1.1.1.0.order.inside c.args.place 0
+    (slice_get_within c.args.course.now.order.now c.args.place at.row at.stands.is_placed)
+
+pub overflow_add-result : goal.overflow_add-result
+overflow_add-result g c =
+    let at = c.requires.1.1.1.1.1.1.1 in
+    let within = slice_get_within c.args.course.now.order.now c.args.place at.row at.stands.is_placed in
+    let few = c.requires.1.1.1.0.searchable.few in
+    omega (arith, within, c.requires.1.1.1.0.order.one_each, few)
+
+pub returns-then-not-course-row-clause-scope : goal.returns-then-not-course-row-clause-scope
+returns-then-not-course-row-clause-scope g c = record { engine = refl; origin = refl }
+
+pub returns-then-not-course-row-clause-same : goal.returns-then-not-course-row-clause-same
+returns-then-not-course-row-clause-same g c = same_at_once (standing c.args.scope.now)
+
+pub returns-then-not-course-row-clause-on : goal.returns-then-not-course-row-clause-on
+returns-then-not-course-row-clause-on g c = omega arith

@@ -1,5 +1,5 @@
 -- A scope is opened at the source of the path at this place, and left behind the last path from it.
-use Rattle.std.proofs.Common.{ℕ, ◌+◌, ◌<◌, true≢false, List, [], get_or, Option, sym, subst, subst₂, ◌∙◌, refl}
+use Rattle.std.proofs.Common.{ℕ, ◌+◌, ◌<◌, true≢false, List, [], get_or, Option, sym, subst, subst₂, ◌∙◌, refl, arith}
 use Rattle.std.proofs.lemmas.Result.{IfOk-weaker}
 use Rattle.pd_base.specs.declared.ids.LineId.{LineId}
 use Rattle.pd_base.specs.declared.rules.Rules.{Rules}
@@ -104,3 +104,22 @@ returns-then-not-course-row-clause-counted g c =
     let come = c.requires.1.1.1.1.1.1.1 in
     all_counted old.net old.rules c.args.course.now g.begin c.args.place c.args.outcomes.now c.args.proofs.now.items c.args.steps.now
     come.come
+
+pub bounds-course-row : goal.bounds-course-row
+bounds-course-row g c =
+    let inside = c.requires.1.1.1.0.order.inside c.args.place 0 c.requires.1.1.1.1.1.0 in omega (arith, inside, c.requires.1.1.1.0.one_each)
+
+pub bounds-course-row-2 : goal.bounds-course-row-2
+bounds-course-row-2 g c = c.requires.1.1.1.0.order.inside c.args.place 0 c.requires.1.1.1.1.1.0
+
+pub overflow_add-result : goal.overflow_add-result
+overflow_add-result g c =
+    let place = c.requires.1.1.1.1.1.0 in
+    let few = c.requires.1.1.1.0.searchable.few in
+    omega (arith, place, c.requires.1.1.1.0.order.one_each, few)
+
+pub returns-then-not-course-row-clause-within : goal.returns-then-not-course-row-clause-within
+returns-then-not-course-row-clause-within g c = let place = c.requires.1.1.1.1.1.0 in omega (arith, place)
+
+pub returns-then-not-course-row-clause-on : goal.returns-then-not-course-row-clause-on
+returns-then-not-course-row-clause-on g c = omega arith

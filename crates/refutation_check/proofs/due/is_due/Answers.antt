@@ -20,6 +20,32 @@ returns-then-source-sources-clause-due g c = λ halves at.
           c.requires.room.cone.lines w.if-not-marks-source.true
     ])
 
+pub returns-then-source-sources-clause-room : goal.returns-then-source-sources-clause-room
+returns-then-source-sources-clause-room g c = c.requires.room
+
+pub returns-then-is_some-clause-room : goal.returns-then-is_some-clause-room
+returns-then-is_some-clause-room g c = c.requires.room
+
+pub returns-then-not-has_both_halves-clause-room : goal.returns-then-not-has_both_halves-clause-room
+returns-then-not-has_both_halves-clause-room g c = c.requires.room
+
+pub is_open-requires-clause-prefix : goal.is_open-requires-clause-prefix
+is_open-requires-clause-prefix g c = c.requires.prefix
+
+pub is_open-requires-clause-told : goal.is_open-requires-clause-told
+is_open-requires-clause-told g c = c.requires.told
+
+pub is_open-requires-clause-free : goal.is_open-requires-clause-free
+is_open-requires-clause-free g c =
+    none_stands (standing c.args.scope.now).conflict c.conflict.result c.conflict.ensures.none c.is_some.result c.is_some.ensures
+    c.if-is_some.false
+
+pub is_open-requires-clause-room : goal.is_open-requires-clause-room
+is_open-requires-clause-room g c = c.requires.room
+
+pub returns-clause-room : goal.returns-clause-room
+returns-clause-room g c = c.is_open.ensures.room
+
 pub returns-then-is_some-clause-due : goal.returns-then-is_some-clause-due
 returns-then-is_some-clause-due g c = λ halves at.
     let now = standing c.args.scope.now in let split = c.args.split in

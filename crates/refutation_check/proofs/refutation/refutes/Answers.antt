@@ -1,11 +1,24 @@
 -- The scope is at the root, and what is told of the nodes there is told under the engine's setting.
-use Rattle.std.proofs.Common.{Some, IfOk, refl, ◌∙◌, subst₂}
+use Rattle.std.proofs.Common.{List, Option, Some, IfOk, refl, sym, ◌∙◌, subst, subst₂}
+use Rattle.pd_base.specs.declared.ids.LineId.{LineId}
 use Rattle.pd_base.specs.Target.{target_of}
 use Rattle.pd_base.specs.declared.rules.Rules.{Rules}
 use Rattle.netlist.specs.Circuit.{Circuit}
+use Rattle.netlist.specs.Paths.{IsPrefix, end_of}
+use Rattle.implication.specs.Standing.{IsToldBy}
 use Rattle.tree_laws.specs.Faults.{IsRightInRefutation}
 use Rattle.refutation_check.specs.Answers.{TellsOfNodes}
 use Rattle.refutation_check.proofs.refutation.refutes.Goals as goal
+
+pub enter_all-requires-clause-prefix : goal.enter_all-requires-clause-prefix
+enter_all-requires-clause-prefix g c =
+    let P : Circuit → Type 0 = λ n. IsPrefix n c.args.prefix.now in subst P (sym c.begin-scope.ensures.begun.net) c.requires.prefix
+
+pub enter_all-requires-clause-told : goal.enter_all-requires-clause-told
+enter_all-requires-clause-told g c =
+    let begun = c.begin-scope.ensures.begun in
+    let P : Circuit → Option (List LineId) → Type 0 = λ n ends. IsToldBy n ends (end_of n c.args.prefix.now) in
+    subst₂ P (sym begun.net) (sym begun.ends) c.requires.told
 
 pub walk_refutation-requires-clause-root : goal.walk_refutation-requires-clause-root
 walk_refutation-requires-clause-root g c =

@@ -17,6 +17,48 @@ abbrev TellsOf : Target → Standing → Bool → Node → Type 0
 TellsOf target standing r node =
     (halves : List Half) → IsScopeAt target halves standing → IsTrue r ↔ IsRightInSpent standing.net standing.rules target halves node
 
+pub is_open-requires-clause-prefix : goal.is_open-requires-clause-prefix
+is_open-requires-clause-prefix g c = c.requires.prefix
+
+pub is_open-requires-clause-told : goal.is_open-requires-clause-told
+is_open-requires-clause-told g c = c.requires.told
+
+pub is_open-requires-clause-room : goal.is_open-requires-clause-room
+is_open-requires-clause-room g c = c.requires.room
+
+pub is_due-requires-clause-prefix : goal.is_due-requires-clause-prefix
+is_due-requires-clause-prefix g c = c.requires.prefix
+
+pub is_due-requires-clause-told : goal.is_due-requires-clause-told
+is_due-requires-clause-told g c = c.requires.told
+
+pub is_due-requires-clause-room : goal.is_due-requires-clause-room
+is_due-requires-clause-room g c = c.requires.room
+
+pub is_due-requires-in-Steadiness-clause-prefix : goal.is_due-requires-in-Steadiness-clause-prefix
+is_due-requires-in-Steadiness-clause-prefix g c = c.requires.prefix
+
+pub is_due-requires-in-Steadiness-clause-told : goal.is_due-requires-in-Steadiness-clause-told
+is_due-requires-in-Steadiness-clause-told g c = c.requires.told
+
+pub is_due-requires-in-Steadiness-clause-room : goal.is_due-requires-in-Steadiness-clause-room
+is_due-requires-in-Steadiness-clause-room g c = c.requires.room
+
+pub returns-in-Closed-clause-room : goal.returns-in-Closed-clause-room
+returns-in-Closed-clause-room g c = c.requires.room
+
+pub returns-then-is_none-clause-room : goal.returns-then-is_none-clause-room
+returns-then-is_none-clause-room g c = c.is_open.ensures.room
+
+pub returns-else-is_none-clause-room : goal.returns-else-is_none-clause-room
+returns-else-is_none-clause-room g c = c.requires.room
+
+pub returns-in-Value-clause-room : goal.returns-in-Value-clause-room
+returns-in-Value-clause-room g c = c.is_due.ensures.room
+
+pub returns-in-Steadiness-clause-room : goal.returns-in-Steadiness-clause-room
+returns-in-Steadiness-clause-room g c = c.is_due-in-Steadiness.ensures.room
+
 pub returns-in-Closed-clause-right : goal.returns-in-Closed-clause-right
 returns-in-Closed-clause-right g c =
     let target = asked_target c.args.asked.now in let now = standing c.args.scope.now in

@@ -30,6 +30,44 @@ loop-place-init g c =
           c.nodes-node-items.result.now old c.clear.new.self.items c.requires.root c.clear.ensures.items;
     }
 
+pub returns-then-not-is_right_at-clause-scope : goal.returns-then-not-is_right_at-clause-scope
+returns-then-not-is_right_at-clause-scope g c = c.loop-place.invariant.scope
+
+pub returns-then-not-is_right_at-clause-setting : goal.returns-then-not-is_right_at-clause-setting
+returns-then-not-is_right_at-clause-setting g c = c.loop-place.invariant.setting
+
+pub returns-then-not-is_right_at-clause-room : goal.returns-then-not-is_right_at-clause-room
+returns-then-not-is_right_at-clause-room g c =
+    let P : Circuit → Type 0 = λ n. IsTrialRoomAt n (asked_target c.args.asked.now) c.is_right_at.new.room in
+    subst P c.loop-place.invariant.setting.net c.is_right_at.ensures.room
+
+pub pass-requires-clause-begun : goal.pass-requires-clause-begun
+pass-requires-clause-begun g c = c.loop-place.invariant.scope.origin ∙ c.requires.begun
+
+pub returns-in_err-pass-clause-scope : goal.returns-in_err-pass-clause-scope
+returns-in_err-pass-clause-scope g c =
+    let inv = c.loop-place.invariant in
+    record { engine = c.pass.ensures.scope.engine ∙ inv.scope.engine; origin = c.pass.ensures.scope.origin ∙ inv.scope.origin }
+
+pub returns-in_err-pass-clause-setting : goal.returns-in_err-pass-clause-setting
+returns-in_err-pass-clause-setting g c =
+    same_twice (standing c.args.scope.now) (standing c.loop-place.scope) (standing c.pass.new.scope) c.loop-place.invariant.setting
+    c.pass.ensures.setting
+
+pub returns-in_err-pass-clause-room : goal.returns-in_err-pass-clause-room
+returns-in_err-pass-clause-room g c =
+    let P : Circuit → Type 0 = λ n. IsTrialRoomAt n (asked_target c.args.asked.now) c.is_right_at.new.room in
+    subst P c.loop-place.invariant.setting.net c.is_right_at.ensures.room
+
+pub returns-clause-scope : goal.returns-clause-scope
+returns-clause-scope g c = c.loop-place.invariant.scope
+
+pub returns-clause-setting : goal.returns-clause-setting
+returns-clause-setting g c = c.loop-place.invariant.setting
+
+pub returns-clause-room : goal.returns-clause-room
+returns-clause-room g c = c.loop-place.invariant.room
+
 pub returns-then-not-is_right_at-clause-tells : goal.returns-then-not-is_right_at-clause-tells
 returns-then-not-is_right_at-clause-tells g c =
     let old = standing c.args.scope.now in let now = standing c.loop-place.scope in

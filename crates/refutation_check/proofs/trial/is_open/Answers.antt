@@ -1,10 +1,12 @@
 -- The judged pair has the least states of the hull.
-use Rattle.std.proofs.Common.{length, refl, subst}
-use Rattle.netlist.specs.Circuit.{Circuit}
+use Rattle.std.proofs.Common.{◌≡◌, length, refl, sym, subst}
+use Rattle.std.proofs.lemmas.Bool.{false≢true}
+use Rattle.netlist.specs.Circuit.{Circuit, line_count}
 use Rattle.netlist.specs.Lawful.{IsCircuit}
-use Rattle.netlist.specs.Paths.{end_of}
+use Rattle.netlist.specs.Paths.{IsPrefix, end_of}
 use Rattle.implication.specs.Scopes.{standing}
 use Rattle.tree_laws.proofs.Told.{told_in_fan_in}
+use Rattle.test_judging.specs.KeptCones.{IsConeAt}
 use Rattle.refutation_check.specs.TrialStates.{AreTrialStates}
 use Rattle.refutation_check.specs.Trials.{asked_target, AreLeastOf, EachIsTest, NoneIsTest}
 use Rattle.refutation_check.proofs.Trying.{sources_within, least_in_cone, test_not_open, failed_open}
@@ -21,6 +23,36 @@ fails_again-requires-clause-states g c =
     let now = standing c.args.scope.now in let room = c.args.room.now in
     sources_within now.net (end_of now.net c.args.asked.now.path.now) room.cone.sources room.cone.sources refl c.requires.room.cone.sources
     (length room.kept.states.items) c.requires.room.made.kept.room.states.places
+
+pub are_tests-requires-clause-prefix : goal.are_tests-requires-clause-prefix
+are_tests-requires-clause-prefix g c =
+    let P : Circuit → Type 0 = λ n. IsPrefix n c.args.asked.now.path.now in subst P (sym c.net-net.ensures) c.requires.prefix
+
+pub are_tests-requires-clause-labels : goal.are_tests-requires-clause-labels
+are_tests-requires-clause-labels g c =
+    let P : Circuit → Type 0 = λ n. length c.labels-labels.result.now ≡ line_count n in
+    subst P (sym c.net-net.ensures) c.labels-labels.ensures.one_each
+
+pub are_tests-requires-clause-cone : goal.are_tests-requires-clause-cone
+are_tests-requires-clause-cone g c =
+    let P : Circuit → Type 0 = λ n. IsConeAt n (end_of n c.args.asked.now.path.now) c.args.room.now.cone in
+    subst P (sym c.net-net.ensures) c.requires.room.cone
+
+pub are_tests-requires-clause-kept : goal.are_tests-requires-clause-kept
+are_tests-requires-clause-kept g c =
+    let P : Circuit → Type 0 = λ n. AreTrialStates n c.args.room.now.kept in subst P (sym c.net-net.ensures) c.requires.room.made.kept
+
+pub returns-then-fails_again-clause-room : goal.returns-then-fails_again-clause-room
+returns-then-fails_again-clause-room g c = c.requires.room
+
+pub returns-then-are_tests-clause-room : goal.returns-then-are_tests-clause-room
+returns-then-are_tests-clause-room g c =
+    let K : Circuit → Type 0 = λ n. AreTrialStates n c.are_tests.new.kept in
+    record {
+      made = record { cone = c.requires.room.made.cone; kept = subst K c.net-net.ensures c.are_tests.ensures.kept };
+      cone = c.requires.room.cone;
+      failed = λ yes. absurd (false≢true yes);
+    }
 
 pub returns-then-fails_again-clause-open : goal.returns-then-fails_again-clause-open
 returns-then-fails_again-clause-open g c = λ halves at.

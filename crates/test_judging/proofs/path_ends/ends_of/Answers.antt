@@ -1,8 +1,8 @@
 -- The last line of one path more is listed.
-use Rattle.std.proofs.Common.{◌≡◌, ◌<◌, ◌∷◌, ◌++◌, [], List, ap, sym, subst, take, ◌∙◌}
+use Rattle.std.proofs.Common.{◌<◌, ◌∷◌, ◌++◌, [], List, ap, sym, subst, take, ◌∙◌}
 use Rattle.std.specs.List.{All}
 use Rattle.std.proofs.lemmas.List.{map_more, take_all}
-use Rattle.std.proofs.lemmas.List.Elements.{All-nil, All-push}
+use Rattle.std.proofs.lemmas.List.Elements.{All-push}
 use Rattle.pd_base.specs.declared.ids.LineId.{LineId}
 use Rattle.pd_base.specs.Route.{Route}
 use Rattle.netlist.specs.Circuit.{line_count}

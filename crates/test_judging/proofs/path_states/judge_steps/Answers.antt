@@ -1,5 +1,5 @@
 -- The state of the source, and then those at the sides of one step after another.
-use Rattle.std.proofs.Common.{◌+◌, List, drop, get_or, sym, ap₂, subst, subst₂, ◌∙◌, arith}
+use Rattle.std.proofs.Common.{ℕ, ◌+◌, ◌<◌, List, length, drop, get_or, sym, ap₂, subst, subst₂, ◌∙◌, arith}
 use Rattle.std.proofs.lemmas.Bool.{false≢true}
 use Rattle.pd_base.specs.declared.ids.LineId.{LineId}
 use Rattle.pd_base.specs.declared.ids.PinRef.{PinRef}
@@ -11,7 +11,7 @@ use Rattle.state_sets.specs.Starts.{IsLaunching}
 use Rattle.state_laws.proofs.FanIns.{leads_in_fan_in}
 use Rattle.test_judging.specs.ConeStates.{state_in}
 use Rattle.test_judging.specs.Judged.{StatesPass, IsFailingSide}
-use Rattle.test_judging.proofs.StepStates.{no_step, IsLeftAt, left_whole, left_in_fan_in, left_in_circuit, left_more, no_test, failing_in_fan_in, sides_meet, launches_if, launching_if}
+use Rattle.test_judging.proofs.StepStates.{no_step, IsLeftAt, connects_on, left_whole, left_in_fan_in, left_in_circuit, left_more, no_test, failing_in_fan_in, sides_meet, launches_if, launching_if}
 use Rattle.test_judging.proofs.path_states.judge_steps.Goals as goal
 
 pub returns-then-not-launches-clause-within : goal.returns-then-not-launches-clause-within
@@ -41,14 +41,55 @@ loop-step-init c =
 pub failing_side-requires-clause-pins : goal.failing_side-requires-clause-pins
 failing_side-requires-clause-pins c = λ k d inside. omega (arith, c.pins.ensures.in_circuit k d inside, c.requires.states.places)
 
+pub bounds-states-source : goal.bounds-states-source
+bounds-states-source c =
+    let net = c.args.net.now in let path = c.args.path.now in let states = c.args.states.now in
+    let within = left_in_circuit net c.args.kind path states c.lines.ensures.circuit c.requires.prefix path.source.0 path.steps
+    (left_whole net c.args.kind path states c.requires.prefix) in
+    subst (λ (l : LineId). l.0 < length states) (sym c.source-2.ensures)
+    (subst (λ (n : ℕ). path.source.0 < n) (sym c.requires.states.places) within)
+
+pub launches-requires : goal.launches-requires
+launches-requires c =
+    let net = c.args.net.now in let path = c.args.path.now in let states = c.args.states.now in
+    let within = left_in_circuit net c.args.kind path states c.lines.ensures.circuit c.requires.prefix path.source.0 path.steps
+    (left_whole net c.args.kind path states c.requires.prefix) in
+    c.requires.states.four c.source-2.result.0 (record { 0 = 0 })
+    (subst (λ (l : LineId). l.0 < length states) (sym c.source-2.ensures)
+    (subst (λ (n : ℕ). path.source.0 < n) (sym c.requires.states.places) within))
+
 pub bounds-states-line : goal.bounds-states-line
 bounds-states-line c =
-    omega (
-      arith,
-      c.requires.states.places,
-      left_in_circuit c.args.net.now c.args.kind c.args.path.now c.args.states.now c.lines.ensures.circuit c.requires.prefix
-          c.loop-step.line.0 (drop c.loop-step.step-index c.steps-step-items.result.now) c.loop-step.invariant,
-    )
+    let states = c.args.states.now in
+    subst (λ (n : ℕ). c.loop-step.line.0 < n) (sym c.requires.states.places)
+    (left_in_circuit c.args.net.now c.args.kind c.args.path.now states c.lines.ensures.circuit c.requires.prefix
+    c.loop-step.line.0 (drop c.loop-step.step-index c.steps-step-items.result.now) c.loop-step.invariant)
+
+pub last-last-requires : goal.last-last-requires
+last-last-requires c =
+    let states = c.args.states.now in
+    c.requires.states.four c.loop-step.line.0 (record { 0 = 0 })
+    (subst (λ (n : ℕ). c.loop-step.line.0 < n) (sym c.requires.states.places)
+    (left_in_circuit c.args.net.now c.args.kind c.args.path.now states c.lines.ensures.circuit c.requires.prefix
+    c.loop-step.line.0 (drop c.loop-step.step-index c.steps-step-items.result.now) c.loop-step.invariant))
+
+pub kind-requires : goal.kind-requires
+kind-requires c =
+    (connects_on c.args.net.now c.args.kind c.args.path.now c.args.states.now c.steps-step-items.result.now c.loop-step.step-index
+    c.loop-step-test.true c.loop-step.line.0 c.loop-step.invariant).0.in_circuit
+
+pub pins-requires : goal.pins-requires
+pins-requires c =
+    (connects_on c.args.net.now c.args.kind c.args.path.now c.args.states.now c.steps-step-items.result.now c.loop-step.step-index
+    c.loop-step-test.true c.loop-step.line.0 c.loop-step.invariant).0.in_circuit
+
+pub line_of-line-requires : goal.line_of-line-requires
+line_of-line-requires c =
+    (connects_on c.args.net.now c.args.kind c.args.path.now c.args.states.now c.steps-step-items.result.now c.loop-step.step-index
+    c.loop-step-test.true c.loop-step.line.0 c.loop-step.invariant).0.in_circuit
+
+pub failing_side-requires-clause-states : goal.failing_side-requires-clause-states
+failing_side-requires-clause-states c = c.requires.states.four
 
 pub returns-in-Some-clause-within : goal.returns-in-Some-clause-within
 returns-in-Some-clause-within c =

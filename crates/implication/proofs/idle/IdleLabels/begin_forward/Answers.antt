@@ -1,5 +1,6 @@
 -- The lines reached have begun, in the order of their levels, in which they stood already or were put.
 use Rattle.std.proofs.Common.{◌<◌, ℕ, List, get_or, sym, subst, arith}
+use Rattle.std.specs.List.{All}
 use Rattle.std.proofs.lemmas.List.Elements.{All-contains, Contains-get_or}
 use Rattle.pd_base.specs.declared.ids.LineId.{LineId}
 use Rattle.implication.specs.Begun.{AreBegun}
@@ -21,6 +22,30 @@ pub begin_ranked-requires-clause-by_level : goal.begin_ranked-requires-clause-by
 begin_ranked-requires-clause-by_level g c =
     subst (λ (entries : List (ℕ × LineId)). IsByLevel c.args.net.now (lines_by_level entries)) (sym c.as_slice.ensures.value)
     c.rank.ensures.ranked.by_level
+
+pub is_by_level-requires : goal.is_by_level-requires
+is_by_level-requires g c =
+    subst (λ (n : ℕ). All (λ (line : LineId). line.0 < n) c.lines-found.result.now) c.reach.ensures.count c.lines-found.ensures.in_range
+
+pub rank-requires-clause-in_circuit : goal.rank-requires-clause-in_circuit
+rank-requires-clause-in_circuit g c =
+    subst (λ (n : ℕ). All (λ (line : LineId). line.0 < n) c.lines-found.result.now) c.reach.ensures.count c.lines-found.ensures.in_range
+
+pub begin_lines-requires-clause-in_circuit : goal.begin_lines-requires-clause-in_circuit
+begin_lines-requires-clause-in_circuit g c =
+    subst (λ (n : ℕ). All (λ (line : LineId). line.0 < n) c.lines-found.result.now) c.reach.ensures.count c.lines-found.ensures.in_range
+
+pub begin_lines-requires-clause-one_each : goal.begin_lines-requires-clause-one_each
+begin_lines-requires-clause-one_each g c = c.requires.board.lines
+
+pub begin_lines-requires-clause-within : goal.begin_lines-requires-clause-within
+begin_lines-requires-clause-within g c = c.requires.within
+
+pub begin_ranked-requires-clause-one_each : goal.begin_ranked-requires-clause-one_each
+begin_ranked-requires-clause-one_each g c = c.requires.board.lines
+
+pub begin_ranked-requires-clause-within : goal.begin_ranked-requires-clause-within
+begin_ranked-requires-clause-within g c = c.requires.within
 
 pub begin_lines-requires-clause-by_level : goal.begin_lines-requires-clause-by_level
 begin_lines-requires-clause-by_level g c = c.is_by_level.ensures.0 c.if-is_by_level.true

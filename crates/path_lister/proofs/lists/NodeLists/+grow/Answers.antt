@@ -54,3 +54,6 @@ returns-clause-grown t c =
     (λ took next. grown_by_both c.args.graph.now c.requires.graph c.args.self.now c.grow.new.self c.args.node c.in-Some.arc
     c.in-Some.ensures c.in_ok-grow.field-0 first c.take-2.new.self took next)
     c.take-2.ensures
+
+pub take-requires-clause-fed : goal.take-requires-clause-fed
+take-requires-clause-fed t c = c.in_default.ensures

@@ -209,3 +209,48 @@ pub returns-clause-counted : goal.returns-clause-counted
 returns-clause-counted g c =
     counts_pins c.args.self.now c.args.path.now c.go_back-shared.result c.go_back-shared.ensures.shared c.args.steps.now c.go_on.new.steps
     c.go_on.ensures.more c.go_on.ensures.few
+
+pub go_back-shared-requires-clause-entered : goal.go_back-shared-requires-clause-entered
+go_back-shared-requires-clause-entered g c = c.requires.gone.entered
+
+pub go_back-shared-requires-clause-free : goal.go_back-shared-requires-clause-free
+go_back-shared-requires-clause-free g c = c.requires.gone.free
+
+pub overflow_add-result : goal.overflow_add-result
+overflow_add-result g c = let room = c.requires.room in omega (arith, c.if-kept-steps.true, room, ap length c.steps.ensures)
+
+pub search_at-requires-clause-some_budget : goal.search_at-requires-clause-some_budget
+search_at-requires-clause-some_budget g c = c.requires.budget.positive
+
+pub search_at-requires-clause-budget : goal.search_at-requires-clause-budget
+search_at-requires-clause-budget g c = c.requires.budget.within
+
+pub returns-in_err-kept-clause-scope : goal.returns-in_err-kept-clause-scope
+returns-in_err-kept-clause-scope g c = record {
+  engine = c.go_on.ensures.scope.engine ∙ c.go_back-shared.ensures.scope.engine;
+  origin = c.go_on.ensures.scope.origin ∙ c.go_back-shared.ensures.scope.origin;
+}
+
+pub returns-in_err-tree-clause-scope : goal.returns-in_err-tree-clause-scope
+returns-in_err-tree-clause-scope g c = record {
+  engine = c.go_on.ensures.scope.engine ∙ c.go_back-shared.ensures.scope.engine;
+  origin = c.go_on.ensures.scope.origin ∙ c.go_back-shared.ensures.scope.origin;
+}
+
+pub returns-then-kept-steps-clause-scope : goal.returns-then-kept-steps-clause-scope
+returns-then-kept-steps-clause-scope g c = record {
+  engine = c.go_on.ensures.scope.engine ∙ c.go_back-shared.ensures.scope.engine;
+  origin = c.go_on.ensures.scope.origin ∙ c.go_back-shared.ensures.scope.origin;
+}
+
+pub returns-in_err-found-clause-scope : goal.returns-in_err-found-clause-scope
+returns-in_err-found-clause-scope g c = record {
+  engine = c.search_at.ensures.scope.engine ∙ c.go_on.ensures.scope.engine ∙ c.go_back-shared.ensures.scope.engine;
+  origin = c.search_at.ensures.scope.origin ∙ c.go_on.ensures.scope.origin ∙ c.go_back-shared.ensures.scope.origin;
+}
+
+pub returns-clause-scope : goal.returns-clause-scope
+returns-clause-scope g c = record {
+  engine = c.search_at.ensures.scope.engine ∙ c.go_on.ensures.scope.engine ∙ c.go_back-shared.ensures.scope.engine;
+  origin = c.search_at.ensures.scope.origin ∙ c.go_on.ensures.scope.origin ∙ c.go_back-shared.ensures.scope.origin;
+}

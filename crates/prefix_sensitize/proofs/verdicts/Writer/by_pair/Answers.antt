@@ -1,5 +1,5 @@
 -- Where the robust conditions are refuted no pair meets them; and the test that is added is one of the fault.
-use Rattle.std.proofs.Common.{true≢false, sym, ◌∙◌, arith}
+use Rattle.std.proofs.Common.{true≢false, length, sym, ap, ◌∙◌, arith}
 use Rattle.pd_base.specs.Target.{target_of}
 use Rattle.pd_base.specs.declared.fault.Kind.TheVariants.{Robust}
 use Rattle.prefix_sensitize.specs.Answers.{written_by}
@@ -59,3 +59,23 @@ returns-clause-answered g c =
     (written_by c.args.self.now) asked.are_written c.cite.new.self.cited c.add_test-2.new.tests.items c.args.proof c.in_ok-proof.proof c.args.pair
     c.in_ok-test-2.test has c.in_ok-proof.ensures.cites test
     (λ meets. absurd (true≢false (sym (c.is_robust.ensures.robust.1 meets) ∙ c.if-is_robust.false))) c.in_ok-test-2.ensures
+
+pub index-requires : goal.index-requires
+index-requires g c =
+    let within = proof_within g.searches c.args.number (target_of c.args.path.now c.args.dir Robust) c.args.proof c.requires.1.0 in
+    omega (arith, within, ap length c.requires.0.is_writer.found, c.args.self.now.found.ok.0)
+
+pub is_robust-requires-clause-bits : goal.is_robust-requires-clause-bits
+is_robust-requires-clause-bits g c = c.requires.1.1.first_fits
+
+pub is_robust-requires-clause-judge : goal.is_robust-requires-clause-judge
+is_robust-requires-clause-judge g c = c.requires.0.is_writer.judge
+
+pub add_test-requires : goal.add_test-requires
+add_test-requires g c = c.requires.0.few_tests
+
+pub add_test-requires-2 : goal.add_test-requires-2
+add_test-requires-2 g c = c.requires.0.few_tests
+
+pub cite-requires-clause-few : goal.cite-requires-clause-few
+cite-requires-clause-few g c = let few = c.requires.0.few_proofs in omega (arith, few)

@@ -1,12 +1,20 @@
 -- The proof of each search is among those that were found, and each verdict has what it asks for.
-use Rattle.std.proofs.Common.{◌-◌, subst, ◌∙◌, arith}
+use Rattle.std.proofs.Common.{ℕ, ◌+◌, ◌-◌, ◌≤◌, List, length, ap, subst, ◌∙◌, arith}
+use Rattle.std.proofs.lemmas.List.{length_push}
 use Rattle.pd_base.specs.Target.{target_of}
 use Rattle.pd_base.specs.declared.fault.Kind.TheVariants.{Robust, Nonrobust}
 use Rattle.prefix_sensitize.specs.declared.outcome.Outcome.{Outcome}
 use Rattle.prefix_sensitize.specs.Answers.{written_by}
+use Rattle.prefix_sensitize.specs.Numbering.{Cites}
+use Rattle.prefix_sensitize.specs.Numbering.Cites.{again, first}
 use Rattle.prefix_sensitize.specs.Outcomes.{IsOutcome}
 use Rattle.prefix_sensitize.proofs.Answered.{aborted_answers, outcome_proof, proof_within, read_proof, untestable_answers}
 use Rattle.prefix_sensitize.proofs.verdicts.Writer.not_robust.Goals as goal
+
+few_more : (old new : List ℕ) (index number : ℕ) → Cites old new index number → length new ≤ length old + 1
+few_more old new index number (again is same) = let size = ap length same in omega arith
+few_more old new index number (first none next adds) =
+    let size = ap length adds in let one = length_push old index in omega arith
 
 pub by_pair-requires : goal.by_pair-requires
 by_pair-requires g c =
@@ -64,3 +72,46 @@ returns-in_ok-proof-in-Proved-clause-answered g c =
     (read_proof g.searches c.args.number nonrobust c.in-Proved.index proved c.args.self.now.found.items writer.found
     c.index.result.now c.index.ensures)
     c.if-index.false c.in_ok-proof-in-Proved.ensures.cites
+
+pub index-requires : goal.index-requires
+index-requires g c =
+    let asked = c.requires.0 in
+    let nonrobust = target_of c.args.path.now c.args.dir Nonrobust in
+    let P : Outcome → Type 0 = λ outcome. IsOutcome c.args.net.now g.searches.routes g.searches.proofs (c.args.number - 1) nonrobust outcome in
+    let proved = outcome_proof c.args.net.now g.searches asked.are_searches c.args.number c.args.path.now asked.is_listed c.args.dir
+    Nonrobust c.in-Proved.index (subst P c.in-Proved.is c.requires.1.1) in
+    let within = proof_within g.searches c.args.number nonrobust c.in-Proved.index proved in
+    omega (arith, within, ap length asked.is_writer.found, c.args.self.now.found.ok.0)
+
+pub cite-requires-clause-few : goal.cite-requires-clause-few
+cite-requires-clause-few g c = let few = c.requires.0.few_proofs in omega (arith, few)
+
+pub cite-requires-then-index-clause-found : goal.cite-requires-then-index-clause-found
+cite-requires-then-index-clause-found g c =
+    let asked = c.requires.0 in
+    let nonrobust = target_of c.args.path.now c.args.dir Nonrobust in
+    let P : Outcome → Type 0 = λ outcome. IsOutcome c.args.net.now g.searches.routes g.searches.proofs (c.args.number - 1) nonrobust outcome in
+    let proved = outcome_proof c.args.net.now g.searches asked.are_searches c.args.number c.args.path.now asked.is_listed c.args.dir
+    Nonrobust c.in-Proved.index (subst P c.in-Proved.is c.requires.1.1) in
+    let within = proof_within g.searches c.args.number nonrobust c.in-Proved.index proved in
+    omega (arith, within, asked.is_writer.numbers, c.cite.ensures.found)
+
+pub cite-requires-then-index-clause-few : goal.cite-requires-then-index-clause-few
+cite-requires-then-index-clause-few g c =
+    let few = c.requires.0.few_proofs in
+    let more = few_more c.args.self.now.numbering.cited c.cite.new.self.cited c.args.proof c.in_ok-robust-in-Proved.robust
+    c.in_ok-robust-in-Proved.ensures.cites in
+    omega (arith, few, more)
+
+pub cite-requires-else-index-clause-found : goal.cite-requires-else-index-clause-found
+cite-requires-else-index-clause-found g c =
+    let asked = c.requires.0 in
+    let nonrobust = target_of c.args.path.now c.args.dir Nonrobust in
+    let P : Outcome → Type 0 = λ outcome. IsOutcome c.args.net.now g.searches.routes g.searches.proofs (c.args.number - 1) nonrobust outcome in
+    let proved = outcome_proof c.args.net.now g.searches asked.are_searches c.args.number c.args.path.now asked.is_listed c.args.dir
+    Nonrobust c.in-Proved.index (subst P c.in-Proved.is c.requires.1.1) in
+    let within = proof_within g.searches c.args.number nonrobust c.in-Proved.index proved in
+    omega (arith, within, asked.is_writer.numbers)
+
+pub cite-requires-else-index-clause-few : goal.cite-requires-else-index-clause-few
+cite-requires-else-index-clause-few g c = let few = c.requires.0.few_proofs in omega (arith, few)

@@ -4,6 +4,8 @@ use Rattle.std.specs.List.{Contains}
 use Rattle.std.proofs.lemmas.Bool.{false≢true}
 use Rattle.std.proofs.lemmas.Result.{IfOk-weaker}
 use Rattle.pd_base.specs.Target.{target_of}
+use Rattle.netlist.specs.Paths.{IsPrefix, end_of}
+use Rattle.implication.specs.Standing.{IsToldBy}
 use Rattle.runs.specs.declared.tree.Node.{Node}
 use Rattle.runs.specs.declared.tree.Node.TheVariants.{Waiting}
 use Rattle.tree_laws.specs.Faults.{IsRightInSpent}
@@ -30,6 +32,20 @@ returns-then-splits-budget-clause-exactly c =
       λ e. cc,
       λ all. absurd (fault_spent_not m.net m.rules target c.args.budget c.args.tree.now 0 (returns-then-splits-budget-clause-tells c) all),
     )
+
+pub spends-requires-clause-idle : goal.spends-requires-clause-idle
+spends-requires-clause-idle c = c.self.invariant.idle
+
+pub spends-requires-clause-prefix : goal.spends-requires-clause-prefix
+spends-requires-clause-prefix c =
+    let P : MadeFor → Type 0 = λ m. IsPrefix m.net c.args.path.now in subst P (sym c.self.view_is) c.requires.prefix
+
+pub spends-requires-clause-told : goal.spends-requires-clause-told
+spends-requires-clause-told c =
+    let P : MadeFor → Type 0 = λ m. IsToldBy m.net m.ends (end_of m.net c.args.path.now) in subst P (sym c.self.view_is) c.requires.told
+
+pub spends-requires-clause-room : goal.spends-requires-clause-room
+spends-requires-clause-room c = c.self.invariant.room
 
 pub returns-clause-tells : goal.returns-clause-tells
 returns-clause-tells c =

@@ -1,9 +1,11 @@
 -- What is told of the nodes tells whether the tree refutes.
-use Rattle.std.proofs.Common.{IfOk, subst}
+use Rattle.std.proofs.Common.{IfOk, sym, subst}
 use Rattle.std.proofs.lemmas.Result.{IfOk-weaker}
 use Rattle.pd_base.specs.Target.{target_of}
 use Rattle.netlist.specs.Circuit.{Circuit}
 use Rattle.netlist.specs.Lawful.{IsCircuit}
+use Rattle.netlist.specs.Paths.{IsPrefix, end_of}
+use Rattle.implication.specs.Standing.{IsToldBy}
 use Rattle.state_laws.proofs.Steadied.{steadied_meets}
 use Rattle.tree_laws.specs.Faults.{IsRightInRefutation}
 use Rattle.tree_laws.proofs.Refuting.{refutation_excludes_path}
@@ -11,6 +13,18 @@ use Rattle.refutation_check.specs.Answers.{TellsOfNodes, TellsOfRefutation}
 use Rattle.refutation_check.specs.Judges.{MadeFor}
 use Rattle.refutation_check.proofs.Checking.{refutation_of_nodes, refutation_exactly}
 use Rattle.refutation_check.proofs.judge.TreeJudge.check_tree.Goals as goal
+
+pub refutes-requires-clause-idle : goal.refutes-requires-clause-idle
+refutes-requires-clause-idle c = c.self.invariant.idle
+
+pub refutes-requires-clause-prefix : goal.refutes-requires-clause-prefix
+refutes-requires-clause-prefix c =
+    let P : MadeFor → Type 0 = λ m. IsPrefix m.net c.args.prefix.now in subst P (sym c.self.view_is) c.requires.prefix
+
+pub refutes-requires-clause-told : goal.refutes-requires-clause-told
+refutes-requires-clause-told c =
+    let P : MadeFor → Type 0 = λ m. IsToldBy m.net m.ends (end_of m.net c.args.prefix.now) in
+    subst P (sym c.self.view_is) c.requires.told
 
 pub returns-clause-tells : goal.returns-clause-tells
 returns-clause-tells c =

@@ -7,13 +7,43 @@ use Rattle.pd_base.specs.declared.ids.GateId.{GateId}
 use Rattle.netlist.specs.Circuit.{HasGates, line_count}
 use Rattle.netlist.specs.Paths.{end_of}
 use Rattle.state_sets.specs.declared.state.State.{State}
-use Rattle.test_judging.specs.ConeStates.{HasConeStates}
+use Rattle.test_judging.specs.ConeStates.{AreFourStates, AreLineStates, HasConeStates}
 use Rattle.test_judging.specs.Judged.{AreComputed}
 use Rattle.test_judging.specs.Judges.{KeptJudge}
-use Rattle.test_judging.specs.KeptCones.{IsConeAt}
+use Rattle.test_judging.specs.KeptCones.{IsConeAt, IsConeFor}
 use Rattle.test_judging.specs.SourceBits.{AreTakenOf}
 use Rattle.test_judging.proofs.ConeJudging.{gates_inside, sources_below, under_pair}
 use Rattle.test_judging.proofs.cone_judge.ConeJudge.take_states.Goals as goal
+
+pub set_end-requires-clause-made : goal.set_end-requires-clause-made
+set_end-requires-clause-made c = subst (λ (j : KeptJudge). IsConeFor c.args.net.now j.cone) (sym c.self.view_is) c.requires.judge.cone
+
+pub set_end-requires-clause-end : goal.set_end-requires-clause-end
+set_end-requires-clause-end c = c.end_of-end.ensures.line
+
+pub take_pair-requires-clause-states : goal.take_pair-requires-clause-states
+take_pair-requires-clause-states c =
+    subst AreFourStates (sym c.as_mut_slice-states.ensures.value)
+    (subst (λ (j : KeptJudge). AreFourStates j.states) (sym c.self.view_is) c.requires.judge.states.four)
+
+pub compute_all-requires-clause-states : goal.compute_all-requires-clause-states
+compute_all-requires-clause-states c = record {
+  places = c.take_pair.ensures.places ∙ ap length c.as_mut_slice-states.ensures.value
+      ∙ ap (λ (j : KeptJudge). length j.states) c.self.view_is ∙ c.requires.judge.states.places;
+  four = c.take_pair.ensures.states;
+}
+
+pub returns-clause-judge : goal.returns-clause-judge
+returns-clause-judge c =
+    let long : length c.self.inside.states.items ≡ line_count c.args.net.now =
+    ap (λ (j : KeptJudge). length j.states) c.self.view_is ∙ c.requires.judge.states.places in
+    record {
+      cone = c.set_end.ensures.made;
+      states = subst (AreLineStates c.args.net.now)
+          (sym (with_items_is c.self.inside.states c.compute_all.new.states
+          (c.compute_all.ensures.states.places ∙ sym long ∙ sym c.self.inside.states.ok.0)))
+          c.compute_all.ensures.states;
+    }
 
 pub take_pair-requires-clause-bits : goal.take_pair-requires-clause-bits
 take_pair-requires-clause-bits c =

@@ -3,7 +3,7 @@ use Rattle.std.proofs.Common.{List, sym, subst}
 use Rattle.pd_base.specs.declared.test.Test.{Test}
 use Rattle.runs.specs.Lawful.{AreLawfulTests}
 use Rattle.claim_check.specs.FaultsInRows.{JudgesTests}
-use Rattle.claim_check.proofs.verdicts.wrong_verdict.Goals as goal
+use Rattle.claim_check.proofs.verdicts.wrong_against.Goals as goal
 
 pub judge_for-requires : goal.judge_for-requires
 judge_for-requires c = subst (AreLawfulTests c.args.net.now) (sym c.as_slice.ensures) c.requires.lawful
