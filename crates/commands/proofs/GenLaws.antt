@@ -16,10 +16,10 @@ use Rattle.good_runs.specs.Truth.{IsTruth}
 use Rattle.command_line.specs.Words.{RunCall}
 use Rattle.calls.specs.Calls.{HasAcceptedInputs}
 use Rattle.calls.specs.Work.{Products}
-use Rattle.call_inputs.specs.declared.judging.TheConstants.{INPUT_LIMIT}
-use Rattle.call_inputs.specs.InputStages.{short_stages}
-use Rattle.call_inputs.specs.Sizes.{HasShortTexts}
-use Rattle.call_inputs.proofs.InputStages.{inputs_pass, texts_pass}
+use Rattle.commands.specs.declared.inputs.judging.TheConstants.{INPUT_LIMIT}
+use Rattle.commands.specs.InputStages.{short_stages}
+use Rattle.commands.specs.Sizes.{HasShortTexts}
+use Rattle.commands.proofs.InputStages.{inputs_pass, texts_pass}
 use Rattle.commands.specs.Gen.{GivesProductsOf, gen_work}
 use Rattle.commands.proofs.GenStages.{begins_gen, requires_short}
 

@@ -20,9 +20,9 @@ use Rattle.calls.specs.declared.refusal.Refusal.TheVariants.{TooLong}
 use Rattle.calls.specs.Passing.{Pass}
 use Rattle.calls.specs.Work.{names_read, Products}
 use Rattle.calls.specs.Writing.{put_all}
-use Rattle.call_inputs.specs.declared.judging.TheConstants.{INPUT_LIMIT}
-use Rattle.call_inputs.specs.InputStages.{IsOverLimit}
-use Rattle.call_inputs.specs.Sizes.{HasShortTexts}
+use Rattle.commands.specs.declared.inputs.judging.TheConstants.{INPUT_LIMIT}
+use Rattle.commands.specs.InputStages.{IsOverLimit}
+use Rattle.commands.specs.Sizes.{HasShortTexts}
 use Rattle.commands.specs.Gen.{gen_stages, gen_work, GivesGen, GivesRun, run_files}
 use Rattle.commands.specs.LaterCalls.{HasNamesApart, IsLeftBy}
 use Rattle.commands.proofs.FilesLeft.{delays_left, net_left, proofs_left, report_left, tests_left}

@@ -9,10 +9,10 @@ use Rattle.calls.specs.Work.{Products}
 use Rattle.calls.specs.Preparing.{IsPrepared}
 use Rattle.calls.specs.Stopping.{Stops}
 use Rattle.calls.proofs.Stages.{stops_for_memory}
-use Rattle.call_inputs.specs.InputJudging.{FailsToGiveDelays, FailsToGiveNet, GivesDelays, GivesNet}
-use Rattle.call_inputs.specs.InputStages.{short_stages}
-use Rattle.call_inputs.proofs.InputStages.{BeginsWithInputs, RequiresShortTexts}
-use Rattle.call_inputs.proofs.InputStages as inputs
+use Rattle.commands.specs.InputJudging.{FailsToGiveDelays, FailsToGiveNet, GivesDelays, GivesNet}
+use Rattle.commands.specs.InputStages.{short_stages}
+use Rattle.commands.proofs.InputStages.{BeginsWithInputs, RequiresShortTexts}
+use Rattle.commands.proofs.InputStages as inputs
 use Rattle.commands.specs.Judging.{FailsShort, too_long, no_memory}
 use Rattle.commands.specs.Gen.{gen_work, GivesShort}
 

@@ -11,12 +11,12 @@ use Rattle.verdict_report.specs.ProofsText.{proofs_text}
 use Rattle.verdict_report.specs.ReportText.{report_text}
 use Rattle.command_line.specs.Words.{HasRunNumbers, RunCall}
 use Rattle.calls.specs.Calls.{HasAcceptedInputs}
-use Rattle.call_inputs.specs.declared.judging.TheConstants.{INPUT_LIMIT}
-use Rattle.check_command.specs.Check.{check_work}
-use Rattle.check_command.specs.SpelledRuns.{SpellsRun}
+use Rattle.commands.specs.declared.inputs.judging.TheConstants.{INPUT_LIMIT}
+use Rattle.commands.specs.Check.{check_work}
+use Rattle.commands.specs.SpelledRuns.{SpellsRun}
 use Rattle.commands.specs.Gen.{gen_work}
 use Rattle.commands.specs.LaterCalls.{HasNamesApart, HaveKept, IsLeftBy, run_names}
-use Rattle.check_command.proofs.CheckLaws.{good_run_is_accepted, AreReadable}
+use Rattle.commands.proofs.CheckLaws.{good_run_is_accepted, AreReadable}
 use Rattle.commands.proofs.GenLeft.{files_left, LeftFiles}
 use Rattle.commands.proofs.GoodTexts.{readable_texts, spelled_run}
 

@@ -18,9 +18,9 @@ use Rattle.calls.specs.Reports.{IsReported}
 use Rattle.calls.specs.Stopping.{IsRefused}
 use Rattle.calls.specs.Work.{FewChanges, Read, Require, Stage, WellFormed, WithinLimit}
 use Rattle.calls.proofs.Accepting.{accepts_changes}
-use Rattle.call_inputs.specs.InputStages.{input_stages}
-use Rattle.replay_command.specs.Replay.{replay_stages, replay_work, HasTestOver}
-use Rattle.replay_command.proofs.ReplayAccepting.{accepts_tests, accepts_tests_size}
+use Rattle.commands.specs.InputStages.{input_stages}
+use Rattle.commands.specs.Replay.{replay_stages, replay_work, HasTestOver}
+use Rattle.commands.proofs.ReplayAccepting.{accepts_tests, accepts_tests_size}
 use Rattle.commands.specs.Gen.{gen_work}
 use Rattle.commands.specs.LaterCalls.{FindsTests, HasNamesApart, IsLeftBy}
 use Rattle.commands.proofs.GenLeft.{files_left, LeftFiles}

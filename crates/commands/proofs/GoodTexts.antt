@@ -27,8 +27,8 @@ use Rattle.verdict_report.specs.ProofsText.{proofs_text}
 use Rattle.verdict_report.specs.ReportForm.{IsSpelledReport}
 use Rattle.verdict_report.specs.ReportText.{report_text}
 use Rattle.command_line.specs.Words.{HasRunNumbers, RunCall}
-use Rattle.check_command.specs.SpelledRuns.{SpellsRun}
-use Rattle.call_inputs.specs.Sizes.{HasShortTexts}
+use Rattle.commands.specs.SpelledRuns.{SpellsRun}
+use Rattle.commands.specs.Sizes.{HasShortTexts}
 use Rattle.commands.proofs.PathLengths.{length_within}
 use Rattle.commands.proofs.ProofsBound.{proofs_within, IsShortProof}
 use Rattle.commands.proofs.ReportBound.{report_within}

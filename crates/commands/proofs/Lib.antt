@@ -1,3 +1,31 @@
+pub mod LadderStating
+pub mod LadderOrder
+pub mod LadderNames
+pub mod LadderPlaces
+pub mod LadderStages
+pub mod LadderDescribed
+pub mod LadderMore
+mod ReplayFaults
+mod OneRankOrder
+mod Replayed
+pub mod ReplayAccepting
+pub mod ReplayLaws
+pub mod ReplayStages
+mod SameDelays
+mod TestCounts
+pub mod AgreeingDelays
+pub mod CheckLaws
+pub mod CheckStages
+pub mod CheckExactly
+pub mod OneRun
+pub mod SpelledRuns
+pub mod FewLines
+pub mod InputStages
+pub mod InputsJudged
+pub mod Products
+pub mod SpelledTests
+pub mod StageReads
+pub mod ToldReasons
 pub mod GenLaws
 pub mod GenStages
 pub mod GenTexts

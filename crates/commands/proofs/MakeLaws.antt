@@ -28,7 +28,7 @@ use Rattle.runs.specs.declared.run.Run.{Run}
 use Rattle.good_runs.specs.GoodRun.{IsGoodRun}
 use Rattle.good_runs.specs.Promises.{AllKeepPromises}
 use Rattle.good_runs.proofs.Promising.{good_run_keeps}
-use Rattle.ladder.specs.Ladder.{ladder_circuit}
+use Rattle.commands.specs.Ladder.{ladder_circuit}
 use Rattle.verdict_report.specs.LadderLine.{ladder_line}
 use Rattle.commands.specs.declared.making.TheConstants.{LADDER_BUDGET, LADDER_PATHS}
 use Rattle.commands.specs.Make.{AreUnit, GivesLadder, GivesMake, make_work}

@@ -23,8 +23,8 @@ use Rattle.text_pieces.specs.LineFiles.{lines_text}
 use Rattle.verdict_report.specs.ReportForm.{due_direction, line_fields, lines_told, report_form, report_headings, report_start, state_with, HasSmallNumbers, IsSpelledReport, ReportLine, ReportState}
 use Rattle.verdict_report.specs.ReportText.{nothing, report_text, step_text, steps_text, verdict_fields}
 use Rattle.verdict_report.proofs.ReportFiles.{text_is}
-use Rattle.call_inputs.specs.declared.sizes.TheConstants.{MOST_PATH_TEXT}
-use Rattle.call_inputs.specs.Sizes.{path_text_product}
+use Rattle.commands.specs.declared.inputs.sizes.TheConstants.{MOST_PATH_TEXT}
+use Rattle.commands.specs.Sizes.{path_text_product}
 use Rattle.commands.proofs.TextBounds.{bytes_of, direction_length, headed_length, joined_length, line_length, lines_within}
 use Rattle.commands.proofs.NameBounds.{below_longest}
 

@@ -19,9 +19,9 @@ use Rattle.text_pieces.specs.declared.limits.TheConstants.{MOST_BYTES}
 use Rattle.text_pieces.specs.Tokens.{after_space, digit, digits, direction_word, kind_word, line, space}
 use Rattle.text_pieces.specs.LineFiles.{lines_text}
 use Rattle.pattern_writer.specs.TestsText.{names_text, observed_names, test_text, tests_form, tests_headings, tests_text}
-use Rattle.call_inputs.specs.declared.sizes.TheConstants.{MOST_TEST_TEXT}
-use Rattle.call_inputs.specs.Sizes.{test_text_product}
-use Rattle.call_inputs.proofs.FewLines.{few_lines}
+use Rattle.commands.specs.declared.inputs.sizes.TheConstants.{MOST_TEST_TEXT}
+use Rattle.commands.specs.Sizes.{test_text_product}
+use Rattle.commands.proofs.FewLines.{few_lines}
 use Rattle.commands.proofs.TextBounds.{bytes_of, direction_length, headed_length, joined_length, kind_within, line_length, lines_within, spaced_within}
 use Rattle.commands.proofs.NameBounds.{names_within, sources_within}
 

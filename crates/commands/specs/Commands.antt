@@ -9,10 +9,10 @@ use Rattle.calls.specs.declared.ending.Ending.TheVariants as ended
 use Rattle.calls.specs.declared.refusal.Refusal.TheVariants.{Words}
 use Rattle.calls.specs.Work.{Work}
 use Rattle.calls.specs.Refused.{refused_words}
-use Rattle.check_command.specs.Check.{check_work}
+use Rattle.commands.specs.Check.{check_work}
 use Rattle.commands.specs.Gen.{gen_work}
 use Rattle.commands.specs.Make.{make_work}
-use Rattle.replay_command.specs.Replay.{replay_work}
+use Rattle.commands.specs.Replay.{replay_work}
 
 -- the work of a command, or of words that are refused
 abbrev pub work_of : Result Call WordsRefusal → Work

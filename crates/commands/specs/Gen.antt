@@ -21,8 +21,8 @@ use Rattle.command_line.specs.Words.{RunCall}
 use Rattle.calls.specs.declared.role.Role.TheVariants as role
 use Rattle.calls.specs.declared.refusal.Refusal.{Refusal}
 use Rattle.calls.specs.Work.{Work, Stage, Due, due_file, Products}
-use Rattle.call_inputs.specs.InputStages.{RefusesBoth, RefusesNet, input_stages, short_stages}
-use Rattle.call_inputs.specs.Sizes.{HasShortTexts}
+use Rattle.commands.specs.InputStages.{RefusesBoth, RefusesNet, input_stages, short_stages}
+use Rattle.commands.specs.Sizes.{HasShortTexts}
 use Rattle.commands.specs.declared.preparing.Generated.{Generated}
 use Rattle.commands.specs.declared.preparing.ToldRun.{ToldRun}
 

@@ -3,7 +3,7 @@ use Rattle.std.specs.Prelude.{◌≡◌, ℕ}
 use Rattle.netlist.specs.Circuit.{Circuit}
 use Rattle.calls.specs.declared.ending.Ending.{Ending}
 use Rattle.calls.specs.declared.ending.Ending.TheVariants.{NoMemory}
-use Rattle.call_inputs.specs.Sizes.{HasLongTexts, HasShortTexts}
+use Rattle.commands.specs.Sizes.{HasLongTexts, HasShortTexts}
 
 -- no texts are made for so many paths of this circuit: they may be too long, or memory ran out
 pub data FailsShort (paths : ℕ) (c : Circuit) (ending : Ending) : Type 0 where

@@ -6,8 +6,8 @@ use Rattle.command_line.specs.Words.{ReplayCall, RunCall}
 use Rattle.calls.specs.Work.{Work}
 use Rattle.calls.specs.Passing.{Pass}
 use Rattle.calls.specs.Calls.{IsDone}
-use Rattle.call_inputs.specs.InputStages.{input_stages}
-use Rattle.replay_command.specs.Replay.{replay_work}
+use Rattle.commands.specs.InputStages.{input_stages}
+use Rattle.commands.specs.Replay.{replay_work}
 
 -- the names of the files of a run, in the order of the words
 abbrev pub run_names : RunCall → List (List ℕ)

@@ -1,3 +1,17 @@
+pub mod Ladder
+pub mod LadderStatements
+pub mod Replay
+pub mod ReplayEndings
+pub mod ReplayText
+pub mod TestChanges
+pub mod Check
+pub mod Checking
+pub mod SpelledRuns
+pub mod InputJudging
+pub mod InputStages
+pub mod Reasons
+pub mod Sizes
+pub mod SpelledTests
 pub mod Gen
 pub mod Make
 pub mod Judging

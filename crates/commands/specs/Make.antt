@@ -7,7 +7,7 @@ use Rattle.netlist.specs.Circuit.{Circuit}
 use Rattle.netlist.specs.Pins.{IsPinOn}
 use Rattle.netlist.specs.Waves.{Delays}
 use Rattle.delay_annotation.specs.declared.delays.TheConstants.{UNIT_DELAY}
-use Rattle.ladder.specs.Ladder.{ladder_circuit}
+use Rattle.commands.specs.Ladder.{ladder_circuit}
 use Rattle.runs.specs.declared.run.Run.{Run}
 use Rattle.good_runs.specs.GoodRun.{IsGoodRun}
 use Rattle.good_runs.specs.Promises.{AllKeepPromises}

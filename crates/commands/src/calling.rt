@@ -24,11 +24,11 @@ use std::alloc::Global;
 /// `check NET DELAYS TESTS REPORT PROOFS` reads all five files and writes none. At status 0, and only then, out has the word `good`: the
 /// last three spell one run, which is good for NET and DELAYS and for as many paths and the budget as are asked for, judged from NET and
 /// DELAYS alone; so its verdicts promise what those of `gen` do. Status 1 tells the first line of a file that lacks its form, or else the
-/// first flaw of the run (`check_work` in specs/Check.antt of check_command).
+/// first flaw of the run (`check_work` in specs/Check.antt).
 ///
 /// `replay NET DELAYS TESTS TIME` reads these three files and writes none. At status 0 out has a line for each test of TESTS: its number,
 /// what each observed line has at TIME under the test's pair and the delays, and `same` or `differs`, by whether these are the bits that
-/// the test expects (`replay_work` in specs/Replay.antt of replay_command).
+/// the test expects (`replay_work` in specs/Replay.antt).
 ///
 /// `make N` does the work of `gen` on a ladder of N stages, with a delay of 1 at each pin, and prints one line that counts the verdicts of a
 /// good run (`make_work` in specs/Make.antt). No words but refused ones, failed writes on out and want of memory keep it from status 0.

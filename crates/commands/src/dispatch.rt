@@ -6,13 +6,13 @@ ghost use Rattle.command_line.specs.Words.{HasLawfulNumbers};
 ghost use Rattle.calls.specs.Calls.{Performs};
 ghost use Rattle.commands.specs.Commands.{asked_work, work_of, words_ending};
 
+use crate::check::check;
 use crate::generating::generate;
 use crate::making::make;
+use crate::replay::replay;
 use calls::{Ending, Refusal};
-use check_command::check;
 use command_line::{Command, WordsFault, read_words};
 use pd_io::{Files, Sink};
-use replay_command::replay;
 use std::alloc::Global;
 
 /// Does the work of the command that the words ask for, and tells how it ended.

@@ -1,18 +1,25 @@
-//! The commands, over any files and streams: `run`, which does what the program's words ask for (specs/Commands.antt), `gen`,
-//! which leads from a netlist and its delays to the texts of one run (specs/Gen.antt), and `make`, which does
-//! that work on a ladder (specs/Make.antt). That `check` accepts what `gen` wrote, and that it can be replayed, is proved in
-//! proofs/GenThenCheck.antt and GenThenReplay.antt.
-//! Stands on calls and call_inputs, on check_command and replay_command, on the search of all paths, on the writers of the three files and,
-//! for the system's own files and streams, on system_files. The program is `serve`.
+//! The commands, over any files and streams: `run`, which does what the program's words ask for (specs/Commands.antt); `gen`,
+//! which leads from a netlist and its delays to the texts of one run (specs/Gen.antt); `make`, which does that work on a ladder
+//! (specs/Make.antt, Ladder.antt); `check` (specs/Check.antt) and `replay` (specs/Replay.antt). What they read in the same way is in
+//! src/inputs.rt. That `check` accepts what `gen` wrote, and that it can be replayed, is proved in proofs/GenThenCheck.antt and
+//! GenThenReplay.antt.
+//! Stands on calls, which has what every command does alike, on the readers and writers of all files, on the search of all paths, on
+//! the judge of a run, on the waves of tests and, for the system's own files and streams, on system_files. The program is `serve`.
 #![tactic(auto)]
 
 mod calling;
+mod check;
 mod dispatch;
 mod generating;
+mod inputs;
+mod ladder;
 mod making;
 mod preparing;
+mod replay;
 mod serving;
 
 pub use calling::run;
+pub use inputs::{INPUT_LIMIT, MOST_PATH_TEXT, MOST_TEST_TEXT, STEP_BYTES};
+pub use ladder::MOST_STAGES;
 pub use making::{LADDER_BUDGET, LADDER_PATHS};
 pub use serving::serve;

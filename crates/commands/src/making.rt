@@ -5,14 +5,14 @@ ghost use Rattle.command_line.specs.Commands.{make_call_of};
 ghost use Rattle.command_line.specs.Words.{HasMakeNumbers};
 ghost use Rattle.calls.specs.Calls.{Performs};
 ghost use Rattle.commands.specs.Make.{GivesLadder, make_work};
-ghost use Rattle.ladder.specs.Ladder.{ladder_circuit};
-ghost use Rattle.ladder.specs.declared.building.TheConstants.{MOST_STAGES};
+ghost use Rattle.commands.specs.Ladder.{ladder_circuit};
+ghost use Rattle.commands.specs.declared.ladder.building.TheConstants.{MOST_STAGES};
 
+use crate::ladder::ladder;
 use crate::preparing::run_of;
 use calls::{Ending, print};
 use command_line::MakeCommand;
 use delay_annotation::Delays;
-use ladder::ladder;
 use netlist::Netlist;
 use pd_base::OutOfMemory;
 use pd_io::Sink;

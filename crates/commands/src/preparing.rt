@@ -15,7 +15,7 @@ ghost use Rattle.prefix_sensitize.specs.Walks.{IsBudget};
 ghost use Rattle.netlist.specs.Lawful.{IsCircuit};
 ghost use Rattle.runs.specs.Lawful.{IsLawfulRun};
 
-use call_inputs::{delays_from, netlist_from, require_short_texts};
+use crate::inputs::{delays_from, netlist_from, require_short_texts};
 use calls::Ending;
 use command_line::RunCommand;
 use delay_annotation::Delays;

@@ -6,7 +6,7 @@ use Rattle.command_line.specs.declared.reading.TheConstants.{DEFAULT_BUDGET, DEF
 use Rattle.command_line.specs.declared.stages.TheConstants.{MOST_STAGES as MOST_STAGES_ASKED, MOST_STAGES_DIGITS}
 use Rattle.command_line.specs.declared.time.TheConstants.{MOST_TIME, MOST_TIME_DIGITS}
 use Rattle.text_pieces.specs.declared.limits.TheConstants.{MOST_BYTES as MOST_CLAIM_BYTES}
-use Rattle.ladder.specs.declared.building.TheConstants.{MOST_STAGES as MOST_STAGES_BUILT}
+use Rattle.commands.specs.declared.ladder.building.TheConstants.{MOST_STAGES as MOST_STAGES_BUILT}
 use Rattle.pd_io.specs.declared.named.TheConstants.{MOST_AT_ONCE}
 use Rattle.netlist.specs.declared.limits.TheConstants.{MOST_LINES, MOST_PINS, MOST_FAN_IN, MOST_LEVELS, MOST_NAME_BYTES, MOST_STATEMENTS}
 use Rattle.bench_reader.specs.declared.statements.TheConstants.{MOST_BYTES as MOST_NETLIST_BYTES}
@@ -16,9 +16,9 @@ use Rattle.delay_annotation.specs.declared.reading.TheConstants.{MOST_BYTES as M
 use Rattle.delay_replay.specs.declared.gate.TheConstants.{MOST_CHANGES}
 use Rattle.delay_replay.specs.declared.line_waves.TheConstants.{MOST_CHANGES_OF_ALL}
 use Rattle.delay_replay.specs.declared.wave.TheConstants.{LATEST_CHANGE}
-use Rattle.call_inputs.specs.declared.judging.TheConstants.{INPUT_LIMIT}
+use Rattle.commands.specs.declared.inputs.judging.TheConstants.{INPUT_LIMIT}
 use Rattle.commands.specs.declared.making.TheConstants.{LADDER_BUDGET, LADDER_PATHS}
-use Rattle.call_inputs.specs.declared.sizes.TheConstants.{MOST_PATH_TEXT, MOST_TEST_TEXT, STEP_BYTES}
+use Rattle.commands.specs.declared.inputs.sizes.TheConstants.{MOST_PATH_TEXT, MOST_TEST_TEXT, STEP_BYTES}
 
 -- of circuits
 most_lines : MOST_LINES ≡ 262144

@@ -1,6 +1,0 @@
-pub mod AgreeingDelays
-pub mod CheckLaws
-pub mod CheckStages
-pub mod Exactly
-pub mod OneRun
-pub mod SpelledRuns

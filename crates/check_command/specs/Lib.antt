@@ -1,3 +1,0 @@
-pub mod Check
-pub mod Checking
-pub mod SpelledRuns

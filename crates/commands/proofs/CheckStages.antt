@@ -1,0 +1,272 @@
+-- The stages of `check`, one after the other, up to the one word: what is passed with each, and how the call ends there.
+use Rattle.std.proofs.Common.{◌≡◌, ℕ, List, [], ◌∷◌, ◌++◌, Some, Result, Ok, Err, IfErr, OnOk, refl, subst}
+use Rattle.std.specs.Prelude.{⊤, IfOk, MatchResult, Vec}
+use Rattle.std.specs.declared.alloc.Global.{Global}
+use Rattle.pd_base.specs.declared.test.Test.{Test}
+use Rattle.pd_io.specs.Seen.{FilesSeen}
+use Rattle.netlist.specs.Circuit.{Circuit}
+use Rattle.netlist.specs.Waves.{Delays}
+use Rattle.bench_reader.specs.Circuits.{HasCircuit}
+use Rattle.bench_reader.proofs.Answering.{one_circuit}
+use Rattle.bench_reader.proofs.LawfulCircuits.{is_circuit}
+use Rattle.delay_annotation.specs.DelayFile.{HasDelays}
+use Rattle.delay_annotation.proofs.DelayLaws.{delays_agree}
+use Rattle.runs.specs.declared.run.ListedPath.{ListedPath}
+use Rattle.runs.specs.declared.run.Run.{Run}
+use Rattle.good_runs.specs.GoodRun.{IsGoodRun}
+use Rattle.claim_check.specs.Claims.{TellsOfRun}
+use Rattle.claim_check.specs.declared.claim.Claim.TheVariants.{Holds, Fails}
+use Rattle.claim_check.proofs.Agreeing.{claims_agree}
+use Rattle.text_pieces.specs.declared.limits.TheConstants.{MOST_BYTES}
+use Rattle.command_line.specs.Words.{RunCall}
+use Rattle.calls.specs.declared.claims_reader.ClaimsReader.TheVariants.{Check}
+use Rattle.calls.specs.declared.ending.Ending.{Ending}
+use Rattle.calls.specs.declared.refusal.Refusal.TheVariants.{Malformed, NotGood}
+use Rattle.calls.specs.declared.role.Role.TheVariants as role
+use Rattle.calls.specs.declared.run_refusal.RunRefusal.{RunRefusal}
+use Rattle.calls.specs.Inputs.{ReadsInput}
+use Rattle.calls.specs.Passing.{Accepts, HasPassed}
+use Rattle.calls.specs.Preparing.{Prepares}
+use Rattle.calls.specs.Stopping.{Stops}
+use Rattle.calls.specs.Work.{Stage, Read, Require, WithinLimit, WellFormed, GoodRun}
+use Rattle.calls.proofs.Accepting.{accepts_claims, accepts_run}
+use Rattle.calls.proofs.Stages.{then_required}
+use Rattle.commands.specs.InputJudging.{FailsTests, FailsWithin}
+use Rattle.commands.specs.InputStages.{short_stages}
+use Rattle.commands.specs.SpelledTests.{HasMalformedTests, IsMalformedTests, SpellsTests}
+use Rattle.commands.proofs.InputStages.{BeginsWithInputs, RequiresShortTexts}
+use Rattle.commands.proofs.StageReads.{stops_judged, stops_unwhole, then_whole}
+use Rattle.commands.specs.Check.{FiveTexts, SpellFlawedRun, SpellAll, check_work, claim_reads, form_stages, good_products}
+use Rattle.commands.specs.Checking.{FailsProofs, FailsReport, FailsRun, FailsToSpell, HasSpelledRun, HasToldFlaw, IsGoodAndKeeps, five_inputs, no_tests, no_report, no_proofs, stages_formed, stages_read, stages_short}
+use Rattle.commands.specs.SpelledRuns.{HasMalformedProofs, HasMalformedReport, IsMalformedProofs, IsMalformedReport, SpellsProofs, SpellsReport, SpellsRun}
+use Rattle.commands.specs.declared.check.reading.ClaimTexts.{ClaimTexts}
+use Rattle.commands.proofs.AgreeingDelays.{good_agrees}
+use Rattle.commands.proofs.OneRun.{run_once}
+
+module _ (call : RunCall) where
+  -- the stages behind short texts
+  abbrev pub behind_short : List Stage
+  behind_short = claim_reads call ++ form_stages ++ Require GoodRun ∷ []
+
+  pub begins_check : BeginsWithInputs (check_work call) call.net call.delays (short_stages ++ behind_short)
+  begins_check = record {
+    stages = refl;
+    of_net = λ text refusal. (λ refuses. refuses, λ refuses. refuses);
+    size_of_delays = λ text file of. (λ refuses. refuses, λ refuses. refuses);
+    of_delays = λ text file reason. (λ refuses. refuses, λ refuses. refuses);
+  }
+
+  pub requires_short : RequiresShortTexts (check_work call) call.net call.delays call.paths behind_short
+  requires_short = record {
+    stages = refl;
+    of_paths = λ text file product. (λ refuses. refuses, λ refuses. refuses);
+    of_tests = λ text file product. (λ refuses. refuses, λ refuses. refuses);
+  }
+
+  -- the reads of the three files, behind short texts
+  module _ (net delays : List ℕ) (first : FilesSeen) where
+    pub tests_unread : (ending : Ending) (old new : FilesSeen) → HasPassed (check_work call) (stages_short call) (net ∷ delays ∷ []) first old
+        → FailsWithin MOST_BYTES role.Tests call.tests ending old new → Stops (check_work call) ending first new
+    tests_unread ending old new before fails =
+        stops_unwhole (check_work call) MOST_BYTES role.Tests call.tests ending before (_, refl) (λ text over. over) fails
+
+    pub tests_read : (tests : Vec ℕ Global) (old new : FilesSeen)
+        → HasPassed (check_work call) (stages_short call) (net ∷ delays ∷ []) first old
+        → ReadsInput MOST_BYTES call.tests (Some tests) old new
+        → HasPassed (check_work call) (stages_short call ++ Read role.Tests call.tests ∷ Require (WithinLimit role.Tests) ∷ [])
+        (net ∷ delays ∷ tests.items ∷ []) first new
+    tests_read tests old new before read =
+        then_whole (check_work call) MOST_BYTES role.Tests call.tests tests before read (λ refuses. refuses)
+
+    module _ (tests : List ℕ) where
+      -- up to the report
+      abbrev pub before_report : List Stage
+      before_report = stages_short call ++ Read role.Tests call.tests ∷ Require (WithinLimit role.Tests) ∷ []
+
+      pub report_unread : (ending : Ending) (old new : FilesSeen)
+          → HasPassed (check_work call) before_report (net ∷ delays ∷ tests ∷ []) first old
+          → FailsWithin MOST_BYTES role.Report call.report ending old new → Stops (check_work call) ending first new
+      report_unread ending old new before fails =
+          stops_unwhole (check_work call) MOST_BYTES role.Report call.report ending before (_, refl) (λ text over. over) fails
+
+      pub report_read : (report : Vec ℕ Global) (old new : FilesSeen)
+          → HasPassed (check_work call) before_report (net ∷ delays ∷ tests ∷ []) first old
+          → ReadsInput MOST_BYTES call.report (Some report) old new
+          → HasPassed (check_work call) (before_report ++ Read role.Report call.report ∷ Require (WithinLimit role.Report) ∷ [])
+          (net ∷ delays ∷ tests ∷ report.items ∷ []) first new
+      report_read report old new before read =
+          then_whole (check_work call) MOST_BYTES role.Report call.report report before read (λ refuses. refuses)
+
+      module _ (report : List ℕ) where
+        -- up to the proofs
+        abbrev pub before_proofs : List Stage
+        before_proofs = before_report ++ Read role.Report call.report ∷ Require (WithinLimit role.Report) ∷ []
+
+        pub proofs_unread : (ending : Ending) (old new : FilesSeen)
+            → HasPassed (check_work call) before_proofs (net ∷ delays ∷ tests ∷ report ∷ []) first old
+            → FailsWithin MOST_BYTES role.Proofs call.proofs ending old new → Stops (check_work call) ending first new
+        proofs_unread ending old new before fails =
+            stops_unwhole (check_work call) MOST_BYTES role.Proofs call.proofs ending before (_, refl) (λ text over. over) fails
+
+        pub proofs_read : (proofs : Vec ℕ Global) (old new : FilesSeen)
+            → HasPassed (check_work call) before_proofs (net ∷ delays ∷ tests ∷ report ∷ []) first old
+            → ReadsInput MOST_BYTES call.proofs (Some proofs) old new
+            → HasPassed (check_work call) (stages_read call) (net ∷ delays ∷ tests ∷ report ∷ proofs.items ∷ []) first new
+        proofs_read proofs old new before read =
+            then_whole (check_work call) MOST_BYTES role.Proofs call.proofs proofs before read (λ refuses. refuses)
+
+  -- the forms of the three texts
+  module _ (net delays tests report proofs : List ℕ) (c : Circuit) (has : HasCircuit net c) where
+    -- the inputs
+    abbrev all_five : List (List ℕ)
+    all_five = net ∷ delays ∷ tests ∷ report ∷ proofs ∷ []
+
+    pub accepts_tests : (listed : List Test) → SpellsTests c tests listed → Accepts (check_work call) (WellFormed role.Tests) all_five
+    accepts_tests listed spells =
+        accepts_claims (check_work call) all_five role.Tests (λ reader line refuses. never line refuses.1) where
+          never : (line : ℕ) → ¬ HasMalformedTests net tests line
+          never line it =
+              (subst (λ (d : Circuit). IsMalformedTests d tests line) (one_circuit net it.circuit c it.has has) it.malformed).none listed spells
+
+    pub accepts_report : (paths : List ListedPath) → SpellsReport c report paths → Accepts (check_work call) (WellFormed role.Report) all_five
+    accepts_report paths spells =
+        accepts_claims (check_work call) all_five role.Report (λ reader line refuses. never line refuses.1) where
+          never : (line : ℕ) → ¬ HasMalformedReport net report line
+          never line it =
+              (subst (λ (d : Circuit). IsMalformedReport d report line) (one_circuit net it.circuit c it.has has) it.malformed).none paths spells
+
+    pub accepts_proofs : (run : Run) → SpellsProofs c proofs run.rules run.proofs → Accepts (check_work call) (WellFormed role.Proofs) all_five
+    accepts_proofs run spells =
+        accepts_claims (check_work call) all_five role.Proofs (λ reader line refuses. never line refuses.1) where
+          never : (line : ℕ) → ¬ HasMalformedProofs net proofs line
+          never line it =
+              (subst (λ (d : Circuit). IsMalformedProofs d proofs line) (one_circuit net it.circuit c it.has has) it.malformed).none run.rules
+              run.proofs spells
+
+    module _ (first new : FilesSeen) (before : HasPassed (check_work call) (stages_read call) all_five first new) where
+      -- up to the form of the tests, and up to that of the report
+      tests_formed : (listed : List Test) → SpellsTests c tests listed
+          → HasPassed (check_work call) (stages_read call ++ Require (WellFormed role.Tests) ∷ []) all_five first new
+      tests_formed listed spells = then_required (check_work call) (WellFormed role.Tests) before (accepts_tests listed spells)
+
+      report_formed : (listed : List Test) (paths : List ListedPath) → SpellsTests c tests listed → SpellsReport c report paths
+          → HasPassed (check_work call) (stages_read call ++ Require (WellFormed role.Tests) ∷ Require (WellFormed role.Report) ∷ []) all_five
+          first new
+      report_formed listed paths spells its =
+          then_required (check_work call) (WellFormed role.Report) (tests_formed listed spells) (accepts_report paths its)
+
+      -- all have their form
+      pub all_formed : (run : Run) → SpellsRun c tests report proofs run
+          → HasPassed (check_work call) (stages_formed call) all_five first new
+      all_formed run spells =
+          then_required (check_work call) (WellFormed role.Proofs) (report_formed run.tests run.paths spells.tests_are spells.report_is)
+          (accepts_proofs run spells.proofs_are)
+
+      -- one has not
+      pub tests_malformed : (ending : Ending) → FailsTests Check c tests ending → Stops (check_work call) ending first new
+      tests_malformed ending fails =
+          stops_judged (check_work call) (Malformed Check role.Tests) (IsMalformedTests c tests) (WellFormed role.Tests) ending before (_, refl)
+          (λ line. refl) (λ line why. (refl, record { circuit = c; has = has; malformed = why })) fails
+
+      pub report_malformed : (listed : List Test) (ending : Ending) → SpellsTests c tests listed → FailsReport c report ending
+          → Stops (check_work call) ending first new
+      report_malformed listed ending spells fails =
+          stops_judged (check_work call) (Malformed Check role.Report) (IsMalformedReport c report) (WellFormed role.Report) ending
+          (tests_formed listed spells) (_, refl) (λ line. refl) (λ line why. (refl, record { circuit = c; has = has; malformed = why })) fails
+
+      pub proofs_malformed : (listed : List Test) (paths : List ListedPath) (ending : Ending) → SpellsTests c tests listed
+          → SpellsReport c report paths → FailsProofs c proofs ending → Stops (check_work call) ending first new
+      proofs_malformed listed paths ending spells its fails =
+          stops_judged (check_work call) (Malformed Check role.Proofs) (IsMalformedProofs c proofs) (WellFormed role.Proofs) ending
+          (report_formed listed paths spells its) (_, refl) (λ line. refl)
+          (λ line why. (refl, record { circuit = c; has = has; malformed = why })) fails
+
+    -- the run that they spell
+    module _ (given : Delays) (gives : HasDelays c delays given) (run : Run) (spells : SpellsRun c tests report proofs run) where
+      -- the texts
+      abbrev texts : FiveTexts
+      texts = record { net = net; delays = delays; tests = tests; report = report; proofs = proofs }
+
+      -- a good run has no flaw
+      none_flawed : IsGoodRun c given call.paths call.budget run → (reason : RunRefusal) → ¬ SpellFlawedRun call texts reason
+      none_flawed good reason it = never it.circuit it.delays it.run (one_circuit net it.circuit c it.spell.has has) it.spell it.is_first where
+        here : (others : Delays) → HasDelays c delays others → TellsOfRun c others call.paths call.budget run (Fails it.item it.flaw) → ⊥
+        here others give tells =
+            let also = good_agrees c given others (delays_agree c (is_circuit net c has) delays given others gives give) call.paths call.budget run
+            good in
+            let never_same : Holds ≡ Fails it.item it.flaw =
+            claims_agree c others call.paths call.budget run Holds (Fails it.item it.flaw) also tells in
+            absurd cc
+
+        never : (d : Circuit) (others : Delays) (other : Run) → d ≡ c → SpellAll texts d others other
+            → TellsOfRun d others call.paths call.budget other (Fails it.item it.flaw) → ⊥
+        never d others other same spell tells =
+            let spell_here = subst (λ (e : Circuit). SpellAll texts e others other) same spell in
+            let tells_here = subst (λ (e : Circuit). TellsOfRun e others call.paths call.budget other (Fails it.item it.flaw)) same tells in
+            here others spell_here.has_delays
+            (subst (λ (r : Run). TellsOfRun c others call.paths call.budget r (Fails it.item it.flaw))
+            (run_once c (is_circuit net c has) tests report proofs other run spell_here.spells spells) tells_here)
+
+      pub accepts_good : IsGoodRun c given call.paths call.budget run → Accepts (check_work call) GoodRun all_five
+      accepts_good good = accepts_run (check_work call) all_five (none_flawed good)
+
+      -- it was judged
+      module _ (first new : FilesSeen) (before : HasPassed (check_work call) (stages_formed call) all_five first new) where
+        run_fails : (ending : Ending) → FailsRun c given call.paths call.budget run ending → Stops (check_work call) ending first new
+        run_fails ending fails =
+            stops_judged (check_work call) NotGood (HasToldFlaw c given call.paths call.budget run) GoodRun ending before ([], refl)
+            (λ reason. refl)
+            (λ reason why. record {
+              circuit = c;
+              delays = given;
+              run = run;
+              spell = record { has = has; has_delays = gives; spells = spells };
+              item = why.item;
+              flaw = why.flaw;
+              is_first = why.is_first;
+              told = why.told;
+            }) fails
+
+        pub run_judged : (result : Result ⊤ Ending) → OnOk result (IsGoodAndKeeps c given call.paths call.budget run)
+            → IfErr result (FailsRun c given call.paths call.budget run)
+            → Prepares (λ (done : ⊤). good_products) (check_work call) result first new
+        run_judged (Ok done) good fails = record {
+          inputs = all_five;
+          passed = then_required (check_work call) GoodRun before (accepts_good good.good);
+          gives = record {
+            spell = record {
+              circuit = c;
+              delays = given;
+              run = run;
+              spell = record { has = has; has_delays = gives; spells = spells };
+              good = good.good;
+              promises = good.promises;
+            };
+            says = refl;
+          };
+        }
+        run_judged (Err ending) good fails = run_fails ending fails
+
+  -- the three texts spell a run, or the call ended
+  pub spelling_fails : (net delays : List ℕ) (texts : ClaimTexts) (c : Circuit) → HasCircuit net c → (first new : FilesSeen)
+      → HasPassed (check_work call) (stages_read call) (net ∷ delays ∷ texts.tests.items ∷ texts.report.items ∷ texts.proofs.items ∷ []) first new
+      → (ending : Ending) → FailsToSpell c texts ending → Stops (check_work call) ending first new
+  spelling_fails net delays texts c has first new before ending (no_tests fails) =
+      tests_malformed net delays texts.tests.items texts.report.items texts.proofs.items c has first new before ending fails
+  spelling_fails net delays texts c has first new before ending (no_report listed spells fails) =
+      report_malformed net delays texts.tests.items texts.report.items texts.proofs.items c has first new before listed ending spells fails
+  spelling_fails net delays texts c has first new before ending (no_proofs listed paths spells its fails) =
+      proofs_malformed net delays texts.tests.items texts.report.items texts.proofs.items c has first new before listed paths ending spells its
+      fails
+
+  pub run_read : (net delays : List ℕ) (texts : ClaimTexts) (c : Circuit) → HasCircuit net c → (first new : FilesSeen)
+      → HasPassed (check_work call) (stages_read call) (five_inputs net delays texts) first new → (result : Result Run Ending)
+      → IfOk result (SpellsRun c texts.tests.items texts.report.items texts.proofs.items) → IfErr result (FailsToSpell c texts)
+      → MatchResult result (λ run. HasSpelledRun call net delays c run first new) (λ ending. Stops (check_work call) ending first new)
+  run_read net delays texts c has first new before (Ok run) spells fails = record {
+    texts = texts;
+    passed = all_formed net delays texts.tests.items texts.report.items texts.proofs.items c has first new before run spells;
+    spells = spells;
+  }
+  run_read net delays texts c has first new before (Err ending) spells fails =
+      spelling_fails net delays texts c has first new before ending fails

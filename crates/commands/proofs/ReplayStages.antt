@@ -1,0 +1,113 @@
+-- The stages of `replay`: it begins with NET and DELAYS; what is passed behind them up to its text, and how the call ends there.
+use Rattle.std.proofs.Common.{◌≡◌, ℕ, List, [], ◌∷◌, ◌++◌, Some, Result, Ok, Err, IfOk, IfErr, ℤ, refl, sym, ap, ap₂, subst, ◌∙◌}
+use Rattle.std.specs.Prelude.{pos, Vec}
+use Rattle.std.specs.declared.alloc.Global.{Global}
+use Rattle.pd_base.specs.declared.test.Test.{Test}
+use Rattle.pd_io.specs.Seen.{FilesSeen}
+use Rattle.netlist.specs.Circuit.{Circuit}
+use Rattle.netlist.specs.Names.{name_at}
+use Rattle.netlist.specs.Waves.{Delays}
+use Rattle.bench_reader.specs.Circuits.{HasCircuit}
+use Rattle.delay_annotation.specs.DelayFile.{HasDelays}
+use Rattle.text_pieces.specs.declared.limits.TheConstants.{MOST_BYTES}
+use Rattle.command_line.specs.Words.{ReplayCall}
+use Rattle.calls.specs.declared.claims_reader.ClaimsReader.TheVariants as reader
+use Rattle.calls.specs.declared.role.Role.TheVariants as role
+use Rattle.calls.specs.declared.refusal.Refusal.TheVariants as refused
+use Rattle.calls.specs.declared.ending.Ending.{Ending}
+use Rattle.calls.specs.Work.{Stage, Read, Require, WithinLimit, WellFormed, FewChanges, Products}
+use Rattle.calls.specs.Passing.{HasPassed}
+use Rattle.calls.specs.Stopping.{Stops}
+use Rattle.calls.specs.Inputs.{ReadsInput}
+use Rattle.calls.specs.Preparing.{IsPrepared, Prepares}
+use Rattle.calls.proofs.Stages.{then_required, stops_refused, stops_for_memory}
+use Rattle.commands.specs.InputStages.{input_stages}
+use Rattle.commands.specs.InputJudging.{FailsToGiveTests, GivesTests}
+use Rattle.commands.specs.InputJudging as judging
+use Rattle.commands.specs.SpelledTests.{IsMalformedTests}
+use Rattle.commands.proofs.InputStages.{BeginsWithInputs}
+use Rattle.commands.proofs.StageReads.{stops_judged, stops_unwhole, then_whole}
+use Rattle.commands.specs.ReplayEndings.{FailsReplay}
+use Rattle.commands.specs.ReplayEndings as endings
+use Rattle.commands.specs.ReplayText.{replay_text}
+use Rattle.commands.specs.TestChanges.{HaveFewChanges}
+use Rattle.commands.specs.Replay.{AreReplayed, printed_text, replay_work, tests_stages}
+use Rattle.commands.proofs.ReplayAccepting.{accepts_tests, accepts_few, three}
+
+-- it begins as every command that reads NET and DELAYS
+pub begins : (call : ReplayCall) → BeginsWithInputs (replay_work call) call.net call.delays (tests_stages call.tests)
+begins call = record {
+  stages = refl;
+  of_net = λ text refusal. (λ refuses. refuses, λ refuses. refuses);
+  size_of_delays = λ text file of. (λ refuses. refuses, λ refuses. refuses);
+  of_delays = λ text file reason. (λ refuses. refuses, λ refuses. refuses);
+}
+
+module _ (call : ReplayCall) (net delays : List ℕ) (old mid new : FilesSeen)
+    (before : HasPassed (replay_work call) (input_stages call.net call.delays) (net ∷ delays ∷ []) old mid) (c : Circuit)
+    (has : HasCircuit net c) where
+  -- the stages up to the size of TESTS
+  abbrev reads : List Stage
+  reads = (input_stages call.net call.delays ++ Read role.Tests call.tests ∷ []) ++ Require (WithinLimit role.Tests) ∷ []
+
+  -- TESTS was read, within its limit
+  tests_within : (tests : Vec ℕ Global) → ReadsInput MOST_BYTES call.tests (Some tests) mid new
+      → HasPassed (replay_work call) reads (three net delays tests.items) old new
+  tests_within tests read = then_whole (replay_work call) MOST_BYTES role.Tests call.tests tests before read (λ refuses. refuses)
+
+  -- TESTS gives no tests
+  pub tests_fail : (ending : Ending) → FailsToGiveTests reader.Replay call.tests c ending mid new → Stops (replay_work call) ending old new
+  tests_fail ending (judging.not_read fails) =
+      stops_unwhole (replay_work call) MOST_BYTES role.Tests call.tests ending before (_, refl) (λ text over. over) fails
+  tests_fail ending (judging.gives_none tests read fails) =
+      stops_judged (replay_work call) (refused.Malformed reader.Replay role.Tests) (IsMalformedTests c tests.items)
+      (WellFormed role.Tests) ending (tests_within tests read) (_, refl) (λ line. refl)
+      (λ line why. record { circuit = c; has = has; malformed = why }) fails
+
+  module _ (given : Delays) (gives : HasDelays c delays given) (listed : List Test) (tests : GivesTests call.tests c listed mid new) where
+    -- the circuit, the delays and the tests
+    are : AreReplayed net delays tests.text.items c given listed
+    are = record { has = has; gives = gives; spells = tests.holds }
+
+    -- tests were required
+    tests_passed : HasPassed (replay_work call) (reads ++ Require (WellFormed role.Tests) ∷ []) (three net delays tests.text.items) old new
+    tests_passed =
+        then_required (replay_work call) (WellFormed role.Tests) (tests_within tests.text tests.read)
+        (accepts_tests call net delays tests.text.items c has listed tests.holds)
+
+    -- there is no text
+    pub text_fails : (ending : Ending) → FailsReplay c given listed ending → Stops (replay_work call) ending old new
+    text_fails ending (endings.over number line is first) =
+        subst (λ (e : Ending). Stops (replay_work call) e old new) (sym is)
+        (stops_refused (replay_work call) (refused.TooManyChanges number (name_at c line)) tests_passed ([], refl) (record {
+          circuit = c;
+          given = given;
+          listed = listed;
+          are = are;
+          line = line;
+          first = first;
+          named = refl;
+        }))
+    text_fails ending (endings.lacks_memory is) =
+        subst (λ (e : Ending). Stops (replay_work call) e old new) (sym is)
+        (stops_for_memory (replay_work call) tests_passed (_, refl))
+
+    -- the text was made
+    pub prepared_text : HaveFewChanges c given listed → (products : Products)
+        → products ≡ record { files = []; out = replay_text c given listed (pos call.time) } → IsPrepared (replay_work call) products old new
+    prepared_text few products text = record {
+      inputs = three net delays tests.text.items;
+      passed = then_required (replay_work call) FewChanges tests_passed
+          (accepts_few call net delays tests.text.items c given listed are few);
+      gives = record { circuit = c; given = given; listed = listed; are = are; few = few; text = text };
+    }
+
+    -- the text was made of the tests that are lent, or there is none
+    pub text_prepared : (lent : List Test) → lent ≡ listed → (time : ℤ) → time ≡ pos call.time → (result : Result (Vec ℕ Global) Ending)
+        → IfOk result (λ text. text.items ≡ replay_text c given lent time) → IfOk result (λ text. HaveFewChanges c given lent)
+        → IfErr result (FailsReplay c given lent) → Prepares printed_text (replay_work call) result old new
+    text_prepared lent is time at (Ok text) told few fails =
+        prepared_text (subst (HaveFewChanges c given) is few) (printed_text text)
+        (ap (λ (out : List ℕ). record { files = []; out = out }) (told ∙ ap₂ (replay_text c given) is at))
+    text_prepared lent is time at (Err ending) told few fails =
+        text_fails ending (subst (λ (l : List Test). FailsReplay c given l ending) is fails)

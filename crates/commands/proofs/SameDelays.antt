@@ -1,0 +1,99 @@
+-- Delays that agree at the pins of a circuit give its lines the same waves, and so the same text and the same changes.
+use Rattle.std.proofs.Common.{◌≡◌, ⊎_elim, ℕ, zero, suc, ◌+◌, ◌-◌, ◌<◌, ◌≤◌, ℤ, pos, ◌-ℤ◌, List, [], ◌∷◌, ◌++◌, map, length, get_or, nat_lt, if◌then◌else◌, refl, ap, ap₂, subst, ◌∙◌, arith}
+use Rattle.std.proofs.lemmas.Bool.{cases_lt}
+use Rattle.std.proofs.lemmas.List.{get_or_past, length-map}
+use Rattle.std.proofs.lemmas.List.Elements.{All-weaker}
+use Rattle.std.proofs.lemmas.Option.{slice_get-get_or}
+use Rattle.pd_base.specs.declared.ids.LineId.{LineId}
+use Rattle.pd_base.specs.declared.ids.PinRef.{PinRef}
+use Rattle.pd_base.specs.declared.test.Test.{Test}
+use Rattle.pd_base.specs.Pair.{Vectors}
+use Rattle.netlist.specs.Circuit.{Circuit, Gate, no_gate, source_count, gate_count, kind_at, pins_at, observed_lines}
+use Rattle.netlist.specs.Evaluation.{value_within}
+use Rattle.netlist.specs.Pins.{IsPinOn}
+use Rattle.netlist.specs.Values.{gate_value}
+use Rattle.netlist.specs.Waves.{Delays, Wave, delay_copy, pin_values, source_wave, wave_of}
+use Rattle.delay_replay.specs.ChangeLimits.{HasFewChanges, NoneTooMuch, ranked_lines}
+use Rattle.commands.specs.ReplayText.{replayed_lines, sample_line}
+use Rattle.commands.specs.TestChanges.{HaveFewChanges}
+
+-- a pin of a gate, by numbers
+abbrev pin_of : ℕ → ℕ → PinRef
+pin_of gate pin = record { gate = record { 0 = gate }; pin = pin }
+
+-- what a gate makes of waves at a time
+abbrev gate_step : Circuit → Delays → ℕ → List Wave → Wave
+gate_step c delays gate waves time = gate_value (kind_at c gate) (pin_values (delay_copy delays) gate 0 waves time)
+
+module _ (c : Circuit) (a b : Delays) (agree : (pin : PinRef) (line : ℕ) → IsPinOn c pin line → a pin ≡ b pin) where
+  -- a pin that a gate has reads a line
+  at_pin : (gate pin : ℕ) → pin < length (pins_at c gate) → a (pin_of gate pin) ≡ b (pin_of gate pin)
+  at_pin gate pin inside =
+      ⊎_elim (λ within. agree (pin_of gate pin) (get_or (pins_at c gate) pin none).0 (record {
+        in_circuit = within;
+        reads = slice_get-get_or (pins_at c gate) pin none inside;
+      })) (λ past. absurd (no_pin past)) (cases_lt gate (gate_count c))
+    where
+      none : LineId
+      none = record { 0 = 0 }
+
+      no_pin : gate_count c ≤ gate → ⊥
+      no_pin past =
+          let empty = ap (λ (g : Gate). length g.pins) (get_or_past c.gates gate no_gate past) in omega (arith, empty, inside)
+
+  -- pins whose delays agree see the same
+  pins_see : (gate pin : ℕ) (waves : List Wave)
+      → ((p : ℕ) → pin ≤ p → p < pin + length waves → a (pin_of gate p) ≡ b (pin_of gate p)) → (time : ℤ)
+      → pin_values (delay_copy a) gate pin waves time ≡ pin_values (delay_copy b) gate pin waves time
+  pins_see gate pin [] each time = refl
+  pins_see gate pin (wave ∷ waves) each time =
+      ap₂ ◌∷◌ (ap (λ delay. wave (time -ℤ pos delay)) (each pin (omega arith) (omega arith)))
+      (pins_see gate (pin + 1) waves (λ p from below. each p (omega arith) (omega arith)) time)
+
+  -- so a gate makes the same of the waves of its pins' lines
+  steps_agree : (gate : ℕ) (waves : List Wave) → length waves ≡ length (pins_at c gate) → (time : ℤ)
+      → gate_step c a gate waves time ≡ gate_step c b gate waves time
+  steps_agree gate waves long time =
+      ap (gate_value (kind_at c gate)) (pins_see gate 0 waves (λ p from below. at_pin gate p (omega (arith, long))) time)
+
+  -- the waves agree, however far one looks back
+  within_agree : (pair : Vectors) (gates line : ℕ)
+      → value_within c (source_wave pair) (gate_step c a) gates line ≡ value_within c (source_wave pair) (gate_step c b) gates line
+  within_agree pair zero line = refl
+  within_agree pair (suc gates) line =
+      let gate = line - source_count c in
+      let before = λ (l : ℕ). value_within c (source_wave pair) (gate_step c a) gates l in
+      let waves : List Wave = map (λ (pin : LineId). before pin.0) (pins_at c gate) in
+      let long = length-map (pins_at c gate) (λ (pin : LineId). before pin.0) in
+      let one : gate_step c a gate waves ≡ gate_step c b gate waves = λ i time. steps_agree gate waves long time i in
+      let other = ap (λ (wave : ℕ → Wave). gate_step c b gate (map (λ (pin : LineId). wave pin.0) (pins_at c gate)))
+      (λ i l. within_agree pair gates l i) in
+      ap (λ wave. if nat_lt line (source_count c) then source_wave pair line else wave) (one ∙ other)
+
+  -- each line has the same wave
+  pub waves_agree : (pair : Vectors) → wave_of c pair a ≡ wave_of c pair b
+  waves_agree pair = λ i line. within_agree pair (gate_count c) line i
+
+  -- so the text is the same
+  pub lines_agree : (time : ℤ) (number : ℕ) (tests : List Test)
+      → replayed_lines c a time number tests ≡ replayed_lines c b time number tests
+  lines_agree time number [] = refl
+  lines_agree time number (test ∷ tests) =
+      ap₂ ◌++◌
+      (ap (λ (wave : ℕ → Wave). sample_line number (map (λ (line : LineId). wave line.0 time) (observed_lines c)) test.expected)
+      (waves_agree test.pair))
+      (lines_agree time (number + 1) tests)
+
+  -- and the lines change as often
+  pub few_agree : (pair : Vectors) → HasFewChanges c pair a → HasFewChanges c pair b
+  few_agree pair few = record {
+    order = few.order;
+    ranked = few.ranked;
+    none = subst (λ (wave : ℕ → Wave). NoneTooMuch wave (ranked_lines c few.order)) (waves_agree pair) few.none;
+  }
+
+  -- under each of these pairs
+  pub all_few_agree : (tests : List Test) → HaveFewChanges c a tests → HaveFewChanges c b tests
+  all_few_agree tests few =
+      All-weaker (λ (test : Test). HasFewChanges c test.pair a) (λ (test : Test). HasFewChanges c test.pair b)
+      (λ test is. few_agree test.pair is) tests few

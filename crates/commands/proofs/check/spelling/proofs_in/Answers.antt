@@ -1,0 +1,11 @@
+-- The first line that lacks its form is told.
+use Rattle.std.proofs.Common.{Err, ap, ◌∙◌}
+use Rattle.commands.specs.InputJudging as found
+use Rattle.commands.proofs.SpelledRuns.{malformed_proofs}
+use Rattle.commands.proofs.check.spelling.proofs_in.Goals as goal
+
+pub returns-in-Err-Malformed-clause-fails : goal.returns-in-Err-Malformed-clause-fails
+returns-in-Err-Malformed-clause-fails c =
+    let is = c.in-Err-Malformed.is ∙ ap Err c.in-Err-Malformed.field-0-is in
+    found.refused c.in-Err-Malformed.line c.malformed.ensures
+    (malformed_proofs c.args.net.now c.args.text.now c.read_proofs.result c.in-Err-Malformed.line is c.read_proofs.ensures)

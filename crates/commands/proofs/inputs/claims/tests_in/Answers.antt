@@ -1,0 +1,14 @@
+-- The tests are those that the text spells, or its first bad line is told.
+use Rattle.std.proofs.Common.{Err, ap, refl, ◌∙◌}
+use Rattle.commands.specs.InputJudging as judging
+use Rattle.commands.proofs.SpelledTests.{malformed_tests, spells_tests}
+use Rattle.commands.proofs.inputs.claims.tests_in.Goals as goal
+
+pub returns-in-Ok-clause-spells : goal.returns-in-Ok-clause-spells
+returns-in-Ok-clause-spells c = spells_tests c.args.net.now c.args.text.now _ c.in-Ok.ensures
+
+pub returns-in-Err-Malformed-clause-fails : goal.returns-in-Err-Malformed-clause-fails
+returns-in-Err-Malformed-clause-fails c =
+    let is = c.in-Err-Malformed.is ∙ ap Err c.in-Err-Malformed.field-0-is in
+    judging.refused c.in-Err-Malformed.line refl
+    (malformed_tests c.args.net.now c.args.text.now c.read_tests.result c.in-Err-Malformed.line is c.read_tests.ensures)

@@ -1,0 +1,52 @@
+-- Which run three texts spell, or which line of which of them is malformed (this project's own).
+use Rattle.std.specs.Prelude.{◌≡◌, ℕ, List}
+use Rattle.pd_base.specs.declared.rules.Rules.{Rules}
+use Rattle.netlist.specs.Circuit.{Circuit}
+use Rattle.bench_reader.specs.Circuits.{HasCircuit}
+use Rattle.runs.specs.declared.run.ListedPath.{ListedPath}
+use Rattle.runs.specs.declared.run.Proof.{Proof}
+use Rattle.runs.specs.declared.run.Run.{Run}
+use Rattle.text_pieces.specs.LineFiles.{IsFirstBadLine}
+use Rattle.verdict_report.specs.ProofsReading.{AreSpelledProofs, IsFirstBadProofLine}
+use Rattle.verdict_report.specs.ProofsText.{proofs_text}
+use Rattle.verdict_report.specs.ReportForm.{IsSpelledReport, report_form, report_headings, report_start}
+use Rattle.verdict_report.specs.ReportText.{report_text}
+use Rattle.commands.specs.SpelledTests.{SpellsTests}
+
+-- the text is the report of these paths, which a report of the circuit may list
+pub record SpellsReport (c : Circuit) (text : List ℕ) (paths : List ListedPath) : Type 0 where
+  pub lawful : IsSpelledReport c paths
+  pub is_text : text ≡ report_text c paths
+
+-- the text is the proofs file of these proofs, which a proofs file of the circuit may list, and its first line tells these rules
+pub record SpellsProofs (c : Circuit) (text : List ℕ) (rules : Rules) (proofs : List Proof) : Type 0 where
+  pub lawful : AreSpelledProofs c proofs
+  pub is_text : text ≡ proofs_text rules proofs
+
+-- the three texts spell this run of the circuit, whose rules the first line of the proofs tells
+pub record SpellsRun (c : Circuit) (tests report proofs : List ℕ) (run : Run) : Type 0 where
+  pub tests_are : SpellsTests c tests run.tests
+  pub report_is : SpellsReport c report run.paths
+  pub proofs_are : SpellsProofs c proofs run.rules run.proofs
+
+-- a text is the report of no such paths, and its line of this number is the first that lacks its form
+pub record IsMalformedReport (c : Circuit) (text : List ℕ) (line : ℕ) : Type 0 where
+  pub none : (paths : List ListedPath) → ¬ SpellsReport c text paths
+  pub first : IsFirstBadLine (report_form c) report_start report_headings text line
+
+-- a text is the proofs file of no such proofs, under either rules, and its line of this number is the first that lacks its form
+pub record IsMalformedProofs (c : Circuit) (text : List ℕ) (line : ℕ) : Type 0 where
+  pub none : (rules : Rules) (proofs : List Proof) → ¬ SpellsProofs c text rules proofs
+  pub first : IsFirstBadProofLine c text line
+
+-- NET has a circuit, of which this text spells no report, and so its line of this number is told
+pub record HasMalformedReport (net text : List ℕ) (line : ℕ) : Type 0 where
+  pub circuit : Circuit
+  pub has : HasCircuit net circuit
+  pub malformed : IsMalformedReport circuit text line
+
+-- NET has a circuit, of which this text spells no proofs, and so its line of this number is told
+pub record HasMalformedProofs (net text : List ℕ) (line : ℕ) : Type 0 where
+  pub circuit : Circuit
+  pub has : HasCircuit net circuit
+  pub malformed : IsMalformedProofs circuit text line

@@ -1,4 +1,0 @@
-pub mod Replay
-pub mod ReplayEndings
-pub mod ReplayText
-pub mod TestChanges
