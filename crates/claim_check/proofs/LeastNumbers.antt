@@ -14,11 +14,13 @@ use Rattle.netlist.specs.Paths.{IsPrefixOf, prefix_of}
 use Rattle.path_laws.proofs.Prefixes.{is_prefix_of, prefix_of-is_prefix}
 use Rattle.runs.specs.declared.run.Proof.{Proof}
 use Rattle.good_runs.specs.Faults.{Applies, IsNumber}
-use Rattle.good_runs.proofs.Numbers.{all_at_number}
-use Rattle.claim_check.specs.Prefixes.{AreLeastMarks, AreLeastRefutations, AreTreeNodes, IsLeastMark, IsLeastNumber, IsLeastRefutation, IsRefutationAbout, NamesPrefix, Nodes, RefutesAtNode, node_at, node_of_proof}
+use Rattle.good_runs.proofs.Numbers.{all_at_number, number_same}
+use Rattle.claim_check.specs.Prefixes.{AreLeastMarks, AreLeastRefutations, AreTreeNodes, IsLeastMark, IsLeastNumber, IsLeastRefutation}
+use Rattle.claim_check.specs.Prefixes.{IsRefutationAbout, NamesPrefix, Nodes, RefutesAtNode, node_at, node_of_proof}
 
-module _ (routes : List Route) (nodes : Nodes) (are : AreTreeNodes routes nodes) (proofs : List Proof) (names : All (NamesPrefix routes) proofs)
-    (kind : Kind) (direction : Direction) (row : ℕ) (path : Route) (is_listed : slice_get routes row ≡ Some path) where
+module _ (routes : List Route) (nodes : Nodes) (are : AreTreeNodes routes nodes) (proofs : List Proof)
+    (names : All (NamesPrefix routes) proofs) (kind : Kind) (direction : Direction) (row : ℕ) (path : Route)
+    (is_listed : slice_get routes row ≡ Some path) where
   abbrev target : Target
   target = target_of path direction kind
 
@@ -35,7 +37,7 @@ module _ (routes : List Route) (nodes : Nodes) (are : AreTreeNodes routes nodes)
   }
     where
       same : applies.listed ≡ named.listed
-      same = same_Some applies.listed named.listed (sym applies.is_listed.found ∙ named.is_listed.found)
+      same = number_same routes proof.path applies.listed named.listed applies.is_listed named.is_listed
 
       of : IsPrefixOf (prefix_of proof.steps named.listed) path
       of = subst (λ (route : Route). IsPrefixOf (prefix_of proof.steps route) path) same applies.has_prefix
@@ -44,7 +46,10 @@ module _ (routes : List Route) (nodes : Nodes) (are : AreTreeNodes routes nodes)
       long = length-take-le proof.steps named.listed.steps named.has_steps
 
       few : proof.steps ≤ length path.steps
-      few = let both = length-append (prefix_of proof.steps named.listed).steps of.rest in let all = ap length of.steps in omega (arith, long)
+      few =
+          let both = length-append (prefix_of proof.steps named.listed).steps of.rest in
+          let all = ap length of.steps in
+          omega (arith, long)
 
       prefix : prefix_of proof.steps named.listed ≡ prefix_of proof.steps path
       prefix =
@@ -54,8 +59,8 @@ module _ (routes : List Route) (nodes : Nodes) (are : AreTreeNodes routes nodes)
   applying_of_node : (proof : Proof) → NamesPrefix routes proof → IsRefutationAbout kind direction proof → (steps : ℕ)
       → steps ≤ length path.steps → node_of_proof nodes proof ≡ node_at nodes row steps → Applies routes target proof
   applying_of_node proof named about steps within node =
-      let prefix =
-      (are.exactly (proof.path - 1) row proof.steps steps named.listed path named.is_listed.found is_listed named.has_steps within).0 node in
+      let prefix = (are.exactly (proof.path - 1) row proof.steps steps named.listed path named.is_listed.found is_listed named.has_steps
+      within).0 node in
       record {
         refutes = about.refutes;
         is_about = about.is_about;
@@ -122,14 +127,11 @@ module _ (routes : List Route) (nodes : Nodes) (are : AreTreeNodes routes nodes)
     of_mark : (number node : ℕ) → Contains own_nodes node → get_or marks node None ≡ Some number → IsOfApplying number
     of_mark number node own marks_node = by (get_or marks node None) marks_node (marked.least node inside)
       where
-        long : length own_nodes ≡ length path.steps + 1
-        long = own_count
-
         is_node : node_at nodes row own.0 ≡ node
         is_node = sym (get_or_default_zero own_nodes own.0 node own.1) ∙ own.2
 
         steps_within : own.0 ≤ length path.steps
-        steps_within = let within = own.1 in let many = long in omega arith
+        steps_within = let within = own.1 in let many = own_count in omega arith
 
         inside : node < nodes.count
         inside = subst (λ (k : ℕ). k < nodes.count) is_node (are.within row own.0 path is_listed steps_within)

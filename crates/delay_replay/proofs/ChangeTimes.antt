@@ -1,10 +1,12 @@
 -- The times of a wave's changes are the times at which it changes, and no list of such times is longer. So two lists of its
 -- changes are of one length, and what is said of its changes is said of each wave that is the same at each time.
-use Rattle.std.proofs.Common.{◌≡◌, ◌≢◌, ⊎_elim, ℕ, zero, suc, ◌-◌, ◌<◌, ◌≤◌, ℤ, pos, ◌-ℤ◌, ◌<ℤ◌, ◌≤ℤ◌, Bool, true, false, not, cond, List, [], ◌∷◌, ◌++◌, map, length, get_or, Contains, refl, ap, ap₂, sym, subst, ◌∙◌, arith}
+use Rattle.std.proofs.Common.{◌≡◌, ◌≢◌, ⊎_elim, ℕ, zero, suc, ◌-◌, ◌<◌, ◌≤◌, ℤ, pos, ◌-ℤ◌, ◌<ℤ◌, ◌≤ℤ◌, Bool, true, false, not, cond, List}
+use Rattle.std.proofs.Common.{[], ◌∷◌, ◌++◌, map, length, get_or, Contains, refl, ap, ap₂, sym, subst, ◌∙◌, arith}
 use Rattle.std.specs.Bool.{beq}
 use Rattle.std.specs.Int.RustNames.{int_le}
 use Rattle.std.specs.List.{All}
 use Rattle.std.proofs.lemmas.Int.{ints, by_lt_z}
+use lib.Signed.{≤ℤ_refl}
 use Rattle.std.proofs.lemmas.Bool.{cases_lt}
 use Rattle.std.proofs.lemmas.List.{get_or_default, length-append}
 use Rattle.std.proofs.lemmas.List.Elements.{All-push}
@@ -12,21 +14,18 @@ use Rattle.std.proofs.lemmas.List.Quantifiers.{all_pairs_push}
 use Rattle.netlist.specs.Values.{parity}
 use Rattle.netlist.specs.Waves.{Wave}
 use Rattle.delay_replay.specs.Changes.{Changes, AreChangesOf, ChangesAt, ChangesOver, AreTimesRising, wave_at}
-use Rattle.delay_replay.proofs.Turning.{is_odd, odd_suc, at_count}
+use Rattle.delay_replay.proofs.Turning.{come, not_come, is_odd, odd_suc, at_count}
 
 -- of two times in a rising list the one that stands earlier is the earlier one
 rising_at : (times : List ℤ) (i j : ℕ) (d : ℤ) → AreTimesRising times → i ≤ j → j < length times → get_or times i d ≤ℤ get_or times j d
 rising_at times i j d rising order within =
     ⊎_elim
     (λ less. at_most (get_or times i d) (get_or times j d) (rising i j d less within))
-    (λ same. let at : i ≡ j = omega arith in subst (λ k. get_or times i d ≤ℤ get_or times k d) at (itself (get_or times i d)))
+    (λ same. let at : i ≡ j = omega arith in subst (λ k. get_or times i d ≤ℤ get_or times k d) at (≤ℤ_refl (get_or times i d)))
     (cases_lt i j)
   where
     at_most : (a b : ℤ) → a <ℤ b → a ≤ℤ b
     at_most a b less = omega (arith, ints)
-
-    itself : (a : ℤ) → a ≤ℤ a
-    itself a = omega (arith, ints)
 
 -- not(b xor o) differs from not(b xor not o)
 turned_differs : (before odd : Bool) → not (beq before odd) ≡ not (beq before (not odd)) → ⊥
@@ -44,8 +43,8 @@ changes_at_times changes rising k d within same =
     (λ j e from inside. still_to_come (get_or times j e) (later j e from inside))
     ∙ same
     ∙ sym (at_count changes.before times time (suc k) (omega arith)
-    (λ j e from below. come (get_or times j e) (at_most j e below))
-    (λ j e from inside. not_come (get_or times j e) (after j e from inside)))
+    (λ j e from below. come (get_or times j e) time (at_most j e below))
+    (λ j e from inside. not_come (get_or times j e) time (after j e from inside)))
     ∙ ap (λ odd. not (beq changes.before odd)) (odd_suc k))
   where
     times : List ℤ
@@ -75,33 +74,18 @@ changes_at_times changes rising k d within same =
     still_to_come : (change : ℤ) → time ≤ℤ change → int_le change (time -ℤ pos 1) ≡ false
     still_to_come change less = grind (arith, ints)
 
-    come : (change : ℤ) → change ≤ℤ time → int_le change time ≡ true
-    come change less = grind (arith, ints)
-
-    not_come : (change : ℤ) → time <ℤ change → int_le change time ≡ false
-    not_come change less = grind (arith, ints)
-
--- the changes of a wave that is constant behind a time have come by then
-pub changes_by : (wave : Wave) (changes : Changes) (bound : ℤ) → AreChangesOf wave changes
-    → ((time : ℤ) → bound <ℤ time → wave (time -ℤ pos 1) ≡ wave time) → All (λ change. change ≤ℤ bound) changes.times
-changes_by wave changes bound are constant k d within =
-    let change = get_or changes.times k d in
-    by_lt_z bound change
-    (λ late. absurd (changes_at_times changes are.rising k d within
-    (are.shows (change -ℤ pos 1) ∙ constant change late ∙ sym (are.shows change))))
-    (λ come. come)
-
 -- a time at which the parity of those that have come differs from the one right before is among the times
 time_among : (times : List ℤ) (time : ℤ)
     → parity (map (λ change. int_le change (time -ℤ pos 1)) times) ≢ parity (map (λ change. int_le change time) times)
     → Contains times time
 time_among [] time differs = absurd (differs refl)
 time_among (change ∷ times) time differs =
-    by_lt_z change time (λ less. past (time_among times time) (come change less))
-    (λ above. by_lt_z time change (λ less. past (time_among times time) (to_come change less)) (λ below. (zero, omega arith, same change above below)))
+    by_lt_z change time (λ less. past (time_among times time) (has_come change less))
+    (λ above. by_lt_z time change (λ less. past (time_among times time) (to_come change less))
+    (λ below. (zero, omega arith, same change above below)))
   where
-    come : (change : ℤ) → change <ℤ time → int_le change (time -ℤ pos 1) ≡ int_le change time
-    come change less = grind (arith, ints)
+    has_come : (change : ℤ) → change <ℤ time → int_le change (time -ℤ pos 1) ≡ int_le change time
+    has_come change less = grind (arith, ints)
 
     to_come : (change : ℤ) → time <ℤ change → int_le change (time -ℤ pos 1) ≡ int_le change time
     to_come change less = grind (arith, ints)

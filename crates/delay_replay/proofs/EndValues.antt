@@ -1,13 +1,13 @@
 -- A line has its value under the first vector before time 0 and its value under the second from its latest change on, and the
 -- latest change is no later than all levels take together.
-use Rattle.std.proofs.Common.{◌≡◌, ⊎_elim, ℕ, zero, suc, ◌+◌, ◌*◌, ◌<◌, ◌≤◌, ℤ, pos, negsuc, ◌-ℤ◌, ◌<ℤ◌, ◌≤ℤ◌, Bool, true, false, if◌then◌else◌, List, [], ◌∷◌, map, length, get_or, refl, sym, ap, ap₂, subst, ◌∙◌, arith}
+use Rattle.std.proofs.Common.{◌≡◌, ⊎_elim, ℕ, ◌+◌, ◌*◌, ◌<◌, ◌≤◌, ℤ, pos, negsuc, ◌-ℤ◌, ◌<ℤ◌, ◌≤ℤ◌, Bool, true, false, if◌then◌else◌}
+use Rattle.std.proofs.Common.{List, [], ◌∷◌, map, length, get_or, refl, sym, ap, ap₂, subst, ◌∙◌, arith}
 use Rattle.std.specs.Int.RustNames.{int_lt}
 use Rattle.std.specs.List.{All, AllZip}
 use Rattle.std.proofs.lemmas.Int.{ints, by_lt_z}
 use Rattle.std.proofs.lemmas.Bool.{cases_lt}
 use Rattle.std.proofs.lemmas.List.{get_or_past}
 use Rattle.std.proofs.lemmas.List.Elements.{All-head, All-tail}
-use Rattle.std.proofs.lemmas.List.FromFn.{get_or-map-range_with_len, length-map-range_with_len}
 use Rattle.pd_base.specs.declared.ids.LineId.{LineId}
 use Rattle.pd_base.specs.declared.ids.PinRef.{PinRef}
 use Rattle.pd_base.specs.Pair.{Vectors}
@@ -15,11 +15,12 @@ use Rattle.netlist.specs.declared.limits.TheConstants.{MOST_LEVELS}
 use Rattle.netlist.specs.Circuit.{Circuit, source_count, gate_count, line_count, gate_line, kind_at, pins_at}
 use Rattle.netlist.specs.Lawful.{IsCircuit}
 use Rattle.netlist.specs.Greatest.{greatest}
-use Rattle.netlist.specs.Levels.{level, line_levels}
+use Rattle.netlist.specs.Levels.{level}
 use Rattle.netlist.specs.Values.{bit_of, gate_value, value}
 use Rattle.netlist.specs.Waves.{Delays, Wave, source_wave, pin_values, delay_copy, wave_of}
 use Rattle.netlist.proofs.Evaluation.{line_induction, value_at_source, value_at_gate}
 use Rattle.path_laws.proofs.RelatedValues.{values_related_anywhere}
+use Rattle.path_laws.proofs.StepCounts.{no_higher_level}
 use Rattle.netlist.specs.Pins.{pin_place_in}
 use Rattle.delay_annotation.specs.declared.delays.TheConstants.{MOST_DELAY}
 use Rattle.delay_annotation.specs.Annotation.{Fits, delays_of}
@@ -165,19 +166,6 @@ one_change first last changes rising goes =
         let upto = (goes.between i d within).to_bound in
         omega (arith, ints)
 
--- the greatest of some numbers is at least each of them
-at_most_greatest : (xs : List ℕ) (i : ℕ) → i < length xs → get_or xs i 0 ≤ greatest xs
-at_most_greatest [] i within = absurd (omega arith)
-at_most_greatest (x ∷ xs) zero within = omega arith
-at_most_greatest (x ∷ xs) (suc i) within = omega (arith, at_most_greatest xs i (omega arith))
-
--- no line stands on a level above the greatest
-few_levels : (c : Circuit) → IsCircuit c → (line : ℕ) → line < line_count c → level c line ≤ MOST_LEVELS
-few_levels c is line within =
-    let found = get_or-map-range_with_len (level c) 0 (line_count c) line line 0 within (omega arith) in
-    let upto = at_most_greatest (line_levels c) line (omega (arith, length-map-range_with_len (level c) 0 (line_count c))) in
-    omega (arith, is.few_levels)
-
 -- a delay that is kept is none over the greatest
 pub small_delay : (c : Circuit) (kept : List ℕ) → Fits c kept → (pin : PinRef) → delays_of c kept pin ≤ MOST_DELAY
 small_delay c kept fits pin =
@@ -218,4 +206,4 @@ module _ (c : Circuit) (is : IsCircuit c) (delays : Delays) (small : (pin : PinR
 
   -- and so within all levels
   pub latest_small : (line : ℕ) → line < line_count c → latest_change c delays line ≤ MOST_LEVELS * MOST_DELAY
-  latest_small line within = omega (arith, by_level line within, few_levels c is line within)
+  latest_small line within = omega (arith, by_level line within, no_higher_level c line within, is.few_levels)

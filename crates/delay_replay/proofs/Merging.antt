@@ -1,9 +1,10 @@
 -- The pass over the changes at a gate's pins, soonest first: how it begins, how one change is passed, and what stands at its end.
-use Rattle.std.proofs.Common.{◌≡◌, ℕ, ◌+◌, ◌≤◌, ℤ, pos, ◌-ℤ◌, ◌<ℤ◌, ◌≤ℤ◌, Bool, true, false, not, cond, List, [], length, get_or, refl, sym, ◌∙◌, arith}
+use Rattle.std.proofs.Common.{◌≡◌, ℕ, ◌+◌, ◌≤◌, ℤ, pos, ◌-ℤ◌, ◌<ℤ◌, ◌≤ℤ◌, Bool, false, not, List, [], length, get_or, sym, ◌∙◌, arith}
 use Rattle.std.specs.BinaryHeap.{IsUpperBound}
 use Rattle.std.specs.List.{All}
 use Rattle.std.specs.Ordering.{is_lt, int_cmp}
 use Rattle.std.proofs.lemmas.Int.{ints, by_lt_z}
+use lib.Signed.{≤ℤ_refl, <ℤ-≤ℤ_trans, clash_ℤ}
 use Rattle.std.proofs.lemmas.List.Elements.{All-weaker, All-from_recursion}
 use Rattle.netlist.specs.declared.kind.GateKind.{GateKind}
 use Rattle.netlist.specs.Values.{gate_value}
@@ -16,6 +17,7 @@ use Rattle.delay_replay.specs.GateWaves.{RefusesWave}
 use Rattle.delay_replay.specs.PinChanges.{one, ones, sooner, IsPinChange, IsBeforeAll, AreCounted, AreAmong, PassesChange}
 use Rattle.delay_replay.specs.AddedChanges.{IsTurned, RefusesChange}
 use Rattle.delay_replay.proofs.ChangeTimes.{over_by_one}
+use Rattle.delay_replay.proofs.Turning.{unturned}
 use Rattle.delay_replay.proofs.NextChanges.{passed_each, passed_one, passed_counted, passed_among, next_each, next_later, still_counted}
 
 -- The wave is the gate's up to the soonest change, and from that one on the pins' values are told by the store.
@@ -52,12 +54,8 @@ module _ (waves : List Changes) (values : ℤ → List Bool) (kind : GateKind) (
     rising = λ i j d less within. absurd (omega arith);
     few = omega arith;
     within = λ k d inside. absurd (omega arith);
-    shows = λ time before. alone value ∙ told time (still_counted waves nexts (values time) count time each before (counted time));
+    shows = λ time before. unturned value ∙ told time (still_counted waves nexts (values time) count time each before (counted time));
   }
-    where
-      alone : (value : Bool) → cond value (not false) false ≡ value
-      alone true = refl
-      alone false = refl
 
   -- where no change is left, the wave is the gate's at all times
   pub ended : (count : ℕ) (nexts : List PinChange) (wave : Changes) → IsMerged waves values kind pins count nexts wave
@@ -72,10 +70,7 @@ module _ (waves : List Changes) (values : ℤ → List Bool) (kind : GateKind) (
       (new : List PinChange) (passes : PassesChange waves soonest old new) where
     -- before the soonest change is before all
     before_old : (time : ℤ) → time <ℤ soonest.time → IsBeforeAll time old
-    before_old time less = All-weaker _ (λ next. time <ℤ next.time) (λ next no_sooner. later next.time no_sooner) old first
-      where
-        later : (a : ℤ) → soonest.time ≤ℤ a → time <ℤ a
-        later a e = omega (arith, ints)
+    before_old time less = All-weaker _ (λ next. time <ℤ next.time) (λ next no_sooner. <ℤ-≤ℤ_trans less no_sooner) old first
 
     -- and the other way round
     pub before_soonest : (time : ℤ) → IsBeforeAll time old → time <ℤ soonest.time
@@ -89,20 +84,14 @@ module _ (waves : List Changes) (values : ℤ → List Bool) (kind : GateKind) (
     -- before all that were is before all that are left
     still_before : (time : ℤ) → IsBeforeAll time old → IsBeforeAll time new
     still_before time before =
-        All-weaker _ (λ next. time <ℤ next.time) (λ next no_sooner. later next.time (before_soonest time before) no_sooner) new first_left
-      where
-        later : (a : ℤ) → time <ℤ soonest.time → soonest.time ≤ℤ a → time <ℤ a
-        later a e f = omega (arith, ints)
+        All-weaker _ (λ next. time <ℤ next.time) (λ next no_sooner. <ℤ-≤ℤ_trans (before_soonest time before) no_sooner) new first_left
 
     module _ (counted : ℕ) (counts : counted + one (not soonest.rises) ≡ count + one soonest.rises) where
       -- from the soonest change on the store and the count tell the pins' values
       counted_from : (time : ℤ) → soonest.time ≤ℤ time → AreCounted waves (values time) counted new time
       counted_from time come =
           passed_counted waves soonest old new passes count counted counts (values time) time come
-          (merged.counted time (λ before. apart (before_soonest time before)))
-        where
-          apart : time <ℤ soonest.time → ⊥
-          apart less = omega (arith, ints)
+          (merged.counted time (λ before. clash_ℤ (before_soonest time before) come))
 
       counted_left : (time : ℤ) → (IsBeforeAll time new → ⊥) → AreCounted waves (values time) counted new time
       counted_left time come =
@@ -166,10 +155,7 @@ module _ (waves : List Changes) (values : ℤ → List Bool) (kind : GateKind) (
             (λ time less. merged.shows time (before_old time less)) refuses.0
             (λ same. refuses.1 (soonest.time -ℤ pos 1)
             (λ k d inside. right_before (get_or wave.times k d) (before_soonest (get_or wave.times k d) (merged.within k d inside)))
-            (same ∙ sym (value_now soonest.time at_once last)))
+            (same ∙ sym (value_now soonest.time (≤ℤ_refl soonest.time) last)))
           where
             right_before : (a : ℤ) → a <ℤ soonest.time → a ≤ℤ (soonest.time -ℤ pos 1)
             right_before a less = omega (arith, ints)
-
-            at_once : soonest.time ≤ℤ soonest.time
-            at_once = omega (arith, ints)

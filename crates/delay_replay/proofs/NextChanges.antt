@@ -1,5 +1,7 @@
 -- What a pin shows by its next change, and how many pins are 1 once that change has come.
-use Rattle.std.proofs.Common.{◌≡◌, ℕ, suc, ◌+◌, ◌<◌, ◌≤◌, ℤ, pos, ◌+ℤ◌, ◌-ℤ◌, ◌<ℤ◌, ◌≤ℤ◌, Bool, true, false, not, cond, List, [], ◌∷◌, ◌++◌, Option, None, Some, option_to_list, map, drop, length, get_or, refl, ap, ap₂, sym, subst, add-zero, ◌∙◌, arith, drop_of_length-le}
+use Rattle.std.proofs.Common.{◌≡◌, ℕ, suc, ◌+◌, ◌<◌, ◌≤◌, ℤ, pos, ◌+ℤ◌, ◌-ℤ◌, ◌<ℤ◌, ◌≤ℤ◌, Bool, true, false, not, cond, List, [], ◌∷◌, ◌++◌}
+use Rattle.std.proofs.Common.{Option, None, Some, option_to_list, map, drop, length, get_or, refl, ap, ap₂, sym, subst, add-zero, ◌∙◌}
+use Rattle.std.proofs.Common.{arith, drop_of_length-le}
 use Rattle.std.specs.Int.RustNames.{int_le}
 use Rattle.std.specs.List.{All, sum_by}
 use Rattle.std.proofs.lemmas.Int.{ints}
@@ -11,16 +13,10 @@ use Rattle.netlist.specs.Values.{parity}
 use Rattle.pd_base.specs.declared.ids.LineId.{LineId}
 use Rattle.delay_replay.specs.declared.pin_changes.PinChange.{PinChange}
 use Rattle.delay_replay.specs.Changes.{Changes, wave_at}
-use Rattle.delay_replay.specs.PinChanges.{one, ones, line_changes, turned_by, behind, shown, IsPinChange, IsChangeAt, IsNextOrNone, IsBeforeAll, AreCounted, AreAmong, PassesChange}
+use Rattle.delay_replay.specs.PinChanges.{one, ones, line_changes, turned_by, behind, shown, IsPinChange, IsChangeAt, IsNextOrNone}
+use Rattle.delay_replay.specs.PinChanges.{IsBeforeAll, AreCounted, AreAmong, PassesChange}
 use Rattle.delay_replay.proofs.PinCounts.{twice}
-use Rattle.delay_replay.proofs.Turning.{parity_none}
-
--- a change that has come, or has not
-come : (change time : ℤ) → change ≤ℤ time → int_le change time ≡ true
-come change time e = grind (arith, ints)
-
-not_come : (change time : ℤ) → time <ℤ change → int_le change time ≡ false
-not_come change time e = grind (arith, ints)
+use Rattle.delay_replay.proofs.Turning.{come, not_come, unturned, parity_none}
 
 module _ (waves : List Changes) (next : PinChange) (time : ℤ) where
   -- how many of the changes behind it have come
@@ -35,14 +31,10 @@ module _ (waves : List Changes) (next : PinChange) (time : ℤ) where
       (parity_none (λ change. int_le (change +ℤ pos next.delay) time) (behind waves next)
       (λ k d inside. not_come (get_or (behind waves next) k d +ℤ pos next.delay) time
       (later (get_or (behind waves next) k d +ℤ pos next.delay) (is.first k d inside))))
-      ∙ none (not next.rises)
+      ∙ unturned (not next.rises)
     where
       later : (a : ℤ) → next.time <ℤ a → time <ℤ a
       later a e = omega (arith, ints)
-
-      none : (value : Bool) → cond value (not (cond false (not false) false)) (cond false (not false) false) ≡ value
-      none true = refl
-      none false = refl
 
   -- from it on a pin shows the other value, turned by the changes behind it
   pub shown_from : next.time ≤ℤ time → shown waves next time ≡ turned_by next.rises (behind waves next) next.delay time
@@ -50,7 +42,8 @@ module _ (waves : List Changes) (next : PinChange) (time : ℤ) where
       ap (λ has. cond (not next.rises) (not (cond has (not odd) odd)) (cond has (not odd) odd)) (come next.time time has)
       ∙ turned next.rises odd
     where
-      turned : (rises rest : Bool) → cond (not rises) (not (cond true (not rest) rest)) (cond true (not rest) rest) ≡ cond rises (not rest) rest
+      turned : (rises rest : Bool)
+          → cond (not rises) (not (cond true (not rest) rest)) (cond true (not rest) rest) ≡ cond rises (not rest) rest
       turned true true = refl
       turned true false = refl
       turned false true = refl
@@ -70,16 +63,21 @@ turned_by_all changes delay time = ap (λ odd. cond changes.before (not odd) odd
     later (change ∷ rest) = ap₂ (λ first odd. cond first (not odd) odd) (same change) (later rest)
 
 module _ (waves : List Changes) (read : LineId) (place delay : ℕ) (until : Bool) where
+  -- a value at a time, turned by a change and by those behind it, which come later by a delay
+  abbrev turned_at : ℤ → Bool → ℤ → ℕ → List ℤ → Bool
+  turned_at time value change later times =
+      parity (value ∷ int_le change time ∷ map (λ other. int_le (other +ℤ pos later) time) times)
+
   -- what the next change of a pin shows is what its line's changes from there on show
   shown_next : (next : PinChange) → IsChangeAt (line_changes waves read.0) read place delay until next → (time : ℤ)
       → turned_by until (drop place (line_changes waves read.0).times) delay time ≡ shown waves next time
   shown_next next is time =
       ap (λ (times : List ℤ). turned_by until times delay time) (drop_more (line_changes waves read.0).times place (pos 0) is.inside)
-      ∙ ap₂ (λ value at. parity (value ∷ int_le at time ∷ map (λ change. int_le (change +ℤ pos delay) time) (drop (place + 1) (line_changes waves read.0).times)))
+      ∙ ap₂ (λ value at. turned_at time value at delay (drop (place + 1) (line_changes waves read.0).times))
       (sym (twice until) ∙ ap not (sym is.rises)) (sym is.time)
-      ∙ ap₂ (λ later from. parity (not next.rises ∷ int_le next.time time ∷ map (λ change. int_le (change +ℤ pos later) time) (drop from (line_changes waves read.0).times)))
+      ∙ ap₂ (λ later from. turned_at time (not next.rises) next.time later (drop from (line_changes waves read.0).times))
       (sym is.delay) (sym is.behind)
-      ∙ ap (λ (line : LineId). parity (not next.rises ∷ int_le next.time time ∷ map (λ change. int_le (change +ℤ pos next.delay) time) (drop next.behind (line_changes waves line.0).times)))
+      ∙ ap (λ (line : LineId). turned_at time (not next.rises) next.time next.delay (drop next.behind (line_changes waves line.0).times))
       (sym is.line)
 
   -- a pin counts by its next change as it counts by its line's changes from there on
@@ -89,11 +87,7 @@ module _ (waves : List Changes) (read : LineId) (place delay : ℕ) (until : Boo
       ≡ one until + sum_by (λ n. one (shown waves n time)) (option_to_list next)
   next_counts None none time =
       ap (λ (times : List ℤ). one (turned_by until times delay time) + 0) (drop_of_length-le (line_changes waves read.0).times none)
-      ∙ ap (λ value. one value + 0) (alone until)
-    where
-      alone : (value : Bool) → cond value (not false) false ≡ value
-      alone true = refl
-      alone false = refl
+      ∙ ap (λ value. one value + 0) (unturned until)
   next_counts (Some next) is time =
       sums _ _ _ _ (ap one (shown_next next is time)) (ap one (ap not is.rises ∙ twice until))
     where
@@ -120,7 +114,8 @@ module _ (waves : List Changes) (read : LineId) (place delay : ℕ) (until : Boo
   next_each inside (Some next) is =
       All-cons (IsPinChange waves) next [] (record {
         line = subst (λ (line : LineId). line.0 < length waves) (sym is.line) inside;
-        first = subst (λ (line : LineId). All (λ change. next.time <ℤ (change +ℤ pos next.delay)) (drop next.behind (line_changes waves line.0).times)) (sym is.line)
+        first = subst (λ (line : LineId). All (λ change. next.time <ℤ (change +ℤ pos next.delay))
+            (drop next.behind (line_changes waves line.0).times)) (sym is.line)
             (subst (λ from. All (λ change. next.time <ℤ (change +ℤ pos next.delay)) (drop from times)) (sym is.behind)
             (λ k d within. later (get_or times place d) (get_or times (place + 1 + k) d) _
             (is.rising place (place + 1 + k) d (omega arith) (omega (arith, length-drop (place + 1) times)))
@@ -176,7 +171,9 @@ module _ (waves : List Changes) (soonest : PinChange) (old new : List PinChange)
   was f = sum_by_popped f soonest old passes.rest passes.was
 
   now : (f : PinChange → ℕ) → sum_by f new ≡ sum_by f (option_to_list passes.next) + sum_by f passes.rest
-  now f = sum_by-IsPermutation f (option_to_list passes.next ++ passes.rest) new passes.now ∙ sum_by-append f (option_to_list passes.next) passes.rest
+  now f =
+      sum_by-IsPermutation f (option_to_list passes.next ++ passes.rest) new passes.now
+      ∙ sum_by-append f (option_to_list passes.next) passes.rest
 
   -- what holds of each change in the store, and of the next one of the pin, holds of each change in the store behind
   pub passed_each : (P : PinChange → Type 0) → All P old → All P (option_to_list passes.next) → All P new

@@ -1,5 +1,6 @@
 -- A gate's value is told by how many of its pins are 1.
-use Rattle.std.proofs.Common.{◌≡◌, ℕ, suc, ◌+◌, ◌≤◌, Bool, true, false, not, eqb, List, [], ◌∷◌, length, refl, ap, ap₂, sym, subst, zero-add, ◌∙◌, arith}
+use Rattle.std.proofs.Common.{◌≡◌, ℕ, suc, ◌≤◌, Bool, true, false, not, eqb, List, [], ◌∷◌, length, refl, ap, ap₂, sym, subst}
+use Rattle.std.proofs.Common.{zero-add, one-add, ◌∙◌, arith}
 use Rattle.std.proofs.lemmas.List.Sums.{sum_by-cons}
 use Rattle.std.proofs.lemmas.Bool.Decides.{nat_tests}
 use Rattle.netlist.specs.declared.kind.GateKind.{GateKind}
@@ -9,21 +10,13 @@ use Rattle.netlist.specs.Values.{all_true, any_true, parity, only_value, gate_va
 use Rattle.delay_replay.specs.PinChanges.{one, ones}
 use Rattle.delay_replay.proofs.Turning.{is_odd, odd_suc}
 
--- a value counts once at most
-pub one_most : (value : Bool) → one value ≤ 1
-one_most true = omega arith
-one_most false = omega arith
-
 -- a 0 does not count
 ones_skip : (values : List Bool) → ones (false ∷ values) ≡ ones values
 ones_skip values = sum_by-cons one false values ∙ zero-add (ones values)
 
 -- a 1 counts once
 ones_more : (values : List Bool) → ones (true ∷ values) ≡ suc (ones values)
-ones_more values = sum_by-cons one true values ∙ one_more (ones values)
-  where
-    one_more : (n : ℕ) → 1 + n ≡ suc n
-    one_more n = omega arith
+ones_more values = sum_by-cons one true values ∙ one-add (ones values)
 
 -- no more values are 1 than there are values
 ones_most : (values : List Bool) → ones values ≤ length values

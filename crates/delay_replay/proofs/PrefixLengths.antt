@@ -1,5 +1,6 @@
 -- The latest change of a line is the greatest length of the prefixes that end at it, and comes within all levels.
-use Rattle.std.proofs.Common.{◌≡◌, ⊎_elim, ℕ, zero, suc, ◌+◌, ◌*◌, ◌<◌, ◌≤◌, max, List, [], ◌∷◌, ◌++◌, map, drop, take, length, get_or, refl, sym, ap, subst, ◌∙◌, arith, sum_by}
+use Rattle.std.proofs.Common.{◌≡◌, ⊎_elim, ℕ, zero, suc, ◌+◌, ◌*◌, ◌<◌, ◌≤◌, max, List, [], ◌∷◌, ◌++◌, map, drop, take, length, get_or}
+use Rattle.std.proofs.Common.{refl, sym, ap, subst, ◌∙◌, add-zero, zero-add, arith, sum_by}
 use Rattle.std.specs.List.{All}
 use Rattle.std.proofs.lemmas.Bool.{cases_lt}
 use Rattle.std.proofs.lemmas.List.{take-append-drop, get_or-map, length-map}
@@ -47,6 +48,10 @@ module _ (c : Circuit) where
   after_push line [] step = refl
   after_push line (first ∷ steps) step = after_push (gate_line c first.gate.0) steps step
 
+-- a place that is one more behind the first is as many behind the one after it
+shifted : (n k : ℕ) → n + suc k ≡ n + 1 + k
+shifted n k = omega arith
+
 module _ (delays : Delays) where
   -- no pin's line with the pin's delay is above the greatest
   at_most_delayed : (gate first : ℕ) (times : List ℕ) (pin : ℕ) → pin < length times
@@ -54,17 +59,11 @@ module _ (delays : Delays) where
       ≤ greatest (delayed delays gate first times)
   at_most_delayed gate first [] pin within = absurd (omega arith)
   at_most_delayed gate first (time ∷ times) zero within =
-      let here = ap (λ k. delays (record { gate = record { 0 = gate }; pin = k })) (add_zero first) in omega arith
-    where
-      add_zero : (n : ℕ) → n + 0 ≡ n
-      add_zero n = omega arith
+      let here = ap (λ k. delays (record { gate = record { 0 = gate }; pin = k })) (add-zero first) in omega arith
   at_most_delayed gate first (time ∷ times) (suc pin) within =
       let further = at_most_delayed gate (first + 1) times pin (omega arith) in
       let here = ap (λ k. delays (record { gate = record { 0 = gate }; pin = k })) (shifted first pin) in
       omega arith
-    where
-      shifted : (n k : ℕ) → n + suc k ≡ n + 1 + k
-      shifted n k = omega arith
 
   -- of some lines, one with its pin's delay is the greatest
   greatest_delayed : (gate first : ℕ) (times : List ℕ) → 0 < length times
@@ -73,11 +72,8 @@ module _ (delays : Delays) where
       ≡ greatest (delayed delays gate first times))
   greatest_delayed gate first [] some = absurd (omega arith)
   greatest_delayed gate first (time ∷ []) some =
-      (0, omega arith, ap (λ k. time + delays (record { gate = record { 0 = gate }; pin = k })) (add_zero first) ∙ alone _)
+      (0, omega arith, ap (λ k. time + delays (record { gate = record { 0 = gate }; pin = k })) (add-zero first) ∙ alone _)
     where
-      add_zero : (n : ℕ) → n + 0 ≡ n
-      add_zero n = omega arith
-
       alone : (n : ℕ) → n ≡ max n 0
       alone n = omega arith
   greatest_delayed gate first (time ∷ next ∷ times) some =
@@ -94,16 +90,10 @@ module _ (delays : Delays) where
       (λ from. (
         0,
         omega arith,
-        ap (λ k. time + delays (record { gate = record { 0 = gate }; pin = k })) (add_zero first) ∙ largest _ _ from,
+        ap (λ k. time + delays (record { gate = record { 0 = gate }; pin = k })) (add-zero first) ∙ largest _ _ from,
       ))
       (cases_lt own (greatest (delayed delays gate (first + 1) (next ∷ times))))
     where
-      add_zero : (n : ℕ) → n + 0 ≡ n
-      add_zero n = omega arith
-
-      shifted : (n k : ℕ) → n + suc k ≡ n + 1 + k
-      shifted n k = omega arith
-
       above : (n m : ℕ) → n < m → m ≡ max n m
       above n m less = omega arith
 
@@ -122,12 +112,9 @@ module _ (delays : Delays) where
         get_or-map latest pins step.pin (record { 0 = line }) 0 within
         ∙ ap latest (get_or_from_slice_get pins step.pin (record { 0 = line }) (record { 0 = line }) on.reads) in
         let most = at_most_delayed step.gate.0 0 (map latest pins) step.pin (omega (arith, length-map pins latest)) in
-        let same = ap (λ k. delays (record { gate = step.gate; pin = k })) (zero_add step.pin) in
+        let same = ap (λ k. delays (record { gate = step.gate; pin = k })) (zero-add step.pin) in
         let gate = latest_at_gate delays c is step.gate.0 on.in_circuit in
         omega arith
-      where
-        zero_add : (n : ℕ) → 0 + n ≡ n
-        zero_add n = omega arith
 
     -- along steps that connect it comes later by all their delays, or more
     latest_along : (line : ℕ) (steps : List PinRef) → Connects c line steps
@@ -184,13 +171,10 @@ module _ (delays : Delays) where
         let late : latest_change c delays line.0 + delays step ≡ latest_change c delays (gate_line c gate) =
         ap (λ n. n + delays step) (sym (get_or-map latest pins found.0 none 0 inside))
         ∙ ap (λ k. get_or (map latest pins) found.0 0 + delays (record { gate = record { 0 = gate }; pin = k }))
-        (sym (zero_add found.0))
+        (sym (zero-add found.0))
         ∙ found.2 ∙ sym (latest_at_gate delays c is gate within) in
         longest_through step line.0 (record { in_circuit = within; reads = slice_get-get_or pins found.0 none inside }) late
         (all found.0 none inside)
-      where
-        zero_add : (n : ℕ) → 0 + n ≡ n
-        zero_add n = omega arith
 
     -- so the latest change is the greatest length
     pub latest_is_greatest : (line : ℕ) → line < line_count c → IsGreatestLength c delays line (latest_change c delays line)

@@ -1,10 +1,12 @@
 -- The value of a wave at a time is told by how many of its changes are at or before it.
-use Rattle.std.proofs.Common.{◌≡◌, ◌≢◌, add-one, ℕ, zero, suc, ◌%◌, ◌<◌, ◌≤◌, ℤ, pos, ◌+ℤ◌, ◌-ℤ◌, ◌<ℤ◌, ◌≤ℤ◌, Bool, true, false, not, cond, eqb, List, [], ◌∷◌, ◌++◌, map, length, get_or, refl, ap, ap₂, sym, ◌∙◌, arith, ⊎_elim}
+use Rattle.std.proofs.Common.{◌≡◌, ◌≢◌, add-one, ℕ, zero, suc, ◌%◌, ◌<◌, ◌≤◌, ℤ, pos, ◌+ℤ◌, ◌-ℤ◌, ◌<ℤ◌, ◌≤ℤ◌, Bool, true, false, not, cond}
+use Rattle.std.proofs.Common.{eqb, List, [], ◌∷◌, ◌++◌, map, length, get_or, refl, ap, ap₂, sym, ◌∙◌, arith, ⊎_elim}
 use Rattle.std.specs.Bool.{beq}
 use Rattle.std.specs.Int.RustNames.{int_le}
 use Rattle.std.specs.List.{All, AllWithin}
 use Rattle.std.specs.List.Sorted.{IsPartitionedBy}
 use Rattle.std.proofs.lemmas.Int.{ints}
+use lib.Signed.{≤ℤ_refl}
 use Rattle.std.proofs.lemmas.List.{get_or-map, length-map, length-append}
 use Rattle.std.proofs.lemmas.List.Elements.{All-push}
 use Rattle.std.proofs.lemmas.List.Quantifiers.{all_pairs_push}
@@ -14,6 +16,19 @@ use Rattle.netlist.specs.Values.{parity}
 use Rattle.delay_replay.specs.declared.gate.TheConstants.{MOST_CHANGES}
 use Rattle.delay_replay.specs.AddedChanges.{IsTurned}
 use Rattle.delay_replay.specs.Changes.{Changes, AreChangesOf, AreTimesRising, wave_at}
+
+-- a change that has come by a time
+pub come : (change time : ℤ) → change ≤ℤ time → int_le change time ≡ true
+come change time is = grind (arith, ints)
+
+-- and one that is still to come
+pub not_come : (change time : ℤ) → time <ℤ change → int_le change time ≡ false
+not_come change time is = grind (arith, ints)
+
+-- a value that no change turns
+pub unturned : (value : Bool) → cond value (not false) false ≡ value
+unturned true = refl
+unturned false = refl
 
 -- whether a number is odd
 abbrev pub is_odd : ℕ → Bool
@@ -82,26 +97,16 @@ rising_parted times time rising i j d order within come =
 pub at_earliest : (changes : Changes) (time : ℤ) → All (λ change. time <ℤ change) changes.times
     → wave_at changes time ≡ changes.before
 at_earliest changes time later =
-    sym (at_count changes.before changes.times time 0 (omega arith) (λ k d from below. absurd (omega arith))
-    (λ k d from within. not_come (get_or changes.times k d) (later k d within)))
-    ∙ even changes.before
-  where
-    not_come : (change : ℤ) → time <ℤ change → int_le change time ≡ false
-    not_come change less = grind (arith, ints)
-
-    even : (value : Bool) → not (beq value false) ≡ value
-    even true = refl
-    even false = refl
+    ap (λ odd. cond changes.before (not odd) odd) (parity_none (λ change. int_le change time) changes.times
+    (λ k d within. not_come (get_or changes.times k d) time (later k d within)))
+    ∙ unturned changes.before
 
 -- after all changes all have come
 pub at_latest : (changes : Changes) (time : ℤ) → All (λ change. change ≤ℤ time) changes.times
     → wave_at changes time ≡ not (beq changes.before (is_odd (length changes.times)))
 at_latest changes time earlier =
     sym (at_count changes.before changes.times time (length changes.times) (omega arith)
-    (λ k d from within. come (get_or changes.times k d) (earlier k d within)) (λ k d from within. absurd (omega arith)))
-  where
-    come : (change : ℤ) → change ≤ℤ time → int_le change time ≡ true
-    come change less = grind (arith, ints)
+    (λ k d from within. come (get_or changes.times k d) time (earlier k d within)) (λ k d from within. absurd (omega arith)))
 
 -- a wave that is later by a delay has its changes later by the delay
 pub at_moved : (before : Bool) (times : List ℤ) (delay : ℕ) (time : ℤ)
@@ -142,10 +147,7 @@ pub at_later_change : (before : Bool) (times : List ℤ) (change time : ℤ) →
     → wave_at (record { before = before; times = times ++ change ∷ [] }) time
     ≡ wave_at (record { before = before; times = times }) time
 at_later_change before times change time later =
-    ap (λ odd. cond before (not odd) odd) (parity_skip (λ other. int_le other time) times change (to_come change later))
-  where
-    to_come : (change : ℤ) → time <ℤ change → int_le change time ≡ false
-    to_come change later = grind (arith, ints)
+    ap (λ odd. cond before (not odd) odd) (parity_skip (λ other. int_le other time) times change (not_come change time later))
 
 -- values that are told apart differ
 pub apart : (a b : Bool) → not (beq a b) ≡ true → a ≢ b
@@ -161,6 +163,20 @@ alike true false is = cc
 alike false true is = cc
 alike false false is = refl
 
+-- changes that come before a time have come from that time on
+come_from : (times : List ℤ) (time other : ℤ) → All (λ change. change <ℤ time) times → time ≤ℤ other
+    → All (λ change. change ≤ℤ other) times
+come_from times time other earlier from k d within = through (get_or times k d) (earlier k d within) from
+  where
+    through : (change : ℤ) → change <ℤ time → time ≤ℤ other → change ≤ℤ other
+    through change less upto = omega (arith, ints)
+
+-- and so has a change at that time, behind them
+all_come_from : (times : List ℤ) (time other : ℤ) → All (λ change. change <ℤ time) times → time ≤ℤ other
+    → All (λ change. change ≤ℤ other) (times ++ time ∷ [])
+all_come_from times time other earlier from =
+    All-push (λ change. change ≤ℤ other) times time (come_from times time other earlier from) from
+
 -- a wave that has the value behind its changes has it from then on
 pub turned_by_none : (old : Changes) (time : ℤ) (value : Bool) → AreTimesRising old.times
     → All (λ change. change <ℤ time) old.times
@@ -168,20 +184,11 @@ pub turned_by_none : (old : Changes) (time : ℤ) (value : Bool) → AreTimesRis
     → IsTurned old old time value
 turned_by_none old time value rising earlier at_end = record {
   rising = rising;
-  within = before time itself;
+  within = come_from old.times time time earlier (≤ℤ_refl time);
   until = λ other less. refl;
-  from = λ other come. at_end other (before other come);
+  from = λ other upto. at_end other (come_from old.times time other earlier upto);
   few = λ few. few;
 }
-  where
-    itself : time ≤ℤ time
-    itself = omega (arith, ints)
-
-    through : (a other : ℤ) → a <ℤ time → time ≤ℤ other → a ≤ℤ other
-    through a other e f = omega (arith, ints)
-
-    before : (other : ℤ) → time ≤ℤ other → All (λ change. change ≤ℤ other) old.times
-    before other come k d within = through (get_or old.times k d) other (earlier k d within) come
 
 -- a change behind all others turns the value from its time on
 pub turned_by_change : (old : Changes) (time : ℤ) (value latest : Bool) → AreTimesRising old.times
@@ -191,28 +198,18 @@ pub turned_by_change : (old : Changes) (time : ℤ) (value latest : Bool) → Ar
     → IsTurned old (record { before = old.before; times = old.times ++ time ∷ [] }) time value
 turned_by_change old time value latest rising earlier at_end differs room = record {
   rising = all_pairs_push (λ a b. a <ℤ b) old.times time rising earlier;
-  within = all_within time itself;
+  within = all_come_from old.times time time earlier (≤ℤ_refl time);
   until = λ other less. at_later_change old.before old.times time other less;
-  from = λ other come. at_latest (record { before = old.before; times = old.times ++ time ∷ [] }) other (all_within other come)
+  from = λ other upto.
+      let before = come_from old.times time other earlier upto in
+      at_latest (record { before = old.before; times = old.times ++ time ∷ [] }) other (all_come_from old.times time other earlier upto)
       ∙ ap (λ n. not (beq old.before (is_odd n))) (length-append old.times (time ∷ []) ∙ add-one (length old.times))
       ∙ ap (λ odd. not (beq old.before odd)) (odd_suc (length old.times))
       ∙ swapped old.before (is_odd (length old.times)) value
-      (λ same. apart latest value differs (sym (at_end other (all_before other come)) ∙ at_latest old other (all_before other come) ∙ same));
+      (λ same. apart latest value differs (sym (at_end other before) ∙ at_latest old other before ∙ same));
   few = λ few. omega (arith, length-append old.times (time ∷ []));
 }
   where
-    itself : time ≤ℤ time
-    itself = omega (arith, ints)
-
-    through : (a other : ℤ) → a <ℤ time → time ≤ℤ other → a ≤ℤ other
-    through a other e f = omega (arith, ints)
-
-    all_before : (other : ℤ) → time ≤ℤ other → All (λ change. change ≤ℤ other) old.times
-    all_before other come k d within = through (get_or old.times k d) other (earlier k d within) come
-
-    all_within : (other : ℤ) → time ≤ℤ other → All (λ change. change ≤ℤ other) (old.times ++ time ∷ [])
-    all_within other come = All-push (λ change. change ≤ℤ other) old.times time (all_before other come) come
-
     swapped : (before odd value : Bool) → not (beq before odd) ≢ value → not (beq before (not odd)) ≡ value
     swapped true true true apart = refl
     swapped true true false apart = absurd (apart refl)

@@ -3,12 +3,16 @@ use Rattle.std.proofs.Common.{◌≡◌, ◌<◌, ◌≤◌, ⊎_elim, [], ◌�
 use Rattle.std.proofs.lemmas.Bool.{cases_lt, lt-ltb, le-ltb}
 use Rattle.std.proofs.lemmas.List.{take-take, take_all, length_push}
 use Rattle.std.proofs.Math.Seq.{take-append_seam}
+use Rattle.state_sets.specs.declared.algebra.Algebra.{Ghosts as AlgebraGhosts}
+use Rattle.implication.specs.declared.setting.Setting.{Ghosts as SettingGhosts}
+use Rattle.implication.specs.declared.scope.Scope.{Scope}
 use Rattle.implication.specs.declared.assumption.Origin.{Origin}
 use Rattle.implication.specs.declared.assumption.Origin.TheVariants.{Within}
 use Rattle.implication.specs.declared.assumption.Assumption.{Assumption}
 use Rattle.implication.specs.Standing.{Standing}
 use Rattle.implication.specs.Moves.{conflict_at, back_at, left_behind}
 use Rattle.implication.specs.Clients.{IsRestored, ExtendsStanding}
+use Rattle.implication.specs.Scopes.{IsSameScope}
 
 -- nothing was added
 pub extends_itself : (standing : Standing) → ExtendsStanding standing standing
@@ -76,10 +80,15 @@ extends_trans first middle last one two = record {
   later = omega (arith, one.later, two.later);
 }
 
+-- the same scope twice is the same scope
+pub same_scope_twice : {A S : Type 0} {a : AlgebraGhosts A} {s : SettingGhosts S} {first middle last : Scope A S a s}
+    → IsSameScope first middle → IsSameScope middle last → IsSameScope first last
+same_scope_twice one two = record { engine = two.engine ∙ one.engine; origin = two.origin ∙ one.origin }
+
 -- one assumption more, where no conflict stood
 pub extends_by_one : (old new : Standing) (entry : Assumption) → old.conflict ≡ None → new.net ≡ old.net
-    → new.rules ≡ old.rules → new.ends ≡ old.ends → new.beginning ≡ old.beginning → new.assumptions ≡ old.assumptions ++ entry ∷ [] → old.closings ≤ new.closings
-    → ExtendsStanding old new
+    → new.rules ≡ old.rules → new.ends ≡ old.ends → new.beginning ≡ old.beginning → new.assumptions ≡ old.assumptions ++ entry ∷ []
+    → old.closings ≤ new.closings → ExtendsStanding old new
 extends_by_one old new entry free net rules ends beginning grown later =
     let longer : length old.assumptions < length new.assumptions =
     let e = ap length grown in let f = length_push old.assumptions entry in omega arith in

@@ -1,5 +1,6 @@
 -- A visit of a place: how the search goes on where the place is shut out, and where a trial has failed there.
-use Rattle.std.proofs.Common.{◌≡◌, ℕ, ◌<◌, ◌≤◌, List, [], ◌∷◌, ◌++◌, length, take, reverse, Option, Some, None, Result, Ok, Err, refl, sym, ap, ◌∙◌, subst}
+use Rattle.std.proofs.Common.{◌≡◌, ℕ, ◌<◌, ◌≤◌, List, [], ◌∷◌, ◌++◌, length, take, reverse, Option, Some, None, Result, Ok, Err, refl, sym}
+use Rattle.std.proofs.Common.{ap, ◌∙◌, subst}
 use Rattle.std.specs.Prelude.{IfOk}
 use Rattle.std.proofs.lemmas.List.{length_push, length-take}
 use Rattle.pd_base.specs.Pair.{Vectors}
@@ -19,7 +20,7 @@ use Rattle.justify.specs.declared.growing.Place.{Place}
 use Rattle.justify.specs.declared.task.Task.{Task}
 use Rattle.justify.specs.Choices.{AreSingle}
 use Rattle.justify.specs.Desks.{IsDesk}
-use Rattle.justify.specs.Growths.{IsEntered, IsShut, IsGrowing, IsExtended}
+use Rattle.justify.specs.Growths.{IsEntered, IsShut, IsExtended}
 use Rattle.tree_laws.specs.NodeScopes.{StandsAtNode}
 use Rattle.justify.specs.Searches.{IsSearching, SearchGoesOn, AddsNode, AddsClosed, IsNodeVisit, IsVisit, IsGrowthOf}
 use Rattle.justify.specs.Tasks.{task_target}
@@ -30,7 +31,8 @@ use Rattle.tree_laws.proofs.Settings.{same_twice}
 use Rattle.justify.proofs.Orders.{late_enough, at_least, no_less, up_from, as_much_left}
 use Rattle.justify.proofs.SameNodes.{same_restored, failed_stays}
 use Rattle.justify.proofs.Placing.{IsNext, next_place}
-use Rattle.justify.proofs.Visits.{growing_same, reverse_push, reverse_none, shut_under_way, shut_growing, entered_at_node, last_under_way, extended_growing, extended_by_one, extended_left}
+use Rattle.justify.proofs.Visits.{growing_same, shut_under_way, shut_growing, entered_at_node, last_under_way, extended_growing}
+use Rattle.justify.proofs.Visits.{extended_by_one, extended_left}
 
 module _ (task : Task) (old : Standing) (desk : Desk) (growth : Growth) (place : Place)
     (searching : IsSearching task old desk (place ∷ reverse growth.places.items) growth) where
@@ -38,7 +40,8 @@ module _ (task : Task) (old : Standing) (desk : Desk) (growth : Growth) (place :
   target = task_target task
 
   next : IsNext old.net old.rules target task.budget old.assumptions place (reverse growth.places.items) growth.nodes.items growth.splits
-  next = next_place old.net old.rules target task.budget old.assumptions place (reverse growth.places.items) growth.nodes.items growth.splits
+  next =
+      next_place old.net old.rules target task.budget old.assumptions place (reverse growth.places.items) growth.nodes.items growth.splits
       searching.growing
 
   -- the scope can go back to the mark of the place, and its set can be assumed there
@@ -69,7 +72,8 @@ module _ (task : Task) (old : Standing) (desk : Desk) (growth : Growth) (place :
         rules = ap (λ (s : Standing). s.rules) shut.now;
         ends = ap (λ (s : Standing). s.ends) shut.now;
       };
-      under_way = shut_under_way target task.budget old searching.under_way place (reverse growth.places.items) growth.nodes.items growth.splits
+      under_way =
+          shut_under_way target task.budget old searching.under_way place (reverse growth.places.items) growth.nodes.items growth.splits
           next new shut;
       serves =
           let P : Circuit → Type 0 = λ c. IsDesk c task.path.now desk in
@@ -82,7 +86,9 @@ module _ (task : Task) (old : Standing) (desk : Desk) (growth : Growth) (place :
     shut_adds after nodes places splits = record {
       counted = at_least (risen old.closings) new.closings (ap (λ (s : Standing). s.closings) shut.now);
       one_more = ap length nodes ∙ length_push growth.nodes.items Closed;
-      left = as_much_left task.budget growth.splits after.splits (length growth.places.items) (length after.places.items) splits (ap length places);
+      left =
+          as_much_left task.budget growth.splits after.splits (length growth.places.items) (length after.places.items) splits
+          (ap length places);
       growing =
           growing_same new.net new.net new.rules new.rules target task.budget new.assumptions new.assumptions (reverse growth.places.items)
           (reverse after.places.items) after.nodes.items after.nodes.items growth.splits after.splits refl refl refl
@@ -104,7 +110,8 @@ module _ (task : Task) (old : Standing) (desk : Desk) (growth : Growth) (place :
     same_net = ap (λ (s : Standing). s.net) entered.now
 
     pub entered_node : StandsAtNode target new
-    entered_node = entered_at_node target task.budget old searching.under_way place (reverse growth.places.items) growth.nodes.items growth.splits
+    entered_node =
+        entered_at_node target task.budget old searching.under_way place (reverse growth.places.items) growth.nodes.items growth.splits
         next new entered
 
     pub entered_prefix : IsPrefix new.net task.path.now
@@ -121,7 +128,8 @@ module _ (task : Task) (old : Standing) (desk : Desk) (growth : Growth) (place :
           rules = restored.rules ∙ ap (λ (s : Standing). s.rules) entered.now;
           ends = restored.ends ∙ ap (λ (s : Standing). s.ends) entered.now;
         };
-        under_way = last_under_way target task.budget old searching.under_way place (reverse growth.places.items) growth.nodes.items growth.splits
+        under_way =
+            last_under_way target task.budget old searching.under_way place (reverse growth.places.items) growth.nodes.items growth.splits
             next new entered last restored;
         serves = let P : Circuit → Type 0 = λ c. IsDesk c task.path.now later in subst P (sym restored.net) made;
         later = up_from old.closings new.closings last.closings (ap (λ (s : Standing). s.closings) entered.now) restored.later;
@@ -130,35 +138,23 @@ module _ (task : Task) (old : Standing) (desk : Desk) (growth : Growth) (place :
       pub failed_adds : HasFailed target last → risen new.closings ≤ last.closings → (after : Growth)
           → IsExtended target last task.budget growth after → AddsNode task old last growth after
       failed_adds failed counted after extended = record {
-        counted = up_from (risen old.closings) (risen new.closings) last.closings (ap (λ (s : Standing). risen s.closings) entered.now) counted;
+        counted =
+            up_from (risen old.closings) (risen new.closings) last.closings (ap (λ (s : Standing). risen s.closings) entered.now) counted;
         one_more = extended_by_one target last task.budget growth after extended;
         left = extended_left target last task.budget growth after extended;
-        growing = extended_growing target task.budget old searching.under_way place growth after next new entered last restored failed extended;
+        growing =
+            extended_growing target task.budget old searching.under_way place growth after next new entered last restored failed extended;
       }
 
       -- a visit of the open node there
-      pub node_visited : {E : Type 0} (after : Growth) (result : Result (Option Vectors) E) → IfOk result (IsNodeVisit task new last growth after)
-          → IfOk result (IsVisit task old last growth after)
+      pub node_visited : {E : Type 0} (after : Growth) (result : Result (Option Vectors) E)
+          → IfOk result (IsNodeVisit task new last growth after) → IfOk result (IsVisit task old last growth after)
       node_visited after (Err error) visited = tt
       node_visited after (Ok (Some pair)) fit =
           let P : Circuit → Type 0 = λ c. IsFitTest c target pair in subst P same_net fit
       node_visited after (Ok None) adds =
-          failed_adds (failed_stays target new last (same_restored new last restored) adds.fails.failed) adds.fails.counted after adds.extended
-
--- the next place is taken off the list
-pub searching_popped : (task : Task) (standing : Standing) (desk : Desk) (before after : Growth) (place : Place)
-    → IsSearching task standing desk (reverse before.places.items) before → before.places.items ≡ after.places.items ++ place ∷ []
-    → before.nodes.items ≡ after.nodes.items → before.splits ≡ after.splits
-    → IsSearching task standing desk (place ∷ reverse after.places.items) after
-searching_popped task standing desk before after place searching places nodes splits = record {
-  prefix = searching.prefix;
-  under_way = searching.under_way;
-  serves = searching.serves;
-  growing =
-      growing_same standing.net standing.net standing.rules standing.rules (task_target task) task.budget standing.assumptions standing.assumptions
-      (reverse before.places.items) (place ∷ reverse after.places.items) before.nodes.items after.nodes.items before.splits after.splits
-      refl refl refl (reverse_push after.places.items before.places.items place places) nodes splits searching.growing;
-}
+          failed_adds (failed_stays target new last (same_restored new last restored) adds.fails.failed) adds.fails.counted after
+          adds.extended
 
 -- a visit that added a node goes on with the search
 pub searching_on : (task : Task) (old new : Standing) (desk later : Desk) (places : List Place) (growth before after : Growth)
@@ -171,22 +167,16 @@ searching_on task old new desk later places growth before after searching goes a
   growing = adds.growing;
 }
 
--- where no place is left, the tree is whole
-pub searching_ended : (task : Task) (standing : Standing) (desk : Desk) (growth : Growth)
-    → IsSearching task standing desk (reverse growth.places.items) growth → length growth.places.items ≡ 0
-    → IsGrowing standing.net standing.rules (task_target task) task.budget standing.assumptions [] growth.nodes.items growth.splits
-searching_ended task standing desk growth searching none =
-    growing_same standing.net standing.net standing.rules standing.rules (task_target task) task.budget standing.assumptions standing.assumptions
-    (reverse growth.places.items) [] growth.nodes.items growth.nodes.items growth.splits growth.splits
-    refl refl refl (reverse_none growth.places.items none) refl refl searching.growing
-
+-- a visit that found no test added a node
 pub visit_none : (task : Task) (old new : Standing) (before after : Growth) (answer : Option Vectors) → answer ≡ None
     → IsVisit task old new before after answer → AddsNode task old new before after
 visit_none task old new before after answer none visited =
     let P : Option Vectors → Type 0 = λ a. IsVisit task old new before after a in subst P none visited
 
+-- a test that a visit found is what comes of all visits
 pub grown_some : (task : Task) (first old new : Standing) (before after growth : Growth) (answer : Option Vectors) (pair : Vectors)
-    → answer ≡ Some pair → old.net ≡ first.net → IsVisit task old new before after answer → IsGrowthOf task first new growth (Some pair)
+    → answer ≡ Some pair → old.net ≡ first.net → IsVisit task old new before after answer
+    → IsGrowthOf task first new growth (Some pair)
 grown_some task first old new before after growth answer pair some same visited =
     let P : Option Vectors → Type 0 = λ a. IsVisit task old new before after a in
     let Q : Circuit → Type 0 = λ c. IsFitTest c (task_target task) pair in
@@ -198,8 +188,8 @@ two_where_failed aim standing failed single =
     failed.two (λ source support. single source support failed.hull failed.labels)
 
 -- what goes on from where the setting was the same, and no count has fallen, goes on from there
-pub goes_further : (task : Task) (first middle last : Standing) (desk : Desk) → IsSameSetting first middle → first.closings ≤ middle.closings
-    → SearchGoesOn task middle last desk → SearchGoesOn task first last desk
+pub goes_further : (task : Task) (first middle last : Standing) (desk : Desk) → IsSameSetting first middle
+    → first.closings ≤ middle.closings → SearchGoesOn task middle last desk → SearchGoesOn task first last desk
 goes_further task first middle last desk setting rising goes = record {
   setting = same_twice first middle last setting goes.setting;
   under_way = goes.under_way;

@@ -1,22 +1,16 @@
 -- The choice of a split: one at a source of the support may be chosen.
-use Rattle.std.proofs.Common.{◌≡◌, List, Option, Some, None, refl, sym, subst}
+use Rattle.std.proofs.Common.{Option, Some, None, refl, sym, subst}
 use Rattle.std.specs.Prelude.{IfSome}
-use Rattle.pd_base.specs.Route.{Route}
 use Rattle.pd_base.specs.Target.{Target}
 use Rattle.pd_base.specs.declared.ids.LineId.{LineId}
-use Rattle.netlist.specs.Circuit.{Circuit}
-use Rattle.netlist.specs.Paths.{end_of}
 use Rattle.state_sets.specs.Labellings.{label_at}
 use Rattle.tree_laws.specs.Spent.{IsInSupport, HasInHalf}
 use Rattle.implication.specs.Standing.{Standing}
 use Rattle.justify.specs.declared.choosing.Split.{Split}
 use Rattle.justify.specs.Choices.{SplitsAt, IsUsefulSplit}
-use Rattle.justify.specs.Desks.{AreInSupport}
-use Rattle.test_judging.specs.KeptCones.{AreConeSources}
-use Rattle.justify.proofs.TriedSources.{cone_in_support}
 
-pub useful_at : (target : Target) (standing : Standing) (source : LineId) → IsInSupport standing.net target.path source.0 → (found : Option Split)
-    → IfSome found (SplitsAt standing source) → IfSome found (IsUsefulSplit target standing)
+pub useful_at : (target : Target) (standing : Standing) (source : LineId) → IsInSupport standing.net target.path source.0
+    → (found : Option Split) → IfSome found (SplitsAt standing source) → IfSome found (IsUsefulSplit target standing)
 useful_at target standing source support None at = tt
 useful_at target standing source support (Some split) at =
     let P : LineId → Type 0 = λ l. IsInSupport standing.net target.path l.0 in
@@ -29,9 +23,3 @@ useful_at target standing source support (Some split) at =
             subst Q (sym at.at_source) (at.in_half labels is second);
       };
     }
-
--- the sources of a cone, as they are read
-pub read_in_support : (c : Circuit) (path : Route) (kept sources : List LineId) → AreConeSources c (end_of c path) kept → sources ≡ kept
-    → AreInSupport c path sources
-read_in_support c path kept sources cone same =
-    let P : List LineId → Type 0 = λ xs. AreInSupport c path xs in subst P (sym same) (cone_in_support c path kept cone)

@@ -43,19 +43,17 @@ let_all count line state (step ∷ steps) =
     All-cons (IsLetBy count line state) (Entered step) (map (λ s. Entered s) steps) tt (let_all count line state steps)
 
 module _ (target : Target) (standing : Standing) (start : IsStart target standing) where
-  start_long : length standing.assumptions ≡ length target.path.steps
-  start_long = ap length start.entered ∙ length-map target.path.steps (λ step. Entered step)
+  -- as many assumptions stand as the path has steps
+  pub start_length : length standing.assumptions ≡ length target.path.steps
+  start_length = ap length start.entered ∙ length-map target.path.steps (λ step. Entered step)
 
   pub start_under_way : IsUnderWay target standing
   start_under_way = record {
     beginning = start.beginning;
-    longer = omega (arith, start_long);
-    front = take_all (length target.path.steps) standing.assumptions (omega (arith, start_long)) ∙ start.entered;
+    longer = omega (arith, start_length);
+    front = take_all (length target.path.steps) standing.assumptions (omega (arith, start_length)) ∙ start.entered;
     free = start.free;
   }
-
-  pub start_length : length standing.assumptions ≡ length target.path.steps
-  start_length = start_long
 
   start_entered : entered_pins standing.assumptions ≡ target.path.steps
   start_entered = ap entered_pins start.entered ∙ pins_of_entered target.path.steps
@@ -68,7 +66,8 @@ module _ (target : Target) (standing : Standing) (start : IsStart target standin
   module _ (is : IsPrefix standing.net target.path) where
     -- a desk whose cone was set to the scope's last line is one for the path
     pub start_desk : (desk : Desk) (cone : KeptCone) (n : Circuit) (line : ℕ) → n ≡ standing.net → line ≡ end_of_scope standing
-        → IsDeskFor standing.net desk → IsConeFor n cone → IsConeAt n line cone → IsDesk standing.net target.path (record desk { cone = cone })
+        → IsDeskFor standing.net desk → IsConeFor n cone → IsConeAt n line cone
+        → IsDesk standing.net target.path (record desk { cone = cone })
     start_desk desk cone n line same_net same_line made cone_made at =
         let P : Circuit → Type 0 = λ c. IsConeFor c cone in
         let Q : Circuit → Type 0 = λ c. IsConeAt c line cone in
@@ -108,7 +107,7 @@ module _ (target : Target) (standing : Standing) (start : IsStart target standin
 
       is_root : IsPlace standing.net standing.rules target standing.assumptions root []
       is_root = record {
-        longer = omega (arith, start_long);
+        longer = omega (arith, start_length);
         entered = start_entered;
         left_open = open_under four_states standing begun start.beginning left_open;
         in_circuit = is.source;
@@ -121,7 +120,8 @@ module _ (target : Target) (standing : Standing) (start : IsStart target standin
         due = (record { place = root; halves = [] }) ∷ [];
         left = refl;
         stacked =
-            stacked_more standing.net standing.rules target standing.assumptions (record { place = root; halves = [] }) [] (omega (arith, at))
+            stacked_more standing.net standing.rules target standing.assumptions (record { place = root; halves = [] }) []
+            (omega (arith, at))
             (let P : List Assumption → Type 0 = λ list. IsPlace standing.net standing.rules target list root [] in
             subst P (sym (take_all mark.at standing.assumptions (omega (arith, at)))) is_root)
             (stacked_none standing.net standing.rules target (take mark.at standing.assumptions));
@@ -132,10 +132,12 @@ module _ (target : Target) (standing : Standing) (start : IsStart target standin
       }
 
       pub start_growing : (growth : Growth) → growth.nodes.items ≡ [] → growth.places.items ≡ root ∷ [] → growth.splits ≡ 0
-          → IsGrowing standing.net standing.rules target budget standing.assumptions (reverse growth.places.items) growth.nodes.items growth.splits
+          → IsGrowing standing.net standing.rules target budget standing.assumptions (reverse growth.places.items) growth.nodes.items
+          growth.splits
       start_growing growth nodes places splits =
-          growing_same standing.net standing.net standing.rules standing.rules target budget standing.assumptions standing.assumptions (root ∷ [])
-          (reverse growth.places.items) [] growth.nodes.items 0 growth.splits refl refl refl (sym (ap reverse places)) (sym nodes) (sym splits) root_growing
+          growing_same standing.net standing.net standing.rules standing.rules target budget standing.assumptions standing.assumptions
+          (root ∷ []) (reverse growth.places.items) [] growth.nodes.items 0 growth.splits refl refl refl (sym (ap reverse places))
+          (sym nodes) (sym splits) root_growing
 
 -- where the search ends, going back restores what stood
 pub ended_restored : (target : Target) (first middle last : Standing) → IsStart target first

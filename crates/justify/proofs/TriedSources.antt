@@ -1,6 +1,7 @@
 -- Sources that are tried in the states of a desk: they are such as a trial assumes; and a pair that is read off these states is a test
 -- where it meets the conditions.
-use Rattle.std.proofs.Common.{◌≡◌, ℕ, ◌+◌, ◌<◌, ◌↔◌, ⊎_elim, Bool, Option, Some, None, List, [], ◌∷◌, ◌++◌, length, take, get_or, refl, sym, ap, ◌∙◌, subst, arith}
+use Rattle.std.proofs.Common.{◌≡◌, ℕ, ◌+◌, ◌<◌, ◌↔◌, ⊎_elim, Bool, Option, Some, None, List, [], ◌∷◌, ◌++◌, length, take, get_or, refl, sym}
+use Rattle.std.proofs.Common.{ap, ◌∙◌, subst, arith}
 use Rattle.std.specs.Prelude.{IfSome}
 use Rattle.std.specs.List.{All, Contains}
 use Rattle.std.proofs.lemmas.List.{take_more}
@@ -38,26 +39,40 @@ use Rattle.justify.proofs.Resting.{label_is}
 use Rattle.justify.specs.Trying.{CanTry, HasLeastLabel, AreTriedIn, HasLeast, GivesTest}
 
 -- the sources of the cone are those of the support
-pub cone_in_support : (c : Circuit) (path : Route) (sources : List LineId) → AreConeSources c (end_of c path) sources → AreInSupport c path sources
+pub cone_in_support : (c : Circuit) (path : Route) (sources : List LineId) → AreConeSources c (end_of c path) sources
+    → AreInSupport c path sources
 cone_in_support c path sources cone k d inside =
     let found = (cone.exactly (get_or sources k d).0).0 (Contains-get_or sources k d inside) in
     record { is_source = found.0; in_fan_in = found.1 }
+
+-- so are they as they are read
+pub read_in_support : (c : Circuit) (path : Route) (kept sources : List LineId) → AreConeSources c (end_of c path) kept → sources ≡ kept
+    → AreInSupport c path sources
+read_in_support c path kept sources cone same =
+    let P : List LineId → Type 0 = λ xs. AreInSupport c path xs in subst P (sym same) (cone_in_support c path kept cone)
 
 -- sources of the support are lines
 pub support_within : (c : Circuit) (path : Route) (sources : List LineId) (n : ℕ) → n ≡ line_count c → AreInSupport c path sources
     → All (λ source. source.0 < n) sources
 support_within c path sources n is support k d inside = let within = (support k d inside).is_source in omega (arith, within, is)
 
+-- and so are those of the cone, as they are read
+pub read_within : (c : Circuit) (path : Route) (kept sources : List LineId) → AreConeSources c (end_of c path) kept → sources ≡ kept
+    → (n : ℕ) → n ≡ line_count c → All (λ source. source.0 < n) sources
+read_within c path kept sources cone same n is = support_within c path sources n is (read_in_support c path kept sources cone same)
+
 -- the sources to blame are of the support, where the lines of the failure are in the fan-in of the path's end
-pub blamed_in_support : (c : Circuit) (path : Route) (line : LineId) (side : Option LineId) (sources : List LineId) → AreBlamed c line side sources
-    → IsInFanIn c (end_of c path) line.0 → IfSome side (λ other. IsInFanIn c (end_of c path) other.0) → AreInSupport c path sources
+pub blamed_in_support : (c : Circuit) (path : Route) (line : LineId) (side : Option LineId) (sources : List LineId)
+    → AreBlamed c line side sources → IsInFanIn c (end_of c path) line.0 → IfSome side (λ other. IsInFanIn c (end_of c path) other.0)
+    → AreInSupport c path sources
 blamed_in_support c path line side sources blamed at_line at_side k d inside = record {
   is_source = blamed.are_sources k d inside;
   in_fan_in = blamed.in_fan_in (end_of c path) at_line at_side k d inside;
 }
 
 -- a line in the fan-in of the path's end is one of the circuit
-pub in_cone_within : (c : Circuit) → IsCircuit c → (path : Route) → IsPrefix c path → (line : ℕ) → IsInFanIn c (end_of c path) line → line < line_count c
+pub in_cone_within : (c : Circuit) → IsCircuit c → (path : Route) → IsPrefix c path → (line : ℕ) → IsInFanIn c (end_of c path) line
+    → line < line_count c
 in_cone_within c circuit path is line further =
     let within = is.source in
     fan_in_in_circuit c (end_of c path) circuit.reads_lines
@@ -65,8 +80,8 @@ in_cone_within c circuit path is line further =
 
 -- what was tried of sources of the support, in states that are the least of their labels
 pub all_tried : (target : Target) (standing : Standing) (sources : List LineId) (states : List State) (tried : List Tried)
-    → AreTriedIn sources states tried → AreInSupport standing.net target.path sources → HasLeast target standing states → AreFourStates states
-    → length states ≡ line_count standing.net → All (CanTry target standing) tried
+    → AreTriedIn sources states tried → AreInSupport standing.net target.path sources → HasLeast target standing states
+    → AreFourStates states → length states ≡ line_count standing.net → All (CanTry target standing) tried
 all_tried target standing sources states tried are support least four long k d inside =
     let entry = get_or tried k d in
     let each = are.each k d inside in
@@ -95,7 +110,8 @@ tried_again target standing marks tried marked has = record {
 
 -- the list of what is tried, as it grows
 module _ (sources : List LineId) (states : List State) where
-  pub tried_more : (place : ℕ) (d : LineId) (tried more : List Tried) → place < length sources → AreTriedIn (take place sources) states tried
+  pub tried_more : (place : ℕ) (d : LineId) (tried more : List Tried) → place < length sources
+      → AreTriedIn (take place sources) states tried
       → more ≡ tried ++ (record { source = get_or sources place d; state = state_in states (get_or sources place d).0 }) ∷ []
       → AreTriedIn (take (place + 1) sources) states more
   tried_more place d tried more inside before is =
@@ -107,7 +123,9 @@ module _ (sources : List LineId) (states : List State) where
       let Each : List LineId → Tried → Type 0 = λ xs e. Contains xs e.source × (e.state ≡ state_in states e.source.0) in
       subst Q (sym is) (subst P (sym (take_more sources place d inside)) (record {
         each = All-push (Each (front ++ source ∷ [])) tried entry
-            (λ k e within. let each = before.each k e within in (Contains-append_left front (source ∷ []) (get_or tried k e).source each.0, each.1))
+            (λ k e within.
+            let each = before.each k e within in
+            (Contains-append_left front (source ∷ []) (get_or tried k e).source each.0, each.1))
             (Contains-push front source, refl);
         whole = λ other has. ⊎_elim
             (λ (earlier : Contains front other). Contains-append_left tried (entry ∷ []) _ (before.whole other earlier))
@@ -201,6 +219,14 @@ desk_again c path desk after states is cone room liked same four long justifier 
       cone = subst Q (sym cone) is.cone;
     }
 
+-- a desk whose justifier was asked for a proposal
+pub desk_asked : (n c : Circuit) → n ≡ c → (path : Route) (desk : Desk) → IsDesk c path desk → (justifier : Prepared)
+    → IsJustifierOf n justifier → IsDesk c path (record desk { justifier = justifier })
+desk_asked n c same path desk is justifier asked =
+    let P : Circuit → Type 0 = λ m. IsJustifierOf m justifier in
+    desk_again c path desk (record desk { justifier = justifier }) desk.states.items is refl refl refl refl is.made.four refl
+    (subst P same asked)
+
 -- what was taken of the labels are the least states
 pub taken_least : (target : Target) (standing : Standing) → StandsAtNode target standing → (kept sources : List LineId)
     → AreConeSources standing.net (end_of standing.net target.path) kept → sources ≡ kept → (answers : List StateSet)
@@ -223,6 +249,7 @@ kept_least target standing first later kept least source support labels is =
     let T : State → Type 0 = λ state. IsTakenOf (label_at labels source) state in
     subst T (sym (kept source support.is_source)) (least source support labels is)
 
+-- a desk that is the same but for what is liked
 pub kept_desk : (c : Circuit) (path : Route) (old new : Desk) → IsSameDesk old new → IsDesk c path old → IsDesk c path new
 kept_desk c path old new same is =
     let P : Prepared → Type 0 = λ j. IsJustifierOf c j in

@@ -1,5 +1,6 @@
 -- A visit of the next place on a scope: how the scope stands there, and how the tree grows by what was found.
-use Rattle.std.proofs.Common.{◌≡◌, ℕ, ◌+◌, ◌*◌, ◌-◌, ◌<◌, ◌≤◌, Bool, true, false, List, [], ◌∷◌, ◌++◌, length, take, reverse, Option, Some, None, nat_lt, if◌then◌else◌, refl, sym, ap, ◌∙◌, subst, arith}
+use Rattle.std.proofs.Common.{◌≡◌, ℕ, ◌+◌, ◌*◌, ◌-◌, ◌<◌, ◌≤◌, Bool, true, false, List, [], ◌∷◌, ◌++◌, length, take, reverse, Option, Some}
+use Rattle.std.proofs.Common.{None, nat_lt, if◌then◌else◌, refl, sym, ap, ◌∙◌, subst, arith}
 use Rattle.std.specs.Prelude.{is_some, IfNone}
 use Rattle.std.proofs.lemmas.Bool.{false≢true}
 use Rattle.std.proofs.lemmas.List.{take-take, length-take, length_push, reverse-append}
@@ -7,7 +8,6 @@ use Rattle.pd_base.specs.Target.{Target}
 use Rattle.pd_base.specs.declared.rules.Rules.{Rules}
 use Rattle.netlist.specs.Circuit.{Circuit}
 use Rattle.state_sets.specs.FourStates.{four_states}
-use Rattle.state_laws.specs.declared.half.Half.{Half}
 use Rattle.runs.specs.declared.tree.Node.{Node}
 use Rattle.runs.specs.declared.tree.Node.TheVariants.{Closed, Waiting}
 use Rattle.tree_laws.specs.Growing.{split_node}
@@ -30,7 +30,8 @@ use Rattle.justify.specs.Growths.IsExtended.{waits, splits}
 use Rattle.justify.specs.Choices.{IsUsefulSplit}
 use Rattle.justify.specs.Trying.{HasFailed}
 use Rattle.justify.specs.UnderWay.{entered_steps, IsUnderWay}
-use Rattle.justify.proofs.Placing.{IsNext, next_entered, next_node, assumed_front, assumed_longer, growing_closed, growing_waiting, growing_split}
+use Rattle.justify.proofs.Placing.{IsNext, next_entered, next_node, assumed_front, assumed_longer, growing_closed, growing_waiting}
+use Rattle.justify.proofs.Placing.{growing_split}
 
 -- no conflict stands either where the scope goes back
 pub free_at : (standing : Standing) (mark : ℕ) → standing.conflict ≡ None → conflict_at standing mark ≡ None
@@ -46,24 +47,20 @@ from_none None none holds = holds
 from_none (Some value) none holds = absurd (false≢true (sym none))
 
 -- the places, the last one first
-pub reverse_push : {X : Type 0} (xs ys : List X) (x : X) → ys ≡ xs ++ x ∷ [] → reverse ys ≡ x ∷ reverse xs
+reverse_push : {X : Type 0} (xs ys : List X) (x : X) → ys ≡ xs ++ x ∷ [] → reverse ys ≡ x ∷ reverse xs
 reverse_push xs ys x is = ap reverse is ∙ reverse-append xs (x ∷ [])
-
-pub reverse_none : {X : Type 0} (xs : List X) → length xs ≡ 0 → reverse xs ≡ []
-reverse_none [] none = refl
-reverse_none (x ∷ xs) none = absurd (omega arith)
 
 -- the same growth, seen otherwise
 pub growing_same : (c d : Circuit) (r s : Rules) (target : Target) (budget : ℕ) (list others : List Assumption)
-    (places rest : List Place) (nodes more : List Node) (m n : ℕ) → c ≡ d → r ≡ s → list ≡ others → places ≡ rest → nodes ≡ more → m ≡ n
-    → IsGrowing c r target budget list places nodes m → IsGrowing d s target budget others rest more n
-growing_same c d r s target budget list others places rest nodes more m n same_c same_r same_list same_places same_nodes same_count growing =
+    (places rest : List Place) (nodes more : List Node) (m n : ℕ) → c ≡ d → r ≡ s → list ≡ others → places ≡ rest → nodes ≡ more
+    → m ≡ n → IsGrowing c r target budget list places nodes m → IsGrowing d s target budget others rest more n
+growing_same c d r s target budget list others places rest nodes more m n same_c same_r same_list same_places same_nodes same_count is =
     let A : Circuit → Rules → Type 0 = λ x r. IsGrowing x r target budget list places nodes m in
     let B : List Assumption → Type 0 = λ x. IsGrowing d s target budget x places nodes m in
     let C : List Place → Type 0 = λ x. IsGrowing d s target budget others x nodes m in
     let D : List Node → Type 0 = λ x. IsGrowing d s target budget others rest x m in
     let E : ℕ → Type 0 = λ x. IsGrowing d s target budget others rest more x in
-    subst E same_count (subst D same_nodes (subst C same_places (subst B same_list (there_too A c d r s same_c same_r growing))))
+    subst E same_count (subst D same_nodes (subst C same_places (subst B same_list (there_too A c d r s same_c same_r is))))
 
 module _ (target : Target) (budget : ℕ) (old : Standing) (way : IsUnderWay target old)
     (place : Place) (places : List Place) (nodes : List Node) (splits_before : ℕ)
@@ -110,8 +107,8 @@ module _ (target : Target) (budget : ℕ) (old : Standing) (way : IsUnderWay tar
         → IsGrowing new.net new.rules target budget new.assumptions places more splits_before
     shut_growing more is =
         growing_same old.net new.net old.rules new.rules target budget before new.assumptions places places (nodes ++ Closed ∷ []) more
-        splits_before splits_before (sym (ap (λ (s : Standing). s.net) shut.now)) (sym (ap (λ (s : Standing). s.rules) shut.now)) (sym (ap (λ (s : Standing). s.assumptions) shut.now)) refl
-        (sym is) refl
+        splits_before splits_before (sym (ap (λ (s : Standing). s.net) shut.now)) (sym (ap (λ (s : Standing). s.rules) shut.now))
+        (sym (ap (λ (s : Standing). s.assumptions) shut.now)) refl (sym is) refl
         (growing_closed old.net old.rules target budget old.assumptions place places nodes splits_before next
         (closes_at_node old.net old.rules target at_node
         (next_entered old.net old.rules target budget old.assumptions place places nodes splits_before next) next.halves
@@ -127,14 +124,6 @@ module _ (target : Target) (budget : ℕ) (old : Standing) (way : IsUnderWay tar
       free = ap (λ (s : Standing). s.conflict) entered.now ∙ free_at old place.mark.at way.free;
       left_open = entered.left_open;
     }
-
-    pub entered_below : (halves : List Half) × AllowAsNode new.net new.rules target new.assumptions halves
-    entered_below =
-        let P : Standing → Type 0 = λ s. AllowAsNode s.net s.rules target s.assumptions next.halves in (
-          next.halves,
-          subst P (sym entered.now)
-              (next_node old.net old.rules target budget old.assumptions place places nodes splits_before next),
-        )
 
     pub entered_under_way : IsUnderWay target new
     entered_under_way =
@@ -193,15 +182,18 @@ module _ (target : Target) (budget : ℕ) (old : Standing) (way : IsUnderWay tar
         waiting_growing : (more : List Node) (rest : List Place) (n : ℕ) → more ≡ nodes ++ Waiting ∷ [] → rest ≡ places → n ≡ splits_before
             → splits_before ≡ budget → IsGrowing last.net last.rules target budget last.assumptions rest more n
         waiting_growing more rest n same_nodes same_places same_count spent =
-            growing_same old.net last.net old.rules last.rules target budget at_node last.assumptions places rest (nodes ++ Waiting ∷ []) more
-            splits_before n last_net last_rules (sym same_list) (sym same_places) (sym same_nodes) (sym same_count)
-            (growing_waiting old.net old.rules target budget old.assumptions place places nodes splits_before next failed.hull open_there spent)
+            growing_same old.net last.net old.rules last.rules target budget at_node last.assumptions places rest
+            (nodes ++ Waiting ∷ []) more splits_before n last_net last_rules (sym same_list) (sym same_places) (sym same_nodes)
+            (sym same_count)
+            (growing_waiting old.net old.rules target budget old.assumptions place places nodes splits_before next failed.hull open_there
+            spent)
 
         split_growing : (split : Split) (mark : ScopeMark) → mark.at ≡ length last.assumptions → IsUsefulSplit target last split
             → splits_before < budget
             → (before_it after_it : Growth) → IsSplitAt split mark before_it after_it → reverse before_it.places.items ≡ places
             → before_it.nodes.items ≡ nodes → before_it.splits ≡ splits_before
-            → IsGrowing last.net last.rules target budget last.assumptions (reverse after_it.places.items) after_it.nodes.items after_it.splits
+            → IsGrowing last.net last.rules target budget last.assumptions (reverse after_it.places.items) after_it.nodes.items
+            after_it.splits
         split_growing split mark at_end choice less before_it after_it at same_places same_nodes same_count =
             let first = at.first_place in let second = at.second_place in
             let P : Circuit → Type 0 = λ c. IsInSupport c target.path split.source.0 in
@@ -220,18 +212,18 @@ module _ (target : Target) (budget : ℕ) (old : Standing) (way : IsUnderWay tar
 
 -- so it does after a trial that failed
 pub extended_growing : (target : Target) (budget : ℕ) (old : Standing) (way : IsUnderWay target old)
-    (place : Place) (before_it after_it : Growth)
-    (next : IsNext old.net old.rules target budget old.assumptions place (reverse before_it.places.items) before_it.nodes.items before_it.splits)
+    (place : Place) (first after : Growth)
+    (next : IsNext old.net old.rules target budget old.assumptions place (reverse first.places.items) first.nodes.items first.splits)
     (new : Standing) (entered : IsEntered place old new) (last : Standing) (restored : IsRestored new last) (failed : HasFailed target last)
-    → IsExtended target last budget before_it after_it
-    → IsGrowing last.net last.rules target budget last.assumptions (reverse after_it.places.items) after_it.nodes.items after_it.splits
-extended_growing target budget old way place before_it after_it next new entered last restored failed (waits spent at) =
-    waiting_growing target budget old way place (reverse before_it.places.items) before_it.nodes.items before_it.splits next new entered
-    last restored failed after_it.nodes.items (reverse after_it.places.items) after_it.splits at.nodes
+    → IsExtended target last budget first after
+    → IsGrowing last.net last.rules target budget last.assumptions (reverse after.places.items) after.nodes.items after.splits
+extended_growing target budget old way place first after next new entered last restored failed (waits spent at) =
+    waiting_growing target budget old way place (reverse first.places.items) first.nodes.items first.splits next new entered
+    last restored failed after.nodes.items (reverse after.places.items) after.splits at.nodes
     (ap reverse at.places) at.counted spent
-extended_growing target budget old way place before_it after_it next new entered last restored failed (splits split mark at_end choice less at) =
-    split_growing target budget old way place (reverse before_it.places.items) before_it.nodes.items before_it.splits next new entered
-    last restored failed split mark at_end choice less before_it after_it at refl refl refl
+extended_growing target budget old way place first after next new entered last restored failed (splits split mark at_end choice less at) =
+    split_growing target budget old way place (reverse first.places.items) first.nodes.items first.splits next new entered
+    last restored failed split mark at_end choice less first after at refl refl refl
 
 -- by one node, and less is left to do
 pub extended_by_one : (target : Target) (last : Standing) (budget : ℕ) (before_it after_it : Growth)

@@ -38,7 +38,7 @@ pub(crate) fn ends_writing<F: Files>(files: &mut F, text: &[u8], fails: bool) ->
 }
 
 /// Whether the one byte of a file is read, or else reading has failed; and the same of writing.
-pub(crate) fn ends_so<F: Files>(
+pub(crate) fn ends_reading_and_writing<F: Files>(
     alloc: Global,
     files: &mut F,
     is_read: bool,
@@ -76,8 +76,8 @@ pub(crate) enum Attempt<'a> {
 }
 
 impl Attempt<'_> {
-    /// Whether it ends as is said there.
-    pub(crate) fn ends_so<F: Files>(self, alloc: Global, files: &mut F) -> bool {
+    /// Whether that holds of these files.
+    pub(crate) fn holds<F: Files>(self, alloc: Global, files: &mut F) -> bool {
         match self {
             Attempt::Again(text) => is_again(alloc, files, text),
             Attempt::Written(name) => writes(files, name, b"text"),

@@ -1,5 +1,5 @@
 // A runtime with one file, of which a call fails: what a real file can't be made to do in a test.
-use crate::attempts;
+use crate::attempts::ends_reading_and_writing;
 use std::alloc::{Allocator, Global};
 use std::fs::{Metadata, OpenFile, OpenOptions};
 use std::io::{Error, ErrorKind, Read, Seek, SeekFrom, Write};
@@ -168,14 +168,15 @@ fn a_failing_call_of_std_is_no_success(rt: HostRuntime) {
     ];
     for (row, (failing, is_read, is_written)) in rows.iter().enumerate() {
         assert!(rt;
-            ends_so(rt.alloc(), *failing, *is_read, *is_written),
+            is_told(rt.alloc(), *failing, *is_read, *is_written),
             "row {row}"
         );
     }
 }
 
-// Whether the one byte of a file is read, or else reading has failed; and the same of writing.
-fn ends_so(alloc: Global, failing: Failing, is_read: bool, is_written: bool) -> bool {
+// Whether files of a runtime of which a call fails tell of it: the one byte of a file is read, or else reading has failed; and the same
+// of writing.
+fn is_told(alloc: Global, failing: Failing, is_read: bool, is_written: bool) -> bool {
     let mut files = StdFiles::new(alloc, FailingRuntime { failing });
-    attempts::ends_so(alloc, &mut files, is_read, is_written)
+    ends_reading_and_writing(alloc, &mut files, is_read, is_written)
 }

@@ -19,13 +19,13 @@ fn real_files_are_written_and_read(rt: HostRuntime) {
 // Whether a file is written with 9,000 bytes, read again, and too long for a limit of a byte less.
 fn is_written_and_read(rt: &HostRuntime) -> io::Result<bool> {
     let text = vec![in rt.alloc(); 7u8; 9000]?;
-    Ok(ends_so(rt, Attempt::Again(text.as_slice())))
+    Ok(holds_of_system(rt, Attempt::Again(text.as_slice())))
 }
 
-// Whether an attempt at the files of the system ends as it has to.
-fn ends_so(rt: &HostRuntime, attempt: Attempt) -> bool {
+// Whether what is said at an attempt holds of the files of the system.
+fn holds_of_system(rt: &HostRuntime, attempt: Attempt) -> bool {
     let mut files = StdFiles::new(rt.alloc(), rt);
-    attempt.ends_so(rt.alloc(), &mut files)
+    attempt.holds(rt.alloc(), &mut files)
 }
 
 #[test]
@@ -36,7 +36,7 @@ fn a_longer_old_file_is_cut(rt: HostRuntime) {
 // Whether a file has the text that was written last.
 fn is_cut(rt: &HostRuntime) -> io::Result<bool> {
     fs::write(rt, "name", "a longer old text")?;
-    Ok(ends_so(rt, Attempt::Written("name")) && is_so(is_text(rt)))
+    Ok(holds_of_system(rt, Attempt::Written("name")) && is_so(is_text(rt)))
 }
 
 // Whether the file has this text.
@@ -46,7 +46,7 @@ fn is_text(rt: &HostRuntime) -> io::Result<bool> {
 
 #[test]
 fn what_the_system_refuses_has_failed(rt: HostRuntime) {
-    assert!(rt; ends_so(&rt, Attempt::Refused));
+    assert!(rt; holds_of_system(&rt, Attempt::Refused));
     assert!(rt; is_so(fails_to_fill(&rt)));
 }
 
@@ -58,7 +58,7 @@ fn fails_to_fill(rt: &HostRuntime) -> io::Result<bool> {
 
 #[test]
 fn a_device_is_written_that_cannot_be_synced(rt: HostRuntime) {
-    assert!(rt; ends_so(&rt, Attempt::Written("/dev/null")));
+    assert!(rt; holds_of_system(&rt, Attempt::Written("/dev/null")));
 }
 
 #[test]

@@ -25,8 +25,10 @@ use Rattle.good_runs.specs.GoodRun.{HasTest}
 use Rattle.good_runs.proofs.Applying.{applying_excludes}
 use Rattle.good_runs.proofs.Numbers.{all_at_number, number_kept, number_new, number_of_place, number_same, number_within}
 use Rattle.prefix_sensitize.specs.Answers.{AddsTest, AreWritten, HasCited, IsAnswered, IsNumberedTest, Written}
+use Rattle.prefix_sensitize.specs.declared.outcome.Outcome.{Outcome}
+use Rattle.prefix_sensitize.specs.declared.outcome.Outcome.TheVariants.{Proved}
 use Rattle.prefix_sensitize.specs.Numbering.{Cites}
-use Rattle.prefix_sensitize.specs.Outcomes.{IsFoundProof, IsTestPair}
+use Rattle.prefix_sensitize.specs.Outcomes.{IsFoundProof, IsOutcome, IsTestPair}
 use Rattle.prefix_sensitize.specs.Searches.{AreSearches, Searches}
 use Rattle.prefix_sensitize.proofs.Citing.{IsCitedOn, citation}
 
@@ -86,13 +88,15 @@ module _ (c : Circuit) (searches : Searches) (are : AreSearches c searches) (pat
   listed_path = all_at_number (IsPath c) searches.routes path_number path are.are_paths listed
 
   -- the proof that an outcome of its row names is one of the fault
-  pub outcome_proof : (kind : Kind) (index : ℕ)
-      → HasProof searches.routes searches.proofs (path_number - 1 + 1) (target_of path direction kind) (index + 1)
+  pub outcome_proof : (kind : Kind) (outcome : Outcome) (index : ℕ) → outcome ≡ Proved index
+      → IsOutcome c searches.routes searches.proofs (path_number - 1) (target_of path direction kind) outcome
       → HasProof searches.routes searches.proofs path_number (target_of path direction kind) (index + 1)
-  outcome_proof kind index =
-      let P : ℕ → Type 0 = λ number. HasProof searches.routes searches.proofs number (target_of path direction kind) (index + 1) in
+  outcome_proof kind outcome index proves is =
+      let target = target_of path direction kind in
+      let P : ℕ → Type 0 = λ number. HasProof searches.routes searches.proofs number target (index + 1) in
       let some = listed.positive in
       subst P (let e : path_number - 1 + 1 ≡ path_number = omega arith in e)
+      (subst (IsOutcome c searches.routes searches.proofs (path_number - 1) target) proves is)
 
   -- a test that is added for the path is one of the fault
   record HasAdded (kind : Kind) (pair : Vectors) (old new : List Test) (number : ℕ) : Type 0 where
@@ -243,7 +247,8 @@ module _ (c : Circuit) (searches : Searches) (are : AreSearches c searches) (pat
           written = record { found = last.found; once = last.once; tests = is.tests };
           keeps = record { tests = λ own test its. its; proofs = λ own other its. last.keeps own other (first.keeps own other its) };
           answer = (
-            has_cited kinds.Robust robust robust_found.0 robust_found.1 has_robust cited robust_number (last.keeps robust_number robust first.is_cited),
+            has_cited kinds.Robust robust robust_found.0 robust_found.1 has_robust cited robust_number
+                (last.keeps robust_number robust first.is_cited),
             record { has = has_cited kinds.Nonrobust index proof found has cited number last.is_cited; spent = spends },
           );
           names = (

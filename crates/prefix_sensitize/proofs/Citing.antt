@@ -13,9 +13,15 @@ use Rattle.good_runs.proofs.Numbers.{get_set_other, get_set_same, number_at, num
 use Rattle.prefix_sensitize.specs.Numbering.{AreCited, AreKeptNumbers, Citations, Cites, HaveOneNumber, IsKeptNumber, IsUncited}
 use Rattle.prefix_sensitize.specs.Numbering.Cites.{again, first}
 
-module _ (viewed : Citations) (cited : List ℕ) (numbers : List (Option ℕ)) (view : viewed ≡ record { found = length numbers; cited = cited })
-    (index : ℕ) (within : index < viewed.found) (kept : AreKeptNumbers cited numbers) (read : Option ℕ)
-    (at : read ≡ get_or numbers index read) where
+-- at most one proof more is cited
+pub few_more : (old new : List ℕ) (index number : ℕ) → Cites old new index number → length new ≤ length old + 1
+few_more old new index number (again is same) = let size = ap length same in omega arith
+few_more old new index number (first none next adds) =
+    let size = ap length adds in let one = length_push old index in omega arith
+
+module _ (viewed : Citations) (cited : List ℕ) (numbers : List (Option ℕ))
+    (view : viewed ≡ record { found = length numbers; cited = cited }) (index : ℕ) (within : index < viewed.found)
+    (kept : AreKeptNumbers cited numbers) (read : Option ℕ) (at : read ≡ get_or numbers index read) where
   inside : index < length numbers
   inside = let P : Citations → Type 0 = λ citations. index < citations.found in subst P view within
 
@@ -29,7 +35,8 @@ module _ (viewed : Citations) (cited : List ℕ) (numbers : List (Option ℕ)) (
       let P : Citations → Type 0 = λ citations. Cites citations.cited citations.cited index number in
       subst P (sym view) (again (subst (IsKeptNumber cited index) (sym named) is_kept) refl)
 
-  module _ (unnamed : None ≡ read) (pushed : List ℕ) (push : pushed ≡ cited ++ index ∷ []) (number : ℕ) (next : number ≡ length pushed) where
+  module _ (unnamed : None ≡ read) (pushed : List ℕ) (push : pushed ≡ cited ++ index ∷ []) (number : ℕ)
+      (next : number ≡ length pushed) where
     uncited : IsUncited cited index
     uncited = subst (IsKeptNumber cited index) (sym unnamed) is_kept
 
@@ -204,7 +211,8 @@ module _ (cited : List ℕ) (once : HaveOneNumber cited) (place : ℕ) (inside :
   is_read =
       let size = are.size in
       let here = within in
-      let stands = next_left (take place cited) index (drop (suc place) cited) found written left are once_split within is_found.0 is_found.1 in
+      let stands = next_left (take place cited) index (drop (suc place) cited) found written left are once_split within
+      is_found.0 is_found.1 in
       same_Some (Some is_found.0) read
       (sym stands ∙ slice_get-get_or left index read (omega arith) ∙ ap Some (sym at))
 

@@ -47,43 +47,32 @@ module _ (routes : List Route) (order : List ℕ) (is : IsOrder routes order) wh
         subst (StandsInOrder routes order place row) same (stands_there routes order is.inside place 0 no_route (omega arith)),
       )
 
-  module _ (place row : ℕ) (path : Route) (stands : StandsInOrder routes order place row path) where
-    -- the first path of all has new prefixes alone
-    pub all_new : place ≡ 0 → HasNewPrefixes (routes_in routes (take place order)) path (length path.steps)
-    all_new first = record {
+  -- a path behind the first one has those new that it doesn't share with the path before it
+  module _ (place row : ℕ) (path : Route) (stands : StandsInOrder routes order place row path) (before earlier : ℕ) (other : Route)
+      (next : before + 1 ≡ place) (at_other : StandsInOrder routes order before earlier other) (shared : ℕ)
+      (share : SharePrefix other path shared) where
+    inside : place < length order
+    inside = stands_within routes order place row path stands
+
+    pub not_shared_new : HasNewPrefixes (routes_in routes (take place order)) path (length path.steps - shared)
+    not_shared_new = record {
       within = omega arith;
-      known = λ steps some short. absurd (omega arith);
+      known = λ steps some short. record {
+        some_step = omega (arith, share.in_path, length-take-le steps path.steps (omega arith));
+        listed = other;
+        is_listed = among_first place before earlier other (omega (arith, inside)) (omega arith) at_other;
+        is_prefix = share.shares steps some (omega (arith, share.in_path));
+      };
       new = λ steps within long listed.
-          let found = from_first place listed.listed (omega arith) listed.is_listed in
-          let no : ⊥ = omega (arith, first) in
+          let found = from_first place listed.listed (omega (arith, inside)) listed.is_listed in
+          let some : 1 ≤ steps = omega (arith, share.in_path) in
+          let of : IsPrefixOf (prefix_of steps path) other =
+          is.together found.0 before place found.1 earlier row listed.listed other path (prefix_of steps path) found.3 at_other stands
+          (omega (arith, found.2)) (omega arith) listed.is_prefix (prefix_of-is_prefix steps path) in
+          let low : steps ≤ shared = share.most steps some within of in
+          let no : ⊥ = omega (arith, share.in_path) in
           absurd no;
     }
-
-    -- each other one has those that it doesn't share with the path before it
-    module _ (before earlier : ℕ) (other : Route) (next : before + 1 ≡ place) (at_other : StandsInOrder routes order before earlier other)
-        (shared : ℕ) (share : SharePrefix other path shared) where
-      inside : place < length order
-      inside = stands_within routes order place row path stands
-
-      pub not_shared_new : HasNewPrefixes (routes_in routes (take place order)) path (length path.steps - shared)
-      not_shared_new = record {
-        within = omega arith;
-        known = λ steps some short. record {
-          some_step = omega (arith, share.in_path, length-take-le steps path.steps (omega arith));
-          listed = other;
-          is_listed = among_first place before earlier other (omega (arith, inside)) (omega arith) at_other;
-          is_prefix = share.shares steps some (omega (arith, share.in_path));
-        };
-        new = λ steps within long listed.
-            let found = from_first place listed.listed (omega (arith, inside)) listed.is_listed in
-            let some : 1 ≤ steps = omega (arith, share.in_path) in
-            let of : IsPrefixOf (prefix_of steps path) other =
-            is.together found.0 before place found.1 earlier row listed.listed other path (prefix_of steps path) found.3 at_other stands
-            (omega (arith, found.2)) (omega arith) listed.is_prefix (prefix_of-is_prefix steps path) in
-            let low : steps ≤ shared = share.most steps some within of in
-            let no : ⊥ = omega (arith, share.in_path) in
-            absurd no;
-      }
 
   -- one place more
   pub one_more_place : (place row count fresh : ℕ) (path : Route) → StandsInOrder routes order place row path
@@ -104,10 +93,12 @@ module _ (routes : List Route) (order : List ℕ) (is : IsOrder routes order) wh
           ∙ ap (λ last. routes_in routes (take place order) ++ last ∷ []) there
 
   -- after the last place all paths are counted
-  pub all_places : (place count : ℕ) → length order ≤ place → HasPrefixes (routes_in routes (take place order)) count → HasPrefixes routes count
+  pub all_places : (place count : ℕ) → length order ≤ place → HasPrefixes (routes_in routes (take place order)) count
+      → HasPrefixes routes count
   all_places place count last has =
       same_prefixes (routes_in routes (take (length order) order)) routes listed in_order count
-      (subst (λ rows. HasPrefixes (routes_in routes rows) count) (take_all place order last ∙ sym (take_all (length order) order (omega arith))) has)
+      (subst (λ rows. HasPrefixes (routes_in routes rows) count)
+      (take_all place order last ∙ sym (take_all (length order) order (omega arith))) has)
     where
       listed : (path : Route) → Contains (routes_in routes (take (length order) order)) path → Contains routes path
       listed path among =

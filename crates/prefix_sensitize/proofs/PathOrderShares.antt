@@ -1,5 +1,5 @@
 -- What lists of pins, and paths from their sources on, share at their beginning.
-use Rattle.std.proofs.Common.{◌≡◌, ◌≢◌, ⊎_elim, ℕ, ◌⊎◌, ◌<◌, ◌≤◌, Bool, true, IsTrue, ◌↔◌, ◌&&◌, eqb, eq-eqb, List, ◌++◌, length, take, drop, get_or, sym, ap, ap₂, ◌∙◌, arith}
+use Rattle.std.proofs.Common.{◌≡◌, ◌≢◌, ⊎_elim, ℕ, ◌<◌, ◌≤◌, Bool, true, IsTrue, ◌↔◌, ◌&&◌, eqb, eq-eqb, List, ◌++◌, length, take, drop, get_or, sym, ap, ap₂, ◌∙◌, arith}
 use Rattle.std.specs.Cmp.Lexicographic.{pointwise}
 use Rattle.std.proofs.lemmas.Slice.Eq.{starts_is}
 use Rattle.std.proofs.lemmas.Bool.{and_parts, cases_lt, eqb-true}
@@ -41,18 +41,10 @@ module _ (p q : List PinRef) where
         (λ within. within) (cases_lt at more);
   }
 
-  -- and all that the shorter one has, where they don't
-  pub share_all : (at : ℕ) → at ≤ length p → at ≤ length q → (length p ≤ at) ⊎ (length q ≤ at) → take at p ≡ take at q → ShareSteps p q at
-  share_all at in_p in_q ends same = record {
-    in_first = in_p;
-    in_second = in_q;
-    same = same;
-    most = λ more within_p within_q alike. ⊎_elim (λ end. omega arith) (λ end. omega arith) ends;
-  }
-
 module _ (other path : Route) where
   -- a path shares with another one from the same source what their steps share
-  pub share_from_source : other.source ≡ path.source → (shared : ℕ) → ShareSteps other.steps path.steps shared → SharePrefix other path shared
+  pub share_from_source : other.source ≡ path.source → (shared : ℕ) → ShareSteps other.steps path.steps shared
+      → SharePrefix other path shared
   share_from_source same shared share = record {
     in_path = share.in_second;
     shares = λ steps some within. record {

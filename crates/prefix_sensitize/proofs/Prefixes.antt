@@ -34,7 +34,8 @@ module _ {X : Type 0} where
       let moved = IsPermutation-remove ys has.0 x has.1 (sym has.2) in
       let rest : All (Contains others) xs =
       λ k d within. beside x (get_or xs k d) others
-      (Contains-permutation ys (x ∷ others) (get_or xs k d) moved (All-get_or (Contains ys) xs k d within (All-tail (Contains ys) x xs among)))
+      (Contains-permutation ys (x ∷ others) (get_or xs k d) moved
+      (All-get_or (Contains ys) xs k d within (All-tail (Contains ys) x xs among)))
       (later_apart x xs once k d within) in
       omega (arith, no_longer xs others (rest_apart x xs once) rest, length_permutation ys (x ∷ others) moved)
 
@@ -85,15 +86,6 @@ module _ (routes others : List Route) (same : (path : Route) → Contains routes
     whole = λ prefix is. has.whole prefix (in_routes prefix is);
     counts = has.counts;
   }
-
--- no path has a prefix
-pub no_prefixes : HasPrefixes [] 0
-no_prefixes = record {
-  prefixes = [];
-  are_prefixes = record { each = λ k d within. absurd (omega arith); once = λ i j d before within. absurd (omega arith) };
-  whole = λ prefix is. let no : ⊥ = omega (arith, is.is_listed.1) in absurd no;
-  counts = refl;
-}
 
 -- elements of two lists that differ from each other, and those of the one from those of the other
 apart_appended : {X : Type 0} (xs ys : List X) → AllPairs (λ a b. a ≢ b) xs → AllPairs (λ a b. a ≢ b) ys

@@ -1,6 +1,7 @@
--- The pins of a prefix are entered one after another. Where a conflict comes up at one, the root of each tree for the prefix closes; and where
--- none has come up at all of them, the scope is at the root.
-use Rattle.std.proofs.Common.{◌≡◌, ℕ, ◌+◌, ◌<◌, ◌≤◌, List, [], length, map, take, get_or, Bool, true, false, Some, None, Result, Ok, Err, OnOk, IfErr, sym, ap, subst, ◌∙◌}
+-- The pins of a prefix are entered one after another. Where a conflict comes up at one, the root of each tree for the prefix closes;
+-- and where none has come up at all of them, the scope is at the root.
+use Rattle.std.proofs.Common.{◌≡◌, ℕ, ◌+◌, ◌<◌, ◌≤◌, List, [], length, map, take, get_or, Bool, true, false, Some, Result, Ok, Err}
+use Rattle.std.proofs.Common.{OnOk, IfErr, sym, ap, subst, ◌∙◌}
 use Rattle.std.specs.Prelude.{is_err}
 use Rattle.std.proofs.lemmas.Bool.{false≢true}
 use Rattle.std.proofs.lemmas.List.{take_all, get_or_default}
@@ -21,13 +22,13 @@ use Rattle.state_laws.proofs.Hulls.{prefix_empties}
 use Rattle.implication.specs.declared.assumption.Assumption.{Assumption}
 use Rattle.implication.specs.declared.assumption.Assumption.TheVariants.{Entered}
 use Rattle.implication.specs.Assumptions.{entered_pins}
-use Rattle.implication.specs.Moves.{grown, closed_at, with_entered, HasBegun}
+use Rattle.implication.specs.Moves.{grown, closed_at, with_entered}
 use Rattle.implication.specs.Standing.{Standing, IsTold, IsToldBy, IsOpenIn, IsEmptiedIn, end_of_scope, end_from}
 use Rattle.tree_laws.specs.NodeScopes.{beginning_of, AllowAsNode}
 use Rattle.tree_laws.proofs.Entered.{pins_of_entered, step_on, entries_more, start_allows}
 use Rattle.tree_laws.proofs.ScopeLabels.{open_under}
 use Rattle.tree_laws.proofs.Told.{gate_told}
-use Rattle.refutation_check.specs.Entering.{HasEnteredTo, IsStartFor}
+use Rattle.refutation_check.specs.Entering.{HasEnteredTo}
 use Rattle.refutation_check.specs.Walks.{ClosesAtLine, IsScopeAt, IsNodeBy}
 use Rattle.refutation_check.proofs.Closing.{closes_at_line}
 
@@ -41,7 +42,8 @@ pub err_of : {T E : Type 0} (answer : Result T E) (P : E → Type 0) (r : Bool) 
 err_of (Ok value) P r is some holds = absurd (false≢true (sym is ∙ some))
 err_of (Err error) P r is some holds = (error, holds)
 
-pub err_both : {T E : Type 0} (answer : Result T E) (P Q : E → Type 0) → IfErr answer P → IfErr answer Q → IfErr answer (λ error. P error × Q error)
+pub err_both : {T E : Type 0} (answer : Result T E) (P Q : E → Type 0) → IfErr answer P → IfErr answer Q
+    → IfErr answer (λ error. P error × Q error)
 err_both (Ok value) P Q one two = tt
 err_both (Err error) P Q one two = (one, two)
 
@@ -50,19 +52,6 @@ pub read_pin : (items steps : List PinRef) (count : ℕ) (d : PinRef) → items 
     → get_or items count d ≡ get_or steps count (get_or items count d)
 read_pin items steps count d same inside =
     get_or_default items count d (get_or items count d) inside ∙ ap (λ (list : List PinRef). get_or list count (get_or items count d)) same
-
--- a scope that has begun at the source of a prefix stands at the start
-pub begun_start : (old new : Standing) (prefix : Route) (source : LineId) (direction : Direction) (kind : Kind)
-    → HasBegun (record { source = source; direction = direction; kind = kind }) old new → source ≡ prefix.source → new.conflict ≡ None
-    → IsOpenIn four_states new → IsStartFor prefix new
-begun_start old new prefix source direction kind has same free left_open = record {
-  begun = record { source = source; direction = direction; kind = kind };
-  beginning = has.beginning;
-  source = same;
-  entered = has.nothing;
-  free = free;
-  left_open = left_open;
-}
 
 module _ (prefix : Route) (direction : Direction) (kind : Kind) where
   abbrev target : Target
@@ -86,8 +75,8 @@ module _ (prefix : Route) (direction : Direction) (kind : Kind) where
       }
 
   -- where the first ones lead to a conflict, the root closes at its line
-  root_closed : (now : Standing) (count : ℕ) (line : LineId) → now.assumptions ≡ map Entered (take count prefix.steps) → now.conflict ≡ Some line
-      → IsEmptiedIn four_states now line.0 → now.beginning ≡ Some (beginning_of target) → IsScopeAt target [] now
+  root_closed : (now : Standing) (count : ℕ) (line : LineId) → now.assumptions ≡ map Entered (take count prefix.steps)
+      → now.conflict ≡ Some line → IsEmptiedIn four_states now line.0 → now.beginning ≡ Some (beginning_of target) → IsScopeAt target [] now
   root_closed now count line list stands emptied began =
       let first : Target = target_of (prefix_of count prefix) direction kind in
       let P : List Assumption → Type 0 = λ l. AllowAsNode now.net now.rules first l [] in
@@ -100,20 +89,22 @@ module _ (prefix : Route) (direction : Direction) (kind : Kind) where
         on_sources = All-nil (λ (half : Half). half.source < source_count now.net);
         is_node = subst (IsNodeBy target [] now) (sym stands) (
           closes.0,
-          prefix_empties now.net now.rules (prefix_of count prefix) prefix (prefix_of-is_prefix count prefix) direction kind [] line.0 closes.1,
+          prefix_empties now.net now.rules (prefix_of count prefix) prefix (prefix_of-is_prefix count prefix) direction kind [] line.0
+              closes.1,
         );
       }
 
 -- what holds of the targets on a prefix holds of one whose path is the prefix
-on_target : (P : Target → Type 0) (prefix : Route) → ((direction : Direction) (kind : Kind) → P (target_of prefix direction kind)) → (target : Target)
-    → target.path ≡ prefix → P target
+on_target : (P : Target → Type 0) (prefix : Route) → ((direction : Direction) (kind : Kind) → P (target_of prefix direction kind))
+    → (target : Target) → target.path ≡ prefix → P target
 on_target P prefix all target same =
     let Q : Route → Type 0 = λ path. P (target_of path target.direction target.kind) in
     subst Q (sym same) (all target.direction target.kind)
 
 -- so the scope is at the root in either case
 pub at_root : (prefix : Route) (old now : Standing) (count : ℕ) → HasEnteredTo prefix count now → length prefix.steps ≤ count
-    → now.beginning ≡ old.beginning → (target : Target) → target.path ≡ prefix → old.beginning ≡ Some (beginning_of target) → IsScopeAt target [] now
+    → now.beginning ≡ old.beginning → (target : Target) → target.path ≡ prefix → old.beginning ≡ Some (beginning_of target)
+    → IsScopeAt target [] now
 at_root prefix old now count has past same target is began =
     let P : Target → Type 0 = λ t. now.beginning ≡ Some (beginning_of t) → IsScopeAt t [] now in
     on_target P prefix (λ direction kind. root_open prefix direction kind now count has past) target is (same ∙ began)

@@ -60,11 +60,13 @@ unmarked_outside c path lines marks source marked cone none support =
 module _ (target : Target) (halves : List Half) (standing : Standing) (at : IsScopeAt target halves standing) where
   -- the node closes where a conflict stands
   closes_by : (line : LineId) → standing.conflict ≡ Some line → ClosesAtNode standing.net standing.rules target halves
-  closes_by line stands = closes_at_some standing.net standing.rules target halves line (subst (IsNodeBy target halves standing) stands at.is_node)
+  closes_by line stands =
+      closes_at_some standing.net standing.rules target halves line (subst (IsNodeBy target halves standing) stands at.is_node)
 
   -- whether the node closes, as the scope tells its conflict
-  pub closes_told : (answer : Option Conflict) → IfNone answer (standing.conflict ≡ None) → IfSome answer (λ found. standing.conflict ≡ Some found.0)
-      → (r : Bool) → r ≡ is_some answer → IsTrue r ↔ ClosesAtNode standing.net standing.rules target halves
+  pub closes_told : (answer : Option Conflict) → IfNone answer (standing.conflict ≡ None)
+      → IfSome answer (λ found. standing.conflict ≡ Some found.0) → (r : Bool) → r ≡ is_some answer
+      → IsTrue r ↔ ClosesAtNode standing.net standing.rules target halves
   closes_told (Some conflict) none some r is = (λ yes. closes_by conflict.0 some, λ closes. is)
   closes_told None none some r is = (
     λ yes. absurd (false≢true (sym is ∙ yes)),
@@ -72,19 +74,12 @@ module _ (target : Target) (halves : List Half) (standing : Standing) (at : IsSc
   )
 
   -- a node that closes is not open
-  pub not_open : (line : LineId) → standing.conflict ≡ Some line → (hull : List StateSet)
+  not_open : (line : LineId) → standing.conflict ≡ Some line → (hull : List StateSet)
       → IsOpen standing.net standing.rules target halves hull → ⊥
   not_open line stands hull open_here =
       not_closing four_states standing.net (IsNarrowingOf standing.net target.kind target.path.steps)
       (MayBe four_states standing.net standing.rules target halves) hull open_here.is_hull open_here.none_empty
       (closes_by line stands)
-
-  pub closing_not_open : (line : LineId) → standing.conflict ≡ Some line
-      → IsTrue false ↔ ((hull : List StateSet) × IsOpen standing.net standing.rules target halves hull)
-  closing_not_open line stands = (
-    λ never. absurd (false≢true never),
-    λ open_here. absurd (not_open line stands open_here.0 open_here.1),
-  )
 
   module _ (steadiness : Bool) (source : ℕ) where
     -- nor is a split there due, nor one that is not on a source of the support

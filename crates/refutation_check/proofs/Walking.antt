@@ -1,6 +1,7 @@
 -- The steps of a walk: a half assumed at a node leads to the node below it, and going back to the mark of a half that was put off leads to
 -- the node above it.
-use Rattle.std.proofs.Common.{◌≡◌, ℕ, ◌<◌, ◌≤◌, Bool, true, false, cond, inl, inr, List, [], ◌∷◌, ◌++◌, reverse, length, Option, Some, None, Result, Ok, Err, IfErr, OnOk, refl, sym, ap, ◌∙◌, subst, subst₂, arith}
+use Rattle.std.proofs.Common.{◌≡◌, ℕ, ◌<◌, ◌≤◌, Bool, true, false, cond, inr, List, [], ◌∷◌, ◌++◌, reverse, length, Option, Some, None}
+use Rattle.std.proofs.Common.{Result, Ok, Err, IfErr, OnOk, refl, sym, ap, ◌∙◌, subst, subst₂, arith}
 use Rattle.std.specs.List.{All}
 use Rattle.std.specs.Prelude.{IfSome, is_some}
 use Rattle.std.proofs.lemmas.List.{reverse-append}
@@ -46,7 +47,8 @@ module _ (old new : Standing) (half : Half) (set : StateSet) (states : IsStatesO
       subst₂ P (sym extends.net) (sym extends.rules)
       (subst Q (sym is) (half_assumed old.net old.rules target old.assumptions halves half source set refl states allows))
 
-  entered_there : entered_pins old.assumptions ≡ target.path.steps → new.assumptions ≡ list → entered_pins new.assumptions ≡ target.path.steps
+  entered_there : entered_pins old.assumptions ≡ target.path.steps → new.assumptions ≡ list
+      → entered_pins new.assumptions ≡ target.path.steps
   entered_there entered is = ap entered_pins is ∙ entered_assumed 4 old.assumptions source set ∙ entered
 
   -- a conflict that stood still does
@@ -55,8 +57,8 @@ module _ (old new : Standing) (half : Half) (set : StateSet) (states : IsStatesO
       let P : Standing → Type 0 = λ s. ClosesAtLine s.net s.rules target (halves ++ half ∷ []) line in
       subst P (sym same) (closes_below old.net old.rules target halves half line closes)
 
-  below_by : {T : Type 0} (answer : Result T Conflict) (conflict : Option LineId) → old.conflict ≡ conflict → old.beginning ≡ Some (beginning_of target)
-      → IsNodeBy target halves old conflict
+  below_by : {T : Type 0} (answer : Result T Conflict) (conflict : Option LineId) → old.conflict ≡ conflict
+      → old.beginning ≡ Some (beginning_of target) → IsNodeBy target halves old conflict
       → IfSome conflict (λ line. (answer ≡ Err (record { 0 = line })) × (new ≡ old))
       → OnOk answer (new ≡ grown old list)
       → (IsFree old → IfErr answer (λ c. new ≡ closed_at old list c.0))
@@ -78,8 +80,8 @@ module _ (old new : Standing) (half : Half) (set : StateSet) (states : IsStatesO
       let is = ap (λ (s : Standing). s.assumptions) closed in
       let P : Option LineId → Type 0 = IsNodeBy target (halves ++ half ∷ []) new in
       subst P (sym (ap (λ (s : Standing). s.conflict) closed))
-      (closes_at_line target (halves ++ half ∷ []) new (extends.beginning ∙ began) (entered_there node.entered is) (allows_there node.allows is)
-      conflict.0 emptied)
+      (closes_at_line target (halves ++ half ∷ []) new (extends.beginning ∙ began) (entered_there node.entered is)
+      (allows_there node.allows is) conflict.0 emptied)
 
   -- the scope is at the node below
   pub at_below : {T : Type 0} (answer : Result T Conflict) → half.source < source_count old.net → IsScopeAt target halves old
@@ -101,7 +103,8 @@ pub at_restored : (target : Target) (halves : List Half) (old new : Standing) �
     → IsScopeAt target halves new
 at_restored target halves old new restored at = record {
   beginning = restored.beginning ∙ at.beginning;
-  on_sources = let P : Circuit → Type 0 = λ c. All (λ (h : Half). h.source < source_count c) halves in subst P (sym restored.net) at.on_sources;
+  on_sources =
+      let P : Circuit → Type 0 = λ c. All (λ (h : Half). h.source < source_count c) halves in subst P (sym restored.net) at.on_sources;
   is_node = subst (IsNodeBy target halves new) (sym restored.conflict) (by old.conflict at.is_node);
 }
   where
@@ -159,7 +162,8 @@ module _ (target : Target) where
   -- below a second half the same places are due, and below a first half its second one too
   turns_second : (half : Half) (above : List Half) → half.second ≡ true → turns (half ∷ above) ≡ turns above
   turns_second half above second =
-      ap (λ b. cond b (turns above) ((record { source = half.source; steadiness = half.steadiness; second = true } ∷ above) ∷ turns above)) second
+      ap (λ b. cond b (turns above) ((record { source = half.source; steadiness = half.steadiness; second = true } ∷ above) ∷ turns above))
+      second
 
   -- down into the first half of a split
   pub goes_down : (old new : Standing) (above : List Half) (source : ℕ) (steadiness : Bool) (pending more : List Pending) (second : Pending)
@@ -223,13 +227,6 @@ module _ (target : Target) where
               (extends_trans comes.before back new (extends_restored comes.before back restored) extends) comes.due);
         },
       )
-
-  -- or the tree is at its end
-  pub goes_nowhere : (now : Standing) (above : List Half) (pending : List Pending) → pending ≡ []
-      → WalksAt target above now pending → (more : List Half) × GoesOn above more × WalksAt target more now pending
-  goes_nowhere now above pending none walks =
-      let P : List Pending → Type 0 = λ list. ArePending target now (reverse list) (turns above) in
-      (above, inl (subst P none walks.due), walks)
 
 -- the scope can go back to the mark of the half that was put off last
 pub marks_within : (now : Standing) (next : Pending) (pending all : List Pending) → all ≡ pending ++ next ∷ [] → IsWalk now all

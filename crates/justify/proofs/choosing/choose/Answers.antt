@@ -1,3 +1,4 @@
+-- What is chosen splits at a source of the support; where nothing is, each source of the cone was passed over for its one state.
 use Rattle.std.proofs.Common.{◌≡◌, Option, Some, None, true, sym, ◌∙◌, subst, List}
 use Rattle.std.specs.Prelude.{is_some, IfNone}
 use Rattle.std.proofs.lemmas.Bool.{false≢true}
@@ -8,7 +9,8 @@ use Rattle.pd_base.specs.declared.ids.LineId.{LineId}
 use Rattle.implication.specs.Scopes.{standing}
 use Rattle.justify.specs.Choices.{IsSingleAt}
 use Rattle.justify.specs.Tasks.{task_target}
-use Rattle.justify.proofs.SplitChoices.{useful_at, read_in_support}
+use Rattle.justify.proofs.SplitChoices.{useful_at}
+use Rattle.justify.proofs.TriedSources.{read_in_support}
 use Rattle.justify.proofs.Visits.{from_none}
 use Rattle.justify.proofs.choosing.choose.Goals as goal
 
@@ -45,7 +47,8 @@ pub returns-clause-none : goal.returns-clause-none
 returns-clause-none g c = λ source support.
     let Single : LineId → Type 0 = λ l. IsSingleAt (standing c.args.scope.now) l.0 in
     let P : List LineId → Type 0 = λ xs. All Single xs in
-    let all = subst P (take_all c.loop-source.source-index c.sources-sources.result.now c.loop-source-test.false ∙ c.sources-sources.ensures)
+    let all =
+    subst P (take_all c.loop-source.source-index c.sources-sources.result.now c.loop-source-test.false ∙ c.sources-sources.ensures)
     c.loop-source.invariant in
     All-contains Single c.args.desk.now.cone.sources (record { 0 = source }) all
     ((c.requires.desk.cone.sources.exactly source).1 (support.is_source, support.in_fan_in))

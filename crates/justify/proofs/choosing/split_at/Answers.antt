@@ -1,3 +1,4 @@
+-- What the label tells of the source holds in all labels of the node: each half has a state, or there are less than two.
 use Rattle.std.proofs.Common.{Option, Some, None, refl, subst, arith}
 use Rattle.std.specs.Prelude.{IfNone}
 use Rattle.std.proofs.lemmas.Grind.{common_steps}

@@ -1,3 +1,4 @@
+-- The set shares a state with the half exactly where it has one of the half's.
 use Rattle.tree_laws.proofs.AssumedHalves.{shares_half}
 use Rattle.justify.proofs.halves.has_in_half.Goals as goal
 

@@ -1,3 +1,4 @@
+-- A way that is found leaves each half a state; where neither way does, the set has less than two states.
 use Rattle.std.proofs.Common.{◌∙◌, sym}
 use Rattle.std.proofs.lemmas.Bool.{false≢true}
 use Rattle.justify.proofs.HalfStates.{no_split_is_single}

@@ -1,5 +1,7 @@
-use Rattle.std.proofs.Common.{ℕ, length, sym, ◌∙◌, subst, arith}
+-- Each visit goes on with the search, and adds a node for which a conflict was counted, or finds a test.
+use Rattle.std.proofs.Common.{ℕ, length, sym, subst, arith}
 use Rattle.implication.specs.Scopes.{standing}
+use Rattle.implication.proofs.Restoring.{same_scope_twice}
 use Rattle.justify.specs.Answers.{HasCounted}
 use Rattle.justify.proofs.Ended.{counted_more}
 use Rattle.justify.proofs.Orders.{no_less}
@@ -22,7 +24,8 @@ returns-in-Some-test-clause-goes_on g c =
 
 pub returns-in-Some-test-clause-answer : goal.returns-in-Some-test-clause-answer
 returns-in-Some-test-clause-answer g c =
-    grown_some c.args.task.now (standing c.args.scope.now) (standing c.loop-place.scope) (standing c.visit.new.scope) _ c.visit.new.growth c.visit.new.growth
+    grown_some c.args.task.now (standing c.args.scope.now) (standing c.loop-place.scope) (standing c.visit.new.scope) _
+    c.visit.new.growth c.visit.new.growth
     c.in_ok-test.test c.in-Some-test.pair c.in-Some-test.is c.loop-place.invariant.setting.net c.in_ok-test.ensures.answer
 
 pub loop-place-preserved : goal.loop-place-preserved
@@ -34,14 +37,12 @@ loop-place-preserved g c =
     let adds = visit_none task middle last _ c.visit.new.growth c.in_ok-test.test c.in_default-test.is c.in_ok-test.ensures.answer in
     let P : ℕ → Type 0 = λ n. HasCounted n first last in
     record {
-      scope = record {
-        engine = c.visit.ensures.scope.engine ∙ inv.scope.engine;
-        origin = c.visit.ensures.scope.origin ∙ inv.scope.origin;
-      };
+      scope = same_scope_twice inv.scope c.visit.ensures.scope;
       setting = same_twice first middle last inv.setting goes.setting;
       later = no_less first.closings middle.closings last.closings inv.later goes.later;
       searching = searching_on task middle last c.loop-place.desk c.visit.new.desk _ _ _ c.visit.new.growth inv.searching goes adds;
-      counted = subst P (sym adds.one_more) (counted_more (length c.loop-place.growth.nodes.items) first middle last inv.counted adds.counted);
+      counted =
+          subst P (sym adds.one_more) (counted_more (length c.loop-place.growth.nodes.items) first middle last inv.counted adds.counted);
     }
 
 pub returns-clause-goes_on : goal.returns-clause-goes_on

@@ -6,7 +6,7 @@ use Rattle.std.proofs.lemmas.List.{take_all}
 use Rattle.std.proofs.lemmas.List.Elements.{All-more}
 use Rattle.implication.specs.Scopes.{standing}
 use Rattle.implication.specs.Standing.{IsFree}
-use Rattle.implication.proofs.Restoring.{extends_itself, extends_trans}
+use Rattle.implication.proofs.Restoring.{extends_itself, extends_trans, same_scope_twice}
 use Rattle.justify.specs.Tasks.{task_target}
 use Rattle.tree_laws.specs.NodeScopes.{beginning_of}
 use Rattle.justify.specs.Trying.{IsHeldIn}
@@ -48,10 +48,7 @@ loop-entry-preserved g c =
     let more = grown_list now new _ c.only.result c.in-Ok.ensures.ok in
     let is = c.requires.tried c.loop-entry.entry-index _ c.loop-entry-test.true in
     record {
-      scope = record {
-        engine = c.assume.ensures.scope.engine ∙ before.scope.engine;
-        origin = c.assume.ensures.scope.origin ∙ before.scope.origin;
-      };
+      scope = same_scope_twice before.scope c.assume.ensures.scope;
       extends = extends_trans first now new before.extends c.assume.ensures.extends;
       trial = within_more target first c.requires.node now new _ is c.only.result c.only.ensures more before.trial;
       held = record {
@@ -87,10 +84,7 @@ assume-requires g c =
     rw c.loop-entry.invariant.extends.net (c.requires.tried c.loop-entry.entry-index _ c.loop-entry-test.true).in_support.is_source
 
 pub returns-in-Err-clause-scope : goal.returns-in-Err-clause-scope
-returns-in-Err-clause-scope g c = record {
-  engine = c.assume.ensures.scope.engine ∙ c.loop-entry.invariant.scope.engine;
-  origin = c.assume.ensures.scope.origin ∙ c.loop-entry.invariant.scope.origin;
-}
+returns-in-Err-clause-scope g c = same_scope_twice c.loop-entry.invariant.scope c.assume.ensures.scope
 
 pub returns-in-Err-clause-extends : goal.returns-in-Err-clause-extends
 returns-in-Err-clause-extends g c =

@@ -1,3 +1,4 @@
+-- Each entry that is passed over has the least state of its source; so all can be tried where none is left.
 use Rattle.std.proofs.Common.{◌∙◌, subst, List, arith}
 use Rattle.std.proofs.lemmas.Grind.{common_steps}
 use Rattle.std.specs.List.{All}

@@ -1,3 +1,4 @@
+-- One source more is listed, with its state.
 use Rattle.justify.proofs.TriedSources.{tried_more}
 use Rattle.justify.proofs.trying.collect.Goals as goal
 

@@ -1,3 +1,4 @@
+-- What is the least state of the source's label is so in all labels of the node.
 use Rattle.std.proofs.Common.{◌≡◌, ◌<◌, sym, ap, ◌∙◌, subst, arith}
 use Rattle.std.proofs.lemmas.Bool.{eqb-true}
 use Rattle.netlist.specs.Circuit.{source_count}

@@ -6,22 +6,20 @@ use Rattle.state_sets.specs.declared.state.State.{State}
 use Rattle.implication.specs.Scopes.{standing}
 use Rattle.test_judging.specs.ConeStates.{state_in}
 use Rattle.justify.specs.Tasks.{task_target}
-use Rattle.justify.proofs.SplitChoices.{read_in_support}
-use Rattle.justify.proofs.TriedSources.{support_within, taken_least, kept_least}
+use Rattle.justify.proofs.TriedSources.{read_within, taken_least, kept_least}
 use Rattle.justify.proofs.trying.judge_least.Goals as goal
 
 pub take_least-requires-clause-labels : goal.take_least-requires-clause-labels
 take_least-requires-clause-labels g c =
-    let net = (standing c.args.scope.now).net in
-    support_within net c.args.task.now.path.now c.sources.result.now (length c.labels.result.now) c.labels.ensures.one_each
-    (read_in_support net c.args.task.now.path.now c.args.desk.now.cone.sources c.sources.result.now c.requires.desk.cone.sources c.sources.ensures)
+    read_within (standing c.args.scope.now).net c.args.task.now.path.now c.args.desk.now.cone.sources c.sources.result.now
+    c.requires.desk.cone.sources c.sources.ensures
+    (length c.labels.result.now) c.labels.ensures.one_each
 
 pub take_least-requires-clause-places : goal.take_least-requires-clause-places
 take_least-requires-clause-places g c =
-    let net = (standing c.args.scope.now).net in
-    support_within net c.args.task.now.path.now c.sources.result.now (length c.as_mut_slice.result.now)
-    (ap length c.as_mut_slice.ensures.value ∙ c.requires.desk.made.states)
-    (read_in_support net c.args.task.now.path.now c.args.desk.now.cone.sources c.sources.result.now c.requires.desk.cone.sources c.sources.ensures)
+    read_within (standing c.args.scope.now).net c.args.task.now.path.now c.args.desk.now.cone.sources c.sources.result.now
+    c.requires.desk.cone.sources c.sources.ensures
+    (length c.as_mut_slice.result.now) (ap length c.as_mut_slice.ensures.value ∙ c.requires.desk.made.states)
 
 pub returns-clause-least : goal.returns-clause-least
 returns-clause-least g c =

@@ -1,3 +1,5 @@
+-- Judging leaves the desk the path's, with the same states at the sources; the pair that is judged a test is one, and the sources to
+-- blame are of the support.
 use Rattle.std.proofs.Common.{◌<◌, refl, sym, ap, ◌∙◌, subst, length, List}
 use Rattle.std.proofs.lemmas.List.{with_items_is}
 use Rattle.netlist.specs.Circuit.{Circuit, line_count, source_count}
@@ -8,14 +10,15 @@ use Rattle.test_judging.specs.KeptCones.{AreConeGates}
 use Rattle.test_judging.specs.ConeStates.{AreFourStates, state_in}
 use Rattle.justify.specs.Desks.{AreInSupport}
 use Rattle.justify.specs.Tasks.{task_target}
-use Rattle.justify.proofs.TriedSources.{blamed_in_support, in_cone_within, side_within, desk_again, kept_desk, read_at, sources_within, judged_fits}
+use Rattle.justify.proofs.TriedSources.{blamed_in_support, in_cone_within, side_within, desk_again, kept_desk, read_at, sources_within}
+use Rattle.justify.proofs.TriedSources.{judged_fits}
 use Rattle.justify.proofs.trying.judge_states.Goals as goal
 
 pub set_failure-requires-clause-line : goal.set_failure-requires-clause-line
 set_failure-requires-clause-line g c =
     let P : Circuit → Type 0 = λ n. IsPrefix n c.args.task.now.path.now in
-    in_cone_within c.net-net.result.now c.sources.ensures.circuit c.args.task.now.path.now (subst P (sym c.net-net.ensures) c.requires.prefix)
-    c.in-FailsAt.line.0 c.in-FailsAt.ensures.within.0
+    in_cone_within c.net-net.result.now c.sources.ensures.circuit c.args.task.now.path.now
+    (subst P (sym c.net-net.ensures) c.requires.prefix) c.in-FailsAt.line.0 c.in-FailsAt.ensures.within.0
 
 pub set_failure-requires-clause-side : goal.set_failure-requires-clause-side
 set_failure-requires-clause-side g c =
@@ -25,14 +28,15 @@ set_failure-requires-clause-side g c =
 
 pub read_test-requires-clause-sources : goal.read_test-requires-clause-sources
 read_test-requires-clause-sources g c =
-    sources_within c.net-net.result.now (standing c.args.scope.now).net c.net-net.ensures c.args.task.now.path.now c.sources-in-IsTest.result.now
-    c.args.desk.now.cone.sources c.sources-in-IsTest.ensures c.requires.desk.cone.sources
+    sources_within c.net-net.result.now (standing c.args.scope.now).net c.net-net.ensures c.args.task.now.path.now
+    c.sources-in-IsTest.result.now c.args.desk.now.cone.sources c.sources-in-IsTest.ensures c.requires.desk.cone.sources
 
 pub returns-in_ok-pair-in-IsTest-clause-desk : goal.returns-in_ok-pair-in-IsTest-clause-desk
 returns-in_ok-pair-in-IsTest-clause-desk g c =
     let long = c.judge-judgement.ensures.places ∙ ap length c.as_mut_slice.ensures.value in
     kept_desk (standing c.args.scope.now).net c.args.task.now.path.now _ c.keep.new.self c.keep.ensures
-    (desk_again (standing c.args.scope.now).net c.args.task.now.path.now c.args.desk.now _ c.judge-judgement.new.states c.requires.desk refl refl refl
+    (desk_again (standing c.args.scope.now).net c.args.task.now.path.now c.args.desk.now _ c.judge-judgement.new.states c.requires.desk
+    refl refl refl
     (with_items_is c.args.desk.now.states c.judge-judgement.new.states (long ∙ sym c.args.desk.now.states.ok.0))
     c.judge-judgement.ensures.states long c.requires.desk.made.justifier)
 
@@ -53,8 +57,8 @@ returns-in_ok-pair-in-IsTest-clause-test g c =
     let long = c.judge-judgement.ensures.places ∙ ap length c.as_mut_slice.ensures.value ∙ sym c.args.desk.now.states.ok.0 in
     let net = (standing c.args.scope.now).net in let target = task_target c.args.task.now in
     judged_fits c.net-net.result.now net c.net-net.ensures target c.judge-judgement.new.states c.in_ok-pair-in-IsTest.pair
-    (read_at c.net-net.result.now net c.net-net.ensures target c.sources-in-IsTest.result.now c.args.desk.now.cone.sources c.sources-in-IsTest.ensures
-    c.requires.desk.cone.sources
+    (read_at c.net-net.result.now net c.net-net.ensures target c.sources-in-IsTest.result.now c.args.desk.now.cone.sources
+    c.sources-in-IsTest.ensures c.requires.desk.cone.sources
     c.as_slice.result.now c.judge-judgement.new.states
     (c.as_slice.ensures.value ∙ with_items_is c.args.desk.now.states c.judge-judgement.new.states long)
     c.in_ok-pair-in-IsTest.pair c.in_ok-pair-in-IsTest.ensures)
@@ -63,7 +67,8 @@ returns-in_ok-pair-in-IsTest-clause-test g c =
 pub returns-in_err-pair-in-IsTest-clause-desk : goal.returns-in_err-pair-in-IsTest-clause-desk
 returns-in_err-pair-in-IsTest-clause-desk g c =
     let long = c.judge-judgement.ensures.places ∙ ap length c.as_mut_slice.ensures.value in
-    desk_again (standing c.args.scope.now).net c.args.task.now.path.now c.args.desk.now _ c.judge-judgement.new.states c.requires.desk refl refl refl
+    desk_again (standing c.args.scope.now).net c.args.task.now.path.now c.args.desk.now _ c.judge-judgement.new.states c.requires.desk
+    refl refl refl
     (with_items_is c.args.desk.now.states c.judge-judgement.new.states (long ∙ sym c.args.desk.now.states.ok.0))
     c.judge-judgement.ensures.states long c.requires.desk.made.justifier
 
@@ -81,8 +86,8 @@ returns-in_err-pair-in-IsTest-clause-kept g c =
 pub returns-in-FailsAt-clause-desk : goal.returns-in-FailsAt-clause-desk
 returns-in-FailsAt-clause-desk g c =
     let long = c.judge-judgement.ensures.places ∙ ap length c.as_mut_slice.ensures.value in
-    desk_again (standing c.args.scope.now).net c.args.task.now.path.now c.args.desk.now _ c.judge-judgement.new.states c.requires.desk refl
-    c.set_failure.ensures.room refl
+    desk_again (standing c.args.scope.now).net c.args.task.now.path.now c.args.desk.now _ c.judge-judgement.new.states c.requires.desk
+    refl c.set_failure.ensures.room refl
     (with_items_is c.args.desk.now.states c.judge-judgement.new.states (long ∙ sym c.args.desk.now.states.ok.0))
     c.judge-judgement.ensures.states long c.requires.desk.made.justifier
 
@@ -105,7 +110,8 @@ pub judge-judgement-requires-clause-gates : goal.judge-judgement-requires-clause
 judge-judgement-requires-clause-gates g c =
     let P : Circuit → Type 0 = λ n. AreConeGates n (end_of n c.args.task.now.path.now) c.gates.result.now in
     let net = (standing c.args.scope.now).net in
-    subst P (sym c.net-net.ensures) (subst (AreConeGates net (end_of net c.args.task.now.path.now)) (sym c.gates.ensures) c.requires.desk.cone.gates)
+    subst P (sym c.net-net.ensures)
+    (subst (AreConeGates net (end_of net c.args.task.now.path.now)) (sym c.gates.ensures) c.requires.desk.cone.gates)
 
 pub judge-judgement-requires-clause-labels : goal.judge-judgement-requires-clause-labels
 judge-judgement-requires-clause-labels g c = c.labels.ensures.one_each ∙ sym (ap line_count c.net-net.ensures)
@@ -119,15 +125,14 @@ judge-judgement-requires-clause-states g c = record {
 pub read_test-requires-clause-places : goal.read_test-requires-clause-places
 read_test-requires-clause-places g c =
     let long = c.judge-judgement.ensures.places ∙ ap length c.as_mut_slice.ensures.value in
-    ap length (c.as_slice.ensures.value ∙ with_items_is c.args.desk.now.states c.judge-judgement.new.states (long ∙ sym c.args.desk.now.states.ok.0))
-    ∙ long ∙ c.requires.desk.made.states ∙ sym (ap line_count c.net-net.ensures)
+    let here = with_items_is c.args.desk.now.states c.judge-judgement.new.states (long ∙ sym c.args.desk.now.states.ok.0) in
+    ap length (c.as_slice.ensures.value ∙ here) ∙ long ∙ c.requires.desk.made.states ∙ sym (ap line_count c.net-net.ensures)
 
 pub read_test-requires-clause-states : goal.read_test-requires-clause-states
 read_test-requires-clause-states g c =
     let long = c.judge-judgement.ensures.places ∙ ap length c.as_mut_slice.ensures.value in
-    subst AreFourStates
-    (sym (c.as_slice.ensures.value ∙ with_items_is c.args.desk.now.states c.judge-judgement.new.states (long ∙ sym c.args.desk.now.states.ok.0)))
-    c.judge-judgement.ensures.states
+    let here = with_items_is c.args.desk.now.states c.judge-judgement.new.states (long ∙ sym c.args.desk.now.states.ok.0) in
+    subst AreFourStates (sym (c.as_slice.ensures.value ∙ here)) c.judge-judgement.ensures.states
 
 pub set_failure-requires-clause-room : goal.set_failure-requires-clause-room
 set_failure-requires-clause-room g c = c.requires.desk.made.blame ∙ sym (ap line_count c.net-net.ensures)

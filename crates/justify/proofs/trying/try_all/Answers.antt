@@ -1,3 +1,4 @@
+-- The sources of the cone are tried in their least states; where no conflict comes of that, the pair that has these states is a test.
 use Rattle.std.proofs.Common.{sym, ap, ◌∙◌, subst, length, List, arith}
 use Rattle.std.proofs.lemmas.Grind.{common_steps}
 use Rattle.std.specs.List.{All}
@@ -10,16 +11,14 @@ use Rattle.test_judging.specs.ConeStates.{AreFourStates}
 use Rattle.test_judging.specs.KeptCones.{AreConeSources}
 use Rattle.justify.specs.Tasks.{task_target}
 use Rattle.justify.specs.Trying.{CanTry, HasLeast, GivesTest}
-use Rattle.justify.proofs.SplitChoices.{read_in_support}
-use Rattle.justify.proofs.TriedSources.{support_within, all_tried, read_at, sources_within, tried_fits}
+use Rattle.justify.proofs.TriedSources.{read_in_support, read_within, all_tried, read_at, sources_within, tried_fits}
 use Rattle.justify.proofs.trying.try_all.Goals as goal
 
 pub collect-requires-clause-sources : goal.collect-requires-clause-sources
 collect-requires-clause-sources g c =
-    let net = (standing c.args.scope.now).net in
-    support_within net c.args.task.now.path.now c.sources.result.now (length c.as_slice.result.now)
-    (ap length c.as_slice.ensures.value ∙ c.requires.desk.made.states)
-    (read_in_support net c.args.task.now.path.now c.args.desk.now.cone.sources c.sources.result.now c.requires.desk.cone.sources c.sources.ensures)
+    read_within (standing c.args.scope.now).net c.args.task.now.path.now c.args.desk.now.cone.sources c.sources.result.now
+    c.requires.desk.cone.sources c.sources.ensures
+    (length c.as_slice.result.now) (ap length c.as_slice.ensures.value ∙ c.requires.desk.made.states)
 
 pub closes-requires-clause-tried : goal.closes-requires-clause-tried
 closes-requires-clause-tried g c =
@@ -30,8 +29,10 @@ closes-requires-clause-tried g c =
     let same = sym c.as_slice.ensures.value in
     subst P (sym c.as_slice-2.ensures.value)
     (all_tried target now c.sources.result.now c.as_slice.result.now c.collect.new.tried.items c.in_ok-collect.ensures
-    (read_in_support now.net c.args.task.now.path.now c.args.desk.now.cone.sources c.sources.result.now c.requires.desk.cone.sources c.sources.ensures)
-    (subst Q same c.requires.least) (subst R same c.requires.desk.made.four) (ap length c.as_slice.ensures.value ∙ c.requires.desk.made.states))
+    (read_in_support now.net c.args.task.now.path.now c.args.desk.now.cone.sources c.sources.result.now c.requires.desk.cone.sources
+    c.sources.ensures)
+    (subst Q same c.requires.least) (subst R same c.requires.desk.made.four)
+    (ap length c.as_slice.ensures.value ∙ c.requires.desk.made.states))
 
 pub read_test-requires-clause-sources : goal.read_test-requires-clause-sources
 read_test-requires-clause-sources g c =

@@ -1,3 +1,4 @@
+-- The sources to blame are tried in their least states; where no conflict comes of that, all is as before, and all sources are.
 use Rattle.std.proofs.Common.{Bool, refl, sym, ap, ◌∙◌, subst, length, List, arith}
 use Rattle.std.proofs.lemmas.Grind.{common_steps}
 use Rattle.std.specs.List.{All}
@@ -5,6 +6,7 @@ use Rattle.netlist.specs.Circuit.{Circuit}
 use Rattle.pd_base.specs.declared.ids.LineId.{LineId}
 use Rattle.state_sets.specs.declared.state.State.{State}
 use Rattle.implication.specs.Scopes.{standing}
+use Rattle.implication.proofs.Restoring.{same_scope_twice}
 use Rattle.justify.specs.declared.trial.Tried.{Tried}
 use Rattle.test_judging.specs.ConeStates.{AreFourStates}
 use Rattle.justify.specs.Desks.{IsDesk, AreInSupport}
@@ -43,10 +45,7 @@ returns-clause-desk g c =
     subst P c.closes.ensures.restored.net c.try_all.ensures.desk
 
 pub returns-clause-scope : goal.returns-clause-scope
-returns-clause-scope g c = record {
-  engine = c.try_all.ensures.scope.engine ∙ c.closes.ensures.scope.engine;
-  origin = c.try_all.ensures.scope.origin ∙ c.closes.ensures.scope.origin;
-}
+returns-clause-scope g c = same_scope_twice c.closes.ensures.scope c.try_all.ensures.scope
 
 pub returns-clause-restored : goal.returns-clause-restored
 returns-clause-restored g c =
@@ -70,7 +69,8 @@ closes-requires-clause-tried g c =
 pub try_all-requires-clause-least : goal.try_all-requires-clause-least
 try_all-requires-clause-least g c =
     let now = standing c.args.scope.now in
-    least_stays (task_target c.args.task.now) now (standing c.closes.new.scope) (same_restored now (standing c.closes.new.scope) c.closes.ensures.restored)
+    least_stays (task_target c.args.task.now) now (standing c.closes.new.scope)
+    (same_restored now (standing c.closes.new.scope) c.closes.ensures.restored)
     c.args.desk.now.states.items c.requires.least
 
 pub returns-clause-answer : goal.returns-clause-answer

@@ -1,9 +1,10 @@
 -- The last sources close the trial again; or all is as before, and the trial goes on.
-use Rattle.std.proofs.Common.{sym, ◌∙◌, subst, arith}
+use Rattle.std.proofs.Common.{sym, subst, arith}
 use Rattle.std.proofs.lemmas.Grind.{common_steps}
 use Rattle.netlist.specs.Circuit.{Circuit}
 use Rattle.netlist.specs.Paths.{IsPrefix}
 use Rattle.implication.specs.Scopes.{standing}
+use Rattle.implication.proofs.Restoring.{same_scope_twice}
 use Rattle.justify.specs.Desks.{IsDesk}
 use Rattle.justify.specs.Tasks.{task_target}
 use Rattle.justify.proofs.SameNodes.{ok_answer, restored_trans, same_restored, stays_at_node}
@@ -54,10 +55,7 @@ returns-in-None-clause-desk g c =
     subst P c.closes_again.ensures.restored.net c.try_blamed.ensures.desk
 
 pub returns-in-None-clause-scope : goal.returns-in-None-clause-scope
-returns-in-None-clause-scope g c = record {
-  engine = c.try_blamed.ensures.scope.engine ∙ c.closes_again.ensures.scope.engine;
-  origin = c.try_blamed.ensures.scope.origin ∙ c.closes_again.ensures.scope.origin;
-}
+returns-in-None-clause-scope g c = same_scope_twice c.closes_again.ensures.scope c.try_blamed.ensures.scope
 
 pub returns-in-None-clause-restored : goal.returns-in-None-clause-restored
 returns-in-None-clause-restored g c =

@@ -1,3 +1,4 @@
+-- Where the budget is not spent, the split that was chosen is made.
 use Rattle.std.proofs.Common.{arith}
 use Rattle.justify.specs.Growths.IsExtended.{splits}
 use Rattle.justify.proofs.visiting.extend.Goals as goal

@@ -5,6 +5,7 @@ use Rattle.std.proofs.lemmas.Option.{slice_get_within}
 use Rattle.pd_base.specs.declared.ids.PinRef.{PinRef}
 use Rattle.netlist.specs.Circuit.{Circuit}
 use Rattle.implication.specs.Scopes.{standing}
+use Rattle.implication.proofs.Restoring.{same_scope_twice}
 use Rattle.justify.specs.Desks.{IsDeskFor}
 use Rattle.prefix_sensitize.specs.Coming.{HasComeAlong}
 use Rattle.prefix_sensitize.specs.Courses.{BeginsAt}
@@ -79,7 +80,7 @@ paths-preserved g c =
     let low = before.behind in
     let on = after.on in
     record {
-      scope = record { engine = after.scope.engine ∙ before.scope.engine; origin = after.scope.origin ∙ before.scope.origin };
+      scope = same_scope_twice before.scope after.scope;
       same = same_twice (standing c.args.scope.now) (standing c.paths.scope) (standing c.visit.new.scope) before.same after.same;
       desk = subst P before.same.net after.desk;
       come = after.come;
@@ -104,10 +105,7 @@ returns-in_err-at-clause-desk g c =
     subst P c.paths.invariant.same.net c.visit.ensures.desk
 
 pub returns-in_err-at-clause-scope : goal.returns-in_err-at-clause-scope
-returns-in_err-at-clause-scope g c = record {
-  engine = c.visit.ensures.scope.engine ∙ c.paths.invariant.scope.engine;
-  origin = c.visit.ensures.scope.origin ∙ c.paths.invariant.scope.origin;
-}
+returns-in_err-at-clause-scope g c = same_scope_twice c.paths.invariant.scope c.visit.ensures.scope
 
 pub returns-in_err-at-clause-same : goal.returns-in_err-at-clause-same
 returns-in_err-at-clause-same g c =

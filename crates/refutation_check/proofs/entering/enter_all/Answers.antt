@@ -9,6 +9,7 @@ use Rattle.implication.specs.declared.assumption.Conflict.{Conflict}
 use Rattle.implication.specs.Moves.{grown, closed_at, with_entered}
 use Rattle.implication.specs.Scopes.{standing}
 use Rattle.implication.specs.Standing.{IsFree, IsToldBy, IsOpenIn, IsEmptiedIn}
+use Rattle.implication.proofs.Restoring.{same_scope_twice}
 use Rattle.state_sets.specs.FourStates.{four_states}
 use Rattle.refutation_check.proofs.Roots.{ok_of, err_of, err_both, read_pin, at_root, next_on, next_told, next_entered, next_closed}
 use Rattle.tree_laws.proofs.Settings.{same_twice, same_itself, same_of_extended}
@@ -47,7 +48,8 @@ returns-then-is_err-clause-root g c =
     let pin = get_or items place no_pin in
     let is_free : IsFree before = record { begun = ap is_some inv.entered.beginning; free = inv.entered.free } in
     let both = err_of c.enter.result
-    (λ (conflict : Conflict). (after ≡ closed_at before (with_entered before.assumptions pin) conflict.0) × IsEmptiedIn four_states after conflict.0.0)
+    (λ (conflict : Conflict). (after ≡ closed_at before (with_entered before.assumptions pin) conflict.0)
+    × IsEmptiedIn four_states after conflict.0.0)
     c.is_err.result c.is_err.ensures.value c.if-is_err.true
     (err_both c.enter.result (λ (conflict : Conflict). after ≡ closed_at before (with_entered before.assumptions pin) conflict.0)
     (λ (conflict : Conflict). IsEmptiedIn four_states after conflict.0.0) (c.enter.ensures.err is_free) c.enter.ensures.emptied) in
@@ -71,7 +73,7 @@ loop-pin-preserved g c =
     let before = standing c.loop-pin.scope in let after = standing c.enter.new.self in
     let pin = get_or items place no_pin in
     record {
-      scope = record { engine = c.enter.ensures.scope.engine ∙ inv.scope.engine; origin = c.enter.ensures.scope.origin ∙ inv.scope.origin };
+      scope = same_scope_twice inv.scope c.enter.ensures.scope;
       setting = same_twice (standing c.args.scope.now) before after inv.setting (same_of_extended before after c.enter.ensures.extends);
       beginning = c.enter.ensures.extends.beginning ∙ inv.beginning;
       entered = next_entered prefix before place pin inv.entered

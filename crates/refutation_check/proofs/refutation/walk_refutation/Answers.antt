@@ -6,6 +6,7 @@ use Rattle.runs.specs.declared.tree.Node.{Node}
 use Rattle.runs.specs.declared.tree.Node.TheVariants.{Closed}
 use Rattle.runs.specs.Trees.{IsTree}
 use Rattle.implication.specs.Scopes.{standing}
+use Rattle.implication.proofs.Restoring.{same_scope_twice}
 use Rattle.tree_laws.specs.Halves.{halves_of}
 use Rattle.tree_laws.specs.Faults.{IsRightInRefutation, IsFirstFaultOf}
 use Rattle.refutation_check.specs.declared.answer.TreeCheck.TheVariants.{Yes}
@@ -62,7 +63,7 @@ loop-place-preserved g c =
     let items = c.nodes-node-items.result.now in let place = c.loop-place.place in let inv = c.loop-place.invariant in
     let node = get_or items place Closed in
     record {
-      scope = record { engine = c.pass.ensures.scope.engine ∙ inv.scope.engine; origin = c.pass.ensures.scope.origin ∙ inv.scope.origin };
+      scope = same_scope_twice inv.scope c.pass.ensures.scope;
       setting = same_twice old now next inv.setting c.pass.ensures.setting;
       checked = λ target at.
           let Is = IsRightInRefutation old.net old.rules target in

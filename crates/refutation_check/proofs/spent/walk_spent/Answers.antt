@@ -9,6 +9,7 @@ use Rattle.runs.specs.declared.tree.Node.TheVariants.{Closed}
 use Rattle.runs.specs.Trees.{IsTree}
 use Rattle.implication.specs.Scopes.{standing}
 use Rattle.implication.specs.Standing.{IsToldBy}
+use Rattle.implication.proofs.Restoring.{same_scope_twice}
 use Rattle.tree_laws.specs.Halves.{halves_of}
 use Rattle.tree_laws.specs.Faults.{IsRightInSpent, IsFirstFaultOf}
 use Rattle.refutation_check.specs.declared.answer.TreeCheck.TheVariants.{Yes}
@@ -46,8 +47,7 @@ pass-requires-clause-begun g c = c.loop-place.invariant.scope.origin ∙ c.requi
 
 pub returns-in_err-pass-clause-scope : goal.returns-in_err-pass-clause-scope
 returns-in_err-pass-clause-scope g c =
-    let inv = c.loop-place.invariant in
-    record { engine = c.pass.ensures.scope.engine ∙ inv.scope.engine; origin = c.pass.ensures.scope.origin ∙ inv.scope.origin }
+    same_scope_twice c.loop-place.invariant.scope c.pass.ensures.scope
 
 pub returns-in_err-pass-clause-setting : goal.returns-in_err-pass-clause-setting
 returns-in_err-pass-clause-setting g c =
@@ -121,7 +121,7 @@ loop-place-preserved g c =
     let items = c.nodes-node-items.result.now in let place = c.loop-place.place in let inv = c.loop-place.invariant in
     let node = get_or items place Closed in
     record {
-      scope = record { engine = c.pass.ensures.scope.engine ∙ inv.scope.engine; origin = c.pass.ensures.scope.origin ∙ inv.scope.origin };
+      scope = same_scope_twice inv.scope c.pass.ensures.scope;
       setting = same_twice old now next inv.setting c.pass.ensures.setting;
       room = let P : Circuit → Type 0 = λ n. IsTrialRoomAt n (asked_target c.args.asked.now) c.is_right_at.new.room in
           subst P inv.setting.net c.is_right_at.ensures.room;

@@ -1,6 +1,7 @@
 -- Each pin more is entered and counted; where one closes the start of the path, that start closes from the beginning.
-use Rattle.std.proofs.Common.{Bool, length, refl, ap, subst, ◌∙◌, arith}
+use Rattle.std.proofs.Common.{Bool, length, refl, ap, subst, arith}
 use Rattle.implication.specs.Scopes.{standing}
+use Rattle.implication.proofs.Restoring.{same_scope_twice}
 use Rattle.prefix_sensitize.specs.AlongPaths.{TriesPin}
 use Rattle.prefix_sensitize.proofs.Descents.{same_at_once, same_twice, still_along, still_closes}
 use Rattle.prefix_sensitize.proofs.descent.Descent.go_on.Goals as goal
@@ -66,10 +67,7 @@ loop-count-preserved g c =
     TriesPin (standing c.loop-count.scope) (standing c.enter.new.scope) c.args.path.now c.loop-count.count c.enter.new.self tried in
     let inv = c.loop-count.invariant in
     record {
-      scope = record {
-        engine = c.enter.ensures.scope.engine ∙ inv.scope.engine;
-        origin = c.enter.ensures.scope.origin ∙ inv.scope.origin;
-      };
+      scope = same_scope_twice inv.scope c.enter.ensures.scope;
       same =
           same_twice (standing c.args.scope.now) (standing c.loop-count.scope) (standing c.enter.new.scope) inv.same c.enter.ensures.same;
       stands = subst P c.if-not-branch.false c.in_ok-enter.ensures.tried;

@@ -2,12 +2,32 @@
 use Rattle.std.proofs.Common.{◌≡◌, ℕ, ◌+◌, ◌<◌, ◌≤◌, length, sym, ap, subst, ◌∙◌, arith}
 use Rattle.netlist.specs.Circuit.{Circuit}
 use Rattle.netlist.specs.Paths.{IsPrefix, prefix_of}
-use Rattle.implication.specs.Scopes.{standing}
+use Rattle.implication.specs.Scopes.{IsSameScope, standing}
+use Rattle.implication.proofs.Restoring.{same_scope_twice}
 use Rattle.justify.specs.Desks.{IsDeskFor}
 use Rattle.prefix_sensitize.specs.declared.descent.Ended.{Ended}
-use Rattle.prefix_sensitize.specs.Entering.{HasMovedOn, IsEnded}
+use Rattle.prefix_sensitize.specs.Entering.{CountsPins, HasMovedOn, IsEnded, IsSameBeginning}
 use Rattle.prefix_sensitize.proofs.Descents.{closed_ends, counts_pins, has_gone, leads_along, moved_on, moved_to_end, same_restored, same_twice, search_ends, starts_search, still_along, still_closes}
+use Rattle.prefix_sensitize.proofs.descent.Descent.search.Given.{Over}
+use Rattle.prefix_sensitize.proofs.descent.Descent.search.Goals.{After-go_on}
 use Rattle.prefix_sensitize.proofs.descent.Descent.search.Goals as goal
+
+-- once the scope went back and on
+module _ (g : Over) (c : After-go_on g) where
+  -- it is the same one, with the same beginning
+  same_on : IsSameBeginning (standing c.args.scope.now) (standing c.go_on.new.scope)
+  same_on =
+      same_twice (standing c.args.scope.now) (standing c.go_back-shared.new.scope) (standing c.go_on.new.scope)
+      c.go_back-shared.ensures.same c.go_on.ensures.same
+
+  scope_on : IsSameScope c.args.scope.now c.go_on.new.scope
+  scope_on = same_scope_twice c.go_back-shared.ensures.scope c.go_on.ensures.scope
+
+  -- and the pins that were tried are counted
+  counts_on : CountsPins c.args.self.now c.args.path.now c.args.steps.now c.go_on.new.steps
+  counts_on =
+      counts_pins c.args.self.now c.args.path.now c.go_back-shared.result c.go_back-shared.ensures.shared c.args.steps.now
+      c.go_on.new.steps c.go_on.ensures.more c.go_on.ensures.few
 
 pub go_on-requires-clause-along : goal.go_on-requires-clause-along
 go_on-requires-clause-along g c =
@@ -20,104 +40,72 @@ go_on-requires-clause-at g c = c.go_back-shared.ensures.at
 
 pub search_at-requires-clause-prefix : goal.search_at-requires-clause-prefix
 search_at-requires-clause-prefix g c =
-    let old = standing c.args.scope.now in
-    let back = standing c.go_back-shared.new.scope in
-    let last = standing c.go_on.new.scope in
-    let same = same_twice old back last c.go_back-shared.ensures.same c.go_on.ensures.same in
+    let same = same_on g (goal.at.search_at-requires-clause-prefix g c).After-go_on in
     let P : Circuit → Type 0 = λ net. IsPrefix net c.args.path.now in
     subst P (sym same.net) c.requires.path.prefix
 
 pub search_at-requires-clause-start : goal.search_at-requires-clause-start
 search_at-requires-clause-start g c =
     let path = c.args.path.now in
-    let old = standing c.args.scope.now in
-    let back = standing c.go_back-shared.new.scope in
-    let last = standing c.go_on.new.scope in
     let kept = c.in_ok-kept.kept in
     let long = ap length c.steps.ensures in
     let all : length path.steps ≤ kept = omega (arith, long, c.if-kept-steps.false) in
-    starts_search old path c.args.aim c.args.self.now c.requires.gone last
-    (same_twice old back last c.go_back-shared.ensures.same c.go_on.ensures.same) c.go_on.new.self kept c.in_ok-kept.ensures.at all
+    starts_search (standing c.args.scope.now) path c.args.aim c.args.self.now c.requires.gone (standing c.go_on.new.scope)
+    (same_on g (goal.at.search_at-requires-clause-start g c).After-go_on) c.go_on.new.self kept c.in_ok-kept.ensures.at all
 
 pub search_at-requires-clause-desk : goal.search_at-requires-clause-desk
 search_at-requires-clause-desk g c =
-    let old = standing c.args.scope.now in
-    let back = standing c.go_back-shared.new.scope in
-    let last = standing c.go_on.new.scope in
-    let same = same_twice old back last c.go_back-shared.ensures.same c.go_on.ensures.same in
+    let same = same_on g (goal.at.search_at-requires-clause-desk g c).After-go_on in
     let P : Circuit → Type 0 = λ net. IsDeskFor net c.args.desk.now in
     subst P (sym same.net) c.requires.desk
 
 pub returns-in_err-kept-clause-same : goal.returns-in_err-kept-clause-same
-returns-in_err-kept-clause-same g c =
-    same_twice (standing c.args.scope.now) (standing c.go_back-shared.new.scope) (standing c.go_on.new.scope)
-    c.go_back-shared.ensures.same c.go_on.ensures.same
+returns-in_err-kept-clause-same g c = same_on g (goal.at.returns-in_err-kept-clause-same g c).After-go_on
 
 pub returns-in_err-tree-clause-same : goal.returns-in_err-tree-clause-same
-returns-in_err-tree-clause-same g c =
-    same_twice (standing c.args.scope.now) (standing c.go_back-shared.new.scope) (standing c.go_on.new.scope)
-    c.go_back-shared.ensures.same c.go_on.ensures.same
+returns-in_err-tree-clause-same g c = same_on g (goal.at.returns-in_err-tree-clause-same g c).After-go_on
 
 pub returns-then-kept-steps-clause-same : goal.returns-then-kept-steps-clause-same
-returns-then-kept-steps-clause-same g c =
-    same_twice (standing c.args.scope.now) (standing c.go_back-shared.new.scope) (standing c.go_on.new.scope)
-    c.go_back-shared.ensures.same c.go_on.ensures.same
+returns-then-kept-steps-clause-same g c = same_on g (goal.at.returns-then-kept-steps-clause-same g c).After-go_on
 
 pub returns-then-kept-steps-clause-gone : goal.returns-then-kept-steps-clause-gone
 returns-then-kept-steps-clause-gone g c =
-    let old = standing c.args.scope.now in
-    let back = standing c.go_back-shared.new.scope in
-    let last = standing c.go_on.new.scope in
-    has_gone old c.args.path.now c.args.aim c.args.self.now c.requires.gone last
-    (same_twice old back last c.go_back-shared.ensures.same c.go_on.ensures.same) c.go_on.new.self c.in_ok-kept.kept
+    has_gone (standing c.args.scope.now) c.args.path.now c.args.aim c.args.self.now c.requires.gone (standing c.go_on.new.scope)
+    (same_on g (goal.at.returns-then-kept-steps-clause-gone g c).After-go_on) c.go_on.new.self c.in_ok-kept.kept
     c.in_ok-kept.ensures.at
 
 pub returns-in_err-found-clause-same : goal.returns-in_err-found-clause-same
 returns-in_err-found-clause-same g c =
-    let old = standing c.args.scope.now in
-    let back = standing c.go_back-shared.new.scope in
     let last = standing c.go_on.new.scope in
     let end = standing c.search_at.new.scope in
-    same_twice old last end (same_twice old back last c.go_back-shared.ensures.same c.go_on.ensures.same)
+    same_twice (standing c.args.scope.now) last end (same_on g (goal.at.returns-in_err-found-clause-same g c).After-go_on)
     (same_restored last end c.search_at.ensures.restored)
 
 pub returns-in_err-found-clause-desk : goal.returns-in_err-found-clause-desk
 returns-in_err-found-clause-desk g c =
-    let old = standing c.args.scope.now in
-    let back = standing c.go_back-shared.new.scope in
-    let last = standing c.go_on.new.scope in
-    let same = same_twice old back last c.go_back-shared.ensures.same c.go_on.ensures.same in
+    let same = same_on g (goal.at.returns-in_err-found-clause-desk g c).After-go_on in
     let P : Circuit → Type 0 = λ net. IsDeskFor net c.search_at.new.desk in
     subst P same.net c.search_at.ensures.desk
 
 pub returns-clause-same : goal.returns-clause-same
 returns-clause-same g c =
-    let old = standing c.args.scope.now in
-    let back = standing c.go_back-shared.new.scope in
     let last = standing c.go_on.new.scope in
     let end = standing c.search_at.new.scope in
-    same_twice old last end (same_twice old back last c.go_back-shared.ensures.same c.go_on.ensures.same)
+    same_twice (standing c.args.scope.now) last end (same_on g (goal.at.returns-clause-same g c).After-go_on)
     (same_restored last end c.search_at.ensures.restored)
 
 pub returns-clause-desk : goal.returns-clause-desk
 returns-clause-desk g c =
-    let old = standing c.args.scope.now in
-    let back = standing c.go_back-shared.new.scope in
-    let last = standing c.go_on.new.scope in
-    let same = same_twice old back last c.go_back-shared.ensures.same c.go_on.ensures.same in
+    let same = same_on g (goal.at.returns-clause-desk g c).After-go_on in
     let P : Circuit → Type 0 = λ net. IsDeskFor net c.search_at.new.desk in
     subst P same.net c.search_at.ensures.desk
 
 pub returns-clause-gone : goal.returns-clause-gone
 returns-clause-gone g c =
-    let old = standing c.args.scope.now in
-    let back = standing c.go_back-shared.new.scope in
-    let last = standing c.go_on.new.scope in
     let restored = c.search_at.ensures.restored in
     let gone =
-    has_gone old c.args.path.now c.args.aim c.args.self.now c.requires.gone last
-    (same_twice old back last c.go_back-shared.ensures.same c.go_on.ensures.same) c.go_on.new.self c.in_ok-kept.kept
-    c.in_ok-kept.ensures.at in
+    has_gone (standing c.args.scope.now) c.args.path.now c.args.aim c.args.self.now c.requires.gone (standing c.go_on.new.scope)
+    (same_on g (goal.at.returns-clause-gone g c).After-go_on) c.go_on.new.self c.in_ok-kept.kept c.in_ok-kept.ensures.at in
     record {
       beginning = restored.beginning ∙ gone.beginning;
       entered = restored.assumptions ∙ gone.entered;
@@ -128,28 +116,24 @@ pub returns-then-kept-steps-clause-ended : goal.returns-then-kept-steps-clause-e
 returns-then-kept-steps-clause-ended g c =
     let path = c.args.path.now in
     let old = standing c.args.scope.now in
-    let back = standing c.go_back-shared.new.scope in
-    let last = standing c.go_on.new.scope in
     let kept = c.in_ok-kept.kept in
     let long = ap length c.steps.ensures in
     let within : kept < length path.steps = omega (arith, long, c.if-kept-steps.true) in
-    closed_ends old path c.args.aim c.args.self.now c.requires.gone last
-    (same_twice old back last c.go_back-shared.ensures.same c.go_on.ensures.same) c.go_on.new.self kept c.in_ok-kept.ensures.at
+    closed_ends old path c.args.aim c.args.self.now c.requires.gone (standing c.go_on.new.scope)
+    (same_on g (goal.at.returns-then-kept-steps-clause-ended g c).After-go_on) c.go_on.new.self kept c.in_ok-kept.ensures.at
     c.in_ok-tree.tree within
-    (still_closes old back (prefix_of (kept + 1) path) c.go_back-shared.ensures.same (c.in_ok-kept.ensures.closes within))
+    (still_closes old (standing c.go_back-shared.new.scope) (prefix_of (kept + 1) path) c.go_back-shared.ensures.same
+    (c.in_ok-kept.ensures.closes within))
     c.in_ok-tree.ensures
 
 pub returns-then-kept-steps-clause-moved : goal.returns-then-kept-steps-clause-moved
 returns-then-kept-steps-clause-moved g c =
     let path = c.args.path.now in
-    let old = standing c.args.scope.now in
-    let back = standing c.go_back-shared.new.scope in
-    let last = standing c.go_on.new.scope in
     let kept = c.in_ok-kept.kept in
     let long = ap length c.steps.ensures in
     let within : kept < length path.steps = omega (arith, long, c.if-kept-steps.true) in
-    moved_on old path c.args.aim c.args.self.now c.requires.gone last
-    (same_twice old back last c.go_back-shared.ensures.same c.go_on.ensures.same) c.go_on.new.self kept c.in_ok-kept.ensures.at
+    moved_on (standing c.args.scope.now) path c.args.aim c.args.self.now c.requires.gone (standing c.go_on.new.scope)
+    (same_on g (goal.at.returns-then-kept-steps-clause-moved g c).After-go_on) c.go_on.new.self kept c.in_ok-kept.ensures.at
     c.go_back-shared.result c.args.steps.now c.go_on.new.steps c.go_back-shared.ensures.shared c.in_ok-kept.ensures.farther
     c.in_ok-kept.ensures.counted c.in_ok-tree.tree within
 
@@ -157,58 +141,43 @@ pub returns-clause-ended : goal.returns-clause-ended
 returns-clause-ended g c =
     let path = c.args.path.now in
     let old = standing c.args.scope.now in
-    let back = standing c.go_back-shared.new.scope in
-    let last = standing c.go_on.new.scope in
     let kept = c.in_ok-kept.kept in
     let long = ap length c.steps.ensures in
     let all : length path.steps ≤ kept = omega (arith, long, c.if-kept-steps.false) in
     let P : Ended → Type 0 = λ e. IsEnded old.net old.rules c.args.aim path e in
     subst P (sym c.ended_by.ensures)
-    (search_ends old path c.args.aim c.args.self.now c.requires.gone last
-    (same_twice old back last c.go_back-shared.ensures.same c.go_on.ensures.same) c.go_on.new.self kept c.in_ok-kept.ensures.at
+    (search_ends old path c.args.aim c.args.self.now c.requires.gone (standing c.go_on.new.scope)
+    (same_on g (goal.at.returns-clause-ended g c).After-go_on) c.go_on.new.self kept c.in_ok-kept.ensures.at
     all c.in_ok-found.found c.in_ok-found.ensures.found)
 
 pub returns-clause-moved : goal.returns-clause-moved
 returns-clause-moved g c =
     let path = c.args.path.now in
-    let old = standing c.args.scope.now in
-    let back = standing c.go_back-shared.new.scope in
-    let last = standing c.go_on.new.scope in
     let kept = c.in_ok-kept.kept in
     let long = ap length c.steps.ensures in
     let all : length path.steps ≤ kept = omega (arith, long, c.if-kept-steps.false) in
     let P : Ended → Type 0 =
     λ e. (more : ℕ) × (c.go_on.new.steps ≡ c.args.steps.now + more) × HasMovedOn c.args.self.now c.go_on.new.self path e more in
     subst P (sym c.ended_by.ensures)
-    (moved_to_end old path c.args.aim c.args.self.now c.requires.gone last
-    (same_twice old back last c.go_back-shared.ensures.same c.go_on.ensures.same) c.go_on.new.self kept c.in_ok-kept.ensures.at
+    (moved_to_end (standing c.args.scope.now) path c.args.aim c.args.self.now c.requires.gone (standing c.go_on.new.scope)
+    (same_on g (goal.at.returns-clause-moved g c).After-go_on) c.go_on.new.self kept c.in_ok-kept.ensures.at
     c.go_back-shared.result c.args.steps.now c.go_on.new.steps c.go_back-shared.ensures.shared c.in_ok-kept.ensures.farther
     c.in_ok-kept.ensures.counted c.in_ok-found.found all)
 
 pub returns-in_err-kept-clause-counted : goal.returns-in_err-kept-clause-counted
-returns-in_err-kept-clause-counted g c =
-    counts_pins c.args.self.now c.args.path.now c.go_back-shared.result c.go_back-shared.ensures.shared c.args.steps.now c.go_on.new.steps
-    c.go_on.ensures.more c.go_on.ensures.few
+returns-in_err-kept-clause-counted g c = counts_on g (goal.at.returns-in_err-kept-clause-counted g c).After-go_on
 
 pub returns-in_err-tree-clause-counted : goal.returns-in_err-tree-clause-counted
-returns-in_err-tree-clause-counted g c =
-    counts_pins c.args.self.now c.args.path.now c.go_back-shared.result c.go_back-shared.ensures.shared c.args.steps.now c.go_on.new.steps
-    c.go_on.ensures.more c.go_on.ensures.few
+returns-in_err-tree-clause-counted g c = counts_on g (goal.at.returns-in_err-tree-clause-counted g c).After-go_on
 
 pub returns-then-kept-steps-clause-counted : goal.returns-then-kept-steps-clause-counted
-returns-then-kept-steps-clause-counted g c =
-    counts_pins c.args.self.now c.args.path.now c.go_back-shared.result c.go_back-shared.ensures.shared c.args.steps.now c.go_on.new.steps
-    c.go_on.ensures.more c.go_on.ensures.few
+returns-then-kept-steps-clause-counted g c = counts_on g (goal.at.returns-then-kept-steps-clause-counted g c).After-go_on
 
 pub returns-in_err-found-clause-counted : goal.returns-in_err-found-clause-counted
-returns-in_err-found-clause-counted g c =
-    counts_pins c.args.self.now c.args.path.now c.go_back-shared.result c.go_back-shared.ensures.shared c.args.steps.now c.go_on.new.steps
-    c.go_on.ensures.more c.go_on.ensures.few
+returns-in_err-found-clause-counted g c = counts_on g (goal.at.returns-in_err-found-clause-counted g c).After-go_on
 
 pub returns-clause-counted : goal.returns-clause-counted
-returns-clause-counted g c =
-    counts_pins c.args.self.now c.args.path.now c.go_back-shared.result c.go_back-shared.ensures.shared c.args.steps.now c.go_on.new.steps
-    c.go_on.ensures.more c.go_on.ensures.few
+returns-clause-counted g c = counts_on g (goal.at.returns-clause-counted g c).After-go_on
 
 pub go_back-shared-requires-clause-entered : goal.go_back-shared-requires-clause-entered
 go_back-shared-requires-clause-entered g c = c.requires.gone.entered
@@ -226,31 +195,17 @@ pub search_at-requires-clause-budget : goal.search_at-requires-clause-budget
 search_at-requires-clause-budget g c = c.requires.budget.within
 
 pub returns-in_err-kept-clause-scope : goal.returns-in_err-kept-clause-scope
-returns-in_err-kept-clause-scope g c = record {
-  engine = c.go_on.ensures.scope.engine ∙ c.go_back-shared.ensures.scope.engine;
-  origin = c.go_on.ensures.scope.origin ∙ c.go_back-shared.ensures.scope.origin;
-}
+returns-in_err-kept-clause-scope g c = scope_on g (goal.at.returns-in_err-kept-clause-scope g c).After-go_on
 
 pub returns-in_err-tree-clause-scope : goal.returns-in_err-tree-clause-scope
-returns-in_err-tree-clause-scope g c = record {
-  engine = c.go_on.ensures.scope.engine ∙ c.go_back-shared.ensures.scope.engine;
-  origin = c.go_on.ensures.scope.origin ∙ c.go_back-shared.ensures.scope.origin;
-}
+returns-in_err-tree-clause-scope g c = scope_on g (goal.at.returns-in_err-tree-clause-scope g c).After-go_on
 
 pub returns-then-kept-steps-clause-scope : goal.returns-then-kept-steps-clause-scope
-returns-then-kept-steps-clause-scope g c = record {
-  engine = c.go_on.ensures.scope.engine ∙ c.go_back-shared.ensures.scope.engine;
-  origin = c.go_on.ensures.scope.origin ∙ c.go_back-shared.ensures.scope.origin;
-}
+returns-then-kept-steps-clause-scope g c = scope_on g (goal.at.returns-then-kept-steps-clause-scope g c).After-go_on
 
 pub returns-in_err-found-clause-scope : goal.returns-in_err-found-clause-scope
-returns-in_err-found-clause-scope g c = record {
-  engine = c.search_at.ensures.scope.engine ∙ c.go_on.ensures.scope.engine ∙ c.go_back-shared.ensures.scope.engine;
-  origin = c.search_at.ensures.scope.origin ∙ c.go_on.ensures.scope.origin ∙ c.go_back-shared.ensures.scope.origin;
-}
+returns-in_err-found-clause-scope g c =
+    same_scope_twice (scope_on g (goal.at.returns-in_err-found-clause-scope g c).After-go_on) c.search_at.ensures.scope
 
 pub returns-clause-scope : goal.returns-clause-scope
-returns-clause-scope g c = record {
-  engine = c.search_at.ensures.scope.engine ∙ c.go_on.ensures.scope.engine ∙ c.go_back-shared.ensures.scope.engine;
-  origin = c.search_at.ensures.scope.origin ∙ c.go_on.ensures.scope.origin ∙ c.go_back-shared.ensures.scope.origin;
-}
+returns-clause-scope g c = same_scope_twice (scope_on g (goal.at.returns-clause-scope g c).After-go_on) c.search_at.ensures.scope

@@ -12,10 +12,8 @@ use Rattle.prefix_sensitize.proofs.verdicts.Writer.answer.Goals as goal
 pub not_robust-requires : goal.not_robust-requires
 not_robust-requires g c =
     let asked = c.requires.0 in
-    let target = target_of c.args.path.now c.args.dir Robust in
-    let P : Outcome → Type 0 = λ outcome. IsOutcome c.args.net.now g.searches.routes g.searches.proofs (c.args.number - 1) target outcome in
     let proved = outcome_proof c.args.net.now g.searches asked.are_searches c.args.number c.args.path.now asked.is_listed c.args.dir
-    Robust c.in-Proved.proof (subst P c.in-Proved.is c.requires.1.robust) in
+    Robust c.args.outcomes.robust c.in-Proved.proof c.in-Proved.is c.requires.1.robust in
     (asked, (proved, c.requires.1.nonrobust (ap is_test c.in-Proved.is)))
 
 pub returns-in_ok-test-in-Tested-clause-writer : goal.returns-in_ok-test-in-Tested-clause-writer

@@ -13,8 +13,8 @@ is_robust-requires-clause-refuted g c =
     let robust = target_of c.args.path.now c.args.dir Robust in
     let has = c.requires.1.0 in
     λ set.
-    read_excludes g.searches c.args.number robust c.args.proof has c.args.self.now.found.items writer.found c.index.result.now c.index.ensures
-    c.args.net.now c.sources.ensures.circuit asked.are_searches
+    read_excludes g.searches c.args.number robust c.args.proof has c.args.self.now.found.items writer.found c.index.result.now
+    c.index.ensures c.args.net.now c.sources.ensures.circuit asked.are_searches
     (listed_path c.args.net.now g.searches asked.are_searches c.args.number c.args.path.now asked.is_listed c.args.dir)
     (cleared c.index.result.now.spent set) c.args.pair
 
@@ -56,8 +56,8 @@ returns-clause-answered g c =
     let has = c.requires.1.0 in
     let test = c.requires.1.1 in
     nonrobust_answers c.args.net.now g.searches asked.are_searches c.args.number c.args.path.now asked.is_listed c.args.dir
-    (written_by c.args.self.now) asked.are_written c.cite.new.self.cited c.add_test-2.new.tests.items c.args.proof c.in_ok-proof.proof c.args.pair
-    c.in_ok-test-2.test has c.in_ok-proof.ensures.cites test
+    (written_by c.args.self.now) asked.are_written c.cite.new.self.cited c.add_test-2.new.tests.items c.args.proof c.in_ok-proof.proof
+    c.args.pair c.in_ok-test-2.test has c.in_ok-proof.ensures.cites test
     (λ meets. absurd (true≢false (sym (c.is_robust.ensures.robust.1 meets) ∙ c.if-is_robust.false))) c.in_ok-test-2.ensures
 
 pub index-requires : goal.index-requires
