@@ -1,7 +1,7 @@
 -- What accepted inputs exclude, over files that tell what is read: each stage then has one answer.
 use Rattle.std.proofs.Common.{◌≡◌, ℕ, List, [], ◌∷◌, ◌++◌, Option, None, Some, refl, sym, subst, ◌∙◌}
 use Rattle.pd_io.specs.Folder.{Folder}
-use Rattle.calls.specs.Work.{Work, Stage, Read, Require, Requirement, names_read}
+use Rattle.calls.specs.Work.{Work, Stage, Read, Require, names_read}
 use Rattle.calls.specs.Passing.{Accepts, HasBytes, Pass}
 use Rattle.calls.specs.Calls.{AreTold}
 
@@ -20,7 +20,7 @@ later_told (Some folder) name (next ∷ names) told = tt
 
 module _ (work : Work) (folder : Option Folder) where
   -- stages lead from the same inputs to the same ones
-  pub passed_alike : (stages : List Stage) (first one other : List (List ℕ)) → AreTold (names_read stages) folder
+  pub passed_alike : (stages : List (Stage work.Requirement)) (first one other : List (List ℕ)) → AreTold (names_read stages) folder
       → Pass work folder stages first one → Pass work folder stages first other → one ≡ other
   passed_alike [] first one other told pass pass_too = pass ∙ sym pass_too
   passed_alike (Read role name ∷ stages) first one other told (text, has, pass) (bytes, has_too, pass_too) =
@@ -31,7 +31,7 @@ module _ (work : Work) (folder : Option Folder) where
       passed_alike stages first one other told pass pass_too
 
   -- a requirement among stages that are passed accepts what was read before it
-  pub accepted_before : (before later : List Stage) (requirement : Requirement) (first inputs all : List (List ℕ))
+  pub accepted_before : (before later : List (Stage work.Requirement)) (requirement : work.Requirement) (first inputs all : List (List ℕ))
       → AreTold (names_read before) folder
       → Pass work folder (before ++ Require requirement ∷ later) first all → Pass work folder before first inputs
       → Accepts work requirement inputs
@@ -46,7 +46,7 @@ module _ (work : Work) (folder : Option Folder) where
       accepted_before before later requirement first inputs all told pass so_far
 
   -- stages are passed, and behind them further ones
-  pub passed_on : (stages later : List Stage) (first middle all : List (List ℕ)) → Pass work folder stages first middle
+  pub passed_on : (stages later : List (Stage work.Requirement)) (first middle all : List (List ℕ)) → Pass work folder stages first middle
       → Pass work folder later middle all → Pass work folder (stages ++ later) first all
   passed_on [] later first middle all pass rest = subst (λ (read : List (List ℕ)). Pass work folder later read all) pass rest
   passed_on (Read role name ∷ stages) later first middle all (text, has, pass) rest =
@@ -55,7 +55,7 @@ module _ (work : Work) (folder : Option Folder) where
       (accepts, passed_on stages later first middle all pass rest)
 
   -- where stages are passed, so are the first ones, and from there the later ones
-  pub front_passed : (stages later : List Stage) (first all : List (List ℕ)) → Pass work folder (stages ++ later) first all
+  pub front_passed : (stages later : List (Stage work.Requirement)) (first all : List (List ℕ)) → Pass work folder (stages ++ later) first all
       → (middle : List (List ℕ)) × Pass work folder stages first middle × Pass work folder later middle all
   front_passed [] later first all pass = (first, refl, pass)
   front_passed (Read role name ∷ stages) later first all (text, has, pass) =

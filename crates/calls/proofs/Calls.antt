@@ -1,18 +1,20 @@
 -- What follows for a whole call of any command from how it performed and was reported.
 use Rattle.std.proofs.Common.{◌≡◌, ℕ, List, [], ◌∷◌, ◌++◌, Option, refl, sym, ap, subst, ◌∙◌, append_assoc}
+use Rattle.std.specs.Prelude.{⊤}
 use Rattle.pd_io.specs.Folder.{Folder}
 use Rattle.pd_io.specs.Seen.{FilesSeen, SinkSeen, Outside, seen_of}
 use Rattle.pd_io.proofs.Tellings.{tells_chain}
+use Rattle.calls.specs.declared.cause.Cause.{Cause}
+use Rattle.calls.specs.declared.cause.Cause.TheVariants as causes
 use Rattle.calls.specs.declared.refusal.Refusal.{Refusal}
-use Rattle.calls.specs.declared.refusal.Refusal.TheVariants.{Words, TooLong, Netlist, Delays, PathText, TestText, Malformed, NotGood, TooManyChanges}
 use Rattle.calls.specs.declared.ending.Ending.{Ending}
 use Rattle.calls.specs.declared.ending.Ending.TheVariants.{Done, Refused, ReadFault, WriteFault, OutFault, NoMemory}
 use Rattle.calls.specs.declared.status.Status.{Status}
 use Rattle.calls.specs.declared.status.Status.TheVariants as exit
-use Rattle.calls.specs.Lines.{refusal_status, status_of}
+use Rattle.calls.specs.Lines.{status_for, status_of}
 use Rattle.calls.specs.Reports.{IsReported}
 use Rattle.calls.specs.Reports as reports
-use Rattle.calls.specs.Work.{Work, Stage, Require, requirement_of, names_read}
+use Rattle.calls.specs.Work.{Work, Stage, Require, names_read}
 use Rattle.calls.specs.Passing.{Pass, AsksOnly}
 use Rattle.calls.specs.Stopping.{IsRefused}
 use Rattle.calls.specs.Writing.{put_all, folder_with_all, writer_after}
@@ -22,22 +24,27 @@ use Rattle.calls.proofs.Outputs.{rose_later}
 use Rattle.calls.proofs.Acceptance.{accepted_before, front_told}
 use Rattle.calls.proofs.Stages.{names_read-append}
 
--- no refusal has the status of work that was done
-refused_is_not_done : (refusal : Refusal) → refusal_status refusal ≡ exit.Done → ⊥
-refused_is_not_done (Words fault) same = cc
-refused_is_not_done (TooLong role) same = cc
-refused_is_not_done (Netlist reason) same = cc
-refused_is_not_done (Delays reason) same = cc
-refused_is_not_done (PathText product) same = cc
-refused_is_not_done (TestText product) same = cc
-refused_is_not_done (Malformed reader role place) same = cc
-refused_is_not_done (NotGood reason) same = cc
-refused_is_not_done (TooManyChanges test name) same = cc
+-- the statuses that refusals have
+abbrev pub IsOfRefusal : Status → Type 0
+IsOfRefusal exit.Done = ⊥
+IsOfRefusal exit.ReadFault = ⊥
+IsOfRefusal exit.WriteFault = ⊥
+IsOfRefusal exit.NoMemory = ⊥
+IsOfRefusal status = ⊤
+
+-- for each cause it is one of them
+is_of_refusal : (cause : Cause) → IsOfRefusal (status_for cause)
+is_of_refusal causes.Claims = tt
+is_of_refusal cause = tt
+
+-- so it is none of the others
+pub refusal_status : (cause : Cause) (status : Status) → status_for cause ≡ status → IsOfRefusal status
+refusal_status cause status is = subst IsOfRefusal is (is_of_refusal cause)
 
 -- no ending but `Done` has its status
 done_alone : (ending : Ending) → (ending ≡ Done → ⊥) → status_of ending ≡ exit.Done → ⊥
 done_alone Done other same = other refl
-done_alone (Refused refusal) other same = refused_is_not_done refusal same
+done_alone (Refused refusal) other same = refusal_status refusal.cause exit.Done same
 done_alone (ReadFault role) other same = cc
 done_alone (WriteFault role) other same = cc
 done_alone OutFault other same = cc
@@ -85,12 +92,12 @@ is_done work status old new ends done =
     performed_done work old new (subst (λ (e : Ending). Performs work e (seen_of old) (seen_of new)) p.0 ends.performed) p.1
 
 -- the place of a requirement, without the stages behind it
-pub stage_behind : (before rest stages : List Stage) (stage : Stage) → stages ≡ (before ++ stage ∷ []) ++ rest
+pub stage_behind : {R : Type 0} (before rest stages : List (Stage R)) (stage : Stage R) → stages ≡ (before ++ stage ∷ []) ++ rest
     → stages ≡ before ++ stage ∷ rest
 stage_behind before rest stages stage place = place ∙ append_assoc before (stage ∷ []) rest
 
 -- the names that these stages read are told, where all names of the work are
-pub told_before : (work : Work) (folder : Option Folder) (before rest : List Stage) → AreTold (names_read work.stages) folder
+pub told_before : (work : Work) (folder : Option Folder) (before rest : List (Stage work.Requirement)) → AreTold (names_read work.stages) folder
     → work.stages ≡ before ++ rest → AreTold (names_read before) folder
 told_before work folder before rest told place =
     front_told folder (names_read before) (names_read rest)
@@ -100,11 +107,11 @@ told_before work folder before rest told place =
 pub accepted_not_refused : (work : Work) (refusal : Refusal) (old new : FilesSeen)
     → HasAcceptedInputs work old.folder → IsRefused work refusal old new → ⊥
 accepted_not_refused work refusal old new accepted it =
-    let behind = stage_behind it.before it.place.0 work.stages (Require (requirement_of refusal)) it.place.1 in
-    accepted_before work old.folder it.before it.place.0 (requirement_of refusal) [] it.inputs accepted.inputs
-    (told_before work old.folder it.before (Require (requirement_of refusal) ∷ it.place.0) accepted.told behind)
-    (subst (λ (stages : List Stage). Pass work old.folder stages [] accepted.inputs) behind accepted.passed)
-    it.passed.passed refusal refl it.refuses
+    let behind = stage_behind it.before it.place.0 work.stages (Require it.requirement) it.place.1 in
+    accepted_before work old.folder it.before it.place.0 it.requirement [] it.inputs accepted.inputs
+    (told_before work old.folder it.before (Require it.requirement ∷ it.place.0) accepted.told behind)
+    (subst (λ (stages : List (Stage work.Requirement)). Pass work old.folder stages [] accepted.inputs) behind accepted.passed)
+    it.passed.passed refusal it.refuses
 
 -- the endings to which a call comes that nothing stops but want of memory
 data EndsDoneOrNoMemory (ending : Ending) : Type 0 where

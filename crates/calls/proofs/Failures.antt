@@ -2,20 +2,18 @@
 use Rattle.std.proofs.Common.{◌≡◌, refl, sym, subst, ◌∙◌}
 use Rattle.pd_io.specs.Counts.{Rose}
 use Rattle.pd_io.specs.Seen.{Outside, seen_of}
-use Rattle.calls.specs.declared.role.Role.{Role}
-use Rattle.calls.specs.declared.refusal.Refusal.{Refusal}
-use Rattle.calls.specs.declared.refusal.Refusal.TheVariants.{Words, TooLong, Netlist, Delays, PathText, TestText, Malformed, NotGood, TooManyChanges}
 use Rattle.calls.specs.declared.ending.Ending.{Ending}
 use Rattle.calls.specs.declared.ending.Ending.TheVariants.{Done, Refused, ReadFault, WriteFault, OutFault, NoMemory}
 use Rattle.calls.specs.declared.status.Status.{Status}
 use Rattle.calls.specs.declared.status.Status.TheVariants as exit
-use Rattle.calls.specs.Lines.{refusal_status, status_of}
+use Rattle.calls.specs.Lines.{status_of}
 use Rattle.calls.specs.Reports.{IsReported}
 use Rattle.calls.specs.Reports as reports
 use Rattle.calls.specs.Work.{Work}
-use Rattle.calls.specs.Stopping.{IsUnread}
 use Rattle.calls.specs.Calls.{Performs, Ends}
 use Rattle.calls.specs.Calls as calls
+use Rattle.calls.specs.Laws.{HasFailedRead, HasFailedWrite, of_files, of_out}
+use Rattle.calls.proofs.Calls.{refusal_status}
 use Rattle.calls.proofs.Outputs.{rose_later}
 
 -- the status is that of its ending, or that of want of memory
@@ -32,36 +30,6 @@ status_is ending status old new (reports.whole other is line) = of_ending is
 status_is ending status old new (reports.cut other is part) = of_ending is
 status_is ending status old new (reports.no_memory other is part) = of_memory is
 
--- no refusal has the status of a failed read
-refusal_is_no_read : (refusal : Refusal) → refusal_status refusal ≡ exit.ReadFault → ⊥
-refusal_is_no_read (Words reason) same = cc
-refusal_is_no_read (TooLong role) same = cc
-refusal_is_no_read (Netlist reason) same = cc
-refusal_is_no_read (Delays reason) same = cc
-refusal_is_no_read (PathText product) same = cc
-refusal_is_no_read (TestText product) same = cc
-refusal_is_no_read (Malformed reader role place) same = cc
-refusal_is_no_read (NotGood reason) same = cc
-refusal_is_no_read (TooManyChanges test name) same = cc
-
--- and none that of a failed write
-refusal_is_no_write : (refusal : Refusal) → refusal_status refusal ≡ exit.WriteFault → ⊥
-refusal_is_no_write (Words reason) same = cc
-refusal_is_no_write (TooLong role) same = cc
-refusal_is_no_write (Netlist reason) same = cc
-refusal_is_no_write (Delays reason) same = cc
-refusal_is_no_write (PathText product) same = cc
-refusal_is_no_write (TestText product) same = cc
-refusal_is_no_write (Malformed reader role place) same = cc
-refusal_is_no_write (NotGood reason) same = cc
-refusal_is_no_write (TooManyChanges test name) same = cc
-
--- status 5: a read of the file of this role failed, nothing was written, and out is as it was
-pub record HasFailedRead (work : Work) (old new : Outside) : Type 0 where
-  pub role : Role
-  pub unread : IsUnread work role old.files new.files
-  pub out : new.out ≡ old.out
-
 -- the status of a failed read has its failed read
 pub read_failed : (work : Work) (status : Status) (old new : Outside) → Ends work status old new
     → status ≡ exit.ReadFault → HasFailedRead work old new
@@ -70,7 +38,7 @@ read_failed work status old new ends failed =
       by_kind : (ending : Ending) → Performs work ending (seen_of old) (seen_of new) → status_of ending ≡ exit.ReadFault
           → HasFailedRead work old new
       by_kind Done performed is = absurd (cc)
-      by_kind (Refused refusal) performed is = absurd (refusal_is_no_read refusal is)
+      by_kind (Refused refusal) performed is = absurd (refusal_status refusal.cause exit.ReadFault is)
       by_kind (ReadFault role) (calls.stopped stops same) is = record { role = role; unread = stops; out = same }
       by_kind (ReadFault role) (calls.wrote inputs products read passed gives writes) is = absurd writes
       by_kind (WriteFault role) performed is = absurd (cc)
@@ -82,11 +50,6 @@ read_failed work status old new ends failed =
       by_ending ending performed (of_ending is) = by_kind ending performed (sym is ∙ failed)
       by_ending ending performed (of_memory is) = let never : exit.NoMemory ≡ exit.ReadFault = sym is ∙ failed in absurd (cc)
 
--- status 6: a failed write of the files was counted, or one of out
-pub data HasFailedWrite (old new : Outside) : Type 0 where
-  of_files : Rose old.files.write_faults new.files.write_faults → HasFailedWrite old new
-  of_out : Rose old.out.faults new.out.faults → HasFailedWrite old new
-
 -- the status of a failed write has its failed write
 pub write_failed : (work : Work) (status : Status) (old new : Outside) → Ends work status old new
     → status ≡ exit.WriteFault → HasFailedWrite old new
@@ -95,7 +58,7 @@ write_failed work status old new ends failed =
       by_kind : (ending : Ending) → Performs work ending (seen_of old) (seen_of new) → status_of ending ≡ exit.WriteFault
           → HasFailedWrite old new
       by_kind Done performed is = absurd (cc)
-      by_kind (Refused refusal) performed is = absurd (refusal_is_no_write refusal is)
+      by_kind (Refused refusal) performed is = absurd (refusal_status refusal.cause exit.WriteFault is)
       by_kind (ReadFault role) performed is = absurd (cc)
       by_kind (WriteFault role) (calls.stopped stops same) is = absurd stops
       by_kind (WriteFault role) (calls.wrote inputs products read passed gives writes) is =
@@ -108,15 +71,3 @@ write_failed work status old new ends failed =
           → HasFailedWrite old new
       by_ending ending performed (of_ending is) = by_kind ending performed (sym is ∙ failed)
       by_ending ending performed (of_memory is) = let never : exit.NoMemory ≡ exit.WriteFault = sym is ∙ failed in absurd (cc)
-
--- over files and streams whose counts never rise, as the steady ones, the statuses 5 and 6 never come
-pub none_fails : (work : Work) (status : Status) (old new : Outside) → Ends work status old new
-    → ¬ Rose old.files.read_faults new.files.read_faults → ¬ Rose old.files.write_faults new.files.write_faults
-    → ¬ Rose old.out.faults new.out.faults → (status ≡ exit.ReadFault → ⊥) × (status ≡ exit.WriteFault → ⊥)
-none_fails work status old new ends no_read no_write no_out = (
-  λ failed. no_read (read_failed work status old new ends failed).unread.rose,
-  λ failed. no_such_write (write_failed work status old new ends failed),
-) where
-  no_such_write : HasFailedWrite old new → ⊥
-  no_such_write (of_files rose) = no_write rose
-  no_such_write (of_out rose) = no_out rose

@@ -1,8 +1,10 @@
 pub mod Acceptance
-pub mod Accepting
+pub mod AtOnce
 pub mod Calls
 pub mod Failures
 pub mod Inputs
+pub mod LaterStages
+pub mod Laws
 pub mod Outputs
 pub mod Pieces
 pub mod Refusals

@@ -1,200 +1,199 @@
--- A refusal of what the files tell is answered, and no other in its place, unless a read or write fails or memory runs out;
--- and each status of a refusal has its refusal.
+-- What the files hold is refused where it leads to a refusal, and nothing else comes in its place, unless a read or write fails or memory
+-- runs out; and each status of a refusal has its refusal.
 use Rattle.std.proofs.Common.{◌≡◌, ℕ, List, [], ◌∷◌, ◌++◌, Option, refl, sym, ap, subst, ◌∙◌}
 use Rattle.pd_io.specs.Folder.{Folder}
 use Rattle.pd_io.specs.Seen.{SinkSeen, Outside, seen_of}
-use Rattle.command_line.specs.declared.refusal.WordsRefusal.{WordsRefusal}
-use Rattle.calls.specs.declared.role.Role.{Role}
+use Rattle.pd_io.proofs.Tellings.{tells_weaker}
+use Rattle.calls.specs.declared.cause.Cause.{Cause}
+use Rattle.calls.specs.declared.cause.Cause.TheVariants as causes
 use Rattle.calls.specs.declared.refusal.Refusal.{Refusal}
-use Rattle.calls.specs.declared.refusal.Refusal.TheVariants.{Words}
 use Rattle.calls.specs.declared.ending.Ending.{Ending}
 use Rattle.calls.specs.declared.ending.Ending.TheVariants.{Done, Refused, ReadFault, WriteFault, OutFault, NoMemory}
 use Rattle.calls.specs.declared.status.Status.{Status}
 use Rattle.calls.specs.declared.status.Status.TheVariants as exit
-use Rattle.calls.specs.Lines.{refusal_status, status_of}
+use Rattle.calls.specs.Lines.{status_for, status_of}
 use Rattle.calls.specs.Reports.{IsReported}
 use Rattle.calls.specs.Reports as reports
-use Rattle.calls.specs.Work.{Work, Stage, Read, Require, Wording, requirement_of, names_read}
-use Rattle.calls.specs.Passing.{Pass}
-use Rattle.calls.specs.Refused.{refused_words}
+use Rattle.calls.specs.Work.{Work, Stage, Require, names_read}
+use Rattle.calls.specs.Passing.{AsksOnly, Pass}
 use Rattle.calls.specs.Stopping.{IsRefused}
 use Rattle.calls.specs.Calls.{AreTold, Performs, Ends, NoneFailed}
 use Rattle.calls.specs.Calls as calls
+use Rattle.calls.specs.Laws.{AnswersRefusal, IsUntouched, LeadsToRefusal, WasRefused}
+use Rattle.calls.specs.Laws as laws
 use Rattle.calls.proofs.Acceptance.{passed_alike, accepted_before}
+use Rattle.calls.proofs.Outputs.{rose_later}
 use Rattle.calls.proofs.Splits.{Places, compared}
 use Rattle.calls.proofs.Splits as places
-use Rattle.calls.proofs.Calls.{stage_behind, told_before}
+use Rattle.calls.proofs.Calls.{refusal_status, stage_behind, told_before}
 
--- This refusal is the first one that what the old files hold leads to: all names are told, the stages before its requirement
--- are passed with these inputs, and these are refused for its reason.
-pub record IsFirstRefusal (work : Work) (folder : Option Folder) (refusal : Refusal) : Type 0 where
-  pub told : AreTold (names_read work.stages) folder
-  pub before : List Stage
-  pub later : List Stage
-  pub inputs : List (List ℕ)
-  pub place : work.stages ≡ before ++ Require (requirement_of refusal) ∷ later
-  pub passed : Pass work folder before [] inputs
-  pub refuses : work.Refuses inputs refusal
+-- the endings of a call that this requirement refuses
+data EndsRefused (work : Work) (requirement : work.Requirement) (inputs : List (List ℕ)) (ending : Ending) : Type 0 where
+  by_refusal : (refusal : Refusal) → ending ≡ Refused refusal → work.Refuses requirement inputs refusal
+      → EndsRefused work requirement inputs ending
+  by_memory : ending ≡ NoMemory → EndsRefused work requirement inputs ending
 
--- another refusal of the same requirement, which these inputs give too
-pub record RefusesAlike (work : Work) (refusal : Refusal) (inputs : List (List ℕ)) (reason : Refusal) : Type 0 where
-  pub same_requirement : requirement_of reason ≡ requirement_of refusal
-  pub refuses : work.Refuses inputs reason
-
--- a call that refuses inputs so: the status is that of a refusal of the same requirement, and err was told of this refusal; or
--- memory ran out
-pub data AnswersRefusal (work : Work) (refusal : Refusal) (inputs : List (List ℕ)) (status : Status) (old new : SinkSeen)
-    : Type 0 where
-  refused : (reason : Refusal) → RefusesAlike work refusal inputs reason → IsReported (Refused reason) status old new
-      → AnswersRefusal work refusal inputs status old new
-  no_memory : status ≡ exit.NoMemory → AnswersRefusal work refusal inputs status old new
-
--- the endings of such a call
-data EndsRefused (work : Work) (refusal : Refusal) (inputs : List (List ℕ)) (ending : Ending) : Type 0 where
-  by_refusal : (reason : Refusal) → ending ≡ Refused reason → RefusesAlike work refusal inputs reason
-      → EndsRefused work refusal inputs ending
-  by_memory : ending ≡ NoMemory → EndsRefused work refusal inputs ending
-
-module _ (work : Work) (folder : Option Folder) (refusal : Refusal) (first : IsFirstRefusal work folder refusal) where
+module _ (work : Work) (folder : Option Folder) (first : LeadsToRefusal work folder) where
   -- the names read before the requirement are told
   told_first : AreTold (names_read first.before) folder
-  told_first =
-      told_before work folder first.before (Require (requirement_of refusal) ∷ first.later) first.told first.place
+  told_first = told_before work folder first.before (Require first.requirement ∷ first.later) first.told first.place
 
   -- not all stages are passed
   not_all_passed : (all : List (List ℕ)) → Pass work folder work.stages [] all → ⊥
   not_all_passed all pass =
-      accepted_before work folder first.before first.later (requirement_of refusal) [] first.inputs all told_first
-      (subst (λ (stages : List Stage). Pass work folder stages [] all) first.place pass) first.passed refusal refl
+      accepted_before work folder first.before first.later first.requirement [] first.inputs all told_first
+      (subst (λ (stages : List (Stage work.Requirement)). Pass work folder stages [] all) first.place pass) first.passed first.refusal
       first.refuses
 
   -- a refusal behind other stages that are passed is one behind these
-  at_the_same_requirement : (reason : Refusal) (before later : List Stage) (inputs : List (List ℕ))
-      → work.stages ≡ before ++ Require (requirement_of reason) ∷ later → Pass work folder before [] inputs
-      → work.Refuses inputs reason
-      → Places first.before before (Require (requirement_of refusal)) (Require (requirement_of reason))
-      → RefusesAlike work refusal first.inputs reason
-  at_the_same_requirement reason before later inputs place passed refuses (places.same stages requirement) = record {
-    same_requirement = cc;
-    refuses = subst (λ (read : List (List ℕ)). work.Refuses read reason)
-        (passed_alike work folder first.before [] inputs first.inputs told_first
-        (subst (λ (s : List Stage). Pass work folder s [] inputs) (sym stages) passed) first.passed)
-        refuses;
-  }
-  at_the_same_requirement reason before later inputs place passed refuses (places.before between stages) =
-      absurd (accepted_before work folder first.before between (requirement_of refusal) [] first.inputs inputs told_first
-      (subst (λ (s : List Stage). Pass work folder s [] inputs) stages passed) first.passed refusal refl first.refuses)
-  at_the_same_requirement reason before later inputs place passed refuses (places.behind between stages) =
-      absurd (accepted_before work folder before between (requirement_of reason) [] inputs first.inputs
-      (told_before work folder before (Require (requirement_of reason) ∷ later) first.told place)
-      (subst (λ (s : List Stage). Pass work folder s [] first.inputs) stages first.passed) passed reason refl refuses)
+  at_the_same_requirement : (requirement : work.Requirement) (refusal : Refusal) (before later : List (Stage work.Requirement))
+      (inputs : List (List ℕ)) → work.stages ≡ before ++ Require requirement ∷ later → Pass work folder before [] inputs
+      → work.Refuses requirement inputs refusal → Places first.before before (Require first.requirement) (Require requirement)
+      → work.Refuses first.requirement first.inputs refusal
+  at_the_same_requirement requirement refusal before later inputs place passed refuses (places.same stages is) =
+      let same : requirement ≡ first.requirement = cc in
+      let read = passed_alike work folder first.before [] inputs first.inputs told_first
+      (subst (λ (s : List (Stage work.Requirement)). Pass work folder s [] inputs) (sym stages) passed) first.passed in
+      subst (λ (r : work.Requirement). work.Refuses r first.inputs refusal) same
+      (subst (λ (r : List (List ℕ)). work.Refuses requirement r refusal) read refuses)
+  at_the_same_requirement requirement refusal before later inputs place passed refuses (places.before between stages) =
+      absurd (accepted_before work folder first.before between first.requirement [] first.inputs inputs told_first
+      (subst (λ (s : List (Stage work.Requirement)). Pass work folder s [] inputs) stages passed) first.passed first.refusal first.refuses)
+  at_the_same_requirement requirement refusal before later inputs place passed refuses (places.behind between stages) =
+      absurd (accepted_before work folder before between requirement [] inputs first.inputs
+      (told_before work folder before (Require requirement ∷ later) first.told place)
+      (subst (λ (s : List (Stage work.Requirement)). Pass work folder s [] first.inputs) stages first.passed) passed refusal refuses)
+
+  -- what is refused at all is refused by this requirement
+  pub refused_by_it : (refusal : Refusal) (old new : Outside) → old.files.folder ≡ folder → IsRefused work refusal old.files new.files
+      → work.Refuses first.requirement first.inputs refusal
+  refused_by_it refusal old new tells it =
+      let place = stage_behind it.before it.place.0 work.stages (Require it.requirement) it.place.1 in
+      at_the_same_requirement it.requirement refusal it.before it.place.0 it.inputs place
+      (subst (λ (f : Option Folder). Pass work f it.before [] it.inputs) tells it.passed.passed) it.refuses
+      (compared first.before first.later it.before it.place.0 (Require first.requirement) (Require it.requirement)
+      (sym first.place ∙ place))
 
   -- a call over such files, of which nothing failed, ends so
   ends_refused : (old new : Outside) (ending : Ending) → old.files.folder ≡ folder → NoneFailed old new
-      → Performs work ending (seen_of old) (seen_of new) → EndsRefused work refusal first.inputs ending
+      → Performs work ending (seen_of old) (seen_of new) → EndsRefused work first.requirement first.inputs ending
   ends_refused old new ending tells none (calls.wrote inputs products read passed gives writes) =
       absurd (not_all_passed inputs
       (subst (λ (f : Option Folder). Pass work f work.stages [] inputs) tells passed.passed))
   ends_refused old new Done tells none (calls.stopped stops same) = absurd stops
-  ends_refused old new (Refused reason) tells none (calls.stopped stops same) =
-      let place = stage_behind stops.before stops.place.0 work.stages (Require (requirement_of reason)) stops.place.1 in
-      by_refusal reason refl (at_the_same_requirement reason stops.before stops.place.0 stops.inputs place
-      (subst (λ (f : Option Folder). Pass work f stops.before [] stops.inputs) tells stops.passed.passed)
-      stops.refuses
-      (compared first.before first.later stops.before stops.place.0 (Require (requirement_of refusal))
-      (Require (requirement_of reason)) (sym first.place ∙ place)))
+  ends_refused old new (Refused refusal) tells none (calls.stopped stops same) =
+      by_refusal refusal refl (refused_by_it refusal old new tells stops)
   ends_refused old new (ReadFault role) tells none (calls.stopped stops same) = absurd (none.read stops.rose)
   ends_refused old new (WriteFault role) tells none (calls.stopped stops same) = absurd stops
   ends_refused old new OutFault tells none (calls.stopped stops same) = absurd stops
   ends_refused old new NoMemory tells none (calls.stopped stops same) = by_memory refl
 
-  -- Where nothing failed, a call that the files refuse is answered by such a refusal, or by want of memory.
-  pub first_refusal_answered : (status : Status) (old new : Outside) → Ends work status old new
-      → old.files.folder ≡ folder → NoneFailed old new
-      → AnswersRefusal work refusal first.inputs status old.err new.err
-  first_refusal_answered status old new ends tells none =
-      by_ending ends.ending ends.reported (ends_refused old new ends.ending tells none ends.performed) where
-        by_ending : (ending : Ending) → IsReported ending status old.err new.err
-            → EndsRefused work refusal first.inputs ending → AnswersRefusal work refusal first.inputs status old.err new.err
-        by_ending ending reported (by_refusal reason is alike) =
-            refused reason alike (subst (λ (e : Ending). IsReported e status old.err new.err) is reported)
-        by_ending ending (reports.nothing is done same) (by_memory none) =
-            let never : Done ≡ NoMemory = sym is ∙ none in absurd (cc)
-        by_ending ending (reports.whole other is line) (by_memory none) = no_memory (is ∙ ap status_of none)
-        by_ending ending (reports.cut other is part) (by_memory none) = no_memory (is ∙ ap status_of none)
-        by_ending ending (reports.no_memory other is part) (by_memory none) = no_memory is
+  -- such an ending is reported
+  answered_so : (ending : Ending) (status : Status) (old new : SinkSeen) → IsReported ending status old new
+      → EndsRefused work first.requirement first.inputs ending → AnswersRefusal work first.requirement first.inputs status old new
+  answered_so ending status old new reported (by_refusal refusal is refuses) =
+      laws.refused refusal refuses (subst (λ (e : Ending). IsReported e status old new) is reported)
+  answered_so ending status old new (reports.nothing is done same) (by_memory none) =
+      let never : Done ≡ NoMemory = sym is ∙ none in absurd (cc)
+  answered_so ending status old new (reports.whole other is line) (by_memory none) = laws.no_memory (is ∙ ap status_of none)
+  answered_so ending status old new (reports.cut other is part) (by_memory none) = laws.no_memory (is ∙ ap status_of none)
+  answered_so ending status old new (reports.no_memory other is part) (by_memory none) = laws.no_memory is
 
--- there is a refusal, which was made and reported so
+  -- Where nothing failed, a call that the files lead to a refusal is answered by that requirement, or by want of memory.
+  pub refusal_answered : (status : Status) (old new : Outside) → Ends work status old new → old.files.folder ≡ folder
+      → NoneFailed old new → AnswersRefusal work first.requirement first.inputs status old.err new.err
+  refusal_answered status old new ends tells none =
+      answered_so ends.ending status old.err new.err ends.reported (ends_refused old new ends.ending tells none ends.performed)
+
+-- a call that was refused left all as it was
+pub untouched : (work : Work) (refusal : Refusal) (old new : Outside) → IsRefused work refusal old.files new.files → new.out ≡ old.out
+    → IsUntouched old new
+untouched work refusal old new it out = record {
+  held = tells_weaker old.files.folder new.files.folder (AsksOnly (names_read it.before)) (λ before after. after.held ≡ before.held)
+      it.passed.asked (λ before after asks. ap (λ (f : Folder). f.held) asks);
+  writer = it.passed.only.writer;
+  read_faults = it.passed.only.read_faults;
+  write_faults = it.passed.only.write_faults;
+  out = out;
+}
+
+-- the cause whose status this is
+cause_of : Status → Cause
+cause_of exit.Words = causes.Words
+cause_of exit.Netlist = causes.Netlist
+cause_of exit.Delays = causes.Delays
+cause_of exit.Size = causes.Size
+cause_of status = causes.Claims
+
+-- each cause has a status of its own
+cause_of-status_for : (cause : Cause) → cause_of (status_for cause) ≡ cause
+unfolding cause_of
+cause_of-status_for causes.Claims = refl
+cause_of-status_for causes.Words = refl
+cause_of-status_for causes.Netlist = refl
+cause_of-status_for causes.Delays = refl
+cause_of-status_for causes.Size = refl
+
+one_cause : (first second : Cause) → status_for first ≡ status_for second → first ≡ second
+one_cause first second same = sym (cause_of-status_for first) ∙ ap cause_of same ∙ cause_of-status_for second
+
+module _ (work : Work) (cause : Cause) (status : Status) (old new : Outside) (of : status ≡ status_for cause) where
+  -- a status of refusals is reported of a refusal alone
+  by_status : (ending : Ending) → Performs work ending (seen_of old) (seen_of new) → status ≡ status_of ending
+      → IsReported ending status old.err new.err → WasRefused work cause status old new
+  by_status Done performed is reported = absurd (refusal_status cause exit.Done (sym of ∙ is))
+  by_status (Refused refusal) (calls.stopped stops same) is reported = record {
+    refusal = refusal;
+    of_cause = one_cause refusal.cause cause (sym is ∙ of);
+    refused = stops;
+    reported = reported;
+    untouched = untouched work refusal old new stops same;
+  }
+  by_status (Refused refusal) (calls.wrote inputs products read passed gives writes) is reported = absurd writes
+  by_status (ReadFault role) performed is reported = absurd (refusal_status cause exit.ReadFault (sym of ∙ is))
+  by_status (WriteFault role) performed is reported = absurd (refusal_status cause exit.WriteFault (sym of ∙ is))
+  by_status OutFault performed is reported = absurd (refusal_status cause exit.WriteFault (sym of ∙ is))
+  by_status NoMemory performed is reported = absurd (refusal_status cause exit.NoMemory (sym of ∙ is))
+
+  by_report : (ending : Ending) → Performs work ending (seen_of old) (seen_of new)
+      → IsReported ending status old.err new.err → IsReported ending status old.err new.err → WasRefused work cause status old new
+  by_report ending performed (reports.nothing is done same) reported = absurd (refusal_status cause exit.Done (sym of ∙ done))
+  by_report ending performed (reports.whole other is line) reported = by_status ending performed is reported
+  by_report ending performed (reports.cut other is part) reported = by_status ending performed is reported
+  by_report ending performed (reports.no_memory other is part) reported = absurd (refusal_status cause exit.NoMemory (sym of ∙ is))
+
+  -- the status of refusals for a cause has such a refusal
+  pub was_refused : Ends work status old new → WasRefused work cause status old new
+  was_refused ends = by_report ends.ending ends.performed ends.reported ends.reported
+
+-- a refusal, and the status of its cause
 pub record HasRefusal (work : Work) (status : Status) (old new : Outside) : Type 0 where
   pub refusal : Refusal
-  pub status_is : status ≡ refusal_status refusal
+  pub status_is : status ≡ status_for refusal.cause
   pub refused : IsRefused work refusal old.files new.files
-  pub out : new.out ≡ old.out
-  pub reported : IsReported (Refused refusal) status old.err new.err
 
--- A status that is none of those of work that was done, of failed reads and writes, and of want of memory has its refusal.
-pub refusal_of_status : (work : Work) (status : Status) (old new : Outside) → Ends work status old new
-    → (status ≡ exit.Done → ⊥) → (status ≡ exit.ReadFault → ⊥) → (status ≡ exit.WriteFault → ⊥)
-    → (status ≡ exit.NoMemory → ⊥) → HasRefusal work status old new
-refusal_of_status work status old new ends not_done not_read not_write not_memory =
-    by_report ends.ending ends.performed ends.reported ends.reported where
-      by_status : (ending : Ending) → Performs work ending (seen_of old) (seen_of new) → status ≡ status_of ending
-          → IsReported ending status old.err new.err → HasRefusal work status old new
-      by_status Done performed is reported = absurd (not_done is)
-      by_status (Refused refusal) (calls.stopped stops same) is reported =
-          record { refusal = refusal; status_is = is; refused = stops; out = same; reported = reported }
-      by_status (Refused refusal) (calls.wrote inputs products read passed gives writes) is reported = absurd writes
-      by_status (ReadFault role) performed is reported = absurd (not_read is)
-      by_status (WriteFault role) performed is reported = absurd (not_write is)
-      by_status OutFault performed is reported = absurd (not_write is)
-      by_status NoMemory performed is reported = absurd (not_memory is)
+module _ (work : Work) (status : Status) (old new : Outside) (none : NoneFailed old new) (not_done : status ≡ exit.Done → ⊥)
+    (not_memory : status ≡ exit.NoMemory → ⊥) where
+  -- the status is that of the ending
+  of_ending : (ending : Ending) → IsReported ending status old.err new.err → status ≡ status_of ending
+  of_ending ending (reports.nothing is done same) = absurd (not_done done)
+  of_ending ending (reports.whole other is line) = is
+  of_ending ending (reports.cut other is part) = is
+  of_ending ending (reports.no_memory other is part) = absurd (not_memory is)
 
-      by_report : (ending : Ending) → Performs work ending (seen_of old) (seen_of new)
-          → IsReported ending status old.err new.err → IsReported ending status old.err new.err → HasRefusal work status old new
-      by_report ending performed (reports.nothing is done same) reported = absurd (not_done done)
-      by_report ending performed (reports.whole other is line) reported = by_status ending performed is reported
-      by_report ending performed (reports.cut other is part) reported = by_status ending performed is reported
-      by_report ending performed (reports.no_memory other is part) reported = absurd (not_memory is)
+  by_kind : (ending : Ending) → Performs work ending (seen_of old) (seen_of new) → status ≡ status_of ending → HasRefusal work status old new
+  by_kind Done performed is = absurd (not_done is)
+  by_kind (Refused refusal) (calls.stopped stops same) is = record { refusal = refusal; status_is = is; refused = stops }
+  by_kind (Refused refusal) (calls.wrote inputs products read passed gives writes) is = absurd writes
+  by_kind (ReadFault role) (calls.stopped stops same) is = absurd (none.read stops.rose)
+  by_kind (ReadFault role) (calls.wrote inputs products read passed gives writes) is = absurd writes
+  by_kind (WriteFault role) (calls.stopped stops same) is = absurd stops
+  by_kind (WriteFault role) (calls.wrote inputs products read passed gives writes) is =
+      absurd (none.write (rose_later _ _ _ passed.only.write_faults writes.rose))
+  by_kind OutFault (calls.stopped stops same) is = absurd stops
+  by_kind OutFault (calls.wrote inputs products read passed gives writes) is = absurd (none.out writes.rose)
+  by_kind NoMemory performed is = absurd (not_memory is)
 
--- no stage of refused words reads a file
-no_read : (before rest : List Stage) (role : Role) (name : List ℕ)
-    → Require Wording ∷ [] ≡ (before ++ Read role name ∷ []) ++ rest → ⊥
-no_read [] rest role name place = cc
-no_read (stage ∷ []) rest role name place = cc
-no_read (stage ∷ next ∷ before) rest role name place = cc
-
--- how a call with refused words is answered
-pub data AnswersWords (reason : WordsRefusal) (status : Status) (old new : Outside) : Type 0 where
-  refused : IsReported (Refused (Words reason)) status old.err new.err → AnswersWords reason status old new
-  no_memory : status ≡ exit.NoMemory → AnswersWords reason status old new
-
--- the endings of such a call
-data EndsWords (reason : WordsRefusal) (ending : Ending) : Type 0 where
-  by_words : ending ≡ Refused (Words reason) → EndsWords reason ending
-  by_lack : ending ≡ NoMemory → EndsWords reason ending
-
--- words that are refused are answered by status 2 with their reason on err, or by want of memory
-pub refused_words_answered : (reason : WordsRefusal) (status : Status) (old new : Outside)
-    → Ends (refused_words reason) status old new → AnswersWords reason status old new
-refused_words_answered reason status old new ends =
-    by_ending ends.ending ends.reported (ends_words ends.ending ends.performed) where
-      ends_words : (ending : Ending) → Performs (refused_words reason) ending (seen_of old) (seen_of new)
-          → EndsWords reason ending
-      ends_words ending (calls.wrote inputs products read passed gives writes) = absurd gives
-      ends_words Done (calls.stopped stops same) = absurd stops
-      ends_words (Refused refusal) (calls.stopped stops same) = by_words (ap Refused stops.refuses)
-      ends_words (ReadFault role) (calls.stopped stops same) =
-          absurd (no_read stops.before stops.place.0 role stops.name stops.place.1)
-      ends_words (WriteFault role) (calls.stopped stops same) = absurd stops
-      ends_words OutFault (calls.stopped stops same) = absurd stops
-      ends_words NoMemory (calls.stopped stops same) = by_lack refl
-
-      by_ending : (ending : Ending) → IsReported ending status old.err new.err → EndsWords reason ending
-          → AnswersWords reason status old new
-      by_ending ending reported (by_words is) =
-          refused (subst (λ (e : Ending). IsReported e status old.err new.err) is reported)
-      by_ending ending (reports.nothing is done same) (by_lack none) =
-          let never : Done ≡ NoMemory = sym is ∙ none in absurd (cc)
-      by_ending ending (reports.whole other is line) (by_lack none) = no_memory (is ∙ ap status_of none)
-      by_ending ending (reports.cut other is part) (by_lack none) = no_memory (is ∙ ap status_of none)
-      by_ending ending (reports.no_memory other is part) (by_lack none) = no_memory is
+  -- where nothing failed and memory sufficed, a call that was not done was refused
+  pub has_refusal : Ends work status old new → HasRefusal work status old new
+  has_refusal ends = by_kind ends.ending ends.performed (of_ending ends.ending ends.reported)

@@ -9,7 +9,7 @@ use Rattle.calls.specs.declared.role.Role.{Role}
 use Rattle.calls.specs.declared.refusal.Refusal.{Refusal}
 use Rattle.calls.specs.declared.ending.Ending.{Ending}
 use Rattle.calls.specs.declared.ending.Ending.TheVariants.{Refused, NoMemory}
-use Rattle.calls.specs.Work.{Work, Stage, Read, Require, Requirement, requirement_of, names_read}
+use Rattle.calls.specs.Work.{Work, Stage, Read, Require, names_read}
 use Rattle.calls.specs.Passing.{HasBytes, Accepts, Pass, AsksOnly, HasOnlyRead, HasPassed}
 use Rattle.calls.specs.Stopping.{Stops}
 use Rattle.calls.specs.Inputs.{FailsToRead}
@@ -18,7 +18,7 @@ use Rattle.calls.proofs.Inputs.{asks_none}
 use Rattle.calls.proofs.Outputs.{rose_later}
 
 -- the names of stages and of further ones
-pub names_read-append : (first later : List Stage) → names_read (first ++ later) ≡ names_read first ++ names_read later
+pub names_read-append : {R : Type 0} (first later : List (Stage R)) → names_read (first ++ later) ≡ names_read first ++ names_read later
 names_read-append [] later = refl
 names_read-append (Read role name ∷ first) later = ap (λ (names : List (List ℕ)). name ∷ names) (names_read-append first later)
 names_read-append (Require requirement ∷ first) later = names_read-append first later
@@ -47,7 +47,7 @@ has_before names name bytes (Some old) (Some new) asked has =
 
 module _ (work : Work) where
   -- a read behind stages that were passed
-  pass_read : (folder : Option Folder) (stages : List Stage) (first all : List (List ℕ)) (role : Role) (name bytes : List ℕ)
+  pass_read : (folder : Option Folder) (stages : List (Stage work.Requirement)) (first all : List (List ℕ)) (role : Role) (name bytes : List ℕ)
       → Pass work folder stages first all → HasBytes folder name bytes
       → Pass work folder (stages ++ Read role name ∷ []) first (all ++ bytes ∷ [])
   pass_read folder [] first all role name bytes pass has =
@@ -58,7 +58,7 @@ module _ (work : Work) where
       (accepts, pass_read folder stages first all role name bytes pass has)
 
   -- a requirement behind stages that were passed
-  pass_requirement : (folder : Option Folder) (stages : List Stage) (first all : List (List ℕ)) (requirement : Requirement)
+  pass_requirement : (folder : Option Folder) (stages : List (Stage work.Requirement)) (first all : List (List ℕ)) (requirement : work.Requirement)
       → Pass work folder stages first all → Accepts work requirement all
       → Pass work folder (stages ++ Require requirement ∷ []) first all
   pass_requirement folder [] first all requirement pass accepts = (subst (Accepts work requirement) pass accepts, pass)
@@ -76,7 +76,7 @@ module _ (work : Work) where
   }
 
   -- one more input was read
-  pub then_read : {stages : List Stage} {inputs : List (List ℕ)} {old mid new : FilesSeen} (role : Role) (name bytes : List ℕ)
+  pub then_read : {stages : List (Stage work.Requirement)} {inputs : List (List ℕ)} {old mid new : FilesSeen} (role : Role) (name bytes : List ℕ)
       → HasPassed work stages inputs old mid
       → HasBytes mid.folder name bytes → Tells mid.folder new.folder (AsksOnly (name ∷ [])) → HasOnlyRead mid new
       → HasPassed work (stages ++ Read role name ∷ []) (inputs ++ bytes ∷ []) old new
@@ -94,7 +94,7 @@ module _ (work : Work) where
   }
 
   -- what was read meets one more requirement
-  pub then_required : {stages : List Stage} {inputs : List (List ℕ)} {old new : FilesSeen} (requirement : Requirement)
+  pub then_required : {stages : List (Stage work.Requirement)} {inputs : List (List ℕ)} {old new : FilesSeen} (requirement : work.Requirement)
       → HasPassed work stages inputs old new → Accepts work requirement inputs
       → HasPassed work (stages ++ Require requirement ∷ []) inputs old new
   then_required {stages} {inputs} {old} {new} requirement before accepts = record {
@@ -105,21 +105,28 @@ module _ (work : Work) where
   }
 
   -- a refusal behind stages that were passed
-  pub stops_refused : {stages : List Stage} {inputs : List (List ℕ)} {old new : FilesSeen} (refusal : Refusal)
-      → HasPassed work stages inputs old new → IsFrontOf (stages ++ Require (requirement_of refusal) ∷ []) work.stages
-      → work.Refuses inputs refusal → Stops work (Refused refusal) old new
-  stops_refused {stages} {inputs} refusal before place refuses =
-      record { before = stages; inputs = inputs; place = place; passed = before; refuses = refuses }
+  pub stops_refused : {stages : List (Stage work.Requirement)} {inputs : List (List ℕ)} {old new : FilesSeen}
+      (requirement : work.Requirement) (refusal : Refusal) → HasPassed work stages inputs old new
+      → IsFrontOf (stages ++ Require requirement ∷ []) work.stages → work.Refuses requirement inputs refusal
+      → Stops work (Refused refusal) old new
+  stops_refused {stages} {inputs} requirement refusal before place refuses = record {
+    before = stages;
+    requirement = requirement;
+    inputs = inputs;
+    place = place;
+    passed = before;
+    refuses = refuses;
+  }
 
   -- want of memory behind stages that were passed
-  pub stops_for_memory : {stages : List Stage} {inputs : List (List ℕ)} {old new : FilesSeen}
+  pub stops_for_memory : {stages : List (Stage work.Requirement)} {inputs : List (List ℕ)} {old new : FilesSeen}
       → HasPassed work stages inputs old new → IsFrontOf stages work.stages → Stops work NoMemory old new
   stops_for_memory {stages} {inputs} {old} {new} before front = record {
     before = stages;
     next = [];
     inputs = inputs;
     names = names_read stages;
-    place = (front.0, front.1 ∙ ap (λ (s : List Stage). s ++ front.0) (sym (append-nil stages)));
+    place = (front.0, front.1 ∙ ap (λ (s : List (Stage work.Requirement)). s ++ front.0) (sym (append-nil stages)));
     one_at_most = omega arith;
     passed = before.passed;
     front = ([], ap names_read (append-nil stages) ∙ sym (append-nil (names_read stages)));
@@ -129,7 +136,7 @@ module _ (work : Work) where
   }
 
   -- a front of the name of one more read is a front of the names with it
-  front_with_name : (stages : List Stage) (role : Role) (name : List ℕ) (names : List (List ℕ))
+  front_with_name : (stages : List (Stage work.Requirement)) (role : Role) (name : List ℕ) (names : List (List ℕ))
       → IsFrontOf names (name ∷ []) → IsFrontOf (names_read stages ++ names) (names_read (stages ++ Read role name ∷ []))
   front_with_name stages role name names (more, whole) = (
     more,
@@ -138,7 +145,7 @@ module _ (work : Work) where
   )
 
   -- a file was not read, behind stages that were passed
-  pub stops_unread : {stages : List Stage} {all : List (List ℕ)} {old mid new : FilesSeen} (role : Role) (name : List ℕ)
+  pub stops_unread : {stages : List (Stage work.Requirement)} {all : List (List ℕ)} {old mid new : FilesSeen} (role : Role) (name : List ℕ)
       (ending : Ending) → HasPassed work stages all old mid → IsFrontOf (stages ++ Read role name ∷ []) work.stages
       → FailsToRead role name ending mid new → Stops work ending old new
   stops_unread {stages} {all} {old} {mid} {new} role name ending before place (inputs.failed is asked rose write) =
@@ -168,6 +175,6 @@ module _ (work : Work) where
       })
 
   -- the words or the inputs were refused before any stage
-  pub stops_at_once : (files : FilesSeen) (refusal : Refusal) → IsFrontOf (Require (requirement_of refusal) ∷ []) work.stages
-      → work.Refuses [] refusal → Stops work (Refused refusal) files files
-  stops_at_once files refusal stage refuses = stops_refused refusal (begun files) stage refuses
+  pub stops_at_once : (files : FilesSeen) (requirement : work.Requirement) (refusal : Refusal)
+      → IsFrontOf (Require requirement ∷ []) work.stages → work.Refuses requirement [] refusal → Stops work (Refused refusal) files files
+  stops_at_once files requirement refusal stage refuses = stops_refused requirement refusal (begun files) stage refuses

@@ -1,7 +1,11 @@
+pub mod CauseAndText
+pub mod Parts
+pub mod RefusalParts
 pub mod Lines
 pub mod Reports
 pub mod Calls
 pub mod Inputs
+pub mod Laws
 pub mod Outputs
 pub mod Passing
 pub mod Preparing

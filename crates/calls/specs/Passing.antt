@@ -4,7 +4,7 @@ use Rattle.pd_io.specs.Folder.{Folder, bytes_at}
 use Rattle.pd_io.specs.Telling.{Tells}
 use Rattle.pd_io.specs.Seen.{FilesSeen}
 use Rattle.calls.specs.declared.refusal.Refusal.{Refusal}
-use Rattle.calls.specs.Work.{Work, Stage, Read, Require, Requirement, requirement_of, names_read}
+use Rattle.calls.specs.Work.{Work, Stage, Read, Require, names_read}
 
 -- this holds of what an object tells, where it tells
 abbrev pub OfTold : {A : Type 0} → Option A → (A → Type 0) → Type 0
@@ -15,13 +15,13 @@ OfTold (Some told) P = P told
 abbrev pub HasBytes : Option Folder → List ℕ → List ℕ → Type 0
 HasBytes folder name bytes = OfTold folder (λ told. bytes ≡ bytes_at told.held name)
 
--- no refusal of this requirement applies to these inputs
-abbrev pub Accepts : Work → Requirement → List (List ℕ) → Type 0
-Accepts work requirement inputs = (refusal : Refusal) → requirement_of refusal ≡ requirement → ¬ work.Refuses inputs refusal
+-- this requirement refuses these inputs in no way
+abbrev pub Accepts : (work : Work) → work.Requirement → List (List ℕ) → Type 0
+Accepts work requirement inputs = (refusal : Refusal) → ¬ work.Refuses requirement inputs refusal
 
 -- These stages are passed from inputs that were read before on: `all` is those inputs, and behind them the bytes that the
 -- reads of the stages add, and each requirement accepts what was read before it.
-abbrev pub Pass : Work → Option Folder → List Stage → List (List ℕ) → List (List ℕ) → Type 0
+abbrev pub Pass : (work : Work) → Option Folder → List (Stage work.Requirement) → List (List ℕ) → List (List ℕ) → Type 0
 Pass work folder [] inputs all = all ≡ inputs
 Pass work folder (Read role name ∷ stages) inputs all =
     (bytes : List ℕ) × HasBytes folder name bytes × Pass work folder stages (inputs ++ bytes ∷ []) all
@@ -39,7 +39,7 @@ pub record HasOnlyRead (old new : FilesSeen) : Type 0 where
   pub write_faults : new.write_faults ≡ old.write_faults
 
 -- a call of this work has passed these stages with these inputs, and of the files nothing changed but the names asked
-pub record HasPassed (work : Work) (stages : List Stage) (inputs : List (List ℕ)) (old new : FilesSeen) : Type 0 where
+pub record HasPassed (work : Work) (stages : List (Stage work.Requirement)) (inputs : List (List ℕ)) (old new : FilesSeen) : Type 0 where
   pub passed : Pass work old.folder stages [] inputs
   pub asked : Tells old.folder new.folder (AsksOnly (names_read stages))
   pub only : HasOnlyRead old new

@@ -1,19 +1,31 @@
--- What words ask for that are refused: nothing but the requirement that refuses them (this project's own).
-use Rattle.std.specs.Prelude.{◌≡◌, ℕ, List, [], ◌∷◌}
-use Rattle.command_line.specs.declared.refusal.WordsRefusal.{WordsRefusal}
+-- What a call does that is refused before it does anything, as for its words (this project's own).
+use Rattle.std.specs.Prelude.{◌≡◌, ⊤, ℕ, List, [], ◌∷◌}
+use Rattle.pd_io.specs.Seen.{SinkSeen}
+use Rattle.calls.specs.declared.ending.Ending.TheVariants.{Refused}
 use Rattle.calls.specs.declared.refusal.Refusal.{Refusal}
-use Rattle.calls.specs.declared.refusal.Refusal.TheVariants.{Words}
-use Rattle.calls.specs.Work.{Work, Require, Wording, Products}
+use Rattle.calls.specs.declared.status.Status.{Status}
+use Rattle.calls.specs.declared.status.Status.TheVariants as exit
+use Rattle.calls.specs.Reports.{IsReported}
+use Rattle.calls.specs.Work.{Work, Require, Products}
 
--- the words are refused for this reason, and for no other
-abbrev pub RefusesWords : WordsRefusal → List (List ℕ) → Refusal → Type 0
-RefusesWords reason inputs refusal = refusal ≡ Words reason
+-- it is refused so, and in no other way
+abbrev pub RefusesAtOnce : Refusal → ⊤ → List (List ℕ) → Refusal → Type 0
+RefusesAtOnce refusal requirement inputs told = told ≡ refusal
 
 -- nothing is given
 abbrev pub GivesNothing : List (List ℕ) → Products → Type 0
 GivesNothing inputs products = ⊥
 
--- words that are refused for this reason
-abbrev pub refused_words : WordsRefusal → Work
-refused_words reason =
-    record { stages = Require Wording ∷ []; Refuses = RefusesWords reason; Gives = GivesNothing }
+-- the work of such a call
+abbrev pub refused_at_once : Refusal → Work
+refused_at_once refusal = record {
+  Requirement = ⊤;
+  stages = Require tt ∷ [];
+  Refuses = RefusesAtOnce refusal;
+  Gives = GivesNothing;
+}
+
+-- such a call reports its refusal, or memory ran out
+pub data ReportsAtOnce (refusal : Refusal) (status : Status) (old new : SinkSeen) : Type 0 where
+  refused : IsReported (Refused refusal) status old new → ReportsAtOnce refusal status old new
+  no_memory : status ≡ exit.NoMemory → ReportsAtOnce refusal status old new

@@ -12,26 +12,26 @@ use Rattle.calls.specs.declared.status.Status.{Status}
 use Rattle.calls.specs.declared.status.Status.TheVariants as exit
 use Rattle.calls.specs.Lines.{line_of, status_of}
 
--- all of this line stands on err, and no failed write was counted
+-- all of this line, or of this piece of one, stands on err, and no failed write was counted
 pub record HasWholeLine (text : List ℕ) (old new : SinkSeen) : Type 0 where
   pub taken : Tells old.taken new.taken (λ before after. after ≡ before ++ text)
   pub uncounted : new.faults ≡ old.faults
 
--- a part of this line stands on err, not all of it
+-- a part of it stands on err, not all of it
 abbrev pub HasPartOfLine : List ℕ → SinkSeen → SinkSeen → Type 0
 HasPartOfLine text old new = Tells old.taken new.taken (TookPart text)
 
--- a write on err failed before all of this line stood there
+-- a write on err failed before all of it stood there
 pub record FailedWithin (text : List ℕ) (old new : SinkSeen) : Type 0 where
   pub taken : HasPartOfLine text old new
   pub rose : Rose old.faults new.faults
 
--- err had no memory for all of this line, which counts as no failed write
+-- err had no memory for all of it, which counts as no failed write
 pub record ErrLacksMemory (text : List ℕ) (old new : SinkSeen) : Type 0 where
   pub taken : HasPartOfLine text old new
   pub uncounted : new.faults ≡ old.faults
 
--- what stands on err after this line was written there, by the answer of the writing
+-- what stands on err after this line, or this piece of one, was written there, by the answer of the writing
 abbrev pub LineEnds : List ℕ → Result ⊤ FileFault → SinkSeen → SinkSeen → Type 0
 LineEnds text (Ok done) old new = HasWholeLine text old new
 LineEnds text (Err failure.Failed) old new = FailedWithin text old new

@@ -7,20 +7,21 @@ use Rattle.calls.specs.declared.role.Role.{Role}
 use Rattle.calls.specs.declared.refusal.Refusal.{Refusal}
 use Rattle.calls.specs.declared.ending.Ending.{Ending}
 use Rattle.calls.specs.declared.ending.Ending.TheVariants.{Done, Refused, ReadFault, WriteFault, OutFault, NoMemory}
-use Rattle.calls.specs.Work.{Work, Stage, Read, Require, requirement_of, names_read}
+use Rattle.calls.specs.Work.{Work, Stage, Read, Require, names_read}
 use Rattle.calls.specs.Passing.{Pass, AsksOnly, HasPassed}
 
 -- the words or the inputs were refused, at the first requirement that does not accept them
 pub record IsRefused (work : Work) (refusal : Refusal) (old new : FilesSeen) : Type 0 where
-  pub before : List Stage
+  pub before : List (Stage work.Requirement)
+  pub requirement : work.Requirement
   pub inputs : List (List ℕ)
-  pub place : IsFrontOf (before ++ Require (requirement_of refusal) ∷ []) work.stages
+  pub place : IsFrontOf (before ++ Require requirement ∷ []) work.stages
   pub passed : HasPassed work before inputs old new
-  pub refuses : work.Refuses inputs refusal
+  pub refuses : work.Refuses requirement inputs refusal
 
 -- a read of the file of this role failed, and all stages before it were passed
 pub record IsUnread (work : Work) (role : Role) (old new : FilesSeen) : Type 0 where
-  pub before : List Stage
+  pub before : List (Stage work.Requirement)
   pub inputs : List (List ℕ)
   pub name : List ℕ
   pub place : IsFrontOf (before ++ Read role name ∷ []) work.stages
@@ -31,8 +32,8 @@ pub record IsUnread (work : Work) (role : Role) (old new : FilesSeen) : Type 0 w
 
 -- memory ran out before anything was written: some stages were passed, and no more was read than the next one reads
 pub record LacksMemory (work : Work) (old new : FilesSeen) : Type 0 where
-  pub before : List Stage
-  pub next : List Stage
+  pub before : List (Stage work.Requirement)
+  pub next : List (Stage work.Requirement)
   pub inputs : List (List ℕ)
   pub names : List (List ℕ)
   pub place : IsFrontOf (before ++ next) work.stages

@@ -1,4 +1,6 @@
 // The files of a call, by their role.
+ghost use Rattle.std.specs.Prelude.{◌≡◌};
+ghost use Rattle.calls.specs.Lines.{role_word};
 
 /// What a file is to a command. A role may be one that is read by one command and written by another.
 #[derive(Clone, Copy, Debug, PartialEq, Eq)]
@@ -13,4 +15,19 @@ pub enum Role {
     Report,
     /// The proofs.
     Proofs,
+}
+
+impl Role {
+    /// The word for the file in a line on err.
+    pub fn word(self) -> &'static [u8]
+        ensures { result.now ≡ role_word self }
+    {
+        match self {
+            Role::Net => b"NET",
+            Role::Delays => b"DELAYS",
+            Role::Tests => b"TESTS",
+            Role::Report => b"REPORT",
+            Role::Proofs => b"PROOFS",
+        }
+    }
 }

@@ -16,7 +16,7 @@ use Rattle.runs.specs.declared.run.Proof.{Proof}
 use Rattle.good_runs.specs.Faults.{Applies, IsNumber}
 use Rattle.good_runs.proofs.Numbers.{all_at_number, number_same}
 use Rattle.claim_check.specs.Prefixes.{AreLeastMarks, AreLeastRefutations, AreTreeNodes, IsLeastMark, IsLeastNumber, IsLeastRefutation}
-use Rattle.claim_check.specs.Prefixes.{IsRefutationAbout, NamesPrefix, Nodes, RefutesAtNode, node_at, node_of_proof}
+use Rattle.claim_check.specs.Prefixes.{IsRefutationAbout, NamesPrefix, Nodes, RefutesPrefixAt, node_at, node_of_proof}
 
 module _ (routes : List Route) (nodes : Nodes) (are : AreTreeNodes routes nodes) (proofs : List Proof)
     (names : All (NamesPrefix routes) proofs) (kind : Kind) (direction : Direction) (row : ℕ) (path : Route)
@@ -99,7 +99,7 @@ module _ (routes : List Route) (nodes : Nodes) (are : AreTreeNodes routes nodes)
         inside : at < nodes.count
         inside = are.within row proof.steps path is_listed has.within
 
-        refutes : RefutesAtNode nodes proofs kind direction at number
+        refutes : RefutesPrefixAt nodes proofs kind direction at number
         refutes = record {
           proof = proof;
           is_proof = is;
@@ -107,7 +107,7 @@ module _ (routes : List Route) (nodes : Nodes) (are : AreTreeNodes routes nodes)
           is_node = has.node;
         }
 
-        by : (found : Option ℕ) → get_or marks at None ≡ found → IsLeastNumber (RefutesAtNode nodes proofs kind direction at) found
+        by : (found : Option ℕ) → get_or marks at None ≡ found → IsLeastNumber (RefutesPrefixAt nodes proofs kind direction at) found
             → HasMark number
         by None marks_node none = absurd (none number refutes)
         by (Some mark) marks_node least = record {
@@ -136,11 +136,11 @@ module _ (routes : List Route) (nodes : Nodes) (are : AreTreeNodes routes nodes)
         inside : node < nodes.count
         inside = subst (λ (k : ℕ). k < nodes.count) is_node (are.within row own.0 path is_listed steps_within)
 
-        by : (found : Option ℕ) → found ≡ Some number → IsLeastNumber (RefutesAtNode nodes proofs kind direction node) found
+        by : (found : Option ℕ) → found ≡ Some number → IsLeastNumber (RefutesPrefixAt nodes proofs kind direction node) found
             → IsOfApplying number
         by None same least = let impossible : ⊥ = cc in absurd impossible
         by (Some mark) same least =
-            let has = subst (RefutesAtNode nodes proofs kind direction node) (same_Some mark number same) least.0 in
+            let has = subst (RefutesPrefixAt nodes proofs kind direction node) (same_Some mark number same) least.0 in
             let named = all_at_number (NamesPrefix routes) proofs number has.proof names has.is_proof in
             record {
               proof = has.proof;

@@ -11,7 +11,7 @@ use Rattle.pd_base.specs.declared.fault.Kind.{Kind}
 use Rattle.runs.specs.declared.run.Proof.{Proof}
 use Rattle.good_runs.specs.Faults.{IsNumber}
 use Rattle.good_runs.proofs.Numbers.{number_kept, number_new, number_of_push}
-use Rattle.claim_check.specs.Prefixes.{AreLeastMarks, AreTreeNodes, HasItsNode, IsLeastMark, IsLeastNumber, IsRefutationAbout, NamesPrefix, Nodes, RefutesAtNode, lesser, node_of_proof}
+use Rattle.claim_check.specs.Prefixes.{AreLeastMarks, AreTreeNodes, HasItsNode, IsLeastMark, IsLeastNumber, IsRefutationAbout, NamesPrefix, Nodes, RefutesPrefixAt, lesser, node_of_proof}
 
 -- the least number of which one thing or another is so is the lesser of the least of both
 pub least_of_both : (Is Also : ℕ → Type 0) (one other : Option ℕ) → IsLeastNumber Is one → IsLeastNumber Also other
@@ -106,7 +106,7 @@ module _ (nodes : Nodes) (kind : Kind) (direction : Direction) where
   marked_none marks are = record {
     one_each = ap length are ∙ length-replicate nodes.count None;
     least = λ node within.
-        subst (IsLeastNumber (RefutesAtNode nodes [] kind direction node)) (sym (no_number node within))
+        subst (IsLeastNumber (RefutesPrefixAt nodes [] kind direction node)) (sym (no_number node within))
         (λ number has. let inside = slice_get_within [] (number - 1) has.proof has.is_proof.found in absurd (omega arith));
   }
     where
@@ -119,8 +119,8 @@ module _ (nodes : Nodes) (kind : Kind) (direction : Direction) where
     longer = proofs ++ proof ∷ []
 
     -- a refutation at a node was there, or it is the new one
-    there_or_new : (node number : ℕ) → RefutesAtNode nodes longer kind direction node number
-        → RefutesAtNode nodes proofs kind direction node number
+    there_or_new : (node number : ℕ) → RefutesPrefixAt nodes longer kind direction node number
+        → RefutesPrefixAt nodes proofs kind direction node number
         ⊎ ((number ≡ length proofs + 1) × IsRefutationAbout kind direction proof × (node_of_proof nodes proof ≡ node))
     there_or_new node number has =
         ⊎_elim
@@ -134,8 +134,8 @@ module _ (nodes : Nodes) (kind : Kind) (direction : Direction) where
         ))
         (number_of_push proofs proof has.proof number has.is_proof)
 
-    there_still : (node number : ℕ) → RefutesAtNode nodes proofs kind direction node number
-        → RefutesAtNode nodes longer kind direction node number
+    there_still : (node number : ℕ) → RefutesPrefixAt nodes proofs kind direction node number
+        → RefutesPrefixAt nodes longer kind direction node number
     there_still node number has = record {
       proof = has.proof;
       is_proof = number_kept proofs (proof ∷ []) number has.proof has.is_proof;
@@ -145,9 +145,9 @@ module _ (nodes : Nodes) (kind : Kind) (direction : Direction) where
 
     -- where the new one is no refutation at a node, its mark stays
     mark_stays : (node : ℕ) → node < nodes.count → (IsRefutationAbout kind direction proof → node_of_proof nodes proof ≡ node → ⊥)
-        → IsLeastNumber (RefutesAtNode nodes longer kind direction node) (get_or marks node None)
+        → IsLeastNumber (RefutesPrefixAt nodes longer kind direction node) (get_or marks node None)
     mark_stays node within none =
-        least_same (RefutesAtNode nodes proofs kind direction node) (RefutesAtNode nodes longer kind direction node)
+        least_same (RefutesPrefixAt nodes proofs kind direction node) (RefutesPrefixAt nodes longer kind direction node)
         (λ number. (
           there_still node number,
           λ has. ⊎_elim (λ before. before) (λ here. absurd (none here.1 here.2)) (there_or_new node number has),
@@ -168,36 +168,36 @@ module _ (nodes : Nodes) (kind : Kind) (direction : Direction) where
       abbrev marks_after : List (Option ℕ)
       marks_after = set marks node mark
 
-      new_one : RefutesAtNode nodes longer kind direction node number
+      new_one : RefutesPrefixAt nodes longer kind direction node number
       new_one = record { proof = proof; is_proof = number_new proofs number proof next; about = about; is_node = sym is_node }
 
-      same_there : (n : ℕ) → (RefutesAtNode nodes proofs kind direction node n ⊎ (Some number ≡ Some n))
-          ↔ RefutesAtNode nodes longer kind direction node n
+      same_there : (n : ℕ) → (RefutesPrefixAt nodes proofs kind direction node n ⊎ (Some number ≡ Some n))
+          ↔ RefutesPrefixAt nodes longer kind direction node n
       same_there n = (
         λ either.
             ⊎_elim (there_still node n)
-            (λ (same : Some number ≡ Some n). subst (RefutesAtNode nodes longer kind direction node) (same_Some number n same) new_one)
+            (λ (same : Some number ≡ Some n). subst (RefutesPrefixAt nodes longer kind direction node) (same_Some number n same) new_one)
             either,
         λ has. ⊎_elim (λ before. inl before) (λ its. inr (ap Some (next ∙ sym its.0))) (there_or_new node n has),
       )
 
-      at_node : IsLeastNumber (RefutesAtNode nodes longer kind direction node) mark
+      at_node : IsLeastNumber (RefutesPrefixAt nodes longer kind direction node) mark
       at_node =
-          least_same (λ n. RefutesAtNode nodes proofs kind direction node n ⊎ (Some number ≡ Some n))
-          (RefutesAtNode nodes longer kind direction node) same_there mark
-          (least_of_both (RefutesAtNode nodes proofs kind direction node) (λ n. Some number ≡ Some n) (get_or marks node None) (Some number)
+          least_same (λ n. RefutesPrefixAt nodes proofs kind direction node n ⊎ (Some number ≡ Some n))
+          (RefutesPrefixAt nodes longer kind direction node) same_there mark
+          (least_of_both (RefutesPrefixAt nodes proofs kind direction node) (λ n. Some number ≡ Some n) (get_or marks node None) (Some number)
           (marked.least node within) (least_itself (Some number)))
 
       at_other : (other : ℕ) → other < nodes.count
-          → IsLeastNumber (RefutesAtNode nodes longer kind direction other) (get_or marks_after other None)
+          → IsLeastNumber (RefutesPrefixAt nodes longer kind direction other) (get_or marks_after other None)
       at_other other inside =
           ⊎_elim
           (λ (here : other ≡ node).
-          subst (λ (k : ℕ). IsLeastNumber (RefutesAtNode nodes longer kind direction k) (get_or marks_after k None)) (sym here)
-          (subst (IsLeastNumber (RefutesAtNode nodes longer kind direction node))
+          subst (λ (k : ℕ). IsLeastNumber (RefutesPrefixAt nodes longer kind direction k) (get_or marks_after k None)) (sym here)
+          (subst (IsLeastNumber (RefutesPrefixAt nodes longer kind direction node))
           (sym (get_or-set_same marks node mark None (let each = marked.one_each in omega arith))) at_node))
           (λ (elsewhere : other ≢ node).
-          subst (IsLeastNumber (RefutesAtNode nodes longer kind direction other)) (sym (get_or-set_other marks node other mark None elsewhere))
+          subst (IsLeastNumber (RefutesPrefixAt nodes longer kind direction other)) (sym (get_or-set_other marks node other mark None elsewhere))
           (mark_stays other inside (λ _ same. elsewhere (sym same ∙ sym is_node))))
           (cases_eq other node)
 

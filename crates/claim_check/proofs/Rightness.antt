@@ -18,6 +18,8 @@ use Rattle.runs.specs.declared.run.Run.{Run}
 use Rattle.runs.specs.declared.run.Verdict.{Verdict}
 use Rattle.runs.specs.declared.run.Verdict.TheVariants.{Robust, Nonrobust, Untestable, Aborted}
 use Rattle.runs.specs.Lawful.{IsLawfulRun, none_named}
+use Rattle.trees.specs.Unlinked.{IsUnlinked}
+use Rattle.trees.proofs.Unlinked.{every_pair_is_of_rules, no_links}
 use Rattle.good_runs.specs.Faults.{IsFault, IsNumber, routes_of, verdict_for}
 use Rattle.good_runs.specs.GoodRun.{IsGoodRefutation, IsGoodRun, IsGoodSpent, IsVerdict}
 use Rattle.good_runs.proofs.FirstOnce.{first_once}
@@ -102,7 +104,8 @@ routes_are delays run first counts paths =
 
 module _ (c : Circuit) (delays : Delays) (count budget : ℕ) (run : Run) (first : List Route) (are_first : AreFirst c delays count first) where
   -- where all is right the run is good
-  module _ (lawful : IsLawfulRun c run) (right : (item : ℕ) (reason : Reason) → IsRightAt c delays budget first run item reason) where
+  module _ (lawful : IsLawfulRun c run) (unlinked : IsUnlinked run.rules)
+      (right : (item : ℕ) (reason : Reason) → IsRightAt c delays budget first run item reason) where
     verdict_right : (number : ℕ) (listed : ListedPath) (direction : Direction) → IsNumber run.paths number listed → (reason : Reason)
         → IsRightVerdict c run number direction listed.path (verdict_for listed direction) reason
     verdict_right number listed direction is reason =
@@ -142,6 +145,7 @@ module _ (c : Circuit) (delays : Delays) (count budget : ℕ) (run : Run) (first
           (right (place + 1) BadSpent).proof (get_or run.proofs place d)
           (number_of_place run.proofs place (get_or run.proofs place d) (slice_get-get_or run.proofs place d within));
       verdicts = verdicts;
+      of_rules = λ place d within. every_pair_is_of_rules c run.rules (no_links run.rules unlinked) (get_or run.tests place d).pair;
       expected = expects;
     }
 

@@ -10,8 +10,8 @@ use Rattle.runs.specs.declared.run.ListedPath.{ListedPath}
 use Rattle.runs.specs.declared.run.Proof.{Proof}
 use Rattle.runs.specs.declared.run.Run.{Run}
 use Rattle.good_runs.specs.Faults.{IsAbout, routes_of, verdict_for}
-use Rattle.test_judging.specs.Expected.{TellsExpected}
-use Rattle.test_judging.specs.Judges.{IsJudgeOf}
+use Rattle.pair_judging.specs.Expected.{TellsExpected}
+use Rattle.pair_judging.specs.Judges.{IsJudgeOf}
 use Rattle.claim_check.specs.declared.fault.Fault.{Fault}
 use Rattle.claim_check.specs.declared.verdicts.Least.{Least}
 use Rattle.claim_check.specs.declared.verdicts.TestJudge.{TestJudge}
@@ -26,7 +26,7 @@ pub record AreLeastFor (run : Run) (direction : Direction) (least : Least) : Typ
 
 -- the tests are judged by this
 pub record JudgesTests (c : Circuit) (tests : List Test) (judge : TestJudge) : Type 0 where
-  pub pairs : IsJudgeOf c judge.pairs
+  pub pairs : IsJudgeOf 4 c judge.pairs
   pub expected : TellsExpected c tests judge.expected.items
 
 -- the fault of the listed path in a row, for a direction, with the refutations of the least numbers that apply

@@ -1,12 +1,13 @@
 -- The paths whose proofs a judge can judge (this project's own).
 use Rattle.std.specs.Prelude.{List, Option}
 use Rattle.pd_base.specs.declared.ids.LineId.{LineId}
+use Rattle.pd_base.specs.Links.{LinkList}
 use Rattle.pd_base.specs.Route.{Route}
 use Rattle.netlist.specs.Circuit.{Circuit}
 use Rattle.netlist.specs.Paths.{IsPath, end_of}
 use Rattle.implication.specs.Standing.{IsToldBy}
 
--- a path that ends in the fan-in of one of these ends
-pub record IsPathTold (c : Circuit) (ends : Option (List LineId)) (path : Route) : Type 0 where
+-- a path that ends in the support of one of these ends
+pub record IsPathTold (c : Circuit) (links : LinkList) (ends : Option (List LineId)) (path : Route) : Type 0 where
   pub is_path : IsPath c path
-  pub told : IsToldBy c ends (end_of c path)
+  pub told : IsToldBy c links ends (end_of c path)

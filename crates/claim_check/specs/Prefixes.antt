@@ -76,7 +76,7 @@ pub record IsRefutationAbout (kind : Kind) (direction : Direction) (proof : Proo
   pub is_about : IsAbout kind direction proof
 
 -- the proof of this number is a refutation of this kind and direction, and this is the node of its prefix
-pub record RefutesAtNode (nodes : Nodes) (proofs : List Proof) (kind : Kind) (direction : Direction) (node number : ℕ) : Type 0 where
+pub record RefutesPrefixAt (nodes : Nodes) (proofs : List Proof) (kind : Kind) (direction : Direction) (node number : ℕ) : Type 0 where
   pub proof : Proof
   pub is_proof : IsNumber proofs number proof
   pub about : IsRefutationAbout kind direction proof
@@ -97,7 +97,7 @@ lesser (Some one) (Some other) = Some (min one other)
 pub record AreLeastMarks (nodes : Nodes) (proofs : List Proof) (kind : Kind) (direction : Direction) (marks : List (Option ℕ)) : Type 0 where
   pub one_each : length marks ≡ nodes.count
   pub least : (node : ℕ) → node < nodes.count
-      → IsLeastNumber (RefutesAtNode nodes proofs kind direction node) (slice_index_or marks node None)
+      → IsLeastNumber (RefutesPrefixAt nodes proofs kind direction node) (slice_index_or marks node None)
 
 -- the least number with which some of these nodes are marked
 abbrev pub IsLeastMark : List (Option ℕ) → List ℕ → Option ℕ → Type 0

@@ -4,6 +4,7 @@ ghost use Rattle.pd_base.specs.declared.limits.TheConstants.{MOST_PATHS};
 ghost use Rattle.delay_annotation.specs.Annotation.{delays_of, Fits};
 ghost use Rattle.netlist.specs.Paths.{IsPath};
 ghost use Rattle.runs.specs.Lawful.{IsLawfulRun};
+ghost use Rattle.trees.specs.Unlinked.{IsUnlinked};
 ghost use Rattle.good_runs.specs.GoodRun.{IsGoodRun};
 ghost use Rattle.good_runs.specs.Promises.{AllKeepPromises};
 ghost use Rattle.claim_check.specs.Claims.{TellsOfRun, claim_of};
@@ -23,7 +24,8 @@ use pd_base::{OutOfMemory, Path};
 use runs::Run;
 use std::alloc::Global;
 
-/// Whether a run is good for the first `count` paths, at most `MOST_PATHS` of them, and a budget of splits, under the rules of the run.
+/// Whether a run is good for the first `count` paths, at most `MOST_PATHS` of them, and a budget of splits, under the rules of the run,
+/// which are not linked ones.
 /// It is judged from the netlist and the delays alone: the paths are listed again, each refutation and each spent tree is walked, and each
 /// test is evaluated. The run has to be one that the three files can spell.
 ///
@@ -43,6 +45,7 @@ pub fn check_run(
     requires fits { Fits net.now delays.now }
     requires count { count ≤ MOST_PATHS }
     requires lawful { IsLawfulRun net.now run.now }
+    requires unlinked { IsUnlinked run.now.rules }
     ensures exactly { IfOk result (λ claim. (claim ≡ Claim.Holds) ↔ IsGoodRun net.now (delays_of net.now delays.now) count budget run.now) }
     ensures tells { IfOk result (TellsOfRun net.now (delays_of net.now delays.now) count budget run.now) }
     ensures promises { result ≡ Ok Claim.Holds → AllKeepPromises net.now budget run.now }
@@ -77,6 +80,7 @@ fn first_flaw(
     requires paths { All (IsPath net.now) first.now }
     requires few { length first.now ≤ MOST_PATHS }
     requires lawful { IsLawfulRun net.now run.now }
+    requires unlinked { IsUnlinked run.now.rules }
     ensures { IfOk result (TellsOfItems (IsRightAt net.now (delays_of net.now delays.now) budget first.now run.now)) }
 {
     // so its paths have few steps

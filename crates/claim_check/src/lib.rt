@@ -1,5 +1,5 @@
 //! Whether a run is good, judged from the netlist and the delays alone: what holds of it, or its first flaw.
-//! Stands on path_lister, path_model, test_judging, refutation_check and good_runs, and on nothing that searches.
+//! Stands on path_lister, path_model, pair_judging, refutation_check and good_runs, and on nothing that searches.
 //! The layer above uses `check_run`, and cites its contract.
 #![tactic(auto)]
 

@@ -1,10 +1,13 @@
 // The proofs of a run, one by one: whether each is a refutation of the prefix that it names, or a tree that spent the budget on the path.
 // One judge of trees serves for all of them.
 ghost use Rattle.std.specs.Prelude.{◌≡◌, ◌<◌, ◌≤◌, ◌↔◌, ◌^◌, All, IfOk, IsTrue, MatchOption, None, Some, length, if◌then◌else◌};
+ghost use Rattle.pd_base.specs.Links.{links_of};
 ghost use Rattle.pd_base.specs.Target.{target_of};
 ghost use Rattle.pd_base.specs.Route.{Route};
+ghost use Rattle.netlist.specs.LinkedPairs.{FitRules};
 ghost use Rattle.netlist.specs.Paths.{IsPath, prefix_of};
-ghost use Rattle.tree_laws.specs.Refutations.{IsRefutation};
+ghost use Rattle.trees.specs.Algebras.{algebra_of};
+ghost use Rattle.trees.specs.Refutations.{IsRefutation};
 ghost use Rattle.good_runs.specs.Faults.{routes_of};
 ghost use Rattle.good_runs.specs.GoodRun.{IsGoodRefutation, IsGoodSpent};
 ghost use Rattle.claim_check.specs.Flaws.{TellsOfItem, TellsOfItems};
@@ -16,11 +19,12 @@ use crate::claim::{Flaw, Reason};
 use crate::numbered::numbered;
 use crate::prefix_tree::PrefixTree;
 use netlist::Netlist;
-use pd_base::{OutOfMemory, Path};
+use pair_judging::ends_of;
+use pd_base::{OutOfMemory, Path, Rules};
 use refutation_check::{TreeCheck, TreeJudge};
 use runs::{Proof, Run};
+use state_sets::{Algebra, FourStates, SixStates};
 use std::alloc::Global;
-use test_judging::ends_of;
 
 // The first proof of a run that is not what it says, where these are the listed paths.
 pub(crate) fn wrong_proof(
@@ -35,18 +39,46 @@ pub(crate) fn wrong_proof(
     requires paths { All (IsPath net.now) paths.now }
     requires nodes { AreTreeNodes paths.now prefixes.now }
     requires few { length run.now.proofs < 2 ^ 32 }
+    requires fit { FitRules net.now run.now.rules }
+    requires links { length (links_of run.now.rules) < 2 ^ 30 }
+    ensures { IfOk result (TellsOfItems (IsRightProofAt net.now budget run.now)) }
+{
+    match run.rules {
+        Rules::One | Rules::Two => {
+            wrong_with::<FourStates>(alloc, net, budget, run, paths, prefixes)
+        }
+        Rules::Linked(_) => wrong_with::<SixStates>(alloc, net, budget, run, paths, prefixes),
+    }
+}
+
+// The same with the kind of states that the run's rules choose.
+fn wrong_with<A: Algebra>(
+    alloc: Global,
+    net: &Netlist,
+    budget: u32,
+    run: &Run,
+    paths: &[Path],
+    prefixes: &PrefixTree,
+) -> Result<Option<Flaw>, OutOfMemory>
+    requires chosen { A.algebra ≡ algebra_of run.now.rules }
+    requires routes { paths.now ≡ routes_of run.now }
+    requires paths { All (IsPath net.now) paths.now }
+    requires nodes { AreTreeNodes paths.now prefixes.now }
+    requires few { length run.now.proofs < 2 ^ 32 }
+    requires fit { FitRules net.now run.now.rules }
+    requires links { length (links_of run.now.rules) < 2 ^ 30 }
     ensures { IfOk result (TellsOfItems (IsRightProofAt net.now budget run.now)) }
 {
     // a netlist knows itself as a circuit
     let _ = net.sources();
     let ends = ends_of(alloc, net, paths)?;
-    let mut judge = TreeJudge::new(alloc, net, &run.rules, ends.as_slice())?;
+    let mut judge = TreeJudge::<A>::new(alloc, net, &run.rules, ends.as_slice())?;
     wrong_by(&mut judge, alloc, budget, run, paths, prefixes)
 }
 
 // The same by a judge that is made for the run's rules and these paths.
-fn wrong_by(
-    judge: &mut TreeJudge,
+fn wrong_by<A: Algebra>(
+    judge: &mut TreeJudge<A>,
     alloc: Global,
     budget: u32,
     run: &Run,
@@ -55,7 +87,7 @@ fn wrong_by(
 ) -> Result<Option<Flaw>, OutOfMemory>
     requires rules { judge.old.rules ≡ run.now.rules }
     requires routes { paths.now ≡ routes_of run.now }
-    requires paths { All (IsPathTold judge.old.net judge.old.ends) paths.now }
+    requires paths { All (IsPathTold judge.old.net (links_of judge.old.rules) judge.old.ends) paths.now }
     requires nodes { AreTreeNodes paths.now prefixes.now }
     requires few { length run.now.proofs < 2 ^ 32 }
     ensures { IfOk result (TellsOfItems (IsRightProofAt judge.old.net budget run.now)) }
@@ -73,15 +105,15 @@ fn wrong_by(
 }
 
 // What is wrong with a proof.
-fn wrong_in(
-    judge: &mut TreeJudge,
+fn wrong_in<A: Algebra>(
+    judge: &mut TreeJudge<A>,
     alloc: Global,
     budget: u32,
     paths: &[Path],
     prefixes: &PrefixTree,
     proof: &Proof,
 ) -> Result<Option<Reason>, OutOfMemory>
-    requires paths { All (IsPathTold judge.old.net judge.old.ends) paths.now }
+    requires paths { All (IsPathTold judge.old.net (links_of judge.old.rules) judge.old.ends) paths.now }
     requires nodes { AreTreeNodes paths.now prefixes.now }
     ensures same { judge.new ≡ judge.old }
     ensures tells { IfOk result (TellsOfItem (IsRightProof judge.old.net judge.old.rules budget paths.now proof.now)) }
@@ -102,13 +134,13 @@ fn unless(good: bool, reason: Reason) -> Option<Reason>
 }
 
 // Whether a proof names a listed path and all its steps, and its tree spent the budget on it.
-fn is_good_spent(
-    judge: &mut TreeJudge,
+fn is_good_spent<A: Algebra>(
+    judge: &mut TreeJudge<A>,
     budget: u32,
     paths: &[Path],
     proof: &Proof,
 ) -> Result<bool, OutOfMemory>
-    requires { All (IsPathTold judge.old.net judge.old.ends) paths.now }
+    requires { All (IsPathTold judge.old.net (links_of judge.old.rules) judge.old.ends) paths.now }
     ensures same { judge.new ≡ judge.old }
     ensures good { IfOk result (λ good. IsTrue good ↔ IsGoodSpent judge.old.net judge.old.rules budget paths.now proof.now) }
 {
@@ -122,15 +154,15 @@ fn is_good_spent(
 }
 
 // Whether a proof names a prefix of a listed path and of none before it, and its tree refutes that within the budget.
-fn is_good_refutation(
-    judge: &mut TreeJudge,
+fn is_good_refutation<A: Algebra>(
+    judge: &mut TreeJudge<A>,
     alloc: Global,
     budget: u32,
     paths: &[Path],
     prefixes: &PrefixTree,
     proof: &Proof,
 ) -> Result<bool, OutOfMemory>
-    requires paths { All (IsPathTold judge.old.net judge.old.ends) paths.now }
+    requires paths { All (IsPathTold judge.old.net (links_of judge.old.rules) judge.old.ends) paths.now }
     requires nodes { AreTreeNodes paths.now prefixes.now }
     ensures same { judge.new ≡ judge.old }
     ensures good { IfOk result (λ good. IsTrue good ↔ IsGoodRefutation judge.old.net judge.old.rules budget paths.now proof.now) }
@@ -160,13 +192,13 @@ fn path_of_new_prefix<'p>(
 }
 
 // Whether a proof's tree refutes its kind and direction for the first steps of a path.
-fn refutes_prefix(
-    judge: &mut TreeJudge,
+fn refutes_prefix<A: Algebra>(
+    judge: &mut TreeJudge<A>,
     alloc: Global,
     path: &Path,
     proof: &Proof,
 ) -> Result<bool, OutOfMemory>
-    requires path { IsPathTold judge.old.net judge.old.ends path.now }
+    requires path { IsPathTold judge.old.net (links_of judge.old.rules) judge.old.ends path.now }
     requires steps { proof.now.steps ≤ length path.now.steps }
     ensures same { judge.new ≡ judge.old }
     ensures refutes { IfOk result (λ refutes. IsTrue refutes

@@ -8,24 +8,24 @@ ghost use Rattle.netlist.specs.Paths.{IsPrefix};
 ghost use Rattle.runs.specs.declared.run.Run.{Run};
 ghost use Rattle.runs.specs.Lawful.{AreLawfulTests, IsLawfulTest};
 ghost use Rattle.good_runs.specs.GoodRun.{HasNonrobustTest, HasTest, IsTestOf};
-ghost use Rattle.test_judging.specs.Expected.{TellsExpected};
-ghost use Rattle.test_judging.specs.Judges.{IsJudgeOf};
+ghost use Rattle.pair_judging.specs.Expected.{TellsExpected};
+ghost use Rattle.pair_judging.specs.Judges.{IsJudgeOf};
 ghost use Rattle.claim_check.specs.Right.{ExpectsRight, HasItsTest, ItsTestExpectsRight};
 
 use crate::fault::Fault;
 use crate::numbered::numbered;
 use netlist::Netlist;
+use pair_judging::ConeJudge;
 use pd_base::{Kind, Test};
 use runs::{Run, Verdict};
-use test_judging::ConeJudge;
 
 // Whether the test of the verdict on a fault, if it has one, is a test of the fault.
 pub(crate) fn has_its_test(net: &Netlist, run: &Run, fault: &Fault, judge: &mut ConeJudge) -> bool
     requires prefix { IsPrefix net.now fault.now.path.now }
     requires lawful { AreLawfulTests net.now run.now.tests }
-    requires judge { IsJudgeOf net.now judge.old }
+    requires judge { IsJudgeOf 4 net.now judge.old }
     ensures tests { IsTrue result ↔ HasItsTest net.now run.now fault.now.number fault.now.dir fault.now.path.now fault.now.verdict }
-    ensures judge { IsJudgeOf net.now judge.new }
+    ensures judge { IsJudgeOf 4 net.now judge.new }
 {
     match fault.verdict {
         Verdict::Robust { test } => has_test(net, run.tests.as_slice(), fault, test, judge),
@@ -46,9 +46,9 @@ fn has_test(
 ) -> bool
     requires prefix { IsPrefix net.now fault.now.path.now }
     requires lawful { AreLawfulTests net.now tests.now }
-    requires judge { IsJudgeOf net.now judge.old }
+    requires judge { IsJudgeOf 4 net.now judge.old }
     ensures tests { IsTrue result ↔ HasTest net.now tests.now fault.now.number (target_of fault.now.path.now fault.now.dir Kind.Robust) number }
-    ensures judge { IsJudgeOf net.now judge.new }
+    ensures judge { IsJudgeOf 4 net.now judge.new }
 {
     match numbered(tests, number) {
         Some(test) => is_test_of(net, fault, Kind::Robust, test, judge),
@@ -66,9 +66,9 @@ fn has_nonrobust_test(
 ) -> bool
     requires prefix { IsPrefix net.now fault.now.path.now }
     requires lawful { AreLawfulTests net.now tests.now }
-    requires judge { IsJudgeOf net.now judge.old }
+    requires judge { IsJudgeOf 4 net.now judge.old }
     ensures tests { IsTrue result ↔ HasNonrobustTest net.now tests.now fault.now.number fault.now.dir fault.now.path.now number }
-    ensures judge { IsJudgeOf net.now judge.new }
+    ensures judge { IsJudgeOf 4 net.now judge.new }
 {
     match numbered(tests, number) {
         Some(test) => {
@@ -83,9 +83,9 @@ fn has_nonrobust_test(
 fn is_test_of(net: &Netlist, fault: &Fault, kind: Kind, test: &Test, judge: &mut ConeJudge) -> bool
     requires prefix { IsPrefix net.now fault.now.path.now }
     requires lawful { IsLawfulTest net.now test.now }
-    requires judge { IsJudgeOf net.now judge.old }
+    requires judge { IsJudgeOf 4 net.now judge.old }
     ensures tests { IsTrue result ↔ IsTestOf net.now fault.now.number (target_of fault.now.path.now fault.now.dir kind) test.now }
-    ensures judge { IsJudgeOf net.now judge.new }
+    ensures judge { IsJudgeOf 4 net.now judge.new }
 {
     test.path == fault.number
         && test.dir == fault.dir

@@ -18,10 +18,10 @@ use crate::fault::Fault;
 use crate::prefix_tree::PrefixTree;
 use crate::testing::{expects_right, has_its_test};
 use netlist::Netlist;
+use pair_judging::{ConeJudge, expect_observed};
 use pd_base::{Direction, Kind, OutOfMemory, Path, Test};
 use runs::{ListedPath, Run, Verdict};
 use std::alloc::Global;
-use test_judging::{ConeJudge, expect_observed};
 
 // For each listed path the refutations of the least numbers that apply for a direction, for both kinds of test.
 #[derive(Drop)]

@@ -1,20 +1,16 @@
 -- Words that the rules accept, as clap has them: positional words and options with their values, in any order.
-use Rattle.std.proofs.Common.{◌≡◌, ◌≢◌, ℕ, List, [], ◌∷◌, ◌++◌, Option, None, Some, codes}
+use Rattle.std.proofs.Common.{◌≡◌, ◌≢◌, ℕ, true, List, [], ◌∷◌, ◌++◌, None}
 use Rattle.std.specs.Prelude.{⊤}
-use Rattle.command_line.specs.Options.{option_word}
-use Rattle.command_line.specs.declared.number_option.NumberOption.{NumberOption}
-use Rattle.command_line.specs.declared.number_option.NumberOption.TheVariants.{Paths, Budget}
+use Rattle.std.specs.List.{list_any}
+use Rattle.command_line.specs.Options.{has_name, option_word, same_option}
+use Rattle.command_line.specs.Scan.{OptionValue, value_among}
+use Rattle.command_line.specs.declared.option_name.OptionName.{OptionName}
 
 -- a positional word, an option with its value behind it, or an option with its value attached
 pub data Item : Type 0 where
   lone : (first : ℕ) (later : List ℕ) → Item
-  apart : NumberOption → (first : ℕ) (later : List ℕ) → Item
-  attached : NumberOption → List ℕ → Item
-
--- the name of an option's argument
-abbrev pub name_of : NumberOption → List ℕ
-name_of Paths = codes "paths"
-name_of Budget = codes "budget"
+  apart : OptionName → (first : ℕ) (later : List ℕ) → Item
+  attached : OptionName → List ℕ → Item
 
 -- the words of items
 abbrev pub words_of : List Item → List (List ℕ)
@@ -24,37 +20,42 @@ words_of (apart option first later ∷ items) = option_word option ∷ (first �
 words_of (attached option value ∷ items) = (option_word option ++ 61 ∷ value) ∷ words_of items
 
 -- what items give: texts alone
-pub record Texts : Type 0 where
+pub record Said : Type 0 where
   pub positional : List (List ℕ)
-  pub paths : Option (List ℕ)
-  pub budget : Option (List ℕ)
+  pub values : List OptionValue
 
-abbrev pub no_texts : Texts
-no_texts = record { positional = []; paths = None; budget = None }
+abbrev pub nothing_said : Said
+nothing_said = record { positional = []; values = [] }
 
-abbrev pub text_given : NumberOption → Texts → Option (List ℕ)
-text_given Paths texts = texts.paths
-text_given Budget texts = texts.budget
+-- an option is given a value
+abbrev pub said_value : OptionName → List ℕ → Said → Said
+said_value option value said = record said { values = said.values ++ record { option = option; text = value } ∷ [] }
 
-abbrev pub with_text : NumberOption → List ℕ → Texts → Texts
-with_text Paths value texts = record texts { paths = Some value }
-with_text Budget value texts = record texts { budget = Some value }
+abbrev pub said_with : Said → Item → Said
+said_with said (lone first later) = record said { positional = said.positional ++ (first ∷ later) ∷ [] }
+said_with said (apart option first later) = said_value option (first ∷ later) said
+said_with said (attached option value) = said_value option value said
 
-abbrev pub texts_with : Texts → Item → Texts
-texts_with texts (lone first later) = record texts { positional = texts.positional ++ (first ∷ later) ∷ [] }
-texts_with texts (apart option first later) = with_text option (first ∷ later) texts
-texts_with texts (attached option value) = with_text option value texts
+-- the option is one of these
+abbrev pub IsAmong : OptionName → List OptionName → Type 0
+IsAmong option options = list_any (λ other. same_option other option) options ≡ true
 
--- a word that is no option's begins with another byte than a hyphen, and an option is not given before
-abbrev pub MayCome : Texts → Item → Type 0
-MayCome texts (lone first later) = first ≢ 45
-MayCome texts (apart option first later) = (first ≢ 45) × (text_given option texts ≡ None)
-MayCome texts (attached option value) = text_given option texts ≡ None
+-- the option is one of these, and has a name
+pub record IsKnown (options : List OptionName) (option : OptionName) : Type 0 where
+  pub among : IsAmong option options
+  pub named : has_name option ≡ true
 
-abbrev pub MayFollow : Texts → List Item → Type 0
-MayFollow texts [] = ⊤
-MayFollow texts (item ∷ items) = MayCome texts item × MayFollow (texts_with texts item) items
+-- A word that is no option's begins with another byte than a hyphen, and so does a value behind an option. An option is one that the
+-- command knows, and is not given before.
+abbrev pub MayCome : List OptionName → Said → Item → Type 0
+MayCome options said (lone first later) = first ≢ 45
+MayCome options said (apart option first later) = IsKnown options option × (first ≢ 45) × (value_among (option_word option) said.values ≡ None)
+MayCome options said (attached option value) = IsKnown options option × (value_among (option_word option) said.values ≡ None)
 
-abbrev pub all_texts : Texts → List Item → Texts
-all_texts texts [] = texts
-all_texts texts (item ∷ items) = all_texts (texts_with texts item) items
+abbrev pub MayFollow : List OptionName → Said → List Item → Type 0
+MayFollow options said [] = ⊤
+MayFollow options said (item ∷ items) = MayCome options said item × MayFollow options (said_with said item) items
+
+abbrev pub all_said : Said → List Item → Said
+all_said said [] = said
+all_said said (item ∷ items) = all_said (said_with said item) items

@@ -1,14 +1,12 @@
--- Texts that spell numbers, and those that do not.
-use Rattle.std.proofs.Common.{◌≡◌, ◌≢◌, ◌&&◌, ℕ, ◌<◌, ◌≤◌, ◌^◌, true, List, [], ◌∷◌, Option, Some, None, Result, Ok, Err, OkIff, length, get_or, refl, sym, ap, subst, inl, inr, arith}
-use Rattle.std.specs.Prelude.{leb, unwrap_or}
+-- Texts that spell numbers, and those that do not; the texts that a word may have as its value.
+use Rattle.std.proofs.Common.{◌≡◌, ◌≢◌, ◌==◌, ◌&&◌, ℕ, ◌<◌, ◌≤◌, ◌^◌, Bool, true, false, List, [], ◌∷◌, Option, Some, None, Result, Ok, Err, OkIff, length, get_or, refl, sym, ap, subst, inl, inr, arith}
+use Rattle.std.specs.Prelude.{leb}
 use Rattle.std.specs.Result.{result_ok}
 use Rattle.std.specs.Str.{all_ascii_digits}
 use Rattle.std.specs.Str.Parse.{digits_value, ParsesUnsigned}
-use Rattle.std.proofs.lemmas.Bool.{and_from, and_parts, cases_Bool, leb-true, le-leb}
+use Rattle.std.proofs.lemmas.Bool.{and_from, and_parts, cases_Bool, eqb-false, eqb-true, leb-true, le-leb}
 use Rattle.std.proofs.lemmas.Str.Parse.{IsNumeralModel, digits_value_short, numerals_by_value, parse_plain, tells_all_ascii_digits}
-use Rattle.command_line.specs.Options.{greatest_value, is_number, is_value, is_within, number_or, number_spelled}
-use Rattle.command_line.specs.declared.number_option.NumberOption.{NumberOption}
-use Rattle.command_line.specs.declared.number.TheConstants.{MOST_DIGITS}
+use Rattle.command_line.specs.Values.{Allowed, number, one_of, file_name, is_allowed, is_among, is_number, is_plain, is_within, number_spelled}
 
 -- std's words for numerals, by their test
 numerals : IsNumeralModel (λ text. all_ascii_digits text ≡ true) (digits_value 10)
@@ -84,58 +82,79 @@ spells_none most text never =
       | inr other ↦ rw other refl
     ]
 
--- a value of an option: it spells a number from 1 to the greatest
-pub record IsValueOf (option : NumberOption) (text : List ℕ) : Type 0 where
-  pub number : ℕ
-  pub spelled : number_spelled MOST_DIGITS text ≡ Some number
-  pub least : 1 ≤ number
-  pub greatest : number ≤ greatest_value option
-
-pub value_is : (option : NumberOption) (text : List ℕ) → is_value option text ≡ true → IsValueOf option text
-value_is option text is = by_number (number_spelled MOST_DIGITS text) refl is
+-- a range of which std reads no number: the text spells none, or one that is greater than the bits hold
+pub read_none : {E : Type 0} (bits least greatest most : ℕ) (text : List ℕ) (result : Result ℕ E) (error : E) → greatest < 2 ^ bits
+    → result ≡ Err error → ParsesUnsigned bits 10 text result → MaySpell most text → is_within least greatest (number_spelled most text) ≡ false
+read_none {E} bits least greatest most text result error fits is_error parses may =
+    elim (cases_Bool (is_number most text)) [
+      | inl is ↦
+          elim (cases_Bool (leb (digits_value 10 text) greatest)) [
+            | inl small ↦
+                let spelled = is_spelled most text is in
+                let some : 0 < length text = let above = spelled.some_digit in omega arith in
+                let few : digits_value 10 text < 2 ^ bits = let within = leb-true (digits_value 10 text) greatest small in omega (arith, within, fits) in
+                let known = subst (λ (answer : Result ℕ E). OkIff answer ((all_ascii_digits text ≡ true) × (0 < length text) × (digits_value 10 text < 2 ^ bits)) (digits_value 10 text)) is_error (parse_plain numerals bits text result parses may.0) in
+                absurd (known (spelled.digits, some, few))
+            | inr great ↦ rw is (rw great (no_second (leb least (digits_value 10 text))))
+          ]
+      | inr other ↦ rw other refl
+    ]
   where
-    by_number : (found : Option ℕ) → number_spelled MOST_DIGITS text ≡ found → is_within (greatest_value option) found ≡ true
-        → IsValueOf option text
+    no_second : (b : Bool) → (b && false) ≡ false
+    no_second true = refl
+    no_second false = refl
+
+-- and a number that it reads is the one that the text spells
+pub read_some : {E : Type 0} (bits most value : ℕ) (text : List ℕ) (result : Result ℕ E) → result ≡ Ok value
+    → ParsesUnsigned bits 10 text result → MaySpell most text → number_spelled most text ≡ Some value
+read_some {E} bits most value text result is_value parses may =
+    let known = subst (λ (answer : Result ℕ E). OkIff answer ((all_ascii_digits text ≡ true) × (0 < length text) × (digits_value 10 text < 2 ^ bits)) (digits_value 10 text)) is_value (parse_plain numerals bits text result parses may.0) in
+    let some : 1 ≤ length text = let above = known.0.1 in omega arith in
+    let is = spelled_is most text (record { digits = known.0.0; some_digit = some; few_digits = may.1 }) in
+    rw is (ap Some (sym known.1))
+
+-- a plain text has a first byte, which is no hyphen
+pub first_of_plain : (text : List ℕ) → is_plain text ≡ true → (first : ℕ) × (later : List ℕ) × (text ≡ first ∷ later) × (first ≢ 45)
+first_of_plain [] plain = absurd cc
+first_of_plain (first ∷ later) plain =
+    elim (cases_Bool (first == 45)) [
+      | inl same ↦ let bad = rw same at plain in absurd cc
+      | inr differs ↦ (first, later, refl, eqb-false first 45 differs)
+    ]
+
+-- a text that spells a number is plain
+number_is_plain : (most : ℕ) (text : List ℕ) (value : ℕ) → number_spelled most text ≡ Some value → is_plain text ≡ true
+number_is_plain most [] value spelled = absurd cc
+number_is_plain most (first ∷ later) value spelled =
+    elim (cases_Bool (first == 45)) [
+      | inl same ↦ let is : first ≡ 45 = eqb-true first 45 same in let none = rw is at spelled in absurd cc
+      | inr differs ↦ rw differs refl
+    ]
+
+-- a text that a word may have as its value is plain, whatever its kind
+pub allowed_is_plain : (allowed : Allowed) (text : List ℕ) → is_allowed allowed text ≡ true → is_plain text ≡ true
+allowed_is_plain (number least greatest digits) text is = by_number (number_spelled digits text) refl is
+  where
+    by_number : (found : Option ℕ) → number_spelled digits text ≡ found → is_within least greatest found ≡ true → is_plain text ≡ true
     by_number None spelled within = absurd cc
-    by_number (Some number) spelled within =
-        let parts = and_parts (leb 1 number) (leb number (greatest_value option)) within in
-        record {
-          number = number;
-          spelled = spelled;
-          least = leb-true 1 number parts.0;
-          greatest = leb-true number (greatest_value option) parts.1;
-        }
+    by_number (Some value) spelled within = number_is_plain digits text value spelled
+allowed_is_plain (one_of words) text is = (and_parts (is_plain text) (is_among words text) is).0
+allowed_is_plain file_name text is = is
 
--- the first byte of a value is no hyphen
-pub value_first : (option : NumberOption) (text : List ℕ) → is_value option text ≡ true
-    → (first : ℕ) × (later : List ℕ) × (text ≡ first ∷ later) × (first ≢ 45)
-value_first option text is = by_text text (spells text (value_is option text is).spelled)
-  where
-    spells : (t : List ℕ) → number_spelled MOST_DIGITS t ≡ Some (value_is option text is).number → is_number MOST_DIGITS t ≡ true
-    spells t spelled =
-        elim (cases_Bool (is_number MOST_DIGITS t)) [
-          | inl good ↦ good
-          | inr other ↦ let bad = rw other at spelled in absurd cc
-        ]
+-- a number that a text spells, and its range
+pub record IsNumberWithin (least greatest : ℕ) (found : Option ℕ) : Type 0 where
+  pub value : ℕ
+  pub spelled : found ≡ Some value
+  pub above : least ≤ value
+  pub below : value ≤ greatest
 
-    by_text : (t : List ℕ) → is_number MOST_DIGITS t ≡ true → (first : ℕ) × (later : List ℕ) × (t ≡ first ∷ later) × (first ≢ 45)
-    by_text [] good = absurd cc
-    by_text (first ∷ later) good = (first, later, refl, λ same. let bad = rw same at good in absurd cc)
-
--- the value of an option, if it was given, is lawful
-abbrev pub HasValue : NumberOption → Option (List ℕ) → Type 0
-HasValue option None = Unit {0}
-HasValue option (Some text) = is_value option text ≡ true
-
--- so the number that is asked for is within its limits, if the default is
-pub record IsWithin (option : NumberOption) (number : ℕ) : Type 0 where
-  pub least : 1 ≤ number
-  pub greatest : number ≤ greatest_value option
-
-pub number_within : (option : NumberOption) (default : ℕ) (text : Option (List ℕ)) → HasValue option text → IsWithin option default
-    → IsWithin option (number_or default text)
-number_within option default None has within = within
-number_within option default (Some text) has within =
-    let value = value_is option text has in
-    subst (λ (found : Option ℕ). IsWithin option (unwrap_or found default)) (sym value.spelled)
-    (record { least = value.least; greatest = value.greatest })
+pub number_within : (least greatest : ℕ) (found : Option ℕ) → is_within least greatest found ≡ true → IsNumberWithin least greatest found
+number_within least greatest None within = absurd cc
+number_within least greatest (Some value) within =
+    let parts = and_parts (leb least value) (leb value greatest) within in
+    record {
+      value = value;
+      spelled = refl;
+      above = leb-true least value parts.0;
+      below = leb-true value greatest parts.1;
+    }

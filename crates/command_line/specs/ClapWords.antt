@@ -1,25 +1,34 @@
--- What clap is told of the words of a command, and what it has of them, in clap's own words; no other crate sees them (this project's
--- own). The options stand there for each command: of a command without them the rules accept no word that names one.
-use Rattle.std.specs.Prelude.{◌≡◌, List, [], Some, option_map, unwrap_or, codes}
+-- What clap is told of the words of a command, in clap's own words; no other crate sees them (this project's own). The options are exactly
+-- those that the command knows.
+use Rattle.std.specs.Prelude.{ℕ, List, [], ◌∷◌, map, option_map, unwrap_or, Some, codes}
 use Rattle.clap.specs.declared.builder.action.ArgAction.TheVariants.{Append}
-use Rattle.clap.specs.Words.{App, Row, Rule, Text, all_of, first_of, new_app, new_rule, with_rule}
-use Rattle.command_line.specs.Commands.{bytes_of_words}
-use Rattle.command_line.specs.declared.parsing.Parsed.{Parsed}
+use Rattle.clap.specs.Words.{App, Rule, first_value, matched_of, new_app, new_rule, raw_values}
+use Rattle.clap.specs.declared.parser.matches.Found.{Found}
+use Rattle.command_line.specs.Options.{option_entry, option_word}
+use Rattle.command_line.specs.Scan.{Texts}
+use Rattle.command_line.specs.declared.option_name.OptionName.{OptionName}
 
 -- the argument that takes all positional words
 abbrev pub word_rule : Rule
 word_rule = record (new_rule (codes "positional")) { action = Some Append }
 
--- an option with a value
-abbrev pub option_rule : Text → Rule
-option_rule name = record (new_rule name) { long = Some name }
+-- the argument of an option with this word and name, which has a value
+abbrev pub argument_rule : List ℕ → List ℕ → Rule
+argument_rule word name = record (new_rule word) { long = Some name }
+
+-- the argument of an option
+abbrev pub option_rule : OptionName → Rule
+option_rule option = argument_rule (option_word option) (option_entry option).name
 
 -- the command with its arguments
-abbrev pub words_app : App
-words_app = with_rule (with_rule (with_rule (new_app (codes "pdfgen")) word_rule) (option_rule (codes "paths"))) (option_rule (codes "budget"))
+abbrev pub words_app : List OptionName → App
+words_app options =
+    let app = new_app (codes "pdfgen") in
+    record app { top = record app.top { rules = word_rule ∷ map option_rule options } }
 
--- the values that stand in the rows of a parse
-pub record HasRows (rows : List Row) (parsed : Parsed) : Type 0 where
-  pub positional : bytes_of_words parsed.positional.items ≡ unwrap_or (all_of (codes "positional") rows) []
-  pub paths : option_map (λ text. text.now) parsed.paths ≡ first_of (codes "paths") rows
-  pub budget : option_map (λ text. text.now) parsed.budget ≡ first_of (codes "budget") rows
+-- what was found of words
+abbrev pub texts_found : Found → Texts
+texts_found found = record {
+  positional = unwrap_or (option_map raw_values (matched_of found (codes "positional"))) [];
+  values = λ option. first_value found (option_word option);
+}

@@ -1,26 +1,21 @@
 -- What a word behind a command's own is, by itself (this project's own).
-use Rattle.std.specs.Prelude.{◌==◌, ℕ, Bool, true, false, List, [], ◌∷◌, Option, None, Some, nat_eq, if◌then◌else◌}
-use Rattle.std.specs.Cmp.Lexicographic.{pointwise}
-use Rattle.command_line.specs.Options.{beginning, option_word}
-use Rattle.command_line.specs.declared.number_option.NumberOption.{NumberOption}
-use Rattle.command_line.specs.declared.number_option.NumberOption.TheVariants.{Paths, Budget}
+use Rattle.std.specs.Prelude.{◌==◌, ℕ, List, [], ◌∷◌, Option, None, Some, if◌then◌else◌, unwrap_or}
+use Rattle.command_line.specs.Options.{equals_sign, option_word}
+use Rattle.command_line.specs.Values.{hyphen}
+use Rattle.command_line.specs.declared.option_name.OptionName.{OptionName}
 
 -- what a word may be
 pub data Kind : Type 0 where
   -- an option's own word; its value is the next word
-  alone : NumberOption → Kind
+  alone : OptionName → Kind
   -- an option's word with its value
-  valued : NumberOption → List ℕ → Kind
+  valued : OptionName → List ℕ → Kind
   -- another word that begins with a hyphen
   hyphened : Kind
   -- a word without bytes
   empty : Kind
   -- any other word
   plain : Kind
-
--- the byte of a hyphen
-abbrev pub hyphen : ℕ
-hyphen = 45
 
 -- what stands behind this front of a text
 abbrev pub without_front : List ℕ → List ℕ → Option (List ℕ)
@@ -33,17 +28,17 @@ abbrev pub other_kind : List ℕ → Kind
 other_kind [] = empty
 other_kind (first ∷ later) = if first == hyphen then hyphened else plain
 
--- an option with this value, or else another kind
-abbrev pub valued_or : Kind → NumberOption → Option (List ℕ) → Kind
-valued_or other option None = other
-valued_or other option (Some value) = valued option value
+-- the kind of a word that begins with an option's, by what stands behind that, if it is the option's
+abbrev pub kind_behind : OptionName → Option (List ℕ) → Option Kind
+kind_behind option None = None
+kind_behind option (Some []) = Some (alone option)
+kind_behind option (Some (first ∷ value)) = if first == equals_sign then Some (valued option value) else None
 
--- the kind of a word that may be this option, or else is of another kind
-abbrev pub option_kind : NumberOption → List ℕ → Kind → Kind
-option_kind option word other =
-    if pointwise nat_eq word (option_word option) then alone option else valued_or other option (without_front (beginning option) word)
+-- the kind of a word that may be this option's, if it is
+abbrev pub option_kind : OptionName → List ℕ → Option Kind
+option_kind option word = kind_behind option (without_front (option_word option) word)
 
--- the kind of a word of a command that has the options or not
-abbrev pub word_kind : Bool → List ℕ → Kind
-word_kind false word = other_kind word
-word_kind true word = option_kind Paths word (option_kind Budget word (other_kind word))
+-- the kind of a word of a command that knows these options
+abbrev pub word_kind : List OptionName → List ℕ → Kind
+word_kind [] word = other_kind word
+word_kind (option ∷ options) word = unwrap_or (option_kind option word) (word_kind options word)

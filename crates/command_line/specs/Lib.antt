@@ -1,6 +1,12 @@
 pub mod ClapWords
 pub mod Commands
 pub mod Kinds
+pub mod MakeForm
 pub mod Options
+pub mod ReplayForm
+pub mod RunForm
+pub mod Scan
 pub mod Taken
+pub mod Times
+pub mod Values
 pub mod Words

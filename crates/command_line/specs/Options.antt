@@ -1,49 +1,57 @@
--- Numbers among words; the options of commands: the word of each, and the numbers that it may have as its value (this project's own).
-use Rattle.std.specs.Prelude.{ℕ, ◌&&◌, Bool, false, leb, List, length, Option, None, Some, option_and_then, unwrap_or, codes, if◌then◌else◌}
-use Rattle.std.specs.Str.{all_ascii_digits}
-use Rattle.std.specs.Str.Parse.{digits_value}
+-- The options of the commands: the list of them, each with its name, what its value may be, and the value where none is given (this
+-- project's own). Which commands know an option, their forms say.
+use Rattle.std.specs.Prelude.{◌≡◌, ℕ, ◌==◌, ◌||◌, Bool, true, false, not, List, [], ◌∷◌, Option, Some, codes, nat_eq}
+use Rattle.std.specs.List.{list_all, list_any}
+use Rattle.std.specs.Cmp.Lexicographic.{pointwise}
+use denote.Enum.Bare.{sameb}
 use Rattle.pd_base.specs.declared.limits.TheConstants.{MOST_BUDGET, MOST_PATHS}
+use Rattle.command_line.specs.Values.{Allowed, number, hyphen}
+use Rattle.command_line.specs.contracts.option_name.OptionName.{the_type}
 use Rattle.command_line.specs.declared.number.TheConstants.{MOST_DIGITS}
-use Rattle.command_line.specs.declared.number_option.NumberOption.{NumberOption}
-use Rattle.command_line.specs.declared.number_option.NumberOption.TheVariants.{Paths, Budget}
+use Rattle.command_line.specs.declared.option_name.OptionName.{OptionName}
+use Rattle.command_line.specs.declared.option_name.OptionName.TheVariants.{Paths, Budget}
 
--- the word of an option
-abbrev pub option_word : NumberOption → List ℕ
-option_word Paths = codes "--paths"
-option_word Budget = codes "--budget"
+-- the byte of the sign that parts an option's word from its value, where they are one word
+abbrev pub equals_sign : ℕ
+equals_sign = 61
 
--- the beginning of a word that has the option's value, too
-abbrev pub beginning : NumberOption → List ℕ
-beginning Paths = codes "--paths="
-beginning Budget = codes "--budget="
+-- an option: its name, what its value may be, and the value that it has where none is given, if it has one
+pub record OptionEntry : Type 0 where
+  pub name : List ℕ
+  pub allowed : Allowed
+  pub default : Option (List ℕ)
 
--- the greatest value of an option; the least is 1
-abbrev pub greatest_value : NumberOption → ℕ
-greatest_value Paths = MOST_PATHS
-greatest_value Budget = MOST_BUDGET
+-- the list of options: how many paths are to be listed, and how many splits each search may make
+abbrev pub option_entry : OptionName → OptionEntry
+option_entry Paths = record { name = codes "paths"; allowed = number 1 MOST_PATHS MOST_DIGITS; default = Some (codes "100") }
+option_entry Budget = record { name = codes "budget"; allowed = number 1 MOST_BUDGET MOST_DIGITS; default = Some (codes "1000") }
 
--- one to so many decimal digits
-abbrev pub is_number : ℕ → List ℕ → Bool
-is_number most text = all_ascii_digits text && (leb 1 (length text) && leb (length text) most)
+-- the word of an option is its name behind two hyphens
+abbrev pub option_word : OptionName → List ℕ
+option_word option = hyphen ∷ hyphen ∷ (option_entry option).name
 
--- the number that they spell
-abbrev pub number_spelled : ℕ → List ℕ → Option ℕ
-number_spelled most text = if is_number most text then Some (digits_value 10 text) else None
+-- the two are one option
+abbrev pub same_option : OptionName → OptionName → Bool
+same_option one other = sameb the_type one other
 
--- the number that a text spells, or the default where there is none
-abbrev pub number_or : ℕ → Option (List ℕ) → ℕ
-number_or default text = unwrap_or (option_and_then (number_spelled MOST_DIGITS) text) default
+-- a name that has bytes, none of which is an equals sign
+abbrev pub is_option_name : List ℕ → Bool
+is_option_name [] = false
+is_option_name (first ∷ later) = not (list_any (λ byte. byte == equals_sign) (first ∷ later))
 
--- a number from 1 to the greatest
-abbrev pub is_within : ℕ → Option ℕ → Bool
-is_within greatest None = false
-is_within greatest (Some value) = leb 1 value && leb value greatest
+-- the option has such a name
+abbrev pub has_name : OptionName → Bool
+has_name option = is_option_name (option_entry option).name
 
--- a number that is no greater
-abbrev pub is_at_most : ℕ → Option ℕ → Bool
-is_at_most greatest None = false
-is_at_most greatest (Some value) = leb value greatest
+-- the two are one option, or have two words
+abbrev pub told_apart : OptionName → OptionName → Bool
+told_apart one other = same_option one other || not (pointwise nat_eq (option_word one) (option_word other))
 
--- a text that an option may have as its value
-abbrev pub is_value : NumberOption → List ℕ → Bool
-is_value option text = is_within (greatest_value option) (number_spelled MOST_DIGITS text)
+-- options of which no two have one word
+abbrev pub are_apart : List OptionName → Bool
+are_apart options = list_all (λ one. list_all (told_apart one) options) options
+
+-- the options of a form: each has a name that clap may know it by, and no two have one word
+pub record AreLawful (options : List OptionName) : Type 0 where
+  pub named : list_all has_name options ≡ true
+  pub apart : are_apart options ≡ true

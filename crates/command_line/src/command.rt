@@ -1,4 +1,14 @@
-// What the words ask for: a command with the names of its files, by role, and its numbers.
+// The list of the commands, and from the words of the command line to the one that they ask for.
+ghost use Rattle.std.specs.Prelude.{◌≡◌, Ok, IfOk, IfErr};
+ghost use Rattle.command_line.specs.Commands.{bytes_of_words};
+ghost use Rattle.command_line.specs.Taken.{IsFaultOf};
+ghost use Rattle.command_line.specs.Words.{HasLawfulNumbers, asked_call, call_of};
+
+use crate::forms::make::{MakeCommand, read_make};
+use crate::forms::replay::{ReplayCommand, read_replay};
+use crate::forms::run::{RunCommand, read_run};
+use crate::{WordsFault, WordsRefusal};
+use std::alloc::Global;
 
 /// A command of the program.
 #[derive(Clone, Copy)]
@@ -13,41 +23,28 @@ pub enum Command<'a> {
     Make(MakeCommand),
 }
 
-/// What is asked for of a run: `gen` makes it and writes its three files, `check` judges the run that they spell.
-#[derive(Clone, Copy)]
-pub struct RunCommand<'a> {
-    /// The netlist, to be read.
-    pub net: &'a str,
-    /// The delays, to be read.
-    pub delays: &'a str,
-    /// The tests of the run.
-    pub tests: &'a str,
-    /// The report on the run.
-    pub report: &'a str,
-    /// The proofs of the run.
-    pub proofs: &'a str,
-    /// How many paths are to be listed, where the netlist has as many.
-    pub paths: u32,
-    /// How many splits each search may make.
-    pub budget: u32,
-}
-
-/// A call of `replay`. All its files are to be read.
-#[derive(Clone, Copy)]
-pub struct ReplayCommand<'a> {
-    /// The netlist.
-    pub net: &'a str,
-    /// The delays.
-    pub delays: &'a str,
-    /// The tests.
-    pub tests: &'a str,
-    /// The time at which the observed lines are sampled, in the unit of the delays.
-    pub time: u64,
-}
-
-/// A call of `make`.
-#[derive(Clone, Copy)]
-pub struct MakeCommand {
-    /// How many stages the ladder is to have.
-    pub stages: u32,
+/// The command that the words ask for, or the first reason why they are refused, or want of memory. The words are those behind the
+/// program's own name: `gen NET DELAYS TESTS REPORT PROOFS [--paths N] [--budget N]`, the options in any place behind `gen`, `check`
+/// with the same words behind it, `replay NET DELAYS TESTS TIME`, or `make N`.
+pub fn read_words<'a>(alloc: Global, words: &'a [&'a str]) -> Result<Command<'a>, WordsFault>
+    ensures asked { IfOk result (λ command. asked_call (bytes_of_words words.entry.now) ≡ Ok (call_of command)) }
+    ensures fault { IfErr result (IsFaultOf (asked_call (bytes_of_words words.entry.now))) }
+    ensures numbers { IfOk result (λ command. HasLawfulNumbers (call_of command)) }
+{
+    let [first, later @ ..] = words else {
+        return Err(WordsFault::Refused(WordsRefusal::Command));
+    };
+    if *first == "gen" {
+        return Ok(Command::Gen(read_run(alloc, words, later)?));
+    }
+    if *first == "check" {
+        return Ok(Command::Check(read_run(alloc, words, later)?));
+    }
+    if *first == "replay" {
+        return Ok(Command::Replay(read_replay(alloc, words, later)?));
+    }
+    if *first == "make" {
+        return Ok(Command::Make(read_make(alloc, words, later)?));
+    }
+    Err(WordsFault::Refused(WordsRefusal::Command))
 }

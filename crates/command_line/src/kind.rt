@@ -1,17 +1,17 @@
 // What a word behind a command's own is, by itself.
-ghost use Rattle.std.specs.Prelude.{◌≡◌};
+ghost use Rattle.std.specs.Prelude.{◌≡◌, option_map};
 ghost use Rattle.command_line.specs.Kinds.{option_kind, other_kind, word_kind};
 ghost use Rattle.command_line.specs.Taken.{kind_seen};
 
-use crate::NumberOption;
+use crate::OptionName;
 
 /// The kind of a word. Whether it may stand where it does is another question.
 #[derive(Clone, Copy)]
 pub(crate) enum WordKind<'a> {
     /// An option's own word. Its value is the next word.
-    Alone(NumberOption),
+    Alone(OptionName),
     /// An option's word with its value.
-    Valued(NumberOption, &'a str),
+    Valued(OptionName, &'a str),
     /// Another word that begins with a hyphen.
     Hyphened,
     /// A word without bytes.
@@ -20,16 +20,18 @@ pub(crate) enum WordKind<'a> {
     Plain,
 }
 
-// The kind of a word of a command that has the options or not.
-pub(crate) fn word_kind(has_options: bool, word: &str) -> WordKind<'_>
-    ensures { kind_seen result ≡ word_kind has_options word.now }
+// The kind of a word of a command that knows these options.
+pub(crate) fn word_kind<'a>(options: &[OptionName], word: &'a str) -> WordKind<'a>
+    ensures { kind_seen result ≡ word_kind options.now word.now }
 {
-    let other = other_kind(word);
-    if !has_options {
-        return other;
+    let mut rest = options;
+    while let [option, later @ ..] = rest {
+        if let Some(kind) = option_kind(*option, word) {
+            return kind;
+        }
+        rest = later;
     }
-    let other = option_kind(NumberOption::Budget, word, other);
-    option_kind(NumberOption::Paths, word, other)
+    other_kind(word)
 }
 
 // The kind of a word that is no option of the command.
@@ -43,15 +45,18 @@ fn other_kind(word: &str) -> WordKind<'_>
     }
 }
 
-// The kind of a word that may be this option, or else is of this other kind.
-fn option_kind<'a>(option: NumberOption, word: &'a str, other: WordKind<'a>) -> WordKind<'a>
-    ensures { kind_seen result ≡ option_kind option word.now (kind_seen other.entry) }
+// The kind of a word that may be this option's, if it is.
+fn option_kind(option: OptionName, word: &str) -> Option<WordKind<'_>>
+    ensures { option_map kind_seen result ≡ option_kind option word.now }
 {
-    if word == option.word() {
-        return WordKind::Alone(option);
+    let Some(behind) = word.strip_prefix(option.word()) else {
+        return None;
+    };
+    if behind.is_empty() {
+        return Some(WordKind::Alone(option));
     }
-    match word.strip_prefix(option.beginning()) {
-        Some(value) => WordKind::Valued(option, value),
-        None => other,
+    match behind.strip_prefix("=") {
+        Some(value) => Some(WordKind::Valued(option, value)),
+        None => None,
     }
 }

@@ -1,26 +1,29 @@
 //! The words of the command line: what they ask for, or why they are refused. The rules read them from the left
-//! (specs/Words.antt); of words that they accept, clap reads the values. Stands on pd_base and clap, of which no other crate sees a
+//! (specs/Scan.antt); of words that they accept, clap reads the values. The options are one list (option_name.rt), the commands another
+//! (command.rt); what each command takes is its form, a module of forms/. Stands on pd_base and clap, of which no other crate sees a
 //! type. The layers above use `read_words`.
 #![tactic(auto)]
 
 mod command;
-mod command_name;
 mod fault;
 mod form;
+mod forms;
 mod kind;
 mod number;
-mod number_option;
+mod option_name;
 mod parsing;
 mod reading;
 mod refusal;
 mod same;
-mod stages;
 mod taken;
 mod taking;
 mod time;
+mod value_kind;
 
-pub use command::{Command, MakeCommand, ReplayCommand, RunCommand};
+pub use command::{Command, read_words};
 pub use fault::WordsFault;
-pub use number_option::NumberOption;
-pub use reading::read_words;
+pub use forms::make::MakeCommand;
+pub use forms::replay::ReplayCommand;
+pub use forms::run::RunCommand;
+pub use option_name::OptionName;
 pub use refusal::WordsRefusal;

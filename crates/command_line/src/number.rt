@@ -1,6 +1,6 @@
 // Numbers among words.
 ghost use Rattle.std.specs.Prelude.{◌≡◌, ◌≢◌, ◌≤◌, ◌↔◌, true, length, slice_index_or};
-ghost use Rattle.command_line.specs.Options.{number_spelled};
+ghost use Rattle.command_line.specs.Values.{is_within, number_spelled};
 
 /// The most digits of an option's value.
 pub const MOST_DIGITS: usize = 7;
@@ -26,6 +26,19 @@ pub(crate) fn long_number(text: &str, most_digits: usize) -> Option<u64>
         text.parse::<u64>().ok()
     } else {
         None
+    }
+}
+
+// Whether a text spells a number in a range by at most so many digits.
+pub(crate) fn is_within(text: &str, least: u32, greatest: u32, most_digits: usize) -> bool
+    ensures { result ≡ is_within least greatest (number_spelled most_digits text.now) }
+{
+    if !may_spell(text, most_digits) {
+        return false;
+    }
+    match text.parse::<u32>() {
+        Ok(value) => value >= least && value <= greatest,
+        Err(_) => false,
     }
 }
 

@@ -1,5 +1,5 @@
 // Why the words of the command line are refused.
-use crate::NumberOption;
+use crate::OptionName;
 
 /// What is wrong with the words. A place is a word's number; the command stands at 1.
 #[derive(Clone, Copy)]
@@ -7,9 +7,9 @@ pub enum WordsRefusal {
     /// The command is missing, or is none that is known.
     Command,
     /// This option was given before.
-    Repeat(NumberOption),
+    Repeat(OptionName),
     /// This option has no value, or one that it may not have.
-    Value(NumberOption),
+    Value(OptionName),
     /// The word at this place begins with a hyphen, and is no option of the command.
     OptionAt(usize),
     /// The word at this place is empty.

@@ -1,14 +1,14 @@
-// Equal names among positional words.
+// Equal names among the names of files.
 ghost use Rattle.std.specs.Prelude.{◌≡◌};
-ghost use Rattle.command_line.specs.Words.{first_same, place_of};
-ghost use Rattle.command_line.specs.Taken.{words_placed};
+ghost use Rattle.command_line.specs.Scan.{first_same, place_of};
+ghost use Rattle.command_line.specs.Taken.{names_placed};
 
 use crate::WordsRefusal;
-use crate::taken::Positional;
+use crate::taken::PlacedName;
 
 // The first two equal names.
-pub(crate) fn same_among(names: &[Positional]) -> Option<WordsRefusal>
-    ensures { result ≡ first_same (words_placed names.now) }
+pub(crate) fn same_among(names: &[PlacedName]) -> Option<WordsRefusal>
+    ensures { result ≡ first_same (names_placed names.now) }
 {
     let mut rest = names;
     while let [name, later @ ..] = rest {
@@ -21,8 +21,8 @@ pub(crate) fn same_among(names: &[Positional]) -> Option<WordsRefusal>
 }
 
 // The place of the first of these names that is this text.
-fn place_of(text: &str, names: &[Positional]) -> Option<usize>
-    ensures { result ≡ place_of text.now (words_placed names.now) }
+fn place_of(text: &str, names: &[PlacedName]) -> Option<usize>
+    ensures { result ≡ place_of text.now (names_placed names.now) }
 {
     let mut rest = names;
     while let [name, later @ ..] = rest {

@@ -1,17 +1,24 @@
 // What the words of a command gave so far, read from the left, and how one word more is taken.
-ghost use Rattle.std.specs.Prelude.{◌≡◌, [], option_map, slice_index_or, take};
-ghost use Rattle.command_line.specs.Taken.{TakesAs, given_of, words_placed};
-ghost use Rattle.command_line.specs.Words.{missing_reason, none_given, option_due, option_taken, positional_taken, texts_of_words, value_given, value_taken, word_taken};
+ghost use Rattle.std.specs.Prelude.{◌≡◌, [], Ok, option_map, slice_index_or};
+ghost use Rattle.command_line.specs.Scan.{missing_reason, name_added, none_given, option_due, option_taken, positional_taken, texts_given, value_asked, value_given, value_taken, word_taken};
+ghost use Rattle.command_line.specs.Taken.{TakesAs, form_seen, given_of};
 
-use crate::form::CommandForm;
+use crate::form::WordsForm;
 use crate::kind::{WordKind, word_kind};
-use crate::{NumberOption, WordsFault, WordsRefusal};
+use crate::{OptionName, WordsFault, WordsRefusal};
 use std::alloc::Global;
 
-/// A positional word, and its place.
+/// A word that stands for the name of a file, and its place.
 #[derive(Clone, Copy)]
-pub(crate) struct Positional<'a> {
+pub(crate) struct PlacedName<'a> {
     pub(crate) place: usize,
+    pub(crate) text: &'a str,
+}
+
+/// The value that an option was given.
+#[derive(Clone, Copy)]
+pub(crate) struct OptionValue<'a> {
+    pub(crate) option: OptionName,
     pub(crate) text: &'a str,
 }
 
@@ -19,13 +26,13 @@ pub(crate) struct Positional<'a> {
 #[derive(Drop)]
 pub(crate) struct Taken<'a> {
     /// The positional words, in order.
-    pub(crate) positional: Vec<Positional<'a>>,
-    /// The value of `--paths`.
-    pub(crate) paths: Option<&'a str>,
-    /// The value of `--budget`.
-    pub(crate) budget: Option<&'a str>,
+    pub(crate) positional: Vec<&'a str>,
+    /// The values of options, in order.
+    pub(crate) values: Vec<OptionValue<'a>>,
+    /// The names of files among both, in order.
+    pub(crate) names: Vec<PlacedName<'a>>,
     /// The option whose value is the next word.
-    pub(crate) due: Option<NumberOption>,
+    pub(crate) due: Option<OptionName>,
 }
 
 impl<'a> Taken<'a> {
@@ -35,8 +42,8 @@ impl<'a> Taken<'a> {
     {
         Taken {
             positional: Vec::new(alloc),
-            paths: None,
-            budget: None,
+            values: Vec::new(alloc),
+            names: Vec::new(alloc),
             due: None,
         }
     }
@@ -44,18 +51,18 @@ impl<'a> Taken<'a> {
     // Takes the word at this place.
     pub(crate) fn take(
         &mut self,
-        form: CommandForm,
+        form: WordsForm,
         place: usize,
         word: &'a str,
     ) -> Result<(), WordsFault>
-        ensures { TakesAs (word_taken form place word.now (given_of self.old)) (given_of self.new) result }
+        ensures { TakesAs (word_taken (form_seen form) place word.now (given_of self.old)) (given_of self.new) result }
     {
         if let Some(option) = self.due {
-            return self.take_value(option, word);
+            return self.take_value(option, place, word);
         }
-        match word_kind(form.has_options, word) {
+        match word_kind(form.options, word) {
             WordKind::Alone(option) => self.expect(option),
-            WordKind::Valued(option, value) => self.take_option(option, value),
+            WordKind::Valued(option, value) => self.take_option(option, place, value),
             WordKind::Hyphened => Err(WordsFault::Refused(WordsRefusal::OptionAt(place))),
             WordKind::Empty => Err(WordsFault::Refused(WordsRefusal::EmptyAt(place))),
             WordKind::Plain => self.take_positional(form, place, word),
@@ -64,25 +71,27 @@ impl<'a> Taken<'a> {
 
     // The positional word at this index, without bytes where there is none.
     pub(crate) fn text_at(&self, index: usize) -> &'a str
-        ensures { result.now ≡ slice_index_or (texts_of_words (given_of self.now).positional) index [] }
+        ensures { result.now ≡ slice_index_or (given_of self.now).positional index [] }
     {
         match self.positional.get(index) {
-            Some(word) => word.text,
+            Some(word) => *word,
             None => "",
         }
     }
 
-    // The first so many positional words, or all where they are fewer.
-    pub(crate) fn front(&self, count: usize) -> &[Positional<'a>]
-        ensures { words_placed result.now ≡ take count (given_of self.now).positional }
+    // The value of an option, or its default where it was given none.
+    pub(crate) fn value_asked(&self, option: OptionName) -> Option<&'a str>
+        ensures { option_map (λ text. text.now) result ≡ value_asked option (texts_given (given_of self.now)) }
     {
-        let words = self.positional.as_slice();
-        &words[..count.min(words.len())]
+        match self.value(option) {
+            None => option.default(),
+            value => value,
+        }
     }
 
     // Why no further word may be missing, if one is.
-    pub(crate) fn missing(&self, form: CommandForm) -> Option<WordsRefusal>
-        ensures { result ≡ missing_reason form (given_of self.now) }
+    pub(crate) fn missing(&self, form: WordsForm) -> Option<WordsRefusal>
+        ensures { result ≡ missing_reason (form_seen form) (given_of self.now) }
     {
         if let Some(option) = self.due {
             return Some(WordsRefusal::Value(option));
@@ -94,7 +103,7 @@ impl<'a> Taken<'a> {
     }
 
     // An option whose value is the next word.
-    fn expect(&mut self, option: NumberOption) -> Result<(), WordsFault>
+    fn expect(&mut self, option: OptionName) -> Result<(), WordsFault>
         ensures { TakesAs (option_due option (given_of self.old)) (given_of self.new) result }
     {
         if self.value(option).is_some() {
@@ -104,54 +113,79 @@ impl<'a> Taken<'a> {
         Ok(())
     }
 
-    // An option with its value.
-    fn take_option(&mut self, option: NumberOption, value: &'a str) -> Result<(), WordsFault>
-        ensures { TakesAs (option_taken option value.now (given_of self.old)) (given_of self.new) result }
+    // An option with its value, which the word at this place has.
+    fn take_option(
+        &mut self,
+        option: OptionName,
+        place: usize,
+        value: &'a str,
+    ) -> Result<(), WordsFault>
+        ensures { TakesAs (option_taken option place value.now (given_of self.old)) (given_of self.new) result }
     {
         if self.value(option).is_some() {
             return Err(WordsFault::Refused(WordsRefusal::Repeat(option)));
         }
-        self.take_value(option, value)
+        self.take_value(option, place, value)
     }
 
-    // The value of an option that was not given before.
-    fn take_value(&mut self, option: NumberOption, value: &'a str) -> Result<(), WordsFault>
-        ensures { TakesAs (value_taken option value.now (given_of self.old)) (given_of self.new) result }
+    // The value of an option that was not given before, which the word at this place has.
+    fn take_value(
+        &mut self,
+        option: OptionName,
+        place: usize,
+        value: &'a str,
+    ) -> Result<(), WordsFault>
+        ensures { TakesAs (value_taken option place value.now (given_of self.old)) (given_of self.new) result }
     {
-        if !option.has_value(value) {
+        if !option.allows(value) {
             return Err(WordsFault::Refused(WordsRefusal::Value(option)));
         }
-        match option {
-            NumberOption::Paths => self.paths = Some(value),
-            NumberOption::Budget => self.budget = Some(value),
-        }
+        self.values.push(OptionValue {
+            option,
+            text: value,
+        })?;
         self.due = None;
-        Ok(())
+        self.add_name(option.names_file(), place, value)
     }
 
     // A positional word.
     fn take_positional(
         &mut self,
-        form: CommandForm,
+        form: WordsForm,
         place: usize,
         word: &'a str,
     ) -> Result<(), WordsFault>
-        ensures { TakesAs (positional_taken form place word.now (given_of self.old)) (given_of self.new) result }
+        ensures { TakesAs (positional_taken (form_seen form) place word.now (given_of self.old)) (given_of self.new) result }
     {
-        if self.positional.len() == form.positional {
+        let count = self.positional.len();
+        if count == form.positional {
             return Err(WordsFault::Refused(WordsRefusal::Count));
         }
-        self.positional.push(Positional { place, text: word })?;
+        self.positional.push(word)?;
+        self.add_name(count < form.files, place, word)
+    }
+
+    // Adds a text to the names of files, if it is one.
+    fn add_name(&mut self, is_name: bool, place: usize, text: &'a str) -> Result<(), WordsFault>
+        ensures { TakesAs (Ok (name_added is_name place text.now (given_of self.old))) (given_of self.new) result }
+    {
+        if is_name {
+            self.names.push(PlacedName { place, text })?;
+        }
         Ok(())
     }
 
-    // The value of an option, if it was given.
-    fn value(&self, option: NumberOption) -> Option<&'a str>
+    // The value that an option was given, if it was.
+    fn value(&self, option: OptionName) -> Option<&'a str>
         ensures { option_map (λ text. text.now) result ≡ value_given option (given_of self.now) }
     {
-        match option {
-            NumberOption::Paths => self.paths,
-            NumberOption::Budget => self.budget,
+        let mut rest = self.values.as_slice();
+        while let [value, later @ ..] = rest {
+            if value.option.word() == option.word() {
+                return Some(value.text);
+            }
+            rest = later;
         }
+        None
     }
 }

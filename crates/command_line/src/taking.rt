@@ -1,11 +1,11 @@
 // The words of a command, taken from the left.
 ghost use Rattle.std.specs.Prelude.{◌≡◌, Ok, IfOk, IfErr};
 ghost use Rattle.command_line.specs.Commands.{bytes_of_words};
-ghost use Rattle.command_line.specs.Taken.{IsFaultOf, given_of};
-ghost use Rattle.command_line.specs.Words.{first_place, none_given, words_taken};
+ghost use Rattle.command_line.specs.Scan.{first_place, none_given, words_taken};
+ghost use Rattle.command_line.specs.Taken.{IsFaultOf, form_seen, given_of};
 
 use crate::WordsFault;
-use crate::form::CommandForm;
+use crate::form::WordsForm;
 use crate::taken::Taken;
 use std::alloc::Global;
 
@@ -15,11 +15,11 @@ const FIRST_PLACE: usize = 2;
 // What the words behind a command's own give, or the first reason why they are refused.
 pub(crate) fn taken_words<'a>(
     alloc: Global,
-    form: CommandForm,
+    form: WordsForm,
     words: &[&'a str],
 ) -> Result<Taken<'a>, WordsFault>
-    ensures taken { IfOk result (λ taken. words_taken form first_place none_given (bytes_of_words words.now) ≡ Ok (given_of taken)) }
-    ensures fault { IfErr result (IsFaultOf (words_taken form first_place none_given (bytes_of_words words.now))) }
+    ensures taken { IfOk result (λ taken. words_taken (form_seen form) first_place none_given (bytes_of_words words.now) ≡ Ok (given_of taken)) }
+    ensures fault { IfErr result (IsFaultOf (words_taken (form_seen form) first_place none_given (bytes_of_words words.now))) }
 {
     let mut taken = Taken::none(alloc);
     for (index, word) in words.iter().enumerate() {

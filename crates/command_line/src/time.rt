@@ -1,6 +1,6 @@
-// The time at which `replay` samples.
+// The time at which a command samples.
 ghost use Rattle.std.specs.Prelude.{◌≡◌};
-ghost use Rattle.command_line.specs.Words.{time_reason, time_spelled};
+ghost use Rattle.command_line.specs.Times.{time_reason, time_spelled};
 
 use crate::WordsRefusal;
 use crate::number::long_number;

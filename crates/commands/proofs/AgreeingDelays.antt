@@ -82,5 +82,6 @@ good_agrees c a b agree count budget run good = record {
   refutations = good.refutations;
   spent = good.spent;
   verdicts = good.verdicts;
+  of_rules = good.of_rules;
   expected = good.expected;
 }

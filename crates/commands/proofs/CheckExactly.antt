@@ -1,71 +1,68 @@
 -- When `check` answers 0 and when 1: over files that tell, of which all that is required before the form of the claim files is accepted, and
 -- where nothing fails and memory suffices, 0 exactly where the claim files spell a good run, and else 1.
-use Rattle.std.proofs.Common.{◌≡◌, ◌≢◌, ℕ, List, [], ◌∷◌, ◌++◌, Option, Some, refl, sym, ap, subst, ◌∙◌}
-use Rattle.std.specs.Prelude.{⊤, ◌↔◌}
-use Rattle.std.proofs.lemmas.List.{append_cancel_left}
+use Rattle.std.proofs.Common.{◌≡◌, ◌≢◌, ℕ, List, [], ◌∷◌, ◌++◌, Option, Some, Ok, refl, sym, ap, subst, ◌∙◌}
+use Rattle.std.specs.Prelude.{◌↔◌}
 use Rattle.pd_io.specs.Folder.{Folder}
-use Rattle.pd_io.specs.Seen.{FilesSeen, Outside}
-use Rattle.command_line.specs.Words.{RunCall}
+use Rattle.pd_io.specs.Seen.{Outside}
+use Rattle.command_line.specs.Words.{RunCall, asked_call, check}
+use Rattle.calls.specs.declared.cause.Cause.TheVariants as cause
 use Rattle.calls.specs.declared.refusal.Refusal.{Refusal}
-use Rattle.calls.specs.declared.refusal.Refusal.TheVariants.{Words, TooLong, Netlist, Delays, PathText, TestText, Malformed, NotGood, TooManyChanges}
 use Rattle.calls.specs.declared.role.Role.TheVariants as role
 use Rattle.calls.specs.declared.status.Status.{Status}
 use Rattle.calls.specs.declared.status.Status.TheVariants as exit
-use Rattle.calls.specs.Lines.{refusal_status}
-use Rattle.calls.specs.Work.{Work, Stage, Require, Requirement, Wording, WithinLimit, SpellsCircuit, SpellsDelays, ShortPathText, ShortTestText, WellFormed, GoodRun, FewChanges, requirement_of}
+use Rattle.calls.specs.Lines.{status_for}
+use Rattle.calls.specs.Work.{Work, Stage, Require}
 use Rattle.calls.specs.Passing.{Pass}
-use Rattle.calls.specs.Stopping.{IsRefused}
 use Rattle.calls.specs.Calls.{Ends, HasAcceptedInputs, IsDoneOrNoMemory, NoneFailed}
 use Rattle.calls.specs.Calls as calls
-use Rattle.calls.proofs.Acceptance.{accepted_before, front_passed, passed_alike, passed_on}
-use Rattle.calls.proofs.Calls.{completes, is_done, stage_behind, told_before}
-use Rattle.calls.proofs.Failures.{none_fails}
-use Rattle.calls.proofs.Refusals.{refusal_of_status, HasRefusal}
-use Rattle.calls.proofs.Splits.{compared, Places}
-use Rattle.calls.proofs.Splits as places
-use Rattle.commands.specs.Check.{FiveTexts, GivesCheck, SpellGoodRun, check_stages, check_work}
-use Rattle.commands.specs.Checking.{stages_read}
+use Rattle.calls.proofs.Acceptance.{front_passed, passed_alike, passed_on}
+use Rattle.calls.proofs.Calls.{completes, is_done}
+use Rattle.calls.proofs.LaterStages.{IsRefusedLater, refused_later}
+use Rattle.calls.proofs.Refusals.{has_refusal, HasRefusal}
+use Rattle.commands.specs.InputRequirements.{Requirement, WellFormed, own}
+use Rattle.commands.specs.Check.{CheckRequirement, FiveTexts, GivesCheck, GoodRun, RefusesFlawed, SpellGoodRun, check_stages, check_work, stages_read}
+use Rattle.commands.specs.CheckLaws.{KeepsCheckLaws}
+use Rattle.commands.proofs.GenThenCheck.{accepted_behind_gen}
 use Rattle.commands.proofs.CheckStages.{accepts_good, accepts_proofs, accepts_report, accepts_tests}
 
--- it is required of the claim files: their form, or that their run is good
-abbrev IsOfClaims : Requirement → Type 0
-IsOfClaims Wording = ⊥
-IsOfClaims (WithinLimit input) = ⊥
-IsOfClaims SpellsCircuit = ⊥
-IsOfClaims SpellsDelays = ⊥
-IsOfClaims ShortPathText = ⊥
-IsOfClaims ShortTestText = ⊥
-IsOfClaims (WellFormed input) = ⊤
-IsOfClaims GoodRun = ⊤
-IsOfClaims FewChanges = ⊥
-
--- a refusal of that has status 1
-claims_refused : (refusal : Refusal) → IsOfClaims (requirement_of refusal) → refusal_status refusal ≡ exit.Refused
-claims_refused (Words reason) is = absurd is
-claims_refused (TooLong input) is = absurd is
-claims_refused (Netlist reason) is = absurd is
-claims_refused (Delays reason) is = absurd is
-claims_refused (PathText product) is = absurd is
-claims_refused (TestText product) is = absurd is
-claims_refused (Malformed reader input place) is = refl
-claims_refused (NotGood reason) is = refl
-claims_refused (TooManyChanges test name) is = absurd is
-
 -- the stages behind the form of the tests
-abbrev behind_tests : List Stage
-behind_tests = Require (WellFormed role.Report) ∷ Require (WellFormed role.Proofs) ∷ Require GoodRun ∷ []
+abbrev behind_tests : List (Stage (Requirement CheckRequirement))
+behind_tests = Require (WellFormed role.Report 3) ∷ Require (WellFormed role.Proofs 4) ∷ Require (own GoodRun) ∷ []
 
--- each of them is of the claim files
-behind_is_of_claims : (between later : List Stage) (requirement : Requirement) → behind_tests ≡ between ++ Require requirement ∷ later
-    → IsOfClaims requirement
-behind_is_of_claims [] later requirement same =
-    let here : WellFormed role.Report ≡ requirement = (cc) in subst IsOfClaims here tt
-behind_is_of_claims (one ∷ []) later requirement same =
-    let here : WellFormed role.Proofs ≡ requirement = (cc) in subst IsOfClaims here tt
-behind_is_of_claims (one ∷ two ∷ []) later requirement same =
-    let here : GoodRun ≡ requirement = (cc) in subst IsOfClaims here tt
-behind_is_of_claims (one ∷ two ∷ three ∷ []) later requirement same = absurd (cc)
-behind_is_of_claims (one ∷ two ∷ three ∷ more ∷ between) later requirement same = absurd (cc)
+-- a run with a flaw is refused as claims are
+flaw_is_of_claims : (call : RunCall) (inputs : List (List ℕ)) (refusal : Refusal) → RefusesFlawed call GoodRun inputs refusal
+    → refusal.cause ≡ cause.Claims
+flaw_is_of_claims call [] refusal it = absurd it
+flaw_is_of_claims call (a ∷ []) refusal it = absurd it
+flaw_is_of_claims call (a ∷ b ∷ []) refusal it = absurd it
+flaw_is_of_claims call (a ∷ b ∷ c ∷ []) refusal it = absurd it
+flaw_is_of_claims call (a ∷ b ∷ c ∷ d ∷ []) refusal it = absurd it
+flaw_is_of_claims call (a ∷ b ∷ c ∷ d ∷ e ∷ []) refusal it = ap (λ (r : Refusal). r.cause) it.is
+flaw_is_of_claims call (a ∷ b ∷ c ∷ d ∷ e ∷ f ∷ more) refusal it = absurd it
+
+-- so is all that is refused by these stages
+later_is_of_claims : (call : RunCall) (requirement : Requirement CheckRequirement) (between rest : List (Stage (Requirement CheckRequirement)))
+    (inputs : List (List ℕ)) (refusal : Refusal)
+    → Require (WellFormed role.Tests 2) ∷ behind_tests ≡ between ++ Require requirement ∷ rest
+    → (check_work call).Refuses requirement inputs refusal → refusal.cause ≡ cause.Claims
+later_is_of_claims call requirement [] rest inputs refusal place refuses =
+    let here : requirement ≡ WellFormed role.Tests 2 = (cc) in
+    ap (λ (r : Refusal). r.cause)
+    (subst (λ (r : Requirement CheckRequirement). (check_work call).Refuses r inputs refusal) here refuses).is
+later_is_of_claims call requirement (one ∷ []) rest inputs refusal place refuses =
+    let here : requirement ≡ WellFormed role.Report 3 = (cc) in
+    ap (λ (r : Refusal). r.cause)
+    (subst (λ (r : Requirement CheckRequirement). (check_work call).Refuses r inputs refusal) here refuses).is
+later_is_of_claims call requirement (one ∷ two ∷ []) rest inputs refusal place refuses =
+    let here : requirement ≡ WellFormed role.Proofs 4 = (cc) in
+    ap (λ (r : Refusal). r.cause)
+    (subst (λ (r : Requirement CheckRequirement). (check_work call).Refuses r inputs refusal) here refuses).is
+later_is_of_claims call requirement (one ∷ two ∷ three ∷ []) rest inputs refusal place refuses =
+    let here : requirement ≡ own GoodRun = (cc) in
+    flaw_is_of_claims call inputs refusal
+    (subst (λ (r : Requirement CheckRequirement). (check_work call).Refuses r inputs refusal) here refuses)
+later_is_of_claims call requirement (one ∷ two ∷ three ∷ four ∷ []) rest inputs refusal place refuses = absurd (cc)
+later_is_of_claims call requirement (one ∷ two ∷ three ∷ four ∷ five ∷ between) rest inputs refusal place refuses = absurd (cc)
 
 module _ (call : RunCall) (told : Folder) (net delays tests report proofs : List ℕ) where
   abbrev work : Work
@@ -88,7 +85,7 @@ module _ (call : RunCall) (told : Folder) (net delays tests report proofs : List
         record {
           told = tt;
           inputs = inputs;
-          passed = passed_on work (Some told) (stages_read call) (Require (WellFormed role.Tests) ∷ behind_tests) [] inputs inputs read (
+          passed = passed_on work (Some told) (stages_read call) (Require (WellFormed role.Tests 2) ∷ behind_tests) [] inputs inputs read (
             accepts_tests call net delays tests report proofs c has it.run.tests spells.tests_are,
             (
               accepts_report call net delays tests report proofs c has it.run.paths spells.report_is,
@@ -103,33 +100,8 @@ module _ (call : RunCall) (told : Folder) (net delays tests report proofs : List
     -- where all is passed, these are the inputs
     same_inputs : (all : List (List ℕ)) → Pass work (Some told) (check_stages call) [] all → all ≡ inputs
     same_inputs all pass =
-        let front = front_passed work (Some told) (stages_read call) (Require (WellFormed role.Tests) ∷ behind_tests) [] all pass in
+        let front = front_passed work (Some told) (stages_read call) (Require (WellFormed role.Tests 2) ∷ behind_tests) [] all pass in
         front.2.1.1.1.1 ∙ passed_alike work (Some told) (stages_read call) [] front.0 inputs tt front.1 read
-
-    -- a refusal that does not come before the forms is of the claim files
-    module _ (refusal : Refusal) (before later : List Stage) (so_far : List (List ℕ))
-        (place : check_stages call ≡ before ++ Require (requirement_of refusal) ∷ later)
-        (passed : Pass (check_work call) (Some told) before [] so_far) (refuses : (check_work call).Refuses so_far refusal) where
-      refused_at_claims : Places (stages_read call) before (Require (WellFormed role.Tests)) (Require (requirement_of refusal))
-          → IsOfClaims (requirement_of refusal)
-      refused_at_claims (places.same stages is) =
-          let here : WellFormed role.Tests ≡ requirement_of refusal = (cc) in subst IsOfClaims here tt
-      refused_at_claims (places.before between stages) =
-          behind_is_of_claims between later (requirement_of refusal)
-          (append_cancel_left (stages_read call ++ Require (WellFormed role.Tests) ∷ []) behind_tests (between ++ Require (requirement_of refusal) ∷ later)
-          (place ∙ ap (λ (list : List Stage). list ++ Require (requirement_of refusal) ∷ later) stages))
-      refused_at_claims (places.behind between stages) =
-          absurd (accepted_before work (Some told) before between (requirement_of refusal) [] so_far inputs
-          (told_before work (Some told) before (Require (requirement_of refusal) ∷ later) tt place)
-          (subst (λ (list : List Stage). Pass work (Some told) list [] inputs) stages read) passed refusal refl refuses)
-
-    of_claims : (refusal : Refusal) (old new : FilesSeen) → old.folder ≡ Some told → IsRefused work refusal old new
-        → IsOfClaims (requirement_of refusal)
-    of_claims refusal old new tells it =
-        let place = stage_behind it.before it.place.0 (check_stages call) (Require (requirement_of refusal)) it.place.1 in
-        refused_at_claims refusal it.before it.place.0 it.inputs place
-        (subst (λ (f : Option Folder). Pass work f it.before [] it.inputs) tells it.passed.passed) it.refuses
-        (compared (stages_read call) behind_tests it.before it.place.0 (Require (WellFormed role.Tests)) (Require (requirement_of refusal)) place)
 
     -- a call over such files, of which nothing failed and that did not run out of memory
     module _ (status : Status) (old new : Outside) (ends : Ends (check_work call) status old new) (tells : old.files.folder ≡ Some told)
@@ -147,19 +119,43 @@ module _ (call : RunCall) (told : Folder) (net delays tests report proofs : List
         by_answer (calls.no_memory lacks) = absurd (enough lacks)
 
       -- it is answered by 0 exactly where the claim files spell a good run
-      pub done_exactly : (status ≡ exit.Done) ↔ SpellGoodRun call texts
+      done_exactly : (status ≡ exit.Done) ↔ SpellGoodRun call texts
       done_exactly = (spell_if_done, done_if_spelled)
 
       refused_unless_spelled : (SpellGoodRun call texts → ⊥) → status ≡ exit.Refused
       refused_unless_spelled unspelled =
-          let fails = none_fails work status old new ends none.read none.write none.out in
-          by_refusal (refusal_of_status work status old new ends (λ done. unspelled (spell_if_done done)) fails.0 fails.1 enough) where
+          by_refusal (has_refusal work status old new none (λ done. unspelled (spell_if_done done)) enough ends) where
+            of_claims : (refusal : Refusal)
+                → IsRefusedLater work (Some told) (stages_read call) (Require (WellFormed role.Tests 2) ∷ behind_tests) refusal
+                → refusal.cause ≡ cause.Claims
+            of_claims refusal it = later_is_of_claims call it.requirement it.between it.rest it.inputs refusal it.place it.refuses
+
             by_refusal : HasRefusal work status old new → status ≡ exit.Refused
-            by_refusal it = it.status_is ∙ claims_refused it.refusal (of_claims it.refusal old.files new.files tells it.refused)
+            by_refusal it =
+                it.status_is
+                ∙ ap status_for
+                (of_claims it.refusal
+                (refused_later work (Some told) (stages_read call) inputs tt read (Require (WellFormed role.Tests 2)) behind_tests refl it.refusal
+                old.files new.files tells it.refused))
 
       -- and by 1 exactly where they spell none: where one of them lacks its form, or their run is not good
-      pub refused_exactly : (status ≡ exit.Refused) ↔ (SpellGoodRun call texts → ⊥)
+      refused_exactly : (status ≡ exit.Refused) ↔ (SpellGoodRun call texts → ⊥)
       refused_exactly = (
         λ refused it. let never : exit.Done ≡ exit.Refused = sym (done_if_spelled it) ∙ refused in (cc),
         refused_unless_spelled,
       )
+
+-- what holds of a call of check
+pub check_laws : (words : List (List ℕ)) (call : RunCall) → asked_call words ≡ Ok (check call) → (status : Status) (old new : Outside)
+    → Ends (check_work call) status old new → KeepsCheckLaws words call status old new
+check_laws words call is status old new ends = record {
+  done_exactly = λ texts comes.
+      done_exactly call comes.folder texts.net texts.delays texts.tests texts.report texts.proofs comes.read status old new ends comes.told
+      comes.none_failed comes.enough;
+  refused_exactly = λ texts comes.
+      refused_exactly call comes.folder texts.net texts.delays texts.tests texts.report texts.proofs comes.read status old new ends comes.told
+      comes.none_failed comes.enough;
+  behind_gen = λ run left later was behind kept told none.
+      completes (check_work call) status old new ends
+      (subst (HasAcceptedInputs (check_work call)) (sym told) (accepted_behind_gen words call is run left later was behind kept)) none;
+}

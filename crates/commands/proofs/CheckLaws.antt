@@ -1,5 +1,5 @@
 -- Which inputs `check` accepts: three files that spell a good run of a circuit with its delays, within the limits.
-use Rattle.std.proofs.Common.{ℕ, ◌≤◌, List, [], ◌∷◌, ◌++◌, length, Some, refl, arith}
+use Rattle.std.proofs.Common.{ℕ, ◌≤◌, List, [], ◌∷◌, ◌++◌, length, Some, refl}
 use Rattle.pd_io.specs.Folder.{Folder, bytes_at}
 use Rattle.netlist.specs.Circuit.{Circuit}
 use Rattle.netlist.specs.Waves.{Delays}
@@ -12,14 +12,14 @@ use Rattle.command_line.specs.Words.{RunCall}
 use Rattle.calls.specs.declared.role.Role.TheVariants as role
 use Rattle.calls.specs.Calls.{HasAcceptedInputs}
 use Rattle.calls.specs.Passing.{Pass}
-use Rattle.calls.proofs.Accepting.{accepts_size}
-use Rattle.commands.specs.declared.inputs.judging.TheConstants.{INPUT_LIMIT}
-use Rattle.commands.specs.InputStages.{short_stages}
+use Rattle.commands.specs.declared.inputs.reading.TheConstants.{INPUT_LIMIT}
+use Rattle.commands.specs.InputRequirements.{short_stages}
 use Rattle.commands.specs.Sizes.{HasShortTexts}
 use Rattle.commands.proofs.InputStages.{inputs_pass, texts_pass}
-use Rattle.commands.specs.Check.{check_work}
+use Rattle.commands.proofs.StageReads.{accepts_size}
+use Rattle.commands.specs.Check.{check_command, check_work}
 use Rattle.commands.specs.SpelledRuns.{SpellsRun}
-use Rattle.commands.proofs.CheckStages.{accepts_good, accepts_proofs, accepts_report, accepts_tests, begins_check, behind_short, requires_short}
+use Rattle.commands.proofs.CheckStages.{accepts_good, accepts_proofs, accepts_report, accepts_tests, behind_short}
 
 module _ (call : RunCall) (told : Folder) where
   -- the bytes under the five names
@@ -53,20 +53,17 @@ module _ (call : RunCall) (told : Folder) where
       tests,
       refl,
       (
-        accepts_size (check_work call) (net ∷ delays ∷ tests ∷ []) role.Tests
-            (λ refuses. let over = refuses.over in let within = readable.tests_within in omega arith),
+        accepts_size (check_command call) role.Tests (net ∷ delays ∷ []) tests readable.tests_within,
         (
           report,
           refl,
           (
-            accepts_size (check_work call) (net ∷ delays ∷ tests ∷ report ∷ []) role.Report
-                (λ refuses. let over = refuses.over in let within = readable.report_within in omega arith),
+            accepts_size (check_command call) role.Report (net ∷ delays ∷ tests ∷ []) report readable.report_within,
             (
               proofs,
               refl,
               (
-                accepts_size (check_work call) (net ∷ delays ∷ tests ∷ report ∷ proofs ∷ []) role.Proofs
-                    (λ refuses. let over = refuses.over in let within = readable.proofs_within in omega arith),
+                accepts_size (check_command call) role.Proofs (net ∷ delays ∷ tests ∷ report ∷ []) proofs readable.proofs_within,
                 (
                   accepts_tests call net delays tests report proofs c has run.tests spells.tests_are,
                   (
@@ -90,8 +87,8 @@ module _ (call : RunCall) (told : Folder) where
     good_run_is_accepted within delays_within short readable = record {
       told = tt;
       inputs = net ∷ delays ∷ tests ∷ report ∷ proofs ∷ [];
-      passed = inputs_pass (check_work call) call.net call.delays (short_stages ++ behind_short call) (begins_check call) told c given
+      passed = inputs_pass (check_command call) told call.net call.delays (short_stages call.paths ++ behind_short call) c given
           (net ∷ delays ∷ tests ∷ report ∷ proofs ∷ []) within has delays_within gives
-          (texts_pass (check_work call) call.net call.delays call.paths (behind_short call) (requires_short call) net delays c has told
+          (texts_pass (check_command call) call.net call.delays call.paths net delays c has told (behind_short call)
           (net ∷ delays ∷ tests ∷ report ∷ proofs ∷ []) short (claims_pass readable));
     }

@@ -1,5 +1,5 @@
 -- The stages of `check`, one after the other, up to the one word: what is passed with each, and how the call ends there.
-use Rattle.std.proofs.Common.{◌≡◌, ℕ, List, [], ◌∷◌, ◌++◌, Some, Result, Ok, Err, IfErr, OnOk, refl, subst}
+use Rattle.std.proofs.Common.{◌≡◌, ℕ, List, [], ◌∷◌, ◌++◌, codes, Result, Ok, Err, IfErr, OnOk, refl, subst}
 use Rattle.std.specs.Prelude.{⊤, IfOk, MatchResult, Vec}
 use Rattle.std.specs.declared.alloc.Global.{Global}
 use Rattle.pd_base.specs.declared.test.Test.{Test}
@@ -17,103 +17,84 @@ use Rattle.good_runs.specs.GoodRun.{IsGoodRun}
 use Rattle.claim_check.specs.Claims.{TellsOfRun}
 use Rattle.claim_check.specs.declared.claim.Claim.TheVariants.{Holds, Fails}
 use Rattle.claim_check.proofs.Agreeing.{claims_agree}
-use Rattle.text_pieces.specs.declared.limits.TheConstants.{MOST_BYTES}
 use Rattle.command_line.specs.Words.{RunCall}
-use Rattle.calls.specs.declared.claims_reader.ClaimsReader.TheVariants.{Check}
 use Rattle.calls.specs.declared.ending.Ending.{Ending}
-use Rattle.calls.specs.declared.refusal.Refusal.TheVariants.{Malformed, NotGood}
+use Rattle.calls.specs.declared.refusal.Refusal.{Refusal}
 use Rattle.calls.specs.declared.role.Role.TheVariants as role
-use Rattle.calls.specs.declared.run_refusal.RunRefusal.{RunRefusal}
-use Rattle.calls.specs.Inputs.{ReadsInput}
 use Rattle.calls.specs.Passing.{Accepts, HasPassed}
 use Rattle.calls.specs.Preparing.{Prepares}
 use Rattle.calls.specs.Stopping.{Stops}
-use Rattle.calls.specs.Work.{Stage, Read, Require, WithinLimit, WellFormed, GoodRun}
-use Rattle.calls.proofs.Accepting.{accepts_claims, accepts_run}
+use Rattle.calls.specs.Work.{Stage, Require}
 use Rattle.calls.proofs.Stages.{then_required}
-use Rattle.commands.specs.InputJudging.{FailsTests, FailsWithin}
-use Rattle.commands.specs.InputStages.{short_stages}
-use Rattle.commands.specs.SpelledTests.{HasMalformedTests, IsMalformedTests, SpellsTests}
-use Rattle.commands.proofs.InputStages.{BeginsWithInputs, RequiresShortTexts}
+use Rattle.commands.specs.Inside.InputJudging.{FailsProofs, FailsReport, FailsTests, FailsWithin, ReadsWithin}
+use Rattle.commands.specs.InputRequirements.{LacksForm, Requirement, WellFormed, own, read_stages}
+use Rattle.commands.specs.SpelledTests.{IsMalformedTests, SpellsTests}
+use Rattle.commands.proofs.InputFaults.{proofs_formed, report_formed, tests_formed}
+use Rattle.commands.proofs.InputStages.{accepts_form}
 use Rattle.commands.proofs.StageReads.{stops_judged, stops_unwhole, then_whole}
-use Rattle.commands.specs.Check.{FiveTexts, SpellFlawedRun, SpellAll, check_work, claim_reads, form_stages, good_products}
-use Rattle.commands.specs.Checking.{FailsProofs, FailsReport, FailsRun, FailsToSpell, HasSpelledRun, HasToldFlaw, IsGoodAndKeeps, five_inputs, no_tests, no_report, no_proofs, stages_formed, stages_read, stages_short}
-use Rattle.commands.specs.SpelledRuns.{HasMalformedProofs, HasMalformedReport, IsMalformedProofs, IsMalformedReport, SpellsProofs, SpellsReport, SpellsRun}
+use Rattle.commands.specs.Check.{CheckRequirement, FiveTexts, GoodRun, SpellFlawedRun, SpellAll, check_command, check_work, claim_reads, form_stages, good_products, stages_read}
+use Rattle.commands.specs.Inside.Checking.{FailsRun, FailsToSpell, HasSpelledRun, IsFlawed, IsGoodAndKeeps, five_inputs, no_tests, no_report, no_proofs, stages_formed, stages_short}
+use Rattle.commands.specs.SpelledRuns.{IsMalformedProofs, IsMalformedReport, SpellsProofs, SpellsReport, SpellsRun}
 use Rattle.commands.specs.declared.check.reading.ClaimTexts.{ClaimTexts}
 use Rattle.commands.proofs.AgreeingDelays.{good_agrees}
 use Rattle.commands.proofs.OneRun.{run_once}
 
 module _ (call : RunCall) where
   -- the stages behind short texts
-  abbrev pub behind_short : List Stage
-  behind_short = claim_reads call ++ form_stages ++ Require GoodRun ∷ []
-
-  pub begins_check : BeginsWithInputs (check_work call) call.net call.delays (short_stages ++ behind_short)
-  begins_check = record {
-    stages = refl;
-    of_net = λ text refusal. (λ refuses. refuses, λ refuses. refuses);
-    size_of_delays = λ text file of. (λ refuses. refuses, λ refuses. refuses);
-    of_delays = λ text file reason. (λ refuses. refuses, λ refuses. refuses);
-  }
-
-  pub requires_short : RequiresShortTexts (check_work call) call.net call.delays call.paths behind_short
-  requires_short = record {
-    stages = refl;
-    of_paths = λ text file product. (λ refuses. refuses, λ refuses. refuses);
-    of_tests = λ text file product. (λ refuses. refuses, λ refuses. refuses);
-  }
+  abbrev pub behind_short : List (Stage (Requirement CheckRequirement))
+  behind_short = claim_reads call ++ form_stages ++ Require (own GoodRun) ∷ []
 
   -- the reads of the three files, behind short texts
   module _ (net delays : List ℕ) (first : FilesSeen) where
     pub tests_unread : (ending : Ending) (old new : FilesSeen) → HasPassed (check_work call) (stages_short call) (net ∷ delays ∷ []) first old
-        → FailsWithin MOST_BYTES role.Tests call.tests ending old new → Stops (check_work call) ending first new
+        → FailsWithin role.Tests call.tests ending old new → Stops (check_work call) ending first new
     tests_unread ending old new before fails =
-        stops_unwhole (check_work call) MOST_BYTES role.Tests call.tests ending before (_, refl) (λ text over. over) fails
+        stops_unwhole (check_command call) role.Tests call.tests ending before (_, refl) fails
 
     pub tests_read : (tests : Vec ℕ Global) (old new : FilesSeen)
         → HasPassed (check_work call) (stages_short call) (net ∷ delays ∷ []) first old
-        → ReadsInput MOST_BYTES call.tests (Some tests) old new
-        → HasPassed (check_work call) (stages_short call ++ Read role.Tests call.tests ∷ Require (WithinLimit role.Tests) ∷ [])
+        → ReadsWithin role.Tests call.tests tests old new
+        → HasPassed (check_work call) (stages_short call ++ read_stages role.Tests call.tests)
         (net ∷ delays ∷ tests.items ∷ []) first new
     tests_read tests old new before read =
-        then_whole (check_work call) MOST_BYTES role.Tests call.tests tests before read (λ refuses. refuses)
+        then_whole (check_command call) role.Tests call.tests tests before read
 
     module _ (tests : List ℕ) where
       -- up to the report
-      abbrev pub before_report : List Stage
-      before_report = stages_short call ++ Read role.Tests call.tests ∷ Require (WithinLimit role.Tests) ∷ []
+      abbrev pub before_report : List (Stage (Requirement CheckRequirement))
+      before_report = stages_short call ++ read_stages role.Tests call.tests
 
       pub report_unread : (ending : Ending) (old new : FilesSeen)
           → HasPassed (check_work call) before_report (net ∷ delays ∷ tests ∷ []) first old
-          → FailsWithin MOST_BYTES role.Report call.report ending old new → Stops (check_work call) ending first new
+          → FailsWithin role.Report call.report ending old new → Stops (check_work call) ending first new
       report_unread ending old new before fails =
-          stops_unwhole (check_work call) MOST_BYTES role.Report call.report ending before (_, refl) (λ text over. over) fails
+          stops_unwhole (check_command call) role.Report call.report ending before (_, refl) fails
 
       pub report_read : (report : Vec ℕ Global) (old new : FilesSeen)
           → HasPassed (check_work call) before_report (net ∷ delays ∷ tests ∷ []) first old
-          → ReadsInput MOST_BYTES call.report (Some report) old new
-          → HasPassed (check_work call) (before_report ++ Read role.Report call.report ∷ Require (WithinLimit role.Report) ∷ [])
+          → ReadsWithin role.Report call.report report old new
+          → HasPassed (check_work call) (before_report ++ read_stages role.Report call.report)
           (net ∷ delays ∷ tests ∷ report.items ∷ []) first new
       report_read report old new before read =
-          then_whole (check_work call) MOST_BYTES role.Report call.report report before read (λ refuses. refuses)
+          then_whole (check_command call) role.Report call.report report before read
 
       module _ (report : List ℕ) where
         -- up to the proofs
-        abbrev pub before_proofs : List Stage
-        before_proofs = before_report ++ Read role.Report call.report ∷ Require (WithinLimit role.Report) ∷ []
+        abbrev pub before_proofs : List (Stage (Requirement CheckRequirement))
+        before_proofs = before_report ++ read_stages role.Report call.report
 
         pub proofs_unread : (ending : Ending) (old new : FilesSeen)
             → HasPassed (check_work call) before_proofs (net ∷ delays ∷ tests ∷ report ∷ []) first old
-            → FailsWithin MOST_BYTES role.Proofs call.proofs ending old new → Stops (check_work call) ending first new
+            → FailsWithin role.Proofs call.proofs ending old new → Stops (check_work call) ending first new
         proofs_unread ending old new before fails =
-            stops_unwhole (check_work call) MOST_BYTES role.Proofs call.proofs ending before (_, refl) (λ text over. over) fails
+            stops_unwhole (check_command call) role.Proofs call.proofs ending before (_, refl) fails
 
         pub proofs_read : (proofs : Vec ℕ Global) (old new : FilesSeen)
             → HasPassed (check_work call) before_proofs (net ∷ delays ∷ tests ∷ report ∷ []) first old
-            → ReadsInput MOST_BYTES call.proofs (Some proofs) old new
+            → ReadsWithin role.Proofs call.proofs proofs old new
             → HasPassed (check_work call) (stages_read call) (net ∷ delays ∷ tests ∷ report ∷ proofs.items ∷ []) first new
         proofs_read proofs old new before read =
-            then_whole (check_work call) MOST_BYTES role.Proofs call.proofs proofs before read (λ refuses. refuses)
+            then_whole (check_command call) role.Proofs call.proofs proofs before read
 
   -- the forms of the three texts
   module _ (net delays tests report proofs : List ℕ) (c : Circuit) (has : HasCircuit net c) where
@@ -121,65 +102,70 @@ module _ (call : RunCall) where
     abbrev all_five : List (List ℕ)
     all_five = net ∷ delays ∷ tests ∷ report ∷ proofs ∷ []
 
-    pub accepts_tests : (listed : List Test) → SpellsTests c tests listed → Accepts (check_work call) (WellFormed role.Tests) all_five
+    pub accepts_tests : (listed : List Test) → SpellsTests c tests listed → Accepts (check_work call) (WellFormed role.Tests 2) all_five
     accepts_tests listed spells =
-        accepts_claims (check_work call) all_five role.Tests (λ reader line refuses. never line refuses.1) where
-          never : (line : ℕ) → ¬ HasMalformedTests net tests line
-          never line it =
-              (subst (λ (d : Circuit). IsMalformedTests d tests line) (one_circuit net it.circuit c it.has has) it.malformed).none listed spells
+        accepts_form (check_command call) role.Tests 2 net (delays ∷ tests ∷ report ∷ proofs ∷ []) (tests_formed net c has tests listed spells)
 
-    pub accepts_report : (paths : List ListedPath) → SpellsReport c report paths → Accepts (check_work call) (WellFormed role.Report) all_five
+    pub accepts_report : (paths : List ListedPath) → SpellsReport c report paths → Accepts (check_work call) (WellFormed role.Report 3) all_five
     accepts_report paths spells =
-        accepts_claims (check_work call) all_five role.Report (λ reader line refuses. never line refuses.1) where
-          never : (line : ℕ) → ¬ HasMalformedReport net report line
-          never line it =
-              (subst (λ (d : Circuit). IsMalformedReport d report line) (one_circuit net it.circuit c it.has has) it.malformed).none paths spells
+        accepts_form (check_command call) role.Report 3 net (delays ∷ tests ∷ report ∷ proofs ∷ []) (report_formed net c has report paths spells)
 
-    pub accepts_proofs : (run : Run) → SpellsProofs c proofs run.rules run.proofs → Accepts (check_work call) (WellFormed role.Proofs) all_five
+    pub accepts_proofs : (run : Run) → SpellsProofs c proofs run.rules run.proofs → Accepts (check_work call) (WellFormed role.Proofs 4) all_five
     accepts_proofs run spells =
-        accepts_claims (check_work call) all_five role.Proofs (λ reader line refuses. never line refuses.1) where
-          never : (line : ℕ) → ¬ HasMalformedProofs net proofs line
-          never line it =
-              (subst (λ (d : Circuit). IsMalformedProofs d proofs line) (one_circuit net it.circuit c it.has has) it.malformed).none run.rules
-              run.proofs spells
+        accepts_form (check_command call) role.Proofs 4 net (delays ∷ tests ∷ report ∷ proofs ∷ [])
+        (proofs_formed net c has proofs run.rules run.proofs spells)
 
     module _ (first new : FilesSeen) (before : HasPassed (check_work call) (stages_read call) all_five first new) where
       -- up to the form of the tests, and up to that of the report
-      tests_formed : (listed : List Test) → SpellsTests c tests listed
-          → HasPassed (check_work call) (stages_read call ++ Require (WellFormed role.Tests) ∷ []) all_five first new
-      tests_formed listed spells = then_required (check_work call) (WellFormed role.Tests) before (accepts_tests listed spells)
+      tests_passed : (listed : List Test) → SpellsTests c tests listed
+          → HasPassed (check_work call) (stages_read call ++ Require (WellFormed role.Tests 2) ∷ []) all_five first new
+      tests_passed listed spells = then_required (check_work call) (WellFormed role.Tests 2) before (accepts_tests listed spells)
 
-      report_formed : (listed : List Test) (paths : List ListedPath) → SpellsTests c tests listed → SpellsReport c report paths
-          → HasPassed (check_work call) (stages_read call ++ Require (WellFormed role.Tests) ∷ Require (WellFormed role.Report) ∷ []) all_five
+      report_passed : (listed : List Test) (paths : List ListedPath) → SpellsTests c tests listed → SpellsReport c report paths
+          → HasPassed (check_work call) (stages_read call ++ Require (WellFormed role.Tests 2) ∷ Require (WellFormed role.Report 3) ∷ []) all_five
           first new
-      report_formed listed paths spells its =
-          then_required (check_work call) (WellFormed role.Report) (tests_formed listed spells) (accepts_report paths its)
+      report_passed listed paths spells its =
+          then_required (check_work call) (WellFormed role.Report 3) (tests_passed listed spells) (accepts_report paths its)
 
       -- all have their form
       pub all_formed : (run : Run) → SpellsRun c tests report proofs run
           → HasPassed (check_work call) (stages_formed call) all_five first new
       all_formed run spells =
-          then_required (check_work call) (WellFormed role.Proofs) (report_formed run.tests run.paths spells.tests_are spells.report_is)
+          then_required (check_work call) (WellFormed role.Proofs 4) (report_passed run.tests run.paths spells.tests_are spells.report_is)
           (accepts_proofs run spells.proofs_are)
 
       -- one has not
-      pub tests_malformed : (ending : Ending) → FailsTests Check c tests ending → Stops (check_work call) ending first new
+      pub tests_malformed : (ending : Ending) → FailsTests (codes "check") c tests ending → Stops (check_work call) ending first new
       tests_malformed ending fails =
-          stops_judged (check_work call) (Malformed Check role.Tests) (IsMalformedTests c tests) (WellFormed role.Tests) ending before (_, refl)
-          (λ line. refl) (λ line why. (refl, record { circuit = c; has = has; malformed = why })) fails
+          stops_judged (check_command call) (WellFormed role.Tests 2) (LacksForm (codes "check") role.Tests (IsMalformedTests c tests)) ending before
+          (_, refl)
+          (λ refusal lacks. record {
+            place = lacks.place;
+            first = record { circuit = c; has = has; malformed = lacks.first };
+            is = lacks.is;
+          }) fails
 
-      pub report_malformed : (listed : List Test) (ending : Ending) → SpellsTests c tests listed → FailsReport c report ending
+      pub report_malformed : (listed : List Test) (ending : Ending) → SpellsTests c tests listed → FailsReport (codes "check") c report ending
           → Stops (check_work call) ending first new
       report_malformed listed ending spells fails =
-          stops_judged (check_work call) (Malformed Check role.Report) (IsMalformedReport c report) (WellFormed role.Report) ending
-          (tests_formed listed spells) (_, refl) (λ line. refl) (λ line why. (refl, record { circuit = c; has = has; malformed = why })) fails
+          stops_judged (check_command call) (WellFormed role.Report 3) (LacksForm (codes "check") role.Report (IsMalformedReport c report)) ending
+          (tests_passed listed spells) (_, refl)
+          (λ refusal lacks. record {
+            place = lacks.place;
+            first = record { circuit = c; has = has; malformed = lacks.first };
+            is = lacks.is;
+          }) fails
 
       pub proofs_malformed : (listed : List Test) (paths : List ListedPath) (ending : Ending) → SpellsTests c tests listed
-          → SpellsReport c report paths → FailsProofs c proofs ending → Stops (check_work call) ending first new
+          → SpellsReport c report paths → FailsProofs (codes "check") c proofs ending → Stops (check_work call) ending first new
       proofs_malformed listed paths ending spells its fails =
-          stops_judged (check_work call) (Malformed Check role.Proofs) (IsMalformedProofs c proofs) (WellFormed role.Proofs) ending
-          (report_formed listed paths spells its) (_, refl) (λ line. refl)
-          (λ line why. (refl, record { circuit = c; has = has; malformed = why })) fails
+          stops_judged (check_command call) (WellFormed role.Proofs 4) (LacksForm (codes "check") role.Proofs (IsMalformedProofs c proofs)) ending
+          (report_passed listed paths spells its) (_, refl)
+          (λ refusal lacks. record {
+            place = lacks.place;
+            first = record { circuit = c; has = has; malformed = lacks.first };
+            is = lacks.is;
+          }) fails
 
     -- the run that they spell
     module _ (given : Delays) (gives : HasDelays c delays given) (run : Run) (spells : SpellsRun c tests report proofs run) where
@@ -188,8 +174,8 @@ module _ (call : RunCall) where
       texts = record { net = net; delays = delays; tests = tests; report = report; proofs = proofs }
 
       -- a good run has no flaw
-      none_flawed : IsGoodRun c given call.paths call.budget run → (reason : RunRefusal) → ¬ SpellFlawedRun call texts reason
-      none_flawed good reason it = never it.circuit it.delays it.run (one_circuit net it.circuit c it.spell.has has) it.spell it.is_first where
+      none_flawed : IsGoodRun c given call.paths call.budget run → (refusal : Refusal) → ¬ SpellFlawedRun call texts refusal
+      none_flawed good refusal it = never it.circuit it.delays it.run (one_circuit net it.circuit c it.spell.has has) it.spell it.is_first where
         here : (others : Delays) → HasDelays c delays others → TellsOfRun c others call.paths call.budget run (Fails it.item it.flaw) → ⊥
         here others give tells =
             let also = good_agrees c given others (delays_agree c (is_circuit net c has) delays given others gives give) call.paths call.budget run
@@ -207,16 +193,15 @@ module _ (call : RunCall) where
             (subst (λ (r : Run). TellsOfRun c others call.paths call.budget r (Fails it.item it.flaw))
             (run_once c (is_circuit net c has) tests report proofs other run spell_here.spells spells) tells_here)
 
-      pub accepts_good : IsGoodRun c given call.paths call.budget run → Accepts (check_work call) GoodRun all_five
-      accepts_good good = accepts_run (check_work call) all_five (none_flawed good)
+      pub accepts_good : IsGoodRun c given call.paths call.budget run → Accepts (check_work call) (own GoodRun) all_five
+      accepts_good good = none_flawed good
 
       -- it was judged
       module _ (first new : FilesSeen) (before : HasPassed (check_work call) (stages_formed call) all_five first new) where
         run_fails : (ending : Ending) → FailsRun c given call.paths call.budget run ending → Stops (check_work call) ending first new
         run_fails ending fails =
-            stops_judged (check_work call) NotGood (HasToldFlaw c given call.paths call.budget run) GoodRun ending before ([], refl)
-            (λ reason. refl)
-            (λ reason why. record {
+            stops_judged (check_command call) (own GoodRun) (IsFlawed c given call.paths call.budget run) ending before ([], refl)
+            (λ refusal why. record {
               circuit = c;
               delays = given;
               run = run;
@@ -224,7 +209,7 @@ module _ (call : RunCall) where
               item = why.item;
               flaw = why.flaw;
               is_first = why.is_first;
-              told = why.told;
+              is = why.is;
             }) fails
 
         pub run_judged : (result : Result ⊤ Ending) → OnOk result (IsGoodAndKeeps c given call.paths call.budget run)
@@ -232,7 +217,7 @@ module _ (call : RunCall) where
             → Prepares (λ (done : ⊤). good_products) (check_work call) result first new
         run_judged (Ok done) good fails = record {
           inputs = all_five;
-          passed = then_required (check_work call) GoodRun before (accepts_good good.good);
+          passed = then_required (check_work call) (own GoodRun) before (accepts_good good.good);
           gives = record {
             spell = record {
               circuit = c;

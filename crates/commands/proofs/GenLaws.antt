@@ -4,24 +4,27 @@ use Rattle.std.proofs.Common.{ℕ, ◌-◌, ◌^◌, ◌≤◌, List, [], ◌∷
 use Rattle.pd_base.specs.declared.fault.Direction.{Direction}
 use Rattle.pd_base.specs.declared.rules.Rules.{Rules}
 use Rattle.pd_io.specs.Folder.{Folder, bytes_at}
+use Rattle.pd_io.specs.Seen.{Outside}
 use Rattle.netlist.specs.Circuit.{Circuit}
 use Rattle.bench_reader.specs.Circuits.{HasCircuit}
 use Rattle.netlist.specs.Waves.{Delays}
 use Rattle.delay_annotation.specs.DelayFile.{HasDelays}
 use Rattle.runs.specs.declared.run.ListedPath.{ListedPath}
 use Rattle.runs.specs.declared.run.Verdict.{Verdict}
-use Rattle.tree_laws.specs.Bounds.{AreSupport, states_of_source}
+use Rattle.trees.specs.Bounds.{AreSupport, states_of_source}
 use Rattle.good_runs.specs.Faults.{IsFault}
 use Rattle.good_runs.specs.Truth.{IsTruth}
 use Rattle.command_line.specs.Words.{RunCall}
-use Rattle.calls.specs.Calls.{HasAcceptedInputs}
+use Rattle.calls.specs.declared.status.Status.{Status}
+use Rattle.calls.specs.Calls.{Ends, HasAcceptedInputs}
 use Rattle.calls.specs.Work.{Products}
-use Rattle.commands.specs.declared.inputs.judging.TheConstants.{INPUT_LIMIT}
-use Rattle.commands.specs.InputStages.{short_stages}
+use Rattle.commands.specs.declared.inputs.reading.TheConstants.{INPUT_LIMIT}
+use Rattle.commands.specs.InputRequirements.{short_stages}
 use Rattle.commands.specs.Sizes.{HasShortTexts}
 use Rattle.commands.proofs.InputStages.{inputs_pass, texts_pass}
-use Rattle.commands.specs.Gen.{GivesProductsOf, gen_work}
-use Rattle.commands.proofs.GenStages.{begins_gen, requires_short}
+use Rattle.calls.proofs.Calls.{completes}
+use Rattle.commands.specs.GenLaws.{KeepsGenLaws}
+use Rattle.commands.specs.Gen.{GivesProductsOf, gen_command, gen_work}
 
 module _ (call : RunCall) (told : Folder) where
   -- the bytes under the name of NET
@@ -39,18 +42,27 @@ module _ (call : RunCall) (told : Folder) where
   circuit_is_accepted c given within has delays_within gives short = record {
     told = tt;
     inputs = net ∷ delays ∷ [];
-    passed = inputs_pass (gen_work call) call.net call.delays short_stages (begins_gen call) told c given (net ∷ delays ∷ []) within has
+    passed = inputs_pass (gen_command call) told call.net call.delays (short_stages call.paths) c given (net ∷ delays ∷ []) within has
         delays_within gives
-        (texts_pass (gen_work call) call.net call.delays call.paths [] (requires_short call) net delays c has told (net ∷ delays ∷ []) short
-        refl);
+        (texts_pass (gen_command call) call.net call.delays call.paths net delays c has told [] (net ∷ delays ∷ []) short refl);
   }
 
 module _ (call : RunCall) (c : Circuit) (delays : Delays) (products : Products) (gives : GivesProductsOf call c delays products) where
   -- where the budget is at least two to the power of the number of sources in the support of a fault's path, its own not counted, the
   -- fault is not aborted, and its verdict tells what there is
   pub two_power_decides : (number : ℕ) (listed : ListedPath) (direction : Direction) (verdict : Verdict)
-      → IsFault gives.run number listed direction verdict → (sources : List ℕ) → AreSupport c listed.path sources
-      → 2 ^ (length sources - 1) ≤ call.budget → IsTruth c listed.path direction verdict
+      → IsFault gives.run number listed direction verdict → (sources : List ℕ) → AreSupport c gives.run.rules listed.path sources
+      → 2 ^ (length sources - 1) ≤ call.budget → IsTruth c gives.run.rules listed.path direction verdict
   two_power_decides number listed direction verdict fault sources support enough =
       let P : Rules → Type 0 = λ rules. states_of_source rules ^ (length sources - 1) ≤ call.budget in
       (gives.promises number listed direction verdict fault).great_budget sources support (subst P (sym gives.rules) enough)
+
+-- what holds of a call of gen
+pub gen_laws : (call : RunCall) (status : Status) (old new : Outside) → Ends (gen_work call) status old new → KeepsGenLaws call status old new
+gen_laws call status old new ends = record {
+  complete = λ now can told none.
+      completes (gen_work call) status old new ends
+      (subst (HasAcceptedInputs (gen_work call)) (sym told)
+      (circuit_is_accepted call now can.circuit can.given can.net_within can.has can.delays_within can.gives can.short)) none;
+  great_budget = λ c delays products. two_power_decides call c delays products;
+}

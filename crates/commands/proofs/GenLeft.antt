@@ -7,6 +7,7 @@ use Rattle.netlist.specs.Circuit.{Circuit}
 use Rattle.netlist.specs.Waves.{Delays}
 use Rattle.runs.specs.declared.run.Run.{Run}
 use Rattle.runs.specs.Lawful.{IsLawfulRun}
+use Rattle.trees.specs.Unlinked.{IsUnlinked}
 use Rattle.good_runs.specs.GoodRun.{IsGoodRun}
 use Rattle.bench_reader.specs.Circuits.{HasCircuit}
 use Rattle.delay_annotation.specs.DelayFile.{HasDelays}
@@ -16,22 +17,23 @@ use Rattle.verdict_report.specs.ReportText.{report_text}
 use Rattle.command_line.specs.Words.{RunCall}
 use Rattle.calls.specs.declared.role.Role.{Role}
 use Rattle.calls.specs.declared.role.Role.TheVariants as role
-use Rattle.calls.specs.declared.refusal.Refusal.TheVariants.{TooLong}
+use Rattle.calls.specs.declared.refusal.Refusal.{Refusal}
 use Rattle.calls.specs.Passing.{Pass}
 use Rattle.calls.specs.Work.{names_read, Products}
 use Rattle.calls.specs.Writing.{put_all}
-use Rattle.commands.specs.declared.inputs.judging.TheConstants.{INPUT_LIMIT}
-use Rattle.commands.specs.InputStages.{IsOverLimit}
+use Rattle.commands.specs.declared.inputs.reading.TheConstants.{INPUT_LIMIT}
+use Rattle.commands.specs.InputRefusals.{too_long}
+use Rattle.commands.specs.InputRequirements.{IsOverLimit, limit_of}
 use Rattle.commands.specs.Sizes.{HasShortTexts}
 use Rattle.commands.specs.Gen.{gen_stages, gen_work, GivesGen, GivesRun, run_files}
 use Rattle.commands.specs.LaterCalls.{HasNamesApart, IsLeftBy}
 use Rattle.commands.proofs.FilesLeft.{delays_left, net_left, proofs_left, report_left, tests_left}
 
 -- an input that is not over its limit is within it
-not_over : (input : Role) (text : List ℕ) → ¬ IsOverLimit INPUT_LIMIT input text input → length text ≤ INPUT_LIMIT
+not_over : (input : Role) (text : List ℕ) → ((refusal : Refusal) → ¬ IsOverLimit input text refusal) → length text ≤ limit_of input
 not_over input text none =
-    ⊎_elim (λ (over : INPUT_LIMIT < length text). absurd (none (record { of_role = refl; over = over }))) (λ within. within)
-    (cases_lt INPUT_LIMIT (length text))
+    ⊎_elim (λ (over : limit_of input < length text). absurd (none (too_long input) (record { over = over; is = refl }))) (λ within. within)
+    (cases_lt (limit_of input) (length text))
 
 -- NET and DELAYS stand there still, and the texts of a good run for them
 pub record LeftFiles (call : RunCall) (left : Folder) : Type 0 where
@@ -47,6 +49,7 @@ pub record LeftFiles (call : RunCall) (left : Folder) : Type 0 where
   pub run : Run
   pub good : IsGoodRun circuit delays call.paths call.budget run
   pub lawful : IsLawfulRun circuit run
+  pub unlinked : IsUnlinked run.rules
   pub net_is : bytes_at left.held call.net ≡ net
   pub delays_is : bytes_at left.held call.delays ≡ delay_file
   pub tests_is : bytes_at left.held call.tests ≡ tests_text circuit run.tests
@@ -83,6 +86,7 @@ module _ (call : RunCall) (apart : HasNamesApart call) where
         run = given.run;
         good = given.good;
         lawful = given.lawful;
+        unlinked = subst IsUnlinked (sym given.rules) tt;
         net_is = ap (λ (h : Contents). bytes_at h call.net) held ∙ net_left before.held call apart tests report proofs ∙ sym is_net;
         delays_is = ap (λ (h : Contents). bytes_at h call.delays) held ∙ delays_left before.held call apart tests report proofs ∙ sym is_delays;
         tests_is = ap (λ (h : Contents). bytes_at h call.tests) held ∙ tests_left before.held call apart tests report proofs;
@@ -97,7 +101,7 @@ module _ (call : RunCall) (apart : HasNamesApart call) where
   files_told (Some before) left inputs products (net, is_net, (net_size, (circuit, (delays, is_delays, (delays_size, (spells_delays, (path_text, (test_text, all))))))))
       gives wrote =
       files_of before left net delays products is_net is_delays
-      (not_over role.Net net (net_size (TooLong role.Net) refl)) (not_over role.Delays delays (delays_size (TooLong role.Delays) refl))
+      (not_over role.Net net net_size) (not_over role.Delays delays delays_size)
       (subst (λ (read : List (List ℕ)). GivesGen call read products) all gives) wrote
 
   pub files_left : (left : Folder) → IsLeftBy (gen_work call) left → LeftFiles call left

@@ -1,5 +1,6 @@
--- What gen wrote, check accepts, as long as the five names hold what they held when gen was done.
-use Rattle.std.proofs.Common.{◌≡◌, ◌≤◌, ℕ, List, [], length, Some, sym, subst, ◌∙◌, arith}
+-- What gen wrote, check accepts, as long as the five names hold what they held when gen was done: said of a run, and of the words that ask
+-- for it.
+use Rattle.std.proofs.Common.{◌≡◌, ◌≤◌, ℕ, List, [], ◌∷◌, Ok, codes, length, Some, ap, sym, subst, ◌∙◌, arith}
 use Rattle.pd_io.specs.Folder.{bytes_at, Folder}
 use Rattle.netlist.specs.Lawful.{IsCircuit}
 use Rattle.bench_reader.specs.Circuits.{HasCircuit}
@@ -9,13 +10,14 @@ use Rattle.text_pieces.specs.declared.limits.TheConstants.{MOST_BYTES}
 use Rattle.pattern_writer.specs.TestsText.{tests_text}
 use Rattle.verdict_report.specs.ProofsText.{proofs_text}
 use Rattle.verdict_report.specs.ReportText.{report_text}
-use Rattle.command_line.specs.Words.{HasRunNumbers, RunCall}
+use Rattle.command_line.specs.Words.{HasRunNumbers, RunCall, asked_call, check}
 use Rattle.calls.specs.Calls.{HasAcceptedInputs}
-use Rattle.commands.specs.declared.inputs.judging.TheConstants.{INPUT_LIMIT}
+use Rattle.commands.specs.declared.inputs.reading.TheConstants.{INPUT_LIMIT}
 use Rattle.commands.specs.Check.{check_work}
 use Rattle.commands.specs.SpelledRuns.{SpellsRun}
 use Rattle.commands.specs.Gen.{gen_work}
-use Rattle.commands.specs.LaterCalls.{HasNamesApart, HaveKept, IsLeftBy, run_names}
+use Rattle.commands.specs.LaterCalls.{HasNamesApart, HaveKept, IsLeftBy, WasLeftByGen, run_names}
+use Rattle.commands.proofs.AskedRuns.{asks_for, AskForRun}
 use Rattle.commands.proofs.CheckLaws.{good_run_is_accepted, AreReadable}
 use Rattle.commands.proofs.GenLeft.{files_left, LeftFiles}
 use Rattle.commands.proofs.GoodTexts.{readable_texts, spelled_run}
@@ -54,11 +56,11 @@ module _ (call : RunCall) (numbers : HasRunNumbers call) (left later : Folder) (
   -- and the three texts spell the run
   spell : SpellsRun it.circuit (bytes_at later.held call.tests) (bytes_at later.held call.report) (bytes_at later.held call.proofs) it.run
   spell =
-      let spells = spelled_run it.circuit circuit_is call numbers it.delay_file it.delays it.has_delays it.run it.good it.lawful in
+      let spells = spelled_run it.circuit circuit_is call numbers it.delay_file it.delays it.has_delays it.run it.good it.lawful it.unlinked in
       record {
         tests_are = record { lawful = spells.tests_are.lawful; is_text = tests_are };
         report_is = record { lawful = spells.report_is.lawful; is_text = report_is };
-        proofs_are = record { lawful = spells.proofs_are.lawful; is_text = proofs_are };
+        proofs_are = record { unlinked = it.unlinked; lawful = spells.proofs_are.lawful; is_text = proofs_are };
       }
 
   accepted : HasAcceptedInputs (check_work call) (Some later)
@@ -72,3 +74,22 @@ module _ (call : RunCall) (numbers : HasRunNumbers call) (left later : Folder) (
 pub gen_then_check : (call : RunCall) → HasRunNumbers call → HasNamesApart call → (left later : Folder) → IsLeftBy (gen_work call) left
     → HaveKept (run_names call) left later → HasAcceptedInputs (check_work call) (Some later)
 gen_then_check call numbers apart left later done kept = accepted call numbers left later kept (files_left call apart left done)
+
+module _ (words : List (List ℕ)) (call : RunCall) (is : asked_call words ≡ Ok (check call)) (run : RunCall) (left later : Folder)
+    (was : WasLeftByGen run left) (behind : words ≡ codes "check" ∷ was.words) (kept : HaveKept (run_names run) left later) where
+  -- the run that the words ask for
+  abbrev asked : (a : AskForRun was.words) × (a.call ≡ run)
+  asked = asks_for was.words run was.asked
+
+  -- it is the one that is checked
+  same_call : asked.0.call ≡ call
+  same_call =
+      let both : Ok (check asked.0.call) ≡ Ok (check call) = sym asked.0.by_check ∙ ap asked_call (sym behind) ∙ is in cc
+
+  -- the same words with `gen` in front were done, and the five names hold what they held then: check accepts its inputs
+  pub accepted_behind_gen : HasAcceptedInputs (check_work call) (Some later)
+  accepted_behind_gen =
+      subst (λ (r : RunCall). HasAcceptedInputs (check_work r) (Some later)) same_call
+      (gen_then_check asked.0.call asked.0.numbers asked.0.names left later
+      (subst (λ (r : RunCall). IsLeftBy (gen_work r) left) (sym asked.1) was.left_by)
+      (subst (λ (r : RunCall). HaveKept (run_names r) left later) (sym asked.1) kept))

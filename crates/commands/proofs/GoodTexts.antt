@@ -16,7 +16,8 @@ use Rattle.runs.specs.declared.run.ListedPath.{ListedPath}
 use Rattle.runs.specs.declared.run.Proof.{Proof}
 use Rattle.runs.specs.declared.run.Run.{Run}
 use Rattle.runs.specs.Lawful.{IsLawfulRun}
-use Rattle.runs.specs.Trees.{split_count, IsTree}
+use Rattle.trees.specs.Unlinked.{IsUnlinked}
+use Rattle.trees.specs.Trees.{split_count, IsTree}
 use Rattle.good_runs.specs.Faults.{routes_of}
 use Rattle.good_runs.specs.GoodRun.{IsGoodRefutation, IsGoodRun, IsGoodSpent}
 use Rattle.good_runs.proofs.FirstOnce.{few_first}
@@ -118,11 +119,12 @@ module _ (c : Circuit) (circuit : IsCircuit c) (call : RunCall) (numbers : HasRu
     few_splits = (tree_at place d within).few_splits;
   }
 
-  pub spelled_run : SpellsRun c (tests_text c run.tests) (report_text c run.paths) (proofs_text run.rules run.proofs) run
-  spelled_run = record {
+  pub spelled_run : IsUnlinked run.rules
+      → SpellsRun c (tests_text c run.tests) (report_text c run.paths) (proofs_text run.rules run.proofs) run
+  spelled_run unlinked = record {
     tests_are = record { lawful = lawful.tests; is_text = refl };
     report_is = record { lawful = spelled_report; is_text = refl };
-    proofs_are = record { lawful = spelled_proofs; is_text = refl };
+    proofs_are = record { unlinked = unlinked; lawful = spelled_proofs; is_text = refl };
   }
 
   pub readable_texts : HasShortTexts call.paths c → CanBeRead c run

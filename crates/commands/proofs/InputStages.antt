@@ -1,182 +1,150 @@
--- A command that begins with NET and DELAYS: what is passed with its first stages, and how the call ends there. A command says that it
--- begins so (`BeginsWithInputs`), and where texts have to be short, that it requires it next (`RequiresShortTexts`).
-use Rattle.std.proofs.Common.{◌≡◌, ℕ, ◌≤◌, List, [], ◌∷◌, ◌++◌, length, Some, refl, sym, subst, arith}
-use Rattle.std.specs.Prelude.{◌↔◌, Vec}
-use Rattle.std.specs.declared.alloc.Global.{Global}
+-- The stages that commands have alike: what is passed with NET and DELAYS, with short texts and with claim files, and how the call ends
+-- there.
+use Rattle.std.proofs.Common.{◌≡◌, ℕ, ◌≤◌, List, [], ◌∷◌, ◌++◌, length, Some, refl, sym, subst}
 use Rattle.pd_io.specs.Folder.{Folder, bytes_at}
 use Rattle.pd_io.specs.Seen.{FilesSeen}
 use Rattle.netlist.specs.Circuit.{Circuit}
 use Rattle.netlist.specs.Waves.{Delays}
 use Rattle.bench_reader.specs.Circuits.{HasCircuit}
 use Rattle.delay_annotation.specs.DelayFile.{HasDelays}
-use Rattle.calls.specs.declared.delays_refusal.DelaysRefusal.{DelaysRefusal}
+use Rattle.calls.specs.declared.ending.Ending.{Ending}
 use Rattle.calls.specs.declared.role.Role.{Role}
 use Rattle.calls.specs.declared.role.Role.TheVariants as role
-use Rattle.calls.specs.declared.refusal.Refusal.{Refusal}
-use Rattle.calls.specs.declared.refusal.Refusal.TheVariants as refused
-use Rattle.calls.specs.declared.ending.Ending.{Ending}
-use Rattle.calls.specs.Work.{Work, Stage, Read, Require, WithinLimit, SpellsCircuit, SpellsDelays, ShortPathText, ShortTestText}
+use Rattle.calls.specs.Work.{Stage}
 use Rattle.calls.specs.Passing.{Accepts, HasPassed, Pass}
 use Rattle.calls.specs.Stopping.{Stops}
-use Rattle.calls.specs.Inputs.{ReadsInput}
-use Rattle.calls.proofs.Accepting.{accepts_circuit, accepts_delays, accepts_path_text, accepts_size, accepts_test_text}
 use Rattle.calls.proofs.Stages.{begun, then_required, stops_refused}
-use Rattle.commands.specs.declared.inputs.judging.TheConstants.{INPUT_LIMIT}
+use Rattle.commands.specs.declared.inputs.reading.TheConstants.{INPUT_LIMIT}
 use Rattle.commands.specs.declared.inputs.sizes.TheConstants.{MOST_PATH_TEXT, MOST_TEST_TEXT}
-use Rattle.commands.specs.InputJudging.{FailsToGiveDelays, FailsToGiveNet, GivesDelays, GivesNet}
-use Rattle.commands.specs.InputJudging as judging
-use Rattle.commands.specs.InputStages.{HasNoDelays, IsOverLimit, IsOverProduct, RefusesNet, input_stages, short_stages}
-use Rattle.commands.specs.Reasons.{HasNoCircuitFor, HasNoDelaysFor}
+use Rattle.commands.specs.Inside.InputJudging.{FailsToGiveDelays, FailsToGiveNet, GivesDelays, GivesNet, ReadsWithin}
+use Rattle.commands.specs.Inside.InputJudging as judging
+use Rattle.commands.specs.InputRefusals.{long_path_text, long_test_text}
+use Rattle.commands.specs.InputRequirements.{HasMalformed, HasNoCircuit, HasNoDelaysFor, InputCommand, Requirement, ShortPathText, ShortTestText, SpellsCircuit, SpellsDelays, WellFormed, input_at, input_stages, net_stages, short_stages, work_on_inputs}
 use Rattle.commands.specs.Sizes.{HasLongTexts, HasShortTexts, long_paths, long_tests, path_text_product, test_text_product}
-use Rattle.commands.proofs.StageReads.{stops_judged, stops_unwhole, then_whole}
-use Rattle.commands.proofs.ToldReasons.{has_a_circuit, has_delays, is_within}
+use Rattle.commands.proofs.StageReads.{accepts_size, stops_judged, stops_unwhole, then_whole}
+use Rattle.commands.proofs.InputFaults.{has_a_circuit, has_delays, is_within}
 
--- a command begins with NET and DELAYS under these names, and refuses of them what is refused by any that does
-pub record BeginsWithInputs (work : Work) (net delays : List ℕ) (later : List Stage) : Type 0 where
-  pub stages : work.stages ≡ input_stages net delays ++ later
-  pub of_net : (text : List ℕ) (refusal : Refusal) → work.Refuses (text ∷ []) refusal ↔ RefusesNet text refusal
-  pub size_of_delays : (text file : List ℕ) (of : Role)
-      → work.Refuses (text ∷ file ∷ []) (refused.TooLong of) ↔ IsOverLimit INPUT_LIMIT role.Delays file of
-  pub of_delays : (text file : List ℕ) (reason : DelaysRefusal)
-      → work.Refuses (text ∷ file ∷ []) (refused.Delays reason) ↔ HasNoDelays text file reason
-
--- then it requires that texts for so many paths are short
-pub record RequiresShortTexts (work : Work) (net delays : List ℕ) (paths : ℕ) (later : List Stage) : Type 0 where
-  pub stages : work.stages ≡ (input_stages net delays ++ short_stages) ++ later
-  pub of_paths : (text file : List ℕ) (product : ℕ)
-      → work.Refuses (text ∷ file ∷ []) (refused.PathText product) ↔ IsOverProduct text (path_text_product paths) MOST_PATH_TEXT product
-  pub of_tests : (text file : List ℕ) (product : ℕ)
-      → work.Refuses (text ∷ file ∷ []) (refused.TestText product) ↔ IsOverProduct text (test_text_product paths) MOST_TEST_TEXT product
-
-module _ (work : Work) (net_name delays_name : List ℕ) (later : List Stage) (begins : BeginsWithInputs work net_name delays_name later) where
+module _ (command : InputCommand) where
   -- NET has a circuit
-  accepts_net : (text : List ℕ) (c : Circuit) → HasCircuit text c → Accepts work SpellsCircuit (text ∷ [])
-  accepts_net text c has =
-      accepts_circuit work (text ∷ [])
-      (λ reason refuses. has_a_circuit text c reason has ((begins.of_net text (refused.Netlist reason)).0 refuses))
+  pub accepts_net : (net : List ℕ) (later : List (List ℕ)) (c : Circuit) → HasCircuit net c
+      → Accepts (work_on_inputs command) SpellsCircuit (net ∷ later)
+  accepts_net net later c has refusal refuses = has_a_circuit net c refusal has refuses
 
   -- DELAYS gives it delays
-  accepts_given : (text file : List ℕ) (c : Circuit) (given : Delays) → HasCircuit text c → HasDelays c file given
-      → Accepts work SpellsDelays (text ∷ file ∷ [])
-  accepts_given text file c given has gives =
-      accepts_delays work (text ∷ file ∷ [])
-      (λ reason refuses. has_delays text c has file given reason gives ((begins.of_delays text file reason).0 refuses))
+  pub accepts_given : (net delays : List ℕ) (later : List (List ℕ)) (c : Circuit) (given : Delays) → HasCircuit net c
+      → HasDelays c delays given → Accepts (work_on_inputs command) SpellsDelays (net ∷ delays ∷ later)
+  accepts_given net delays later c given has gives refusal refuses = has_delays net c has delays given refusal gives refuses
 
-  -- NET was read, within its limit
-  net_within : (text : Vec ℕ Global) (old mid : FilesSeen) → ReadsInput INPUT_LIMIT net_name (Some text) old mid
-      → HasPassed work (Read role.Net net_name ∷ Require (WithinLimit role.Net) ∷ []) (text.items ∷ []) old mid
-  net_within text old mid read =
-      then_whole work INPUT_LIMIT role.Net net_name text (begun work old) read
-      (λ refuses. (begins.of_net text.items (refused.TooLong role.Net)).0 refuses)
+  -- a claim file none of whose lines lacks its form
+  pub accepts_form : (input : Role) (place : ℕ) (net : List ℕ) (later : List (List ℕ))
+      → ((line : ℕ) → ¬ HasMalformed input net (input_at (net ∷ later) place) line)
+      → Accepts (work_on_inputs command) (WellFormed input place) (net ∷ later)
+  accepts_form input place net later formed refusal lacks = formed lacks.place lacks.first
 
-  -- NET gives no circuit
-  pub net_fails : (ending : Ending) (old new : FilesSeen) → FailsToGiveNet net_name ending old new → Stops work ending old new
-  net_fails ending old new (judging.not_read fails) =
-      stops_unwhole work INPUT_LIMIT role.Net net_name ending (begun work old) (_, begins.stages)
-      (λ text over. (begins.of_net text (refused.TooLong role.Net)).1 over) fails
-  net_fails ending old new (judging.gives_none text read fails) =
-      stops_judged work refused.Netlist (HasNoCircuitFor text.items) SpellsCircuit ending (net_within text old new read)
-      (_, begins.stages) (λ reason. refl) (λ reason why. (begins.of_net text.items (refused.Netlist reason)).1 why) fails
+  module _ (net : List ℕ) (later : List (List ℕ)) (c : Circuit) (has : HasCircuit net c) (paths : ℕ) where
+    -- the texts of the paths are short
+    accepts_paths : path_text_product paths c ≤ MOST_PATH_TEXT → Accepts (work_on_inputs command) (ShortPathText paths) (net ∷ later)
+    accepts_paths short refusal refuses =
+        is_within net c has (path_text_product paths) MOST_PATH_TEXT long_path_text refusal short refuses
 
-  module _ (c : Circuit) (old mid new : FilesSeen) (net : GivesNet net_name c old mid) where
-    -- its circuit was required
-    net_passed : HasPassed work (Read role.Net net_name ∷ Require (WithinLimit role.Net) ∷ Require SpellsCircuit ∷ [])
-        (net.text.items ∷ []) old mid
-    net_passed = then_required work SpellsCircuit (net_within net.text old mid net.read) (accepts_net net.text.items c net.holds)
+    -- and those of the tests
+    accepts_tests : test_text_product paths c ≤ MOST_TEST_TEXT → Accepts (work_on_inputs command) (ShortTestText paths) (net ∷ later)
+    accepts_tests short refusal refuses =
+        is_within net c has (test_text_product paths) MOST_TEST_TEXT long_test_text refusal short refuses
 
-    -- DELAYS was read, within its limit
-    delays_within : (file : Vec ℕ Global) → ReadsInput INPUT_LIMIT delays_name (Some file) mid new
-        → HasPassed work (Read role.Net net_name ∷ Require (WithinLimit role.Net) ∷ Require SpellsCircuit ∷ Read role.Delays delays_name
-        ∷ Require (WithinLimit role.Delays) ∷ []) (net.text.items ∷ file.items ∷ []) old new
-    delays_within file read =
-        then_whole work INPUT_LIMIT role.Delays delays_name file net_passed read
-        (λ refuses. (begins.size_of_delays net.text.items file.items role.Delays).0 refuses)
+  -- the command begins with NET
+  module _ (net_name : List ℕ) (behind_net : List (Stage (Requirement command.Own)))
+      (place : command.stages ≡ net_stages net_name ++ behind_net) where
+    -- NET gives no circuit
+    pub net_fails : (ending : Ending) (old new : FilesSeen) → FailsToGiveNet net_name ending old new → Stops (work_on_inputs command) ending old new
+    net_fails ending old new (judging.not_read fails) =
+        stops_unwhole command role.Net net_name ending (begun (work_on_inputs command) old) (_, place) fails
+    net_fails ending old new (judging.gives_none text read fails) =
+        stops_judged command SpellsCircuit (HasNoCircuit text.items) ending
+        (then_whole command role.Net net_name text (begun (work_on_inputs command) old) read) (_, place) (λ refusal why. why) fails
 
+  -- NET was read and judged
+  pub net_passed : (net_name : List ℕ) (c : Circuit) (old mid : FilesSeen) (net : GivesNet net_name c old mid)
+      → HasPassed (work_on_inputs command) (net_stages net_name) (net.text.items ∷ []) old mid
+  net_passed net_name c old mid net =
+      then_required (work_on_inputs command) SpellsCircuit
+      (then_whole command role.Net net_name net.text (begun (work_on_inputs command) old) net.read) (accepts_net net.text.items [] c net.holds)
+
+  module _ (net_name delays_name : List ℕ) (c : Circuit) (old mid new : FilesSeen) (net : GivesNet net_name c old mid) where
     -- DELAYS gives no delays
-    pub delays_fail : (ending : Ending) → FailsToGiveDelays delays_name c ending mid new → Stops work ending old new
-    delays_fail ending (judging.not_read fails) =
-        stops_unwhole work INPUT_LIMIT role.Delays delays_name ending net_passed (_, begins.stages)
-        (λ file over. (begins.size_of_delays net.text.items file role.Delays).1 over) fails
-    delays_fail ending (judging.gives_none file read fails) =
-        stops_judged work refused.Delays (HasNoDelaysFor c file.items) SpellsDelays ending (delays_within file read)
-        (_, begins.stages) (λ reason. refl)
-        (λ reason why. (begins.of_delays net.text.items file.items reason).1 (record { circuit = c; has = net.holds; none = why })) fails
+    pub delays_fail : (behind : List (Stage (Requirement command.Own))) → command.stages ≡ input_stages net_name delays_name ++ behind
+        → (ending : Ending) → FailsToGiveDelays delays_name c ending mid new → Stops (work_on_inputs command) ending old new
+    delays_fail behind place ending (judging.not_read fails) =
+        stops_unwhole command role.Delays delays_name ending (net_passed net_name c old mid net) (_, place) fails
+    delays_fail behind place ending (judging.gives_none file read fails) =
+        stops_judged command SpellsDelays (HasNoDelaysFor c file.items) ending
+        (then_whole command role.Delays delays_name file (net_passed net_name c old mid net) read) (_, place)
+        (λ refusal why. record { circuit = c; has = net.holds; none = why }) fails
 
     -- both were read and judged
     pub inputs_passed : (given : Delays) (delays : GivesDelays delays_name c given mid new)
-        → HasPassed work (input_stages net_name delays_name) (net.text.items ∷ delays.text.items ∷ []) old new
+        → HasPassed (work_on_inputs command) (input_stages net_name delays_name) (net.text.items ∷ delays.text.items ∷ []) old new
     inputs_passed given delays =
-        then_required work SpellsDelays (delays_within delays.text delays.read)
-        (accepts_given net.text.items delays.text.items c given net.holds delays.holds)
+        then_required (work_on_inputs command) SpellsDelays
+        (then_whole command role.Delays delays_name delays.text (net_passed net_name c old mid net) delays.read)
+        (accepts_given net.text.items delays.text.items [] c given net.holds delays.holds)
 
   -- what the files tell of NET and DELAYS is accepted, and what follows is passed
-  pub inputs_pass : (told : Folder) (c : Circuit) (given : Delays) (all : List (List ℕ))
-      → length (bytes_at told.held net_name) ≤ INPUT_LIMIT → HasCircuit (bytes_at told.held net_name) c
+  pub inputs_pass : (told : Folder) (net_name delays_name : List ℕ) (later : List (Stage (Requirement command.Own))) (c : Circuit)
+      (given : Delays) (all : List (List ℕ)) → length (bytes_at told.held net_name) ≤ INPUT_LIMIT → HasCircuit (bytes_at told.held net_name) c
       → length (bytes_at told.held delays_name) ≤ INPUT_LIMIT → HasDelays c (bytes_at told.held delays_name) given
-      → Pass work (Some told) later (bytes_at told.held net_name ∷ bytes_at told.held delays_name ∷ []) all
-      → Pass work (Some told) (input_stages net_name delays_name ++ later) [] all
-  inputs_pass told c given all net_within has delays_within gives rest =
+      → Pass (work_on_inputs command) (Some told) later (bytes_at told.held net_name ∷ bytes_at told.held delays_name ∷ []) all
+      → Pass (work_on_inputs command) (Some told) (input_stages net_name delays_name ++ later) [] all
+  inputs_pass told net_name delays_name later c given all net_within has delays_within gives rest =
       let net = bytes_at told.held net_name in
       let delays = bytes_at told.held delays_name in (
         net,
         refl,
         (
-          accepts_size work (net ∷ []) role.Net
-              (λ refuses. let over = ((begins.of_net net (refused.TooLong role.Net)).0 refuses).over in omega arith),
+          accepts_size command role.Net [] net net_within,
           (
-            accepts_net net c has,
+            accepts_net net [] c has,
             (
               delays,
               refl,
               (
-                accepts_size work (net ∷ delays ∷ []) role.Delays
-                    (λ refuses. let over = ((begins.size_of_delays net delays role.Delays).0 refuses).over in omega arith),
-                (accepts_given net delays c given has gives, rest),
+                accepts_size command role.Delays (net ∷ []) delays delays_within,
+                (accepts_given net delays [] c given has gives, rest),
               ),
             ),
           ),
         ),
       )
 
-module _ (work : Work) (net_name delays_name : List ℕ) (paths : ℕ) (later : List Stage)
-    (requires_short : RequiresShortTexts work net_name delays_name paths later) (net delays : List ℕ) (c : Circuit) (has : HasCircuit net c) where
-  -- the texts of the paths are short
-  accepts_paths : path_text_product paths c ≤ MOST_PATH_TEXT → Accepts work ShortPathText (net ∷ delays ∷ [])
-  accepts_paths short =
-      accepts_path_text work (net ∷ delays ∷ [])
-      (λ product refuses. is_within net c has (path_text_product paths) MOST_PATH_TEXT product short
-      ((requires_short.of_paths net delays product).0 refuses))
+  -- texts of so many paths, behind NET and DELAYS
+  module _ (net_name delays_name : List ℕ) (paths : ℕ) (net delays : List ℕ) (c : Circuit) (has : HasCircuit net c) where
+    module _ (old new : FilesSeen) (before : HasPassed (work_on_inputs command) (input_stages net_name delays_name) (net ∷ delays ∷ []) old new)
+      where
+        -- texts may be too long
+        pub texts_fail : (behind : List (Stage (Requirement command.Own)))
+            → command.stages ≡ (input_stages net_name delays_name ++ short_stages paths) ++ behind → (ending : Ending)
+            → HasLongTexts paths c ending → Stops (work_on_inputs command) ending old new
+        texts_fail behind place ending (long_paths over is) =
+            subst (λ (e : Ending). Stops (work_on_inputs command) e old new) (sym is)
+            (stops_refused (work_on_inputs command) (ShortPathText paths) (long_path_text (path_text_product paths c)) before (_, place)
+            (record { circuit = c; has = has; over = over; is = refl }))
+        texts_fail behind place ending (long_tests short over is) =
+            subst (λ (e : Ending). Stops (work_on_inputs command) e old new) (sym is)
+            (stops_refused (work_on_inputs command) (ShortTestText paths) (long_test_text (test_text_product paths c))
+            (then_required (work_on_inputs command) (ShortPathText paths) before (accepts_paths net (delays ∷ []) c has paths short)) (_, place)
+            (record { circuit = c; has = has; over = over; is = refl }))
 
-  -- and those of the tests
-  accepts_tests : test_text_product paths c ≤ MOST_TEST_TEXT → Accepts work ShortTestText (net ∷ delays ∷ [])
-  accepts_tests short =
-      accepts_test_text work (net ∷ delays ∷ [])
-      (λ product refuses. is_within net c has (test_text_product paths) MOST_TEST_TEXT product short
-      ((requires_short.of_tests net delays product).0 refuses))
+        -- they are short
+        pub texts_passed : HasShortTexts paths c
+            → HasPassed (work_on_inputs command) (input_stages net_name delays_name ++ short_stages paths) (net ∷ delays ∷ []) old new
+        texts_passed short =
+            then_required (work_on_inputs command) (ShortTestText paths)
+            (then_required (work_on_inputs command) (ShortPathText paths) before (accepts_paths net (delays ∷ []) c has paths short.path_text))
+            (accepts_tests net (delays ∷ []) c has paths short.test_text)
 
-  module _ (old new : FilesSeen) (before : HasPassed work (input_stages net_name delays_name) (net ∷ delays ∷ []) old new) where
-    -- texts may be too long
-    pub texts_fail : (ending : Ending) → HasLongTexts paths c ending → Stops work ending old new
-    texts_fail ending (long_paths over is) =
-        subst (λ (e : Ending). Stops work e old new) (sym is)
-        (stops_refused work (refused.PathText (path_text_product paths c)) before (_, requires_short.stages)
-        ((requires_short.of_paths net delays (path_text_product paths c)).1
-        (record { circuit = c; has = has; is = refl; over = over })))
-    texts_fail ending (long_tests short over is) =
-        subst (λ (e : Ending). Stops work e old new) (sym is)
-        (stops_refused work (refused.TestText (test_text_product paths c))
-        (then_required work ShortPathText before (accepts_paths short)) (_, requires_short.stages)
-        ((requires_short.of_tests net delays (test_text_product paths c)).1
-        (record { circuit = c; has = has; is = refl; over = over })))
-
-    -- they are short
-    pub texts_passed : HasShortTexts paths c
-        → HasPassed work (input_stages net_name delays_name ++ short_stages) (net ∷ delays ∷ []) old new
-    texts_passed short =
-        then_required work ShortTestText (then_required work ShortPathText before (accepts_paths short.path_text))
-        (accepts_tests short.test_text)
-
-  -- what follows is passed behind short texts
-  pub texts_pass : (told : Folder) (all : List (List ℕ)) → HasShortTexts paths c → Pass work (Some told) later (net ∷ delays ∷ []) all
-      → Pass work (Some told) (short_stages ++ later) (net ∷ delays ∷ []) all
-  texts_pass told all short rest = (accepts_paths short.path_text, (accepts_tests short.test_text, rest))
+    -- what follows is passed behind short texts
+    pub texts_pass : (told : Folder) (later : List (Stage (Requirement command.Own))) (all : List (List ℕ)) → HasShortTexts paths c
+        → Pass (work_on_inputs command) (Some told) later (net ∷ delays ∷ []) all
+        → Pass (work_on_inputs command) (Some told) (short_stages paths ++ later) (net ∷ delays ∷ []) all
+    texts_pass told later all short rest =
+        (accepts_paths net (delays ∷ []) c has paths short.path_text, (accepts_tests net (delays ∷ []) c has paths short.test_text, rest))

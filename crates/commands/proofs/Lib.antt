@@ -1,10 +1,3 @@
-pub mod LadderStating
-pub mod LadderOrder
-pub mod LadderNames
-pub mod LadderPlaces
-pub mod LadderStages
-pub mod LadderDescribed
-pub mod LadderMore
 mod ReplayFaults
 mod OneRankOrder
 mod Replayed
@@ -25,13 +18,12 @@ pub mod InputsJudged
 pub mod Products
 pub mod SpelledTests
 pub mod StageReads
-pub mod ToldReasons
+pub mod InputFaults
 pub mod GenLaws
 pub mod GenStages
 pub mod GenTexts
 pub mod MakeLaws
 pub mod Performing
-pub mod WordsLaws
 pub mod AskedNames
 pub mod AskedRuns
 pub mod FilesLeft
@@ -39,7 +31,6 @@ pub mod GenLeft
 pub mod GenThenCheck
 pub mod GenThenReplay
 pub mod GoodTexts
-pub mod LastRequirement
 pub mod NameBounds
 pub mod PathLengths
 pub mod ProofsBound
@@ -47,4 +38,4 @@ pub mod ReportBound
 pub mod RunCounts
 pub mod TestsBound
 pub mod TextBounds
-pub mod WordsThenCheck
+pub mod AskedLaws

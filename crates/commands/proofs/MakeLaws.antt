@@ -1,5 +1,5 @@
 -- What follows for a call of `make`: it is always accepted, touches no file, and answers 0, 6 or 7.
-use Rattle.std.proofs.Common.{◌≡◌, ℕ, List, [], ◌∷◌, ◌++◌, Option, None, Some, refl, sym, ap, subst, ◌∙◌}
+use Rattle.std.proofs.Common.{◌≡◌, ℕ, List, [], ◌∷◌, ◌++◌, Option, refl, sym, ap, subst, ◌∙◌}
 use Rattle.std.proofs.lemmas.List.{append-nil}
 use Rattle.pd_io.specs.Folder.{Folder}
 use Rattle.pd_io.specs.Seen.{FilesSeen, SinkSeen, Outside, Seen, seen_of}
@@ -9,11 +9,10 @@ use Rattle.command_line.specs.Words.{MakeCall}
 use Rattle.calls.specs.declared.ending.Ending.{Ending}
 use Rattle.calls.specs.declared.ending.Ending.TheVariants.{Done, Refused, ReadFault, WriteFault, OutFault, NoMemory}
 use Rattle.calls.specs.declared.status.Status.{Status}
-use Rattle.calls.specs.declared.status.Status.TheVariants as exit
 use Rattle.calls.specs.Lines.{status_of}
 use Rattle.calls.specs.Reports.{IsReported}
 use Rattle.calls.specs.Reports as reports
-use Rattle.calls.specs.Calls.{AreTold, Ends, HasAcceptedInputs, Performs, stopped, wrote}
+use Rattle.calls.specs.Calls.{Ends, Performs, stopped, wrote}
 use Rattle.calls.specs.Outputs.{Prints}
 use Rattle.calls.specs.Passing.{AsksOnly}
 use Rattle.calls.specs.Work.{Due, Products, Stage, names_read}
@@ -28,9 +27,12 @@ use Rattle.runs.specs.declared.run.Run.{Run}
 use Rattle.good_runs.specs.GoodRun.{IsGoodRun}
 use Rattle.good_runs.specs.Promises.{AllKeepPromises}
 use Rattle.good_runs.proofs.Promising.{good_run_keeps}
-use Rattle.commands.specs.Ladder.{ladder_circuit}
+use Rattle.pd_base.specs.Links.{links_of}
+use Rattle.trees.proofs.Unlinked.{unlinked_fit}
+use Rattle.ladder.specs.Ladder.{ladder_circuit}
 use Rattle.verdict_report.specs.LadderLine.{ladder_line}
 use Rattle.commands.specs.declared.making.TheConstants.{LADDER_BUDGET, LADDER_PATHS}
+use Rattle.commands.specs.MakeLaws.{AnswersMake, IsUntouched, KeepsMakeLaws, done, no_memory, unprinted}
 use Rattle.commands.specs.Make.{AreUnit, GivesLadder, GivesMake, make_work}
 
 -- the line of a good run of a ladder
@@ -47,18 +49,10 @@ gives_ladder stages c circuit delays run text is unit rules good told =
       run = run;
       rules = rules;
       good = subst Q is good;
-      promises = subst R is (good_run_keeps c circuit delays LADDER_PATHS LADDER_BUDGET run good);
+      promises = subst R is (good_run_keeps c circuit delays LADDER_PATHS LADDER_BUDGET run
+          (unlinked_fit c run.rules (ap links_of rules)) good);
       text = ap (λ (out : List ℕ). record { files = []; out = out }) (told ∙ ap (λ (d : Circuit). ladder_line stages d run) is);
     }
-
--- no name has to be told
-none_told : (folder : Option Folder) → AreTold [] folder
-none_told None = tt
-none_told (Some told) = tt
-
--- whatever the files hold, `make` accepts it
-pub make_is_accepted : (call : MakeCall) (folder : Option Folder) → HasAcceptedInputs (make_work call) folder
-make_is_accepted call folder = record { told = none_told folder; inputs = []; passed = refl }
 
 -- the line was printed, or not
 pub made_performed : (call : MakeCall) (line shown : List ℕ) (files : FilesSeen) (ending : Ending) (old new : SinkSeen)
@@ -76,7 +70,7 @@ pub made_no_memory : (call : MakeCall) (files : FilesSeen) (out : SinkSeen)
 made_no_memory call files out = stopped (stops_for_memory (make_work call) (begun (make_work call) files) ([], refl)) refl
 
 -- no stage stands among none
-none_stands : (before : List Stage) (stage : Stage) (rest : List Stage) → [] ≡ (before ++ stage ∷ []) ++ rest → ⊥
+none_stands : {R : Type 0} (before : List (Stage R)) (stage : Stage R) (rest : List (Stage R)) → [] ≡ (before ++ stage ∷ []) ++ rest → ⊥
 none_stands [] stage rest is = cc
 none_stands (first ∷ before) stage rest is = cc
 
@@ -110,12 +104,6 @@ make_ends call (WriteFault role) old new (wrote inputs products read passed give
 make_ends call OutFault old new performed = is_unprinted refl
 make_ends call NoMemory old new performed = is_without_memory refl
 
--- the statuses of `make`: the work was done, a write on out failed, or memory ran out
-pub data AnswersMake (status : Status) : Type 0 where
-  done : status ≡ exit.Done → AnswersMake status
-  unprinted : status ≡ exit.WriteFault → AnswersMake status
-  no_memory : status ≡ exit.NoMemory → AnswersMake status
-
 -- the status of such an ending
 status_of_make : (ending : Ending) (status : Status) → EndsMake ending → status ≡ status_of ending → AnswersMake status
 status_of_make ending status (is_done so) is = done (is ∙ ap status_of so)
@@ -133,12 +121,6 @@ reported_so ending status old new ends (reports.no_memory other is part) = no_me
 pub make_statuses : (call : MakeCall) (status : Status) (old new : Outside) → Ends (make_work call) status old new → AnswersMake status
 make_statuses call status old new ends =
     reported_so ends.ending status old.err new.err (make_ends call ends.ending (seen_of old) (seen_of new) ends.performed) ends.reported
-
--- the folder that is told is as before, and so are the counts of failed calls
-pub record IsUntouched (old new : FilesSeen) : Type 0 where
-  pub told : Tells old.folder new.folder (λ before after. after ≡ before)
-  pub read_faults : new.read_faults ≡ old.read_faults
-  pub write_faults : new.write_faults ≡ old.write_faults
 
 -- nothing was asked
 asked_none : (old new : Option Folder) (names : List (List ℕ)) → names ≡ [] → Tells old new (AsksOnly names) → Tells old new (λ before after. after ≡ before)
@@ -195,3 +177,10 @@ make_touches_no_file call NoMemory old new (wrote inputs products read passed gi
 make_touches_no_file call NoMemory old new (wrote inputs products read passed gives (on_out stands same)) =
     none_touched old.files read new.files products.files (none_due call inputs products gives) passed.asked passed.only.read_faults
     passed.only.write_faults stands.files
+
+-- what holds of a call of make
+pub make_laws : (call : MakeCall) (status : Status) (old new : Outside) → Ends (make_work call) status old new → KeepsMakeLaws status old new
+make_laws call status old new ends = record {
+  statuses = make_statuses call status old new ends;
+  untouched = make_touches_no_file call ends.ending (seen_of old) (seen_of new) ends.performed;
+}

@@ -19,6 +19,7 @@ run_once c circuit tests report proofs run other spells spells' =
     report_once c circuit run.paths other.paths spells.report_is.lawful spells'.report_is.lawful
     (sym spells.report_is.is_text ∙ spells'.report_is.is_text) in
     let same_proofs =
-    proofs_once c few run.rules other.rules run.proofs other.proofs spells.proofs_are.lawful spells'.proofs_are.lawful
+    proofs_once c few run.rules other.rules run.proofs other.proofs spells.proofs_are.unlinked spells'.proofs_are.unlinked
+    spells.proofs_are.lawful spells'.proofs_are.lawful
     (sym spells.proofs_are.is_text ∙ spells'.proofs_are.is_text) in
     λ i. record { rules = same_proofs.0 i; paths = same_paths i; tests = same_tests i; proofs = same_proofs.1 i }

@@ -9,11 +9,11 @@ use Rattle.command_line.specs.Taken.{IsFaultOf}
 use Rattle.command_line.specs.Words.{Call}
 use Rattle.calls.specs.declared.ending.Ending.{Ending}
 use Rattle.calls.specs.declared.ending.Ending.TheVariants.{Refused}
-use Rattle.calls.specs.declared.refusal.Refusal.TheVariants.{Words}
 use Rattle.calls.specs.Calls.{Performs, stopped}
-use Rattle.calls.specs.Refused.{refused_words}
+use Rattle.calls.specs.Refused.{refused_at_once}
 use Rattle.calls.proofs.Stages.{begun, stops_at_once, stops_for_memory}
 use Rattle.commands.specs.Commands.{work_of, words_ending}
+use Rattle.commands.specs.WordsRefusals.{words_refusal}
 
 -- a call that words ask for was performed
 pub asked_performed : (asked call : Result Call WordsRefusal) (ending : Ending) (old new : Seen) → asked ≡ call
@@ -26,6 +26,6 @@ asked_performed asked call ending old new is performed =
 pub fault_performed : (asked : Result Call WordsRefusal) (fault : WordsFault) (seen : Seen) → IsFaultOf asked fault
     → Performs (work_of asked) (words_ending fault) seen seen
 fault_performed asked (fault.Refused reason) seen is =
-    asked_performed asked (Err reason) (Refused (Words reason)) seen seen is
-    (stopped (stops_at_once (refused_words reason) seen.files (Words reason) ([], refl) refl) refl)
+    asked_performed asked (Err reason) (Refused (words_refusal reason)) seen seen is
+    (stopped (stops_at_once (refused_at_once (words_refusal reason)) seen.files tt (words_refusal reason) ([], refl) refl) refl)
 fault_performed asked fault.NoMemory seen is = stopped (stops_for_memory (work_of asked) (begun (work_of asked) seen.files) (_, refl)) refl

@@ -7,20 +7,20 @@ use Rattle.std.proofs.lemmas.List.Sums.{sum_by-cons}
 use Rattle.std.proofs.lemmas.Nat.{mul-le}
 use Rattle.pd_base.specs.declared.limits.TheConstants.{MOST_PATHS}
 use Rattle.pd_base.specs.declared.rules.Rules.{Rules}
-use Rattle.pd_base.specs.declared.rules.Rules.TheVariants.{One, Two}
+use Rattle.pd_base.specs.declared.rules.Rules.TheVariants.{One, Two, Linked}
 use Rattle.netlist.specs.Circuit.{Circuit, source_count}
 use Rattle.netlist.specs.Lawful.{IsCircuit}
 use Rattle.runs.specs.declared.run.Proof.{Proof}
-use Rattle.runs.specs.declared.tree.Node.{Node}
-use Rattle.runs.specs.declared.tree.Node.TheVariants.{Closed, Waiting, Value, Steadiness}
+use Rattle.trees.specs.declared.tree.Node.{Node}
+use Rattle.trees.specs.declared.tree.Node.TheVariants.{Closed, Waiting, Value, Steadiness}
 use Rattle.runs.specs.Lawful.{IsLawfulProof, IsOnSource}
-use Rattle.runs.specs.Trees.{is_split, split_count, IsTree}
-use Rattle.tree_laws.proofs.Ending.{nodes_and_splits}
+use Rattle.trees.specs.Trees.{is_split, split_count, IsTree}
+use Rattle.trees.proofs.Ending.{nodes_and_splits}
 use Rattle.text_pieces.specs.declared.limits.TheConstants.{MOST_BYTES}
 use Rattle.text_pieces.specs.Tokens.{direction_word, kind_word, line, space}
 use Rattle.text_pieces.specs.LineFiles.{lines_text}
 use Rattle.verdict_report.specs.ProofsText.{claim_word, node_text, proof_text, proofs_form, proofs_text, version_line}
-use Rattle.command_line.specs.declared.reading.TheConstants.{MOST_PRODUCT}
+use Rattle.command_line.specs.declared.forms.run.TheConstants.{MOST_PRODUCT}
 use Rattle.commands.proofs.TextBounds.{bytes_of, direction_length, joined_length, kind_within, line_length, lines_within}
 
 -- a line for each proof, and four proofs for each path
@@ -34,6 +34,7 @@ claim_within false = omega arith
 version_length : (rules : Rules) → length (version_line rules) ≡ 15
 version_length One = refl
 version_length Two = refl
+version_length (Linked links) = refl
 
 -- a list of nodes has so many splits as that behind the first, and one more where this is one
 splits_first : (node : Node) (nodes : List Node) → split_count (node ∷ nodes) ≡ cond (is_split node) 1 0 + split_count nodes

@@ -1,5 +1,5 @@
 -- What each requirement of `replay` on TESTS accepts.
-use Rattle.std.proofs.Common.{◌≡◌, ℕ, ◌≤◌, List, [], ◌∷◌, length, sym, subst, ◌∙◌, arith}
+use Rattle.std.proofs.Common.{◌≡◌, ℕ, ◌≤◌, List, [], ◌∷◌, length, sym, subst, ◌∙◌}
 use Rattle.pd_base.specs.declared.test.Test.{Test}
 use Rattle.netlist.specs.Circuit.{Circuit}
 use Rattle.netlist.specs.Waves.{Delays}
@@ -10,16 +10,16 @@ use Rattle.delay_annotation.proofs.DelayLaws.{delays_agree}
 use Rattle.pattern_writer.proofs.TestFiles.{tests_once}
 use Rattle.text_pieces.specs.declared.limits.TheConstants.{MOST_BYTES}
 use Rattle.command_line.specs.Words.{ReplayCall}
-use Rattle.calls.specs.declared.claims_reader.ClaimsReader.{ClaimsReader}
-use Rattle.calls.specs.declared.claims_reader.ClaimsReader.TheVariants as reader
 use Rattle.calls.specs.declared.role.Role.TheVariants as role
-use Rattle.calls.specs.declared.refusal.Refusal.TheVariants as refused
-use Rattle.calls.specs.Work.{WithinLimit, WellFormed, FewChanges}
+use Rattle.calls.specs.declared.refusal.Refusal.{Refusal}
 use Rattle.calls.specs.Passing.{Accepts}
-use Rattle.calls.proofs.Accepting.{accepts_size, accepts_claims, accepts_changes}
+use Rattle.commands.specs.InputRequirements.{WellFormed, WithinLimit, own}
 use Rattle.commands.specs.SpelledTests.{SpellsTests}
 use Rattle.commands.specs.TestChanges.{HaveFewChanges, IsFirstTestOver}
-use Rattle.commands.specs.Replay.{AreReplayed, HasTestOver, RefusesReplayed, replay_work}
+use Rattle.commands.specs.Replay.{AreReplayed, FewChanges, HasTestOver, replay_command, replay_work}
+use Rattle.commands.proofs.InputFaults.{tests_formed}
+use Rattle.commands.proofs.InputStages.{accepts_form}
+use Rattle.commands.proofs.StageReads.{accepts_size}
 use Rattle.commands.proofs.Replayed.{few_tests_or_over}
 use Rattle.commands.proofs.SameDelays.{all_few_agree}
 
@@ -30,19 +30,13 @@ three net delays tests = net ∷ delays ∷ tests ∷ []
 module _ (call : ReplayCall) (net delays tests : List ℕ) where
   -- TESTS is within the limit
   pub accepts_tests_size : length tests ≤ MOST_BYTES → Accepts (replay_work call) (WithinLimit role.Tests) (three net delays tests)
-  accepts_tests_size within = accepts_size (replay_work call) (three net delays tests) role.Tests (λ over. let more = over.over in omega arith)
+  accepts_tests_size within = accepts_size (replay_command call) role.Tests (net ∷ delays ∷ []) tests within
 
-  module _ (c : Circuit) (has : HasCircuit net c) (listed : List Test) (spells : SpellsTests c tests listed) where
-    -- no line of a file of tests lacks its form
-    no_bad_line : (of : ClaimsReader) (place : ℕ) → ¬ RefusesReplayed net delays tests (refused.Malformed of role.Tests place)
-    no_bad_line reader.Check place refuses = refuses
-    no_bad_line reader.Replay place it =
-        it.malformed.none listed
-        (subst (λ (d : Circuit). SpellsTests d tests listed) (one_circuit net c it.circuit has it.has) spells)
-
-    -- TESTS is the file of some tests
-    pub accepts_tests : Accepts (replay_work call) (WellFormed role.Tests) (three net delays tests)
-    accepts_tests = accepts_claims (replay_work call) (three net delays tests) role.Tests no_bad_line
+  -- TESTS is the file of some tests
+  pub accepts_tests : (c : Circuit) → HasCircuit net c → (listed : List Test) → SpellsTests c tests listed
+      → Accepts (replay_work call) (WellFormed role.Tests 2) (three net delays tests)
+  accepts_tests c has listed spells =
+      accepts_form (replay_command call) role.Tests 2 net (delays ∷ tests ∷ []) (tests_formed net c has tests listed spells)
 
   module _ (c : Circuit) (given : Delays) (listed : List Test) (are : AreReplayed net delays tests c given listed)
       (few : HaveFewChanges c given listed) where
@@ -57,13 +51,13 @@ module _ (call : ReplayCall) (net delays tests : List ℕ) where
         (subst (HaveFewChanges c other) same (all_few_agree c given other agree listed few)) first
 
     -- nor whichever circuit
-    no_test_over : (number : ℕ) (name : List ℕ) → ¬ HasTestOver net delays tests number name
-    no_test_over number name over =
+    no_test_over : (refusal : Refusal) → ¬ HasTestOver net delays tests refusal
+    no_test_over refusal over =
         let P : Circuit → Type 0 = λ d.
-        AreReplayed net delays tests d over.given over.listed × IsFirstTestOver d over.given over.listed number over.line in
+        AreReplayed net delays tests d over.given over.listed × IsFirstTestOver d over.given over.listed over.number over.line in
         let here : P c = subst P (one_circuit net over.circuit c over.are.has are.has) (over.are, over.first) in
-        none_over over.given over.listed number over.line here.0 here.1
+        none_over over.given over.listed over.number over.line here.0 here.1
 
     -- under no test's pair the lines change too often
-    pub accepts_few : Accepts (replay_work call) FewChanges (three net delays tests)
-    accepts_few = accepts_changes (replay_work call) (three net delays tests) no_test_over
+    pub accepts_few : Accepts (replay_work call) (own FewChanges) (three net delays tests)
+    accepts_few = no_test_over

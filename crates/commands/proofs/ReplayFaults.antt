@@ -6,7 +6,7 @@ use Rattle.netlist.specs.Waves.{Delays}
 use Rattle.calls.specs.declared.ending.Ending.{Ending}
 use Rattle.commands.specs.declared.replay.text.ReplayTextFault.{ReplayTextFault}
 use Rattle.commands.specs.declared.replay.text.ReplayTextFault.TheVariants.{TooManyChanges, NoMemory}
-use Rattle.commands.specs.ReplayEndings.{EndsForFault, FailsReplay, NamesLine, lacks_memory, no_memory, over, told}
+use Rattle.commands.specs.Inside.ReplayEndings.{EndsForFault, FailsReplay, NamesLine, lacks_memory, no_memory, over, told}
 use Rattle.commands.specs.TestChanges.{RefusesTests}
 use Rattle.commands.proofs.Replayed.{over_inside}
 

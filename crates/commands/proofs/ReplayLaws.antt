@@ -1,27 +1,32 @@
 -- Which inputs `replay` accepts, and how a call goes on behind its text.
-use Rattle.std.proofs.Common.{◌≡◌, ℕ, ◌≤◌, List, [], length, Some, refl, subst}
+use Rattle.std.proofs.Common.{◌≡◌, ℕ, ◌≤◌, List, [], length, Some, refl, sym, subst}
 use Rattle.pd_base.specs.declared.test.Test.{Test}
 use Rattle.pd_io.specs.Folder.{Folder, bytes_at}
-use Rattle.pd_io.specs.Seen.{Seen}
+use Rattle.pd_io.specs.Seen.{Outside, Seen}
 use Rattle.netlist.specs.Circuit.{Circuit}
 use Rattle.netlist.specs.Waves.{Delays}
 use Rattle.bench_reader.specs.Circuits.{HasCircuit}
 use Rattle.delay_annotation.specs.DelayFile.{HasDelays}
 use Rattle.text_pieces.specs.declared.limits.TheConstants.{MOST_BYTES}
-use Rattle.command_line.specs.Words.{ReplayCall}
+use Rattle.command_line.specs.Words.{HasRunNumbers, ReplayCall, RunCall}
 use Rattle.calls.specs.declared.ending.Ending.{Ending}
-use Rattle.calls.specs.Calls.{HasAcceptedInputs, Performs, wrote}
+use Rattle.calls.specs.declared.status.Status.{Status}
+use Rattle.calls.specs.Calls.{Ends, HasAcceptedInputs, Performs, wrote}
 use Rattle.calls.specs.Outputs.{Prints}
 use Rattle.calls.specs.Preparing.{IsPrepared}
 use Rattle.calls.specs.Work.{Work}
 use Rattle.calls.proofs.Outputs.{none_whole, printed}
-use Rattle.commands.specs.declared.inputs.judging.TheConstants.{INPUT_LIMIT}
+use Rattle.commands.specs.declared.inputs.reading.TheConstants.{INPUT_LIMIT}
 use Rattle.commands.specs.SpelledTests.{SpellsTests}
 use Rattle.commands.proofs.InputStages.{inputs_pass}
 use Rattle.commands.specs.TestChanges.{HaveFewChanges}
-use Rattle.commands.specs.Replay.{replay_work, tests_stages}
+use Rattle.calls.proofs.Calls.{completes}
+use Rattle.commands.proofs.AskedRuns.{asks_for}
+use Rattle.commands.proofs.GenThenReplay.{replay_answers}
+use Rattle.commands.specs.LaterCalls.{HasNamesApart}
+use Rattle.commands.specs.ReplayLaws.{KeepsReplayLaws}
+use Rattle.commands.specs.Replay.{replay_command, replay_work, tests_stages}
 use Rattle.commands.proofs.ReplayAccepting.{accepts_tests_size, accepts_tests, accepts_few, three}
-use Rattle.commands.proofs.ReplayStages.{begins}
 
 -- a text that was prepared was printed, or not
 pub printed_behind : (work : Work) (text shown : List ℕ) (ending : Ending) (old new : Seen)
@@ -54,19 +59,35 @@ module _ (call : ReplayCall) (told : Folder) where
   tests_are_accepted c given listed within has delays_within gives tests_within spells few = record {
     told = tt;
     inputs = three net delays tests;
-    passed = inputs_pass (replay_work call) call.net call.delays (tests_stages call.tests) (begins call) told c given
-        (three net delays tests) within has delays_within gives (
-          tests,
-          refl,
+    passed = inputs_pass (replay_command call) told call.net call.delays (tests_stages call) c given (three net delays tests) within has delays_within gives (
+      tests,
+      refl,
+      (
+        accepts_tests_size call net delays tests tests_within,
+        (
+          accepts_tests call net delays tests c has listed spells,
           (
-            accepts_tests_size call net delays tests tests_within,
-            (
-              accepts_tests call net delays tests c has listed spells,
-              (
-                accepts_few call net delays tests c given listed (record { has = has; gives = gives; spells = spells }) few,
-                refl,
-              ),
-            ),
+            accepts_few call net delays tests c given listed (record { has = has; gives = gives; spells = spells }) few,
+            refl,
           ),
-        );
+        ),
+      ),
+    );
   }
+
+-- what holds of a call of replay
+pub replay_laws : (call : ReplayCall) (status : Status) (old new : Outside) → Ends (replay_work call) status old new
+    → KeepsReplayLaws call status old new
+replay_laws call status old new ends = record {
+  complete = λ now can told none.
+      completes (replay_work call) status old new ends
+      (subst (HasAcceptedInputs (replay_work call)) (sym told)
+      (tests_are_accepted call now can.circuit can.given can.listed can.net_within can.are.has can.delays_within can.are.gives can.tests_within
+      can.are.spells can.few)) none;
+  behind_gen = λ run left now was finds told none.
+      let asked = asks_for was.words run was.asked in
+      let P : RunCall → Type 0 = λ r. HasRunNumbers r in
+      let Q : RunCall → Type 0 = λ r. HasNamesApart r in
+      replay_answers run (subst P asked.1 asked.0.numbers) (subst Q asked.1 asked.0.names) left now was.left_by call finds status old new told
+      ends none;
+}

@@ -1,5 +1,5 @@
--- The stages of `replay`: it begins with NET and DELAYS; what is passed behind them up to its text, and how the call ends there.
-use Rattle.std.proofs.Common.{◌≡◌, ℕ, List, [], ◌∷◌, ◌++◌, Some, Result, Ok, Err, IfOk, IfErr, ℤ, refl, sym, ap, ap₂, subst, ◌∙◌}
+-- The stages of `replay` behind NET and DELAYS: what is passed up to its text, and how the call ends there.
+use Rattle.std.proofs.Common.{◌≡◌, ℕ, List, [], ◌∷◌, ◌++◌, codes, Result, Ok, Err, IfOk, IfErr, ℤ, refl, sym, ap, ap₂, subst, ◌∙◌}
 use Rattle.std.specs.Prelude.{pos, Vec}
 use Rattle.std.specs.declared.alloc.Global.{Global}
 use Rattle.pd_base.specs.declared.test.Test.{Test}
@@ -9,60 +9,50 @@ use Rattle.netlist.specs.Names.{name_at}
 use Rattle.netlist.specs.Waves.{Delays}
 use Rattle.bench_reader.specs.Circuits.{HasCircuit}
 use Rattle.delay_annotation.specs.DelayFile.{HasDelays}
-use Rattle.text_pieces.specs.declared.limits.TheConstants.{MOST_BYTES}
 use Rattle.command_line.specs.Words.{ReplayCall}
-use Rattle.calls.specs.declared.claims_reader.ClaimsReader.TheVariants as reader
 use Rattle.calls.specs.declared.role.Role.TheVariants as role
-use Rattle.calls.specs.declared.refusal.Refusal.TheVariants as refused
 use Rattle.calls.specs.declared.ending.Ending.{Ending}
-use Rattle.calls.specs.Work.{Stage, Read, Require, WithinLimit, WellFormed, FewChanges, Products}
+use Rattle.calls.specs.Work.{Stage, Require, Products}
 use Rattle.calls.specs.Passing.{HasPassed}
 use Rattle.calls.specs.Stopping.{Stops}
-use Rattle.calls.specs.Inputs.{ReadsInput}
 use Rattle.calls.specs.Preparing.{IsPrepared, Prepares}
 use Rattle.calls.proofs.Stages.{then_required, stops_refused, stops_for_memory}
-use Rattle.commands.specs.InputStages.{input_stages}
-use Rattle.commands.specs.InputJudging.{FailsToGiveTests, GivesTests}
-use Rattle.commands.specs.InputJudging as judging
+use Rattle.commands.specs.InputRequirements.{LacksForm, Requirement, WellFormed, input_stages, own, read_stages}
+use Rattle.commands.specs.Inside.InputJudging.{FailsToGiveTests, GivesTests, ReadsWithin}
+use Rattle.commands.specs.Inside.InputJudging as judging
 use Rattle.commands.specs.SpelledTests.{IsMalformedTests}
-use Rattle.commands.proofs.InputStages.{BeginsWithInputs}
 use Rattle.commands.proofs.StageReads.{stops_judged, stops_unwhole, then_whole}
-use Rattle.commands.specs.ReplayEndings.{FailsReplay}
-use Rattle.commands.specs.ReplayEndings as endings
+use Rattle.commands.specs.Inside.ReplayEndings.{FailsReplay}
+use Rattle.commands.specs.Inside.ReplayEndings as endings
 use Rattle.commands.specs.ReplayText.{replay_text}
 use Rattle.commands.specs.TestChanges.{HaveFewChanges}
-use Rattle.commands.specs.Replay.{AreReplayed, printed_text, replay_work, tests_stages}
+use Rattle.commands.specs.Replay.{AreReplayed, FewChanges, ReplayRequirement, changes_too_often, printed_text, replay_command, replay_work}
 use Rattle.commands.proofs.ReplayAccepting.{accepts_tests, accepts_few, three}
-
--- it begins as every command that reads NET and DELAYS
-pub begins : (call : ReplayCall) → BeginsWithInputs (replay_work call) call.net call.delays (tests_stages call.tests)
-begins call = record {
-  stages = refl;
-  of_net = λ text refusal. (λ refuses. refuses, λ refuses. refuses);
-  size_of_delays = λ text file of. (λ refuses. refuses, λ refuses. refuses);
-  of_delays = λ text file reason. (λ refuses. refuses, λ refuses. refuses);
-}
 
 module _ (call : ReplayCall) (net delays : List ℕ) (old mid new : FilesSeen)
     (before : HasPassed (replay_work call) (input_stages call.net call.delays) (net ∷ delays ∷ []) old mid) (c : Circuit)
     (has : HasCircuit net c) where
   -- the stages up to the size of TESTS
-  abbrev reads : List Stage
-  reads = (input_stages call.net call.delays ++ Read role.Tests call.tests ∷ []) ++ Require (WithinLimit role.Tests) ∷ []
+  abbrev reads : List (Stage (Requirement ReplayRequirement))
+  reads = input_stages call.net call.delays ++ read_stages role.Tests call.tests
 
   -- TESTS was read, within its limit
-  tests_within : (tests : Vec ℕ Global) → ReadsInput MOST_BYTES call.tests (Some tests) mid new
+  tests_within : (tests : Vec ℕ Global) → ReadsWithin role.Tests call.tests tests mid new
       → HasPassed (replay_work call) reads (three net delays tests.items) old new
-  tests_within tests read = then_whole (replay_work call) MOST_BYTES role.Tests call.tests tests before read (λ refuses. refuses)
+  tests_within tests read = then_whole (replay_command call) role.Tests call.tests tests before read
 
   -- TESTS gives no tests
-  pub tests_fail : (ending : Ending) → FailsToGiveTests reader.Replay call.tests c ending mid new → Stops (replay_work call) ending old new
+  pub tests_fail : (ending : Ending) → FailsToGiveTests (codes "replay") call.tests c ending mid new → Stops (replay_work call) ending old new
   tests_fail ending (judging.not_read fails) =
-      stops_unwhole (replay_work call) MOST_BYTES role.Tests call.tests ending before (_, refl) (λ text over. over) fails
+      stops_unwhole (replay_command call) role.Tests call.tests ending before (_, refl) fails
   tests_fail ending (judging.gives_none tests read fails) =
-      stops_judged (replay_work call) (refused.Malformed reader.Replay role.Tests) (IsMalformedTests c tests.items)
-      (WellFormed role.Tests) ending (tests_within tests read) (_, refl) (λ line. refl)
-      (λ line why. record { circuit = c; has = has; malformed = why }) fails
+      stops_judged (replay_command call) (WellFormed role.Tests 2) (LacksForm (codes "replay") role.Tests (IsMalformedTests c tests.items)) ending
+      (tests_within tests read) (_, refl)
+      (λ refusal lacks. record {
+        place = lacks.place;
+        first = record { circuit = c; has = has; malformed = lacks.first };
+        is = lacks.is;
+      }) fails
 
   module _ (given : Delays) (gives : HasDelays c delays given) (listed : List Test) (tests : GivesTests call.tests c listed mid new) where
     -- the circuit, the delays and the tests
@@ -70,23 +60,24 @@ module _ (call : ReplayCall) (net delays : List ℕ) (old mid new : FilesSeen)
     are = record { has = has; gives = gives; spells = tests.holds }
 
     -- tests were required
-    tests_passed : HasPassed (replay_work call) (reads ++ Require (WellFormed role.Tests) ∷ []) (three net delays tests.text.items) old new
+    tests_passed : HasPassed (replay_work call) (reads ++ Require (WellFormed role.Tests 2) ∷ []) (three net delays tests.text.items) old new
     tests_passed =
-        then_required (replay_work call) (WellFormed role.Tests) (tests_within tests.text tests.read)
+        then_required (replay_work call) (WellFormed role.Tests 2) (tests_within tests.text tests.read)
         (accepts_tests call net delays tests.text.items c has listed tests.holds)
 
     -- there is no text
     pub text_fails : (ending : Ending) → FailsReplay c given listed ending → Stops (replay_work call) ending old new
     text_fails ending (endings.over number line is first) =
         subst (λ (e : Ending). Stops (replay_work call) e old new) (sym is)
-        (stops_refused (replay_work call) (refused.TooManyChanges number (name_at c line)) tests_passed ([], refl) (record {
+        (stops_refused (replay_work call) (own FewChanges) (changes_too_often number (name_at c line)) tests_passed ([], refl) (record {
           circuit = c;
           given = given;
           listed = listed;
           are = are;
+          number = number;
           line = line;
           first = first;
-          named = refl;
+          is = refl;
         }))
     text_fails ending (endings.lacks_memory is) =
         subst (λ (e : Ending). Stops (replay_work call) e old new) (sym is)
@@ -97,7 +88,7 @@ module _ (call : ReplayCall) (net delays : List ℕ) (old mid new : FilesSeen)
         → products ≡ record { files = []; out = replay_text c given listed (pos call.time) } → IsPrepared (replay_work call) products old new
     prepared_text few products text = record {
       inputs = three net delays tests.text.items;
-      passed = then_required (replay_work call) FewChanges tests_passed
+      passed = then_required (replay_work call) (own FewChanges) tests_passed
           (accepts_few call net delays tests.text.items c given listed are few);
       gives = record { circuit = c; given = given; listed = listed; are = are; few = few; text = text };
     }

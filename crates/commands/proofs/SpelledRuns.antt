@@ -3,11 +3,12 @@ use Rattle.std.proofs.Common.{◌≡◌, ℕ, List, None, Some, Result, Err, sub
 use Rattle.std.specs.Global.{Vec}
 use Rattle.netlist.specs.Circuit.{Circuit}
 use Rattle.pd_base.specs.declared.rules.Rules.{Rules}
-use Rattle.pd_base.specs.declared.rules.Rules.TheVariants.{One, Two}
+use Rattle.pd_base.specs.declared.rules.Rules.TheVariants.{One, Two, Linked}
 use Rattle.runs.specs.Lawful.{IsLawfulRun}
 use Rattle.runs.specs.declared.run.ListedPath.{ListedPath}
 use Rattle.runs.specs.declared.run.Proof.{Proof}
 use Rattle.runs.specs.declared.run.Run.{Run}
+use Rattle.trees.specs.Unlinked.{IsUnlinked}
 use Rattle.text_pieces.specs.Reads.{Reads}
 use Rattle.verdict_report.specs.ProofsReading.{ProofsAnswer, ReadsProofs}
 use Rattle.verdict_report.specs.ProofsText.{version_of}
@@ -32,7 +33,8 @@ module _ (c : Circuit) (text : List ℕ) where
       }
 
   pub spells_proofs : (rules : Rules) (proofs : List Proof) → ReadsProofs c text (Some (rules, proofs)) → SpellsProofs c text rules proofs
-  spells_proofs rules proofs read = record { lawful = read.found.0; is_text = read.found.1 }
+  spells_proofs rules proofs read =
+      record { unlinked = read.found.0.unlinked; lawful = read.found.0.proofs; is_text = read.found.1 }
 
   pub malformed_proofs : (result : Result (ℕ × Vec Proof) TextFault) (line : ℕ) → result ≡ Err (Malformed line)
       → ProofsAnswer c text result → IsMalformedProofs c text line
@@ -40,14 +42,15 @@ module _ (c : Circuit) (text : List ℕ) where
       let told = subst (ProofsAnswer c text) is answer in
       record {
         none = λ rules proofs spells.
-            let never : None ≡ Some (rules, proofs) = told.0.only (rules, proofs) spells.lawful spells.is_text in absurd cc;
+            let never : None ≡ Some (rules, proofs) = told.0.only (rules, proofs) (record { unlinked = spells.unlinked; proofs = spells.lawful }) spells.is_text in absurd cc;
         first = told.1;
       }
 
--- a version is that of one set of rules
-pub rules_by_version : (rules : Rules) (version : ℕ) → version ≡ version_of rules → (version ≡ 1 → One ≡ rules) × ((version ≡ 1 → ⊥) → Two ≡ rules)
-rules_by_version One version is = (λ one. cc, λ other. absurd (other is))
-rules_by_version Two version is = (λ one. absurd (omega (arith, is, one)), λ other. cc)
+-- a version is that of one set of rules that are not linked ones
+pub rules_by_version : (rules : Rules) (version : ℕ) → IsUnlinked rules → version ≡ version_of rules → (version ≡ 1 → One ≡ rules) × ((version ≡ 1 → ⊥) → Two ≡ rules)
+rules_by_version One version unlinked is = (λ one. cc, λ other. absurd (other is))
+rules_by_version Two version unlinked is = (λ one. absurd (omega (arith, is, one)), λ other. cc)
+rules_by_version (Linked links) version unlinked is = absurd unlinked
 
 -- the files can spell the run
 pub spelled_is_lawful : (c : Circuit) (tests report proofs : List ℕ) (run : Run) → SpellsRun c tests report proofs run → IsLawfulRun c run

@@ -1,7 +1,7 @@
 -- The command `check`: its stages, what it refuses, and when it says that three files are good. Where a call ends with status 0, they
 -- spell one run, which is good for the first paths and the budget that are asked for, under the rules that the proofs tell; and what its
 -- verdicts promise is said in Promises.antt of good_runs (this project's own).
-use Rattle.std.specs.Prelude.{◌≡◌, ℕ, List, [], ◌∷◌, ◌++◌, codes}
+use Rattle.std.specs.Prelude.{◌≡◌, ℕ, List, [], ◌∷◌, ◌++◌, codes, decimal}
 use Rattle.netlist.specs.Circuit.{Circuit}
 use Rattle.netlist.specs.Waves.{Delays}
 use Rattle.runs.specs.declared.run.Run.{Run}
@@ -14,34 +14,36 @@ use Rattle.claim_check.specs.declared.claim.Reason.TheVariants as flaw
 use Rattle.bench_reader.specs.Circuits.{HasCircuit}
 use Rattle.delay_annotation.specs.DelayFile.{HasDelays}
 use Rattle.text_pieces.specs.Tokens.{line}
-use Rattle.text_pieces.specs.declared.limits.TheConstants.{MOST_BYTES}
 use Rattle.command_line.specs.Words.{RunCall}
-use Rattle.calls.specs.declared.claims_reader.ClaimsReader.TheVariants.{Check}
-use Rattle.calls.specs.declared.role.Role.{Role}
+use Rattle.calls.specs.CauseAndText.{refusal_for}
+use Rattle.calls.specs.declared.cause.Cause.TheVariants as cause
 use Rattle.calls.specs.declared.role.Role.TheVariants as role
 use Rattle.calls.specs.declared.refusal.Refusal.{Refusal}
-use Rattle.calls.specs.declared.refusal.Refusal.TheVariants as refused
-use Rattle.calls.specs.declared.run_refusal.RunRefusal.{RunRefusal}
-use Rattle.calls.specs.declared.run_refusal.RunRefusal.TheVariants.{WrongCount, WrongPath, WrongLength, BadRefutation, BadSpent, NotShared, BadTest, WrongExpected}
-use Rattle.calls.specs.Work.{Work, Stage, Read, Require, WithinLimit, WellFormed, GoodRun, Products}
-use Rattle.commands.specs.InputStages.{IsOverLimit, RefusesBoth, RefusesNet, input_stages, short_stages}
-use Rattle.commands.specs.SpelledTests.{HasMalformedTests}
-use Rattle.commands.specs.SpelledRuns.{HasMalformedProofs, HasMalformedReport, SpellsRun}
+use Rattle.calls.specs.Work.{Work, Stage, Require, Products}
+use Rattle.commands.specs.InputRequirements.{InputCommand, Requirement, WellFormed, input_stages, own, read_stages, short_stages, work_on_inputs}
+use Rattle.commands.specs.SpelledRuns.{SpellsRun}
+
+-- what check requires beside what is required alike
+pub data CheckRequirement : Type 0 where
+  -- the run that the claim files spell is good
+  GoodRun : CheckRequirement
 
 -- TESTS, REPORT and PROOFS are read
-abbrev pub claim_reads : RunCall → List Stage
-claim_reads call =
-    Read role.Tests call.tests ∷ Require (WithinLimit role.Tests) ∷ Read role.Report call.report ∷ Require (WithinLimit role.Report)
-    ∷ Read role.Proofs call.proofs ∷ Require (WithinLimit role.Proofs) ∷ []
+abbrev pub claim_reads : RunCall → List (Stage (Requirement CheckRequirement))
+claim_reads call = read_stages role.Tests call.tests ++ read_stages role.Report call.report ++ read_stages role.Proofs call.proofs
 
 -- they have to have their form
-abbrev pub form_stages : List Stage
-form_stages = Require (WellFormed role.Tests) ∷ Require (WellFormed role.Report) ∷ Require (WellFormed role.Proofs) ∷ []
+abbrev pub form_stages : List (Stage (Requirement CheckRequirement))
+form_stages =
+    Require (WellFormed role.Tests 2) ∷ Require (WellFormed role.Report 3) ∷ Require (WellFormed role.Proofs 4) ∷ []
 
--- NET and DELAYS are read and judged, and texts for so many paths have to be short; then the three files are read, and only then they
--- have to have their form, and their run has to be good
-abbrev pub check_stages : RunCall → List Stage
-check_stages call = input_stages call.net call.delays ++ short_stages ++ claim_reads call ++ form_stages ++ Require GoodRun ∷ []
+-- NET and DELAYS are read and judged, and texts for so many paths have to be short; then the three files are read
+abbrev pub stages_read : RunCall → List (Stage (Requirement CheckRequirement))
+stages_read call = input_stages call.net call.delays ++ short_stages call.paths ++ claim_reads call
+
+-- only then they have to have their form, and their run has to be good
+abbrev pub check_stages : RunCall → List (Stage (Requirement CheckRequirement))
+check_stages call = stages_read call ++ form_stages ++ Require (own GoodRun) ∷ []
 
 -- the bytes of the five files
 pub record FiveTexts : Type 0 where
@@ -57,19 +59,34 @@ pub record SpellAll (texts : FiveTexts) (c : Circuit) (delays : Delays) (run : R
   pub has_delays : HasDelays c texts.delays delays
   pub spells : SpellsRun c texts.tests texts.report texts.proofs run
 
--- what is told of a flaw at an item of a run
-abbrev pub run_refusal : ℕ → Reason → RunRefusal
-run_refusal item flaw.WrongCount = WrongCount item
-run_refusal item flaw.WrongPath = WrongPath item
-run_refusal item flaw.WrongLength = WrongLength item
-run_refusal item flaw.BadRefutation = BadRefutation item
-run_refusal item flaw.BadSpent = BadSpent item
-run_refusal item flaw.NotShared = NotShared item
-run_refusal item flaw.BadTest = BadTest item
-run_refusal item flaw.WrongExpected = WrongExpected item
+-- the item at which a run has a flaw
+abbrev pub flaw_item : Reason → List ℕ
+flaw_item flaw.WrongCount = codes "count "
+flaw_item flaw.WrongPath = codes "path "
+flaw_item flaw.WrongLength = codes "path "
+flaw_item flaw.BadRefutation = codes "proof "
+flaw_item flaw.BadSpent = codes "proof "
+flaw_item flaw.NotShared = codes "fault "
+flaw_item flaw.BadTest = codes "fault "
+flaw_item flaw.WrongExpected = codes "fault "
 
--- the texts spell a run that is not good for so many paths and this budget: its first flaw is the one that is told
-pub record SpellFlawedRun (call : RunCall) (texts : FiveTexts) (reason : RunRefusal) : Type 0 where
+-- what the flaw is
+abbrev pub flaw_word : Reason → List ℕ
+flaw_word flaw.WrongCount = codes " WrongCount"
+flaw_word flaw.WrongPath = codes " WrongPath"
+flaw_word flaw.WrongLength = codes " WrongLength"
+flaw_word flaw.BadRefutation = codes " BadRefutation"
+flaw_word flaw.BadSpent = codes " BadSpent"
+flaw_word flaw.NotShared = codes " NotShared"
+flaw_word flaw.BadTest = codes " BadTest"
+flaw_word flaw.WrongExpected = codes " WrongExpected"
+
+-- the run has this flaw at the item of this number
+abbrev pub flawed : ℕ → Reason → Refusal
+flawed item reason = refusal_for cause.Claims (codes "check: " ++ flaw_item reason ++ decimal item ++ flaw_word reason)
+
+-- the texts spell a run that is not good for so many paths and this budget, which is refused for its first flaw
+pub record SpellFlawedRun (call : RunCall) (texts : FiveTexts) (refusal : Refusal) : Type 0 where
   pub circuit : Circuit
   pub delays : Delays
   pub run : Run
@@ -77,31 +94,13 @@ pub record SpellFlawedRun (call : RunCall) (texts : FiveTexts) (reason : RunRefu
   pub item : ℕ
   pub flaw : Reason
   pub is_first : TellsOfRun circuit delays call.paths call.budget run (Fails item flaw)
-  pub told : reason ≡ run_refusal item flaw
+  pub is : refusal ≡ flawed item flaw
 
--- what check refuses once all five files are read
-abbrev pub RefusesAll : RunCall → FiveTexts → Refusal → Type 0
-RefusesAll call texts (refused.TooLong of) = IsOverLimit MOST_BYTES role.Proofs texts.proofs of
-RefusesAll call texts (refused.Malformed reader role.Tests place) = (reader ≡ Check) × HasMalformedTests texts.net texts.tests place
-RefusesAll call texts (refused.Malformed reader role.Report place) = (reader ≡ Check) × HasMalformedReport texts.net texts.report place
-RefusesAll call texts (refused.Malformed reader role.Proofs place) = (reader ≡ Check) × HasMalformedProofs texts.net texts.proofs place
-RefusesAll call texts (refused.NotGood reason) = SpellFlawedRun call texts reason
-RefusesAll call texts refusal = ⊥
-
--- what is refused once a claim file is read, where others follow
-abbrev pub RefusesSize : List ℕ → Role → Refusal → Type 0
-RefusesSize text input (refused.TooLong of) = IsOverLimit MOST_BYTES input text of
-RefusesSize text input refusal = ⊥
-
--- what check refuses of the inputs that were read so far
-abbrev pub RefusesCheck : RunCall → List (List ℕ) → Refusal → Type 0
-RefusesCheck call (net ∷ []) refusal = RefusesNet net refusal
-RefusesCheck call (net ∷ delays ∷ []) refusal = RefusesBoth call.paths net delays refusal
-RefusesCheck call (net ∷ delays ∷ tests ∷ []) refusal = RefusesSize tests role.Tests refusal
-RefusesCheck call (net ∷ delays ∷ tests ∷ report ∷ []) refusal = RefusesSize report role.Report refusal
-RefusesCheck call (net ∷ delays ∷ tests ∷ report ∷ proofs ∷ []) refusal =
-    RefusesAll call (record { net = net; delays = delays; tests = tests; report = report; proofs = proofs }) refusal
-RefusesCheck call inputs refusal = ⊥
+-- what check refuses by a requirement of its own
+abbrev pub RefusesFlawed : RunCall → CheckRequirement → List (List ℕ) → Refusal → Type 0
+RefusesFlawed call GoodRun (net ∷ delays ∷ tests ∷ report ∷ proofs ∷ []) refusal =
+    SpellFlawedRun call (record { net = net; delays = delays; tests = tests; report = report; proofs = proofs }) refusal
+RefusesFlawed call GoodRun inputs refusal = ⊥
 
 -- the texts spell a run that is good for so many paths and this budget, and its verdicts keep their promises
 pub record SpellGoodRun (call : RunCall) (texts : FiveTexts) : Type 0 where
@@ -128,5 +127,15 @@ GivesCheck call (net ∷ delays ∷ tests ∷ report ∷ proofs ∷ []) products
 GivesCheck call inputs products = ⊥
 
 -- the command with its names and numbers
+abbrev pub check_command : RunCall → InputCommand
+check_command call = record {
+  Own = CheckRequirement;
+  word = codes "check";
+  stages = check_stages call;
+  RefusesOwn = RefusesFlawed call;
+  Gives = GivesCheck call;
+}
+
+-- its work
 abbrev pub check_work : RunCall → Work
-check_work call = record { stages = check_stages call; Refuses = RefusesCheck call; Gives = GivesCheck call }
+check_work call = work_on_inputs (check_command call)

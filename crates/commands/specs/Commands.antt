@@ -1,18 +1,25 @@
--- What the words ask for, as the work of a command (this project's own). A further command adds a case here.
+-- What the words ask for: the work of a command, and what holds of its calls (this project's own). A further command adds a case each of
+-- `work_of` and `KeepsLawsOf`.
 use Rattle.std.specs.Prelude.{ℕ, List, Result, Ok, Err}
+use Rattle.pd_io.specs.Seen.{Outside}
 use Rattle.command_line.specs.declared.refusal.WordsRefusal.{WordsRefusal}
 use Rattle.command_line.specs.declared.fault.WordsFault.{WordsFault}
 use Rattle.command_line.specs.declared.fault.WordsFault.TheVariants as fault
 use Rattle.command_line.specs.Words.{Call, gen, check, replay, make, asked_call}
 use Rattle.calls.specs.declared.ending.Ending.{Ending}
 use Rattle.calls.specs.declared.ending.Ending.TheVariants as ended
-use Rattle.calls.specs.declared.refusal.Refusal.TheVariants.{Words}
 use Rattle.calls.specs.Work.{Work}
-use Rattle.calls.specs.Refused.{refused_words}
+use Rattle.calls.specs.Refused.{ReportsAtOnce, refused_at_once}
+use Rattle.calls.specs.declared.status.Status.{Status}
 use Rattle.commands.specs.Check.{check_work}
+use Rattle.commands.specs.CheckLaws.{KeepsCheckLaws}
 use Rattle.commands.specs.Gen.{gen_work}
+use Rattle.commands.specs.GenLaws.{KeepsGenLaws}
 use Rattle.commands.specs.Make.{make_work}
+use Rattle.commands.specs.MakeLaws.{KeepsMakeLaws}
 use Rattle.commands.specs.Replay.{replay_work}
+use Rattle.commands.specs.ReplayLaws.{KeepsReplayLaws}
+use Rattle.commands.specs.WordsRefusals.{words_refusal}
 
 -- the work of a command, or of words that are refused
 abbrev pub work_of : Result Call WordsRefusal → Work
@@ -20,13 +27,26 @@ work_of (Ok (gen call)) = gen_work call
 work_of (Ok (check call)) = check_work call
 work_of (Ok (replay call)) = replay_work call
 work_of (Ok (make call)) = make_work call
-work_of (Err reason) = refused_words reason
+work_of (Err reason) = refused_at_once (words_refusal reason)
+
+-- what holds of a call of a command, which these words ask for, beside what holds of every call; one with refused words reports them, or
+-- want of memory
+abbrev pub KeepsLawsOf : List (List ℕ) → Result Call WordsRefusal → Status → Outside → Outside → Type 0
+KeepsLawsOf words (Ok (gen call)) status old new = KeepsGenLaws call status old new
+KeepsLawsOf words (Ok (check call)) status old new = KeepsCheckLaws words call status old new
+KeepsLawsOf words (Ok (replay call)) status old new = KeepsReplayLaws call status old new
+KeepsLawsOf words (Ok (make call)) status old new = KeepsMakeLaws status old new
+KeepsLawsOf words (Err reason) status old new = ReportsAtOnce (words_refusal reason) status old.err new.err
 
 -- the work that these words ask for
 abbrev pub asked_work : List (List ℕ) → Work
 asked_work words = work_of (asked_call words)
 
+-- what holds of a call with these words, by what they ask for
+abbrev pub KeepsAskedLaws : List (List ℕ) → Status → Outside → Outside → Type 0
+KeepsAskedLaws words status old new = KeepsLawsOf words (asked_call words) status old new
+
 -- how a call ends whose words give no command: they are refused, or memory ran out
 abbrev pub words_ending : WordsFault → Ending
-words_ending (fault.Refused reason) = ended.Refused (Words reason)
+words_ending (fault.Refused reason) = ended.Refused (words_refusal reason)
 words_ending fault.NoMemory = ended.NoMemory

@@ -1,7 +1,7 @@
 -- The command `gen`: its stages, what it refuses, and what it gives. Where a call ends with status 0, its three files hold the
 -- texts of one good run: it lists the first paths by nonincreasing length, each once, with one verdict for each transition, and each
 -- test, refutation and spent budget is one; what its verdicts promise is said in Promises.antt of good_runs (this project's own).
-use Rattle.std.specs.Prelude.{◌≡◌, ℕ, List, [], ◌∷◌, ◌++◌}
+use Rattle.std.specs.Prelude.{◌≡◌, ℕ, List, [], ◌∷◌, ◌++◌, codes}
 use Rattle.pd_base.specs.declared.rules.Rules.TheVariants.{Two}
 use Rattle.netlist.specs.Circuit.{Circuit}
 use Rattle.netlist.specs.Waves.{Delays}
@@ -19,22 +19,15 @@ use Rattle.verdict_report.specs.ProofsText.{proofs_text}
 use Rattle.verdict_report.specs.Summary.{summary_text}
 use Rattle.command_line.specs.Words.{RunCall}
 use Rattle.calls.specs.declared.role.Role.TheVariants as role
-use Rattle.calls.specs.declared.refusal.Refusal.{Refusal}
 use Rattle.calls.specs.Work.{Work, Stage, Due, due_file, Products}
-use Rattle.commands.specs.InputStages.{RefusesBoth, RefusesNet, input_stages, short_stages}
+use Rattle.commands.specs.InputRequirements.{InputCommand, RefusesNoMore, Requirement, input_stages, short_stages, work_on_inputs}
 use Rattle.commands.specs.Sizes.{HasShortTexts}
 use Rattle.commands.specs.declared.preparing.Generated.{Generated}
 use Rattle.commands.specs.declared.preparing.ToldRun.{ToldRun}
 
 -- NET is read, and has to have a circuit; then DELAYS is read, and has to give delays; then the texts have to be short
-abbrev pub gen_stages : RunCall → List Stage
-gen_stages call = input_stages call.net call.delays ++ short_stages
-
--- what gen refuses for so many paths of the inputs that were read so far
-abbrev pub RefusesGen : ℕ → List (List ℕ) → Refusal → Type 0
-RefusesGen paths (net ∷ []) refusal = RefusesNet net refusal
-RefusesGen paths (net ∷ delays ∷ []) refusal = RefusesBoth paths net delays refusal
-RefusesGen paths inputs refusal = ⊥
+abbrev pub gen_stages : RunCall → List (Stage (Requirement ⊥))
+gen_stages call = input_stages call.net call.delays ++ short_stages call.paths
 
 -- the files that are written for a circuit and a run
 abbrev pub tests_due : RunCall → Circuit → Run → Due
@@ -86,8 +79,18 @@ GivesGen call (net ∷ delays ∷ []) products = GivesRun call net delays produc
 GivesGen call inputs products = ⊥
 
 -- the command with its names and numbers
+abbrev pub gen_command : RunCall → InputCommand
+gen_command call = record {
+  Own = ⊥;
+  word = codes "gen";
+  stages = gen_stages call;
+  RefusesOwn = RefusesNoMore;
+  Gives = GivesGen call;
+}
+
+-- its work
 abbrev pub gen_work : RunCall → Work
-gen_work call = record { stages = gen_stages call; Refuses = RefusesGen call.paths; Gives = GivesGen call }
+gen_work call = work_on_inputs (gen_command call)
 
 -- a run that the three files can spell, of a circuit whose names call for no quotes
 pub record CanBeWritten (c : Circuit) (run : Run) : Type 0 where

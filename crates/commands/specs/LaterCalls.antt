@@ -1,12 +1,13 @@
 -- What a call of `gen` left behind, as calls of other commands find it later (this project's own).
-use Rattle.std.specs.Prelude.{◌≡◌, ◌≢◌, ℕ, List, [], ◌∷◌, All, AllPairs, Some}
+use Rattle.std.specs.Prelude.{◌≡◌, ◌≢◌, ℕ, List, [], ◌∷◌, All, AllPairs, Ok, Some, codes}
 use Rattle.pd_io.specs.Folder.{bytes_at, Folder}
 use Rattle.pd_io.specs.Seen.{Outside}
-use Rattle.command_line.specs.Words.{ReplayCall, RunCall}
+use Rattle.command_line.specs.Words.{ReplayCall, RunCall, asked_call, gen}
 use Rattle.calls.specs.Work.{Work}
 use Rattle.calls.specs.Passing.{Pass}
 use Rattle.calls.specs.Calls.{IsDone}
-use Rattle.commands.specs.InputStages.{input_stages}
+use Rattle.commands.specs.Gen.{gen_work}
+use Rattle.commands.specs.InputRequirements.{input_stages}
 use Rattle.commands.specs.Replay.{replay_work}
 
 -- the names of the files of a run, in the order of the words
@@ -23,6 +24,12 @@ pub record IsLeftBy (work : Work) (left : Folder) : Type 0 where
   pub new : Outside
   pub done : IsDone work old new
   pub told : new.files.folder ≡ Some left
+
+-- some words asked gen for this run, its work was done, and the files told then that they held this
+pub record WasLeftByGen (call : RunCall) (left : Folder) : Type 0 where
+  pub words : List (List ℕ)
+  pub asked : asked_call (codes "gen" ∷ words) ≡ Ok (gen call)
+  pub left_by : IsLeftBy (gen_work call) left
 
 -- one name holds now what another one held then
 abbrev pub HoldsAs : Folder → List ℕ → Folder → List ℕ → Type 0

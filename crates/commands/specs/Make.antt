@@ -7,14 +7,14 @@ use Rattle.netlist.specs.Circuit.{Circuit}
 use Rattle.netlist.specs.Pins.{IsPinOn}
 use Rattle.netlist.specs.Waves.{Delays}
 use Rattle.delay_annotation.specs.declared.delays.TheConstants.{UNIT_DELAY}
-use Rattle.commands.specs.Ladder.{ladder_circuit}
+use Rattle.ladder.specs.Ladder.{ladder_circuit}
 use Rattle.runs.specs.declared.run.Run.{Run}
 use Rattle.good_runs.specs.GoodRun.{IsGoodRun}
 use Rattle.good_runs.specs.Promises.{AllKeepPromises}
 use Rattle.verdict_report.specs.LadderLine.{ladder_line}
 use Rattle.command_line.specs.Words.{MakeCall}
-use Rattle.calls.specs.declared.refusal.Refusal.{Refusal}
 use Rattle.calls.specs.Work.{Work, Products}
+use Rattle.commands.specs.InputRequirements.{RefusesNoMore}
 use Rattle.commands.specs.declared.making.TheConstants.{LADDER_BUDGET, LADDER_PATHS}
 
 -- each pin has the delay 1
@@ -31,10 +31,6 @@ pub record GivesLadder (stages : ℕ) (products : Products) : Type 0 where
   pub promises : AllKeepPromises (ladder_circuit stages) LADDER_BUDGET run
   pub text : products ≡ record { files = []; out = ladder_line stages (ladder_circuit stages) run }
 
--- nothing is refused
-abbrev pub RefusesNothing : List (List ℕ) → Refusal → Type 0
-RefusesNothing inputs refusal = ⊥
-
 -- what make gives without any input
 abbrev pub GivesMake : MakeCall → List (List ℕ) → Products → Type 0
 GivesMake call [] products = GivesLadder call.stages products
@@ -42,4 +38,4 @@ GivesMake call inputs products = ⊥
 
 -- the command with its number
 abbrev pub make_work : MakeCall → Work
-make_work call = record { stages = []; Refuses = RefusesNothing; Gives = GivesMake call }
+make_work call = record { Requirement = ⊥; stages = []; Refuses = RefusesNoMore; Gives = GivesMake call }

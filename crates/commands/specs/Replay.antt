@@ -1,7 +1,7 @@
 -- The command `replay`: its stages, what it refuses, and what it gives. Where a call ends with status 0, out has one line for each test
 -- of TESTS: what the observed lines have at TIME under the test's pair and the delays, and whether these are the bits that the test
 -- expects (this project's own).
-use Rattle.std.specs.Prelude.{◌≡◌, ℕ, pos, List, [], ◌∷◌, ◌++◌, Vec}
+use Rattle.std.specs.Prelude.{◌≡◌, ℕ, pos, List, [], ◌∷◌, ◌++◌, codes, decimal, Vec}
 use Rattle.std.specs.declared.alloc.Global.{Global}
 use Rattle.pd_base.specs.declared.test.Test.{Test}
 use Rattle.netlist.specs.Circuit.{Circuit}
@@ -10,25 +10,28 @@ use Rattle.netlist.specs.Waves.{Delays}
 use Rattle.bench_reader.specs.Circuits.{HasCircuit}
 use Rattle.delay_annotation.specs.DelayFile.{HasDelays}
 use Rattle.command_line.specs.Words.{ReplayCall}
-use Rattle.calls.specs.declared.claims_reader.ClaimsReader.TheVariants as reader
+use Rattle.calls.specs.CauseAndText.{refusal_for}
+use Rattle.calls.specs.declared.cause.Cause.TheVariants as cause
 use Rattle.calls.specs.declared.role.Role.TheVariants as role
 use Rattle.calls.specs.declared.refusal.Refusal.{Refusal}
-use Rattle.calls.specs.declared.refusal.Refusal.TheVariants as refused
-use Rattle.calls.specs.Work.{Work, Stage, Read, Require, WithinLimit, WellFormed, FewChanges, Products}
-use Rattle.text_pieces.specs.declared.limits.TheConstants.{MOST_BYTES}
-use Rattle.commands.specs.InputStages.{input_stages, IsOverLimit, RefusesInputs, RefusesNet}
-use Rattle.commands.specs.SpelledTests.{HasMalformedTests, SpellsTests}
+use Rattle.calls.specs.Work.{Work, Stage, Require, Products}
+use Rattle.commands.specs.InputRequirements.{InputCommand, Requirement, WellFormed, input_stages, own, read_stages, work_on_inputs}
+use Rattle.commands.specs.SpelledTests.{SpellsTests}
 use Rattle.commands.specs.ReplayText.{replay_text}
 use Rattle.commands.specs.TestChanges.{HaveFewChanges, IsFirstTestOver}
 
--- TESTS of this name is read, and has to be well formed; then the lines may not change too often under any test's pair
-abbrev pub tests_stages : List ℕ → List Stage
-tests_stages tests =
-    Read role.Tests tests ∷ Require (WithinLimit role.Tests) ∷ Require (WellFormed role.Tests) ∷ Require FewChanges ∷ []
+-- what replay requires beside what is required alike
+pub data ReplayRequirement : Type 0 where
+  -- under no test's pair the waves have too many changes
+  FewChanges : ReplayRequirement
 
--- NET and DELAYS are read first, as by every command that reads them
-abbrev pub replay_stages : ReplayCall → List Stage
-replay_stages call = input_stages call.net call.delays ++ tests_stages call.tests
+-- TESTS is read, and has to have its form; then the lines may not change too often under any test's pair
+abbrev pub tests_stages : ReplayCall → List (Stage (Requirement ReplayRequirement))
+tests_stages call = read_stages role.Tests call.tests ++ Require (WellFormed role.Tests 2) ∷ Require (own FewChanges) ∷ []
+
+-- before that NET and DELAYS are read and judged
+abbrev pub replay_stages : ReplayCall → List (Stage (Requirement ReplayRequirement))
+replay_stages call = input_stages call.net call.delays ++ tests_stages call
 
 -- NET has this circuit, DELAYS gives these delays to its pins, and TESTS is the file of these tests
 pub record AreReplayed (net delays tests : List ℕ) (c : Circuit) (given : Delays) (listed : List Test) : Type 0 where
@@ -36,30 +39,25 @@ pub record AreReplayed (net delays tests : List ℕ) (c : Circuit) (given : Dela
   pub gives : HasDelays c delays given
   pub spells : SpellsTests c tests listed
 
--- Under the pair of the test of this number some line changes too often, and the first such line in rank order has this name; no test
--- before it has such a line.
-pub record HasTestOver (net delays tests : List ℕ) (number : ℕ) (name : List ℕ) : Type 0 where
+-- under the pair of the test of this number the line of this name changes too often
+abbrev pub changes_too_often : ℕ → List ℕ → Refusal
+changes_too_often number name = refusal_for cause.Size (codes "size: test " ++ decimal number ++ codes " line " ++ name)
+
+-- Under the pair of a test some line changes too often, which is refused for the first such line in rank order of the first such test.
+pub record HasTestOver (net delays tests : List ℕ) (refusal : Refusal) : Type 0 where
   pub circuit : Circuit
   pub given : Delays
   pub listed : List Test
   pub are : AreReplayed net delays tests circuit given listed
+  pub number : ℕ
   pub line : ℕ
   pub first : IsFirstTestOver circuit given listed number line
-  pub named : name ≡ name_at circuit line
+  pub is : refusal ≡ changes_too_often number (name_at circuit line)
 
--- what replay refuses once TESTS is read too
-abbrev pub RefusesReplayed : List ℕ → List ℕ → List ℕ → Refusal → Type 0
-RefusesReplayed net delays tests (refused.TooLong of) = IsOverLimit MOST_BYTES role.Tests tests of
-RefusesReplayed net delays tests (refused.Malformed reader.Replay role.Tests line) = HasMalformedTests net tests line
-RefusesReplayed net delays tests (refused.TooManyChanges number name) = HasTestOver net delays tests number name
-RefusesReplayed net delays tests refusal = ⊥
-
--- what replay refuses of the inputs that were read so far
-abbrev pub RefusesForReplay : List (List ℕ) → Refusal → Type 0
-RefusesForReplay (net ∷ []) refusal = RefusesNet net refusal
-RefusesForReplay (net ∷ delays ∷ []) refusal = RefusesInputs net delays refusal
-RefusesForReplay (net ∷ delays ∷ tests ∷ []) refusal = RefusesReplayed net delays tests refusal
-RefusesForReplay inputs refusal = ⊥
+-- what replay refuses by a requirement of its own
+abbrev pub RefusesChanges : ReplayRequirement → List (List ℕ) → Refusal → Type 0
+RefusesChanges FewChanges (net ∷ delays ∷ tests ∷ []) refusal = HasTestOver net delays tests refusal
+RefusesChanges FewChanges inputs refusal = ⊥
 
 -- no file, and a text on out
 abbrev pub printed_text : Vec ℕ Global → Products
@@ -80,5 +78,15 @@ GivesReplay call (net ∷ delays ∷ tests ∷ []) products = GivesReplayed call
 GivesReplay call inputs products = ⊥
 
 -- the command with its names and its time
+abbrev pub replay_command : ReplayCall → InputCommand
+replay_command call = record {
+  Own = ReplayRequirement;
+  word = codes "replay";
+  stages = replay_stages call;
+  RefusesOwn = RefusesChanges;
+  Gives = GivesReplay call;
+}
+
+-- its work
 abbrev pub replay_work : ReplayCall → Work
-replay_work call = record { stages = replay_stages call; Refuses = RefusesForReplay; Gives = GivesReplay call }
+replay_work call = work_on_inputs (replay_command call)

@@ -4,9 +4,9 @@ use Rattle.std.specs.Prelude.{◌≡◌, ℕ, ◌+◌, ◌*◌, ◌<◌, ◌≤�
 use Rattle.netlist.specs.Circuit.{Circuit, source_count, observed_lines}
 use Rattle.netlist.specs.Levels.{greatest_level}
 use Rattle.netlist.specs.Names.{longest_name}
-use Rattle.calls.specs.declared.refusal.Refusal.TheVariants.{PathText, TestText}
 use Rattle.calls.specs.declared.ending.Ending.{Ending}
 use Rattle.calls.specs.declared.ending.Ending.TheVariants.{Refused}
+use Rattle.commands.specs.InputRefusals.{long_path_text, long_test_text}
 use Rattle.commands.specs.declared.inputs.sizes.TheConstants.{MOST_PATH_TEXT, MOST_TEST_TEXT, STEP_BYTES}
 
 -- the texts of the paths: a path passes at most one gate of each level, and each is told by its name, its pin and two signs
@@ -24,7 +24,7 @@ pub record HasShortTexts (paths : ℕ) (c : Circuit) : Type 0 where
 
 -- the first one that is over its limit is told
 pub data HasLongTexts (paths : ℕ) (c : Circuit) (ending : Ending) : Type 0 where
-  long_paths : MOST_PATH_TEXT < path_text_product paths c → ending ≡ Refused (PathText (path_text_product paths c))
+  long_paths : MOST_PATH_TEXT < path_text_product paths c → ending ≡ Refused (long_path_text (path_text_product paths c))
       → HasLongTexts paths c ending
   long_tests : path_text_product paths c ≤ MOST_PATH_TEXT → MOST_TEST_TEXT < test_text_product paths c
-      → ending ≡ Refused (TestText (test_text_product paths c)) → HasLongTexts paths c ending
+      → ending ≡ Refused (long_test_text (test_text_product paths c)) → HasLongTexts paths c ending

@@ -6,6 +6,7 @@ use Rattle.bench_reader.specs.Circuits.{HasCircuit}
 use Rattle.runs.specs.declared.run.ListedPath.{ListedPath}
 use Rattle.runs.specs.declared.run.Proof.{Proof}
 use Rattle.runs.specs.declared.run.Run.{Run}
+use Rattle.trees.specs.Unlinked.{IsUnlinked}
 use Rattle.text_pieces.specs.LineFiles.{IsFirstBadLine}
 use Rattle.verdict_report.specs.ProofsReading.{AreSpelledProofs, IsFirstBadProofLine}
 use Rattle.verdict_report.specs.ProofsText.{proofs_text}
@@ -18,8 +19,10 @@ pub record SpellsReport (c : Circuit) (text : List ℕ) (paths : List ListedPath
   pub lawful : IsSpelledReport c paths
   pub is_text : text ≡ report_text c paths
 
--- the text is the proofs file of these proofs, which a proofs file of the circuit may list, and its first line tells these rules
+-- the text is the proofs file of these proofs, which a proofs file of the circuit may list, and its first line tells these rules, which are
+-- not linked ones
 pub record SpellsProofs (c : Circuit) (text : List ℕ) (rules : Rules) (proofs : List Proof) : Type 0 where
+  pub unlinked : IsUnlinked rules
   pub lawful : AreSpelledProofs c proofs
   pub is_text : text ≡ proofs_text rules proofs
 

@@ -3,7 +3,8 @@ ghost use Rattle.std.specs.Prelude.{◌≡◌};
 ghost use Rattle.pd_io.specs.Seen.{outside};
 ghost use Rattle.command_line.specs.Commands.{bytes_of_words};
 ghost use Rattle.calls.specs.Calls.{Ends, HasAcceptedInputs, IsDone, IsDoneOrNoMemory, NoneFailed};
-ghost use Rattle.commands.specs.Commands.{asked_work};
+ghost use Rattle.calls.specs.Laws.{KeepsLaws};
+ghost use Rattle.commands.specs.Commands.{KeepsAskedLaws, asked_work};
 
 use crate::dispatch::perform;
 use calls::{Status, tell};
@@ -56,6 +57,18 @@ pub fn run<F: Files, O: Sink, E: Sink>(
         → NoneFailed (outside F.Files O.Sink E.Sink files.old out.old err.old)
         (outside F.Files O.Sink E.Sink files.new out.new err.new)
         → IsDoneOrNoMemory result }
+
+    // What each other status means: of refusals, after which nothing was begun or written, of failed reads and of failed writes; and that
+    // what the files hold is refused where it leads to a refusal.
+    ensures laws { KeepsLaws (asked_work (bytes_of_words words.now)) result
+        (outside F.Files O.Sink E.Sink files.old out.old err.old)
+        (outside F.Files O.Sink E.Sink files.new out.new err.new) }
+
+    // What the command promises beside this: which inputs it accepts, when check answers 0 and when 1, and that check and replay take what
+    // gen left.
+    ensures own { KeepsAskedLaws (bytes_of_words words.now) result
+        (outside F.Files O.Sink E.Sink files.old out.old err.old)
+        (outside F.Files O.Sink E.Sink files.new out.new err.new) }
 {
     let ending = perform(alloc, words, files, out);
     tell(&ending, err)

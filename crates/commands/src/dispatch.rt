@@ -10,7 +10,8 @@ use crate::check::check;
 use crate::generating::generate;
 use crate::making::make;
 use crate::replay::replay;
-use calls::{Ending, Refusal};
+use crate::words_refusal::words_refusal;
+use calls::Ending;
 use command_line::{Command, WordsFault, read_words};
 use pd_io::{Files, Sink};
 use std::alloc::Global;
@@ -55,7 +56,7 @@ fn words_ending(fault: WordsFault) -> Ending
     ensures { result ≡ words_ending fault }
 {
     match fault {
-        WordsFault::Refused(reason) => Ending::Refused(Refusal::Words(reason)),
+        WordsFault::Refused(reason) => Ending::Refused(words_refusal(reason)),
         WordsFault::NoMemory => Ending::NoMemory,
     }
 }

@@ -1,4 +1,5 @@
-// The command `gen`: what it prepared is written, the three files in their order and then the summary on out.
+// The command `gen`: what it prepared is written, the three files in their order and then the summary on out. The files are made piece by
+// piece, so memory may run out between two pieces: the files before are whole then, and this one holds the first part of its text.
 ghost use Rattle.std.specs.Prelude.{[], ◌∷◌, OnOk, IfErr};
 ghost use Rattle.pd_io.specs.Seen.{files_seen, seen};
 ghost use Rattle.command_line.specs.Commands.{run_call_of};

@@ -1,15 +1,17 @@
-// The inputs of commands: NET and DELAYS read and judged (specs/InputJudging.antt), the two products that bound the texts of a run
-// (specs/Sizes.antt), the stages with which a command begins that reads them (specs/InputStages.antt), and claim files read. A command
-// uses `netlist_from`, `delays_from`, `require_short_texts`, `claims_from` and `tests_from`, and cites the lemmas of
-// proofs/InputStages.antt on its `Work`.
+// The inputs that commands read and judge alike: each read within its limit (reading.rt), NET's circuit and the delays of its pins
+// (judging.rt), the claim files (claims.rt), and the two products that bound the texts of a run (sizes.rt). What is required so, and how it
+// is refused, is said in specs/InputRequirements.antt and InputRefusals.antt; a command puts its stages together of those, and cites the
+// lemmas of proofs/InputStages.antt.
 mod claims;
+mod delays_ending;
 mod judging;
+mod netlist_ending;
 mod reading;
-mod reasons;
 mod sizes;
 
-pub(crate) use claims::{claims_from, tests_from, tests_in};
-pub use judging::INPUT_LIMIT;
+pub(crate) use claims::{proofs_in, report_in, tests_from, tests_in};
 pub(crate) use judging::{delays_from, netlist_from};
+pub use reading::INPUT_LIMIT;
+pub(crate) use reading::text_from;
 pub(crate) use sizes::require_short_texts;
 pub use sizes::{MOST_PATH_TEXT, MOST_TEST_TEXT, STEP_BYTES};

@@ -1,6 +1,6 @@
 //! The commands, over any files and streams: `run`, which does what the program's words ask for (specs/Commands.antt); `gen`,
 //! which leads from a netlist and its delays to the texts of one run (specs/Gen.antt); `make`, which does that work on a ladder
-//! (specs/Make.antt, Ladder.antt); `check` (specs/Check.antt) and `replay` (specs/Replay.antt). What they read in the same way is in
+//! (specs/Make.antt); `check` (specs/Check.antt) and `replay` (specs/Replay.antt). What they read in the same way is in
 //! src/inputs.rt. That `check` accepts what `gen` wrote, and that it can be replayed, is proved in proofs/GenThenCheck.antt and
 //! GenThenReplay.antt.
 //! Stands on calls, which has what every command does alike, on the readers and writers of all files, on the search of all paths, on
@@ -10,16 +10,17 @@
 mod calling;
 mod check;
 mod dispatch;
+mod exiting;
 mod generating;
 mod inputs;
-mod ladder;
 mod making;
 mod preparing;
 mod replay;
 mod serving;
+mod words_refusal;
 
 pub use calling::run;
+pub use exiting::exit_code;
 pub use inputs::{INPUT_LIMIT, MOST_PATH_TEXT, MOST_TEST_TEXT, STEP_BYTES};
-pub use ladder::MOST_STAGES;
 pub use making::{LADDER_BUDGET, LADDER_PATHS};
 pub use serving::serve;

@@ -1,18 +1,19 @@
-// The command `make`: the work of `gen` on a ladder, of which only a line is told.
+// The command `make`: the work of `gen` on a ladder, of which only a line is printed. It is a work without stages: nothing is read, and no
+// file is written.
 ghost use Rattle.std.specs.Prelude.{◌≡◌, ◌≤◌, [], IfOk};
+ghost use Rattle.pd_base.specs.declared.limits.TheConstants.{MOST_STAGES};
 ghost use Rattle.pd_io.specs.Seen.{FilesSeen, sink_seen};
+ghost use Rattle.ladder.specs.Ladder.{ladder_circuit};
 ghost use Rattle.command_line.specs.Commands.{make_call_of};
 ghost use Rattle.command_line.specs.Words.{HasMakeNumbers};
 ghost use Rattle.calls.specs.Calls.{Performs};
 ghost use Rattle.commands.specs.Make.{GivesLadder, make_work};
-ghost use Rattle.commands.specs.Ladder.{ladder_circuit};
-ghost use Rattle.commands.specs.declared.ladder.building.TheConstants.{MOST_STAGES};
 
-use crate::ladder::ladder;
 use crate::preparing::run_of;
 use calls::{Ending, print};
 use command_line::MakeCommand;
 use delay_annotation::Delays;
+use ladder::ladder;
 use netlist::Netlist;
 use pd_base::OutOfMemory;
 use pd_io::Sink;

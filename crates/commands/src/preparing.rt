@@ -7,7 +7,7 @@ ghost use Rattle.command_line.specs.Commands.{run_call_of};
 ghost use Rattle.command_line.specs.Words.{HasRunNumbers};
 ghost use Rattle.calls.specs.Preparing.{Prepares};
 ghost use Rattle.delay_annotation.specs.Annotation.{Fits, delays_of};
-ghost use Rattle.commands.specs.Judging.{FailsShort};
+ghost use Rattle.commands.specs.Inside.Judging.{FailsShort};
 ghost use Rattle.commands.specs.Gen.{CanBeWritten, GivesProductsOf, GivesShort, gen_work, generated_products, told_products};
 ghost use Rattle.good_runs.specs.GoodRun.{IsGoodRun};
 ghost use Rattle.good_runs.specs.Shortest.{IsShortestRun};

@@ -1,22 +1,19 @@
-// The call that the program is: its words, and the files and streams of the system, handed to `run`.
-use crate::calling::run;
-use calls::{Ending, Status, tell};
-use std::alloc::{AllocError, Global};
+// The call that the program is: its arguments, and the files and streams of the system, handed on.
+use crate::exiting::exit_code;
 use std::process::ExitCode;
 use std::{env, io};
 use system_files::{StdFiles, StdSink};
 
-/// Does what the words behind the program's own name ask for, over the files and streams of the system, and gives the status of
-/// that call. Words that are not all UTF-8 count as missing.
+/// Does what the words behind the program's own name ask for, over the files and streams of the system (`exit_code`).
 pub fn serve(rt: HostRuntime) -> ExitCode {
-    let status = match arguments(&rt) {
-        Ok(arguments) => call(rt, arguments.as_slice()),
-        Err(error) => match error.kind() {
-            io::ErrorKind::OutOfMemory => end_without_memory(rt),
-            _ => call(rt, &[]),
-        },
-    };
-    ExitCode::from(status.number())
+    let alloc = rt.alloc();
+    exit_code(
+        alloc,
+        arguments(&rt),
+        &mut StdFiles::new(alloc, rt),
+        &mut StdSink::new(rt.stdout()),
+        &mut StdSink::new(rt.stderr()),
+    )
 }
 
 // The words behind the program's own name.
@@ -26,33 +23,4 @@ fn arguments<R: env::Env + AllocGlobal>(rt: &R) -> io::Result<Vec<String>> {
         arguments.push(argument)?;
     }
     Ok(arguments)
-}
-
-// One call over the real files and streams.
-fn call(rt: HostRuntime, arguments: &[String]) -> Status {
-    let alloc = rt.alloc();
-    match words_of(alloc, arguments) {
-        Ok(words) => run(
-            alloc,
-            words.as_slice(),
-            &mut StdFiles::new(alloc, rt),
-            &mut StdSink::new(rt.stdout()),
-            &mut StdSink::new(rt.stderr()),
-        ),
-        Err(_) => end_without_memory(rt),
-    }
-}
-
-// Memory ran out before the call.
-fn end_without_memory(rt: HostRuntime) -> Status {
-    tell(&Ending::NoMemory, &mut StdSink::new(rt.stderr()))
-}
-
-// These words, borrowed.
-fn words_of(alloc: Global, arguments: &[String]) -> Result<Vec<&str>, AllocError> {
-    let mut words = Vec::with_capacity(alloc, arguments.len())?;
-    for argument in arguments {
-        words.push(argument.as_str())?;
-    }
-    Ok(words)
 }

@@ -17,7 +17,8 @@ use Rattle.state_sets.specs.declared.state.State.{State}
 use Rattle.state_sets.specs.States.{Has}
 use Rattle.state_sets.specs.StateAlgebra.{joined}
 use Rattle.state_sets.specs.FourStates.{four_states}
-use Rattle.state_sets.specs.FourLaws.{all_below, all_below_at, state_of, four_laws}
+use Rattle.state_sets.specs.ComputedLaws.{all_below, all_below_at, state_of}
+use Rattle.state_sets.specs.FourLaws.{four_laws}
 use Rattle.state_sets.specs.LineStates.{state_under}
 use Rattle.netlist.specs.Gates.{op_of, is_inverting}
 use Rattle.state_sets.specs.Narrowing.{inverted_if, gate_state}
@@ -109,16 +110,16 @@ module _ (value : LineId → Five) (state : LineId → State) where
 
 module _ (c : Circuit) (is : IsCircuit c) (pair : Vectors) (partial : List Five) where
   -- where each source is in a state of its value, each line is
-  pub line_holds : ((source : ℕ) → source < source_count c → Holds (five_at partial source) (state_under c pair source))
-      → (line : ℕ) → line < line_count c → Holds (five_value c partial line) (state_under c pair line)
+  pub line_holds : ((source : ℕ) → source < source_count c → Holds (five_at partial source) (state_under four_states c pair source))
+      → (line : ℕ) → line < line_count c → Holds (five_value c partial line) (state_under four_states c pair line)
   line_holds sources =
       let step = λ (gate : ℕ) (values : List Five). gate_five (kind_at c gate) values in
-      line_induction c is.reads_lines (λ line. Holds (five_value c partial line) (state_under c pair line))
-      (λ line source. subst (λ v. Holds v (state_under c pair line))
+      line_induction c is.reads_lines (λ line. Holds (five_value c partial line) (state_under four_states c pair line))
+      (λ line source. subst (λ v. Holds v (state_under four_states c pair line))
       (sym (value_at_source c (five_at partial) step line source)) (sources line source))
       (λ gate within pins. subst₂ Holds
       (sym (value_at_gate c (five_at partial) step is.reads_lines is.loop_free gate within))
-      (sym (gate_state_under c is pair gate within))
-      (gate_holds (λ line. five_value c partial line.0) (λ line. state_under c pair line.0)
+      (sym (gate_state_under four_states four_laws c is pair gate within))
+      (gate_holds (λ line. five_value c partial line.0) (λ line. state_under four_states c pair line.0)
       (kind_at c gate) (pins_at c gate) pins))
       is.loop_free

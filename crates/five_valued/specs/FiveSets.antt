@@ -4,6 +4,7 @@ use Rattle.pd_base.specs.Pair.{Vectors}
 use Rattle.netlist.specs.Circuit.{Circuit}
 use Rattle.state_sets.specs.declared.state.StateSet.{StateSet}
 use Rattle.state_sets.specs.States.{Has, all_states}
+use Rattle.state_sets.specs.FourStates.{four_states}
 use Rattle.state_sets.specs.LineStates.{state_under}
 use Rattle.five_valued.specs.declared.five.Five.{Five}
 use Rattle.five_valued.specs.declared.five.Five.TheVariants.{S0, S1, U0, U1, XX}
@@ -20,4 +21,4 @@ states_of XX = all_states 4
 -- under the pair each of the first lines, one for each of these values, is in a state of its value
 abbrev pub HasStatesOf : Circuit → Vectors → List Five → Type 0
 HasStatesOf c pair values =
-    (line : ℕ) → line < length values → Has 4 (states_of (five_at values line)) (state_under c pair line)
+    (line : ℕ) → line < length values → Has 4 (states_of (five_at values line)) (state_under four_states c pair line)

@@ -1,4 +1,4 @@
--- A refutation that applies to a target excludes every pair.
+-- A refutation that applies to a target excludes every pair of its rules.
 use Rattle.std.proofs.Common.{ℕ, List, subst}
 use Rattle.pd_base.specs.Pair.{Vectors}
 use Rattle.pd_base.specs.Route.{Route}
@@ -9,10 +9,11 @@ use Rattle.pd_base.specs.declared.rules.Rules.{Rules}
 use Rattle.netlist.specs.Circuit.{Circuit}
 use Rattle.netlist.specs.Conditions.{Meets}
 use Rattle.netlist.specs.Lawful.{IsCircuit}
+use Rattle.netlist.specs.LinkedPairs.{FitRules, IsOfRules}
 use Rattle.netlist.specs.Paths.{IsPrefix, IsPrefixOf, prefix_of}
 use Rattle.runs.specs.declared.run.Proof.{Proof}
-use Rattle.tree_laws.specs.Refutations.{IsRefutation}
-use Rattle.tree_laws.proofs.Refuting.{refutation_excludes_path}
+use Rattle.trees.specs.Refutations.{IsRefutation}
+use Rattle.trees.proofs.Refuting.{refutation_excludes_path}
 use Rattle.good_runs.specs.Faults.{Applies}
 use Rattle.good_runs.specs.GoodRun.{IsGoodRefutation}
 use Rattle.good_runs.proofs.Numbers.{number_same}
@@ -41,8 +42,9 @@ module _ (c : Circuit) (rules : Rules) (budget : ℕ) (routes : List Route) (tar
         refutes = subst OfDirection about.of_direction (subst OfKind about.of_kind (subst OfPath same good.refutation));
       }
 
-  -- so no pair is a test of the target
-  pub applying_excludes : IsCircuit c → IsPrefix c target.path → (pair : Vectors) → ¬ Meets c target pair
-  applying_excludes circuit is_prefix =
-      refutation_excludes_path c circuit rules target.kind refutes_on_prefix.prefix target.path is_prefix refutes_on_prefix.is_prefix
+  -- so no pair of the rules is a test of the target
+  pub applying_excludes : IsCircuit c → FitRules c rules → IsPrefix c target.path → (pair : Vectors) → IsOfRules c rules pair
+      → ¬ Meets c target pair
+  applying_excludes circuit fit is_prefix =
+      refutation_excludes_path c circuit rules fit target.kind refutes_on_prefix.prefix target.path is_prefix refutes_on_prefix.is_prefix
       target.direction proof.tree refutes_on_prefix.refutes

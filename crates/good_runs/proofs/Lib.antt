@@ -2,7 +2,6 @@ pub mod Applying
 pub mod Completeness
 pub mod FirstOnce
 pub mod Growing
-pub mod LeastPairs
 pub mod Numbers
 pub mod PathsInOrder
 pub mod Promising

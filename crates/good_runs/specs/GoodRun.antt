@@ -13,15 +13,16 @@ use Rattle.netlist.specs.Paths.{IsPrefixOf, prefix_of, length_of}
 use Rattle.netlist.specs.Order.{AreFirst}
 use Rattle.netlist.specs.Greatest.{greatest}
 use Rattle.netlist.specs.Conditions.{Meets}
+use Rattle.netlist.specs.LinkedPairs.{IsOfRules}
 use Rattle.runs.specs.declared.run.ListedPath.{ListedPath}
 use Rattle.runs.specs.declared.run.Proof.{Proof}
 use Rattle.runs.specs.declared.run.Run.{Run}
 use Rattle.runs.specs.declared.run.Verdict.{Verdict}
 use Rattle.runs.specs.declared.run.Verdict.TheVariants.{Robust, Nonrobust, Untestable, Aborted}
-use Rattle.runs.specs.Trees.{split_count}
+use Rattle.trees.specs.Trees.{split_count}
 use Rattle.runs.specs.Verdicts.{verdicts_of, is_robust, is_nonrobust}
-use Rattle.tree_laws.specs.Refutations.{IsRefutation}
-use Rattle.tree_laws.specs.Spent.{IsSpent}
+use Rattle.trees.specs.Refutations.{IsRefutation}
+use Rattle.trees.specs.Spent.{IsSpent}
 use Rattle.good_runs.specs.Faults.{IsNumber, IsFault, NoneApplies, CitesRefutation, CitesSpent, HasProof, routes_of}
 
 -- whether the verdict has a test
@@ -105,4 +106,5 @@ pub record IsGoodRun (c : Circuit) (delays : Delays) (count budget : ℕ) (run :
   pub spent : All (λ proof. proof.spent ≡ true → IsGoodSpent c run.rules budget (routes_of run) proof) run.proofs
   pub verdicts : (number : ℕ) (listed : ListedPath) (direction : Direction) (verdict : Verdict)
       → IsFault run number listed direction verdict → IsVerdict c run number direction listed.path verdict
+  pub of_rules : All (λ test. IsOfRules c run.rules test.pair) run.tests
   pub expected : All (λ test. test.expected ≡ observed_values c test.pair.second) run.tests

@@ -7,13 +7,14 @@ use Rattle.netlist.specs.Circuit.{Circuit}
 use Rattle.netlist.specs.Paths.{prefix_of}
 use Rattle.runs.specs.declared.run.Proof.{Proof}
 use Rattle.runs.specs.declared.run.Run.{Run}
-use Rattle.runs.specs.declared.tree.Node.TheVariants.{Closed}
+use Rattle.trees.specs.declared.tree.Node.TheVariants.{Closed}
 use Rattle.state_laws.specs.Nodes.{ClosesAtNode}
+use Rattle.trees.specs.Algebras.{algebra_of}
 use Rattle.good_runs.specs.Faults.{IsNumber, routes_of}
 
 -- the conditions at the steps leave some line no state, with no case split
 abbrev pub ClosesAtStart : Circuit → Rules → Target → Type 0
-ClosesAtStart c rules target = ClosesAtNode c rules target []
+ClosesAtStart c rules target = ClosesAtNode (algebra_of rules) c rules target []
 
 -- the target of a proof, cut to so many steps of the listed path that it names
 abbrev pub target_within : Proof → Route → ℕ → Target

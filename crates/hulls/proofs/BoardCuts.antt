@@ -5,6 +5,7 @@ use Rattle.std.specs.List.{All}
 use Rattle.std.proofs.lemmas.Nat.{and_le_l}
 use Rattle.std.proofs.lemmas.List.{length-set, set-set, set-get_or, append-nil, take-append-drop}
 use Rattle.std.proofs.lemmas.List.Elements.{All-set, All-push, All-take, All-drop}
+use Rattle.pd_base.specs.Links.{LinkList}
 use Rattle.pd_base.specs.declared.ids.GateId.{GateId}
 use Rattle.netlist.specs.Circuit.{Circuit}
 use Rattle.state_sets.specs.declared.state.StateSet.{StateSet}
@@ -15,14 +16,15 @@ use Rattle.hulls.specs.Boards.{OnBoard, IsBoard}
 use Rattle.hulls.specs.Falling.{states_left, Falls}
 use Rattle.undo_trail.specs.Noted.{Noted}
 use Rattle.hulls.specs.Awaiting.{Awaited, IsMore}
-use Rattle.hulls.specs.Settling.{IsCutTo, AreWaiting}
+use Rattle.hulls.specs.Settling.{IsCutTo, AreWaiting, AreLinksWaiting}
 use Rattle.undo_trail.specs.Undoing.{undone}
 use Rattle.undo_trail.proofs.Undoing.{length-undone}
 use Rattle.hulls.proofs.Falling.{left_fewer, falls_more, falls_front, notes_fit, undone_within}
 
-module _ (count : ℕ) (labels : List StateSet) (notes : List (Note StateSet)) (awaited : Awaited) (room : ℕ) where
+module _ (count : ℕ) (labels : List StateSet) (notes : List (Note StateSet)) (awaited : Awaited)
+    (links : LinkList) (room : ℕ) where
   abbrev board : OnBoard
-  board = record { labels = labels; notes = notes; waiting = awaited.waiting; inside = awaited.inside }
+  board = record { labels = labels; notes = notes; waiting = awaited.waiting; inside = awaited.inside; links = links }
 
   module _ (is : IsBoard count board room) where
     module _ (line : ℕ) (inside : line < length labels) (to : StateSet) where
@@ -48,6 +50,7 @@ module _ (count : ℕ) (labels : List StateSet) (notes : List (Note StateSet)) (
           labels = sym uncut;
           within = is.within;
           inside = refl;
+          links = refl;
           follows = record { more = []; notes = sym (append-nil notes); back = refl };
           stays = λ gate waits. waits;
           moves = inl refl;
@@ -66,7 +69,7 @@ module _ (count : ℕ) (labels : List StateSet) (notes : List (Note StateSet)) (
 
         module _ (more : Awaited) (many : IsMore awaited more) where
           abbrev moved : OnBoard
-          moved = record { labels = cut; notes = notes ++ note ∷ []; waiting = more.waiting; inside = more.inside }
+          moved = record { labels = cut; notes = notes ++ note ∷ []; waiting = more.waiting; inside = more.inside; links = links }
 
           cut_within : All (λ (s : StateSet). s.0 < 2 ^ count) cut
           cut_within = All-set (λ (s : StateSet). s.0 < 2 ^ count) labels line left
@@ -85,14 +88,15 @@ module _ (count : ℕ) (labels : List StateSet) (notes : List (Note StateSet)) (
           }
 
           pub moved_to : (c : Circuit) (passed : Option GateId) → AreWaiting c awaited.inside passed line more.waiting
-              → IsCutTo count c passed line to board moved
-          moved_to c passed waits = record {
+              → AreLinksWaiting c links line more.waiting → IsCutTo count c passed line to board moved
+          moved_to c passed waits ties = record {
             labels = refl;
             within = cut_within;
             inside = many.inside;
+            links = refl;
             follows = record { more = note ∷ []; notes = refl; back = back };
             stays = many.stays;
-            moves = inr (record { fewer = less; waits = waits; few = many.few is.few });
+            moves = inr (record { fewer = less; waits = waits; ties = ties; few = many.few is.few });
           }
 
       -- the same, as the code has the sets and the notes
@@ -106,11 +110,11 @@ module _ (count : ℕ) (labels : List StateSet) (notes : List (Note StateSet)) (
         module _ (noted : Noted StateSet) (is_noted : noted ≡ record { notes = notes ++ (record { index = line; old = old }) ∷ []; room = room })
             (more : Awaited) (many : IsMore awaited more) (new_labels : List StateSet) (are_new : new_labels ≡ cut) where
           abbrev after : OnBoard
-          after = record { labels = new_labels; notes = noted.notes; waiting = more.waiting; inside = more.inside }
+          after = record { labels = new_labels; notes = noted.notes; waiting = more.waiting; inside = more.inside; links = links }
 
           is_moved : after ≡ moved away more many
           is_moved =
-              ap₂ (λ (ls : List StateSet) (ns : List (Note StateSet)). let b : OnBoard = record { labels = ls; notes = ns; waiting = more.waiting; inside = more.inside } in b)
+              ap₂ (λ (ls : List StateSet) (ns : List (Note StateSet)). let b : OnBoard = record { labels = ls; notes = ns; waiting = more.waiting; inside = more.inside; links = links } in b)
               are_new
               (ap (λ (n : Noted StateSet). n.notes) is_noted
               ∙ ap (λ (s : StateSet). notes ++ (record { index = line; old = s }) ∷ []) is_old)
@@ -120,17 +124,17 @@ module _ (count : ℕ) (labels : List StateSet) (notes : List (Note StateSet)) (
               (subst (IsBoard count (moved away more many)) (sym (ap (λ (n : Noted StateSet). n.room) is_noted)) (moved_is away more many))
 
           pub cut_to : (c : Circuit) (passed : Option GateId) → AreWaiting c awaited.inside passed line more.waiting
-              → IsCutTo count c passed line to board after
-          cut_to c passed waits = subst (IsCutTo count c passed line to board) (sym is_moved) (moved_to away more many c passed waits)
+              → AreLinksWaiting c links line more.waiting → IsCutTo count c passed line to board after
+          cut_to c passed waits ties = subst (IsCutTo count c passed line to board) (sym is_moved) (moved_to away more many c passed waits ties)
 
     -- the changes since a mark are undone
     pub undone_is : (mark : ℕ) (back : List StateSet) → back ≡ undone (drop mark notes) labels → (noted : Noted StateSet)
         → noted ≡ record { notes = take mark notes; room = room } → (rested : Awaited) → rested.waiting ≡ []
-        → IsBoard count (record { labels = back; notes = noted.notes; waiting = rested.waiting; inside = rested.inside }) noted.room
+        → IsBoard count (record { labels = back; notes = noted.notes; waiting = rested.waiting; inside = rested.inside; links = links }) noted.room
     undone_is mark back e noted f rested g =
         let undone_labels = undone (drop mark notes) labels in
-        subst (λ (l : List StateSet). IsBoard count (record { labels = l; notes = noted.notes; waiting = rested.waiting; inside = rested.inside }) noted.room) (sym e)
-        (subst (λ (n : Noted StateSet). IsBoard count (record { labels = undone (drop mark notes) labels; notes = n.notes; waiting = rested.waiting; inside = rested.inside }) n.room) (sym f)
+        subst (λ (l : List StateSet). IsBoard count (record { labels = l; notes = noted.notes; waiting = rested.waiting; inside = rested.inside; links = links }) noted.room) (sym e)
+        (subst (λ (n : Noted StateSet). IsBoard count (record { labels = undone (drop mark notes) labels; notes = n.notes; waiting = rested.waiting; inside = rested.inside; links = links }) n.room) (sym f)
         (record {
           within = undone_within count (drop mark notes) labels (All-drop (λ (n : Note StateSet). n.old.0 < 2 ^ count) mark notes is.olds) is.within;
           olds = All-take (λ (n : Note StateSet). n.old.0 < 2 ^ count) mark notes is.olds;

@@ -5,6 +5,7 @@ use Rattle.std.specs.List.{All, Contains}
 use Rattle.std.proofs.lemmas.Bool.{cases_eq}
 use Rattle.std.proofs.lemmas.List.{append-nil, append_assoc, length-set, get_or-set_other}
 use Rattle.std.proofs.lemmas.List.Elements.{Contains-get_or}
+use Rattle.pd_base.specs.Links.{LinkList}
 use Rattle.pd_base.specs.declared.ids.GateId.{GateId}
 use Rattle.pd_base.specs.declared.ids.LineId.{LineId}
 use Rattle.netlist.specs.Circuit.{Circuit, gate_count, pins_at}
@@ -16,8 +17,9 @@ use Rattle.state_sets.specs.Hulls.{HasNoEmptySet}
 use Rattle.hulls.specs.Sets.{set_at}
 use Rattle.hulls.proofs.Cuts.{pins_none, pins_more}
 use Rattle.hulls.specs.Awaiting.{is_inside}
-use Rattle.hulls.specs.Boards.{OnBoard, Follows}
+use Rattle.hulls.specs.Boards.{OnBoard, Follows, link_turn}
 use Rattle.hulls.specs.Settling.{IsMoved, IsCutTo, IsSameAt, Wakes, HasLess, IsShrunk, ArePinsCut}
+use Rattle.hulls.specs.Links.{link_lines}
 use Rattle.undo_trail.specs.Undoing.{undone}
 use Rattle.undo_trail.proofs.Undoing.{undone-append}
 
@@ -62,10 +64,14 @@ others_same lines labels line to not k d inside = ⊎_elim
 
 module _ (c : Circuit) (passed : Option GateId) where
   wakes_none : (board : OnBoard) → Wakes c passed board board
-  wakes_none board = record { stays = λ gate waits. waits; woken = λ gate within here away. inr (λ k d inside. refl) }
+  wakes_none board = record {
+    stays = λ gate waits. waits;
+    woken = λ gate within here away. inr (λ k d inside. refl);
+    tied = λ link inside. inr (λ k d at. refl);
+  }
 
-  pub wakes_on : (old mid new : OnBoard) → mid.inside ≡ old.inside → Wakes c passed old mid → Wakes c passed mid new → Wakes c passed old new
-  wakes_on old mid new same_inside before after = record {
+  pub wakes_on : (old mid new : OnBoard) → mid.inside ≡ old.inside → mid.links ≡ old.links → Wakes c passed old mid → Wakes c passed mid new → Wakes c passed old new
+  wakes_on old mid new same_inside same_links before after = record {
     stays = λ gate waits. after.stays gate (before.stays gate waits);
     woken = λ gate within here away. ⊎_elim
         (λ (waits : Contains mid.waiting (record { 0 = gate })). inl (after.stays (record { 0 = gate }) waits))
@@ -75,6 +81,17 @@ module _ (c : Circuit) (passed : Option GateId) where
         (λ (still : All (IsSameAt mid.labels new.labels) (gate_lines c gate)). inr (λ k d inside. still k d inside ∙ same k d inside))
         (after.woken gate within (ap (λ (flags : List Bool). is_inside flags gate) same_inside ∙ here) away))
         (before.woken gate within here away);
+    tied = λ link inside. ⊎_elim
+        (λ (waits : Contains mid.waiting (link_turn c link)). inl (after.stays (link_turn c link) waits))
+        (λ (same : All (IsSameAt old.labels mid.labels) (link_lines old.links link)).
+        ⊎_elim
+        (λ (waits : Contains new.waiting (link_turn c link)). inl waits)
+        (λ (still : All (IsSameAt mid.labels new.labels) (link_lines mid.links link)).
+        let here : All (IsSameAt mid.labels new.labels) (link_lines old.links link) =
+        subst (λ (ls : LinkList). All (IsSameAt mid.labels new.labels) (link_lines ls link)) same_links still in
+        inr (λ k d at. here k d at ∙ same k d at))
+        (after.tied link (subst (λ (ls : LinkList). link < length ls) (sym same_links) inside)))
+        (before.tied link inside);
   }
 
   module _ (count : ℕ) where
@@ -96,6 +113,7 @@ module _ (c : Circuit) (passed : Option GateId) where
       lines = refl;
       within = within;
       inside = refl;
+      links = refl;
       follows = follows_none board;
       wakes = wakes_none board;
       falls = inl refl;
@@ -107,8 +125,9 @@ module _ (c : Circuit) (passed : Option GateId) where
       lines = after.lines ∙ before.lines;
       within = after.within;
       inside = after.inside ∙ before.inside;
+      links = after.links ∙ before.links;
       follows = follows_on old mid new before.follows after.follows;
-      wakes = wakes_on old mid new before.inside before.wakes after.wakes;
+      wakes = wakes_on old mid new before.inside before.links before.wakes after.wakes;
       falls = falls_on old mid new before.falls after.falls;
     }
 
@@ -122,17 +141,32 @@ module _ (c : Circuit) (passed : Option GateId) where
           (others_same (gate_lines c gate) old.labels line (both_sets (label_at old.labels line) to) not)))
           (stands_or_not (gate_lines c gate) line)
 
+      moved_tied : IsMoved count c passed line old new → (link : ℕ) → link < length old.links
+          → Contains new.waiting (link_turn c link) ⊎ All (IsSameAt old.labels new.labels) (link_lines old.links link)
+      moved_tied moved link inside = ⊎_elim
+          (λ (among : Contains (link_lines old.links link) (record { 0 = line })). inl (moved.ties link inside among))
+          (λ (not : ¬ Contains (link_lines old.links link) (record { 0 = line })).
+          inr (subst (λ (l : List StateSet). All (IsSameAt old.labels l) (link_lines old.links link)) (sym cut.labels)
+          (others_same (link_lines old.links link) old.labels line (both_sets (label_at old.labels line) to) not)))
+          (stands_or_not (link_lines old.links link) line)
+
       pub cut_shrunk : IsShrunk count c passed old new
       cut_shrunk = record {
         lines = ap length cut.labels ∙ length-set old.labels line (both_sets (label_at old.labels line) to);
         within = cut.within;
         inside = cut.inside;
+        links = cut.links;
         follows = cut.follows;
         wakes = record {
           stays = cut.stays;
           woken = λ gate within here away. ⊎_elim
               (λ (same : new ≡ old). inr (λ k d inside. ap (λ (b : OnBoard). label_at b.labels (get_or (gate_lines c gate) k d).0) same))
               (λ (moved : IsMoved count c passed line old new). moved_woken moved gate within here away)
+              cut.moves;
+          tied = λ link inside. ⊎_elim
+              (λ (same : new ≡ old).
+              inr (λ k d at. ap (λ (b : OnBoard). label_at b.labels (get_or (link_lines old.links link) k d).0) same))
+              (λ (moved : IsMoved count c passed line old new). moved_tied moved link inside)
               cut.moves;
         };
         falls = ⊎_elim (λ (same : new ≡ old). inl same)

@@ -1,5 +1,5 @@
 -- A step more: only its gate is narrowed otherwise than before.
-use Rattle.std.proofs.Common.{◌≡◌, ◌≢◌, ℕ, inl, inr, ⊎_elim, Bool, true, List, [], ◌∷◌, ◌++◌, Option, Some, None, if◌then◌else◌, ◌==◌, sym, ap, ◌∙◌, subst}
+use Rattle.std.proofs.Common.{◌≡◌, ◌≢◌, ℕ, ◌<◌, length, inl, inr, ⊎_elim, Bool, true, List, [], ◌∷◌, ◌++◌, Option, Some, None, if◌then◌else◌, ◌==◌, sym, ap, ◌∙◌, subst}
 use Rattle.std.specs.List.{Contains}
 use Rattle.std.proofs.lemmas.Bool.{cases_eq, ne_eqb}
 use Rattle.pd_base.specs.declared.ids.GateId.{GateId}
@@ -12,8 +12,8 @@ use Rattle.state_sets.specs.StateAlgebra.{StateAlgebra}
 use Rattle.state_sets.specs.Narrowing.{IsNarrowing}
 use Rattle.state_sets.specs.Hulls.{condition_at}
 use Rattle.hulls.specs.Awaiting.{is_inside}
-use Rattle.hulls.specs.Boards.{OnBoard}
-use Rattle.hulls.specs.Settling.{RestsAt, IsAwake}
+use Rattle.hulls.specs.Boards.{OnBoard, link_turn}
+use Rattle.hulls.specs.Settling.{RestsAt, RestsAlong, IsAwake}
 
 -- what a step leaves of the conditions of the steps behind it
 abbrev behind_step : Kind → PinRef → Bool → Option Condition → Option Condition
@@ -31,16 +31,23 @@ pub awake_entered : (a : StateAlgebra) (c : Circuit) (kind : Kind) (steps : List
     → new ≡ record old { waiting = new.waiting } → ((gate : GateId) → Contains old.waiting gate → Contains new.waiting gate)
     → (is_inside old.inside step.gate.0 ≡ true → Contains new.waiting step.gate)
     → IsAwake a c kind steps old → IsAwake a c kind (steps ++ step ∷ []) new
-awake_entered a c kind steps step old new same stays waits awake gate within here_new =
-    let inside : is_inside old.inside gate ≡ true = ap (λ (b : OnBoard). is_inside b.inside gate) (sym same) ∙ here_new in
-    ⊎_elim
-    (λ (here : gate ≡ step.gate.0).
-    inl (subst (λ (n : ℕ). Contains new.waiting (record { 0 = n })) (sym here)
-    (waits (subst (λ (n : ℕ). is_inside old.inside n ≡ true) here inside))))
-    (λ (away : gate ≢ step.gate.0). ⊎_elim
-    (λ (queued : Contains old.waiting (record { 0 = gate })). inl (stays (record { 0 = gate }) queued))
-    (λ (rests : RestsAt a c kind steps old.labels gate).
-    inr (subst (λ (l : List StateSet). RestsAt a c kind (steps ++ step ∷ []) l gate) (sym (ap (λ (b : OnBoard). b.labels) same))
-    (subst (λ o. IsNarrowing a c gate o old.labels old.labels) (sym (condition_elsewhere kind steps step gate away)) rests)))
-    (awake gate within inside))
-    (cases_eq gate step.gate.0)
+awake_entered a c kind steps step old new same stays waits awake = record {
+  gates = λ gate within here_new.
+      let inside : is_inside old.inside gate ≡ true = ap (λ (b : OnBoard). is_inside b.inside gate) (sym same) ∙ here_new in
+      ⊎_elim
+      (λ (here : gate ≡ step.gate.0).
+      inl (subst (λ (n : ℕ). Contains new.waiting (record { 0 = n })) (sym here)
+      (waits (subst (λ (n : ℕ). is_inside old.inside n ≡ true) here inside))))
+      (λ (away : gate ≢ step.gate.0). ⊎_elim
+      (λ (queued : Contains old.waiting (record { 0 = gate })). inl (stays (record { 0 = gate }) queued))
+      (λ (rests : RestsAt a c kind steps old.labels gate).
+      inr (subst (λ (l : List StateSet). RestsAt a c kind (steps ++ step ∷ []) l gate) (sym (ap (λ (b : OnBoard). b.labels) same))
+      (subst (λ o. IsNarrowing a c gate o old.labels old.labels) (sym (condition_elsewhere kind steps step gate away)) rests)))
+      (awake.gates gate within inside))
+      (cases_eq gate step.gate.0);
+  ties = λ link inside. ⊎_elim
+      (λ (queued : Contains old.waiting (link_turn c link)). inl (stays (link_turn c link) queued))
+      (λ (rests : RestsAlong a old.links old.labels link).
+      inr (subst (λ (b : OnBoard). RestsAlong a b.links b.labels link) (sym same) rests))
+      (awake.ties link (subst (λ (b : OnBoard). link < length b.links) same inside));
+}

@@ -1,4 +1,5 @@
 pub mod BoardCuts
+pub mod Chains
 pub mod Changing
 pub mod Cuts
 pub mod Differing
@@ -15,5 +16,6 @@ pub mod Prefixes
 pub mod Readers
 pub mod Sets
 pub mod Suffixes
+pub mod Tied
 pub mod Ties
 pub mod Whole

@@ -1,13 +1,14 @@
 -- What narrowing at a gate, cut by cut, keeps, and which gates wait or rest then.
-use Rattle.std.proofs.Common.{◌≡◌, ◌≢◌, ℕ, zero, suc, ◌+◌, ◌*◌, ◌<◌, ◌≤◌, ◌⊎◌, inl, inr, ⊎_elim, Bool, true, false, List, [], ◌∷◌, ◌++◌, length, replicate, Some, Option, None, refl, sym, ap, ap₂, ◌∙◌, subst, arith}
+use Rattle.std.proofs.Common.{◌≡◌, ◌≢◌, ℕ, zero, suc, ◌+◌, ◌*◌, ◌<◌, ◌≤◌, ◌⊎◌, inl, inr, ⊎_elim, Bool, true, false, List, [], ◌∷◌, ◌++◌, length, replicate, Some, Option, None, refl, sym, ap, ap₂, ◌∙◌, subst, arith, lit<}
 use Rattle.std.proofs.Math.Nat.{mul-le-mul_right}
 use Rattle.std.specs.List.{All, Contains}
 use Rattle.std.specs.Option.{IfSome}
 use Rattle.std.proofs.lemmas.Bool.{cases_eq, eqb-true, eq-eqb, false≢true}
 use Rattle.std.proofs.Math.Dec.{eqb}
-use Rattle.std.proofs.lemmas.List.{length-replicate}
-use Rattle.std.proofs.lemmas.List.Elements.{All-pop}
+use Rattle.std.proofs.lemmas.List.{length-replicate, get_or_default}
+use Rattle.std.proofs.lemmas.List.Elements.{All-pop, Contains-get_or}
 use Rattle.std.proofs.lemmas.Option.{same_Some}
+use Rattle.pd_base.specs.Links.{LinkList, IsLink}
 use Rattle.pd_base.specs.declared.ids.GateId.{GateId}
 use Rattle.pd_base.specs.declared.ids.LineId.{LineId}
 use Rattle.pd_base.specs.declared.ids.PinRef.{PinRef}
@@ -15,12 +16,13 @@ use Rattle.pd_base.specs.declared.fault.Kind.{Kind}
 use Rattle.netlist.specs.Circuit.{Circuit, gate_count, line_count, gate_line, kind_at, pins_at}
 use Rattle.netlist.specs.Lawful.{IsCircuit, ReadsGate, ReadsOn}
 use Rattle.netlist.proofs.Evaluation.{map_agree, all_at_place}
+use Rattle.state_sets.specs.declared.state.State.{State}
 use Rattle.state_sets.specs.declared.state.StateSet.{StateSet}
 use Rattle.state_sets.specs.declared.condition.Condition.{Condition}
 use Rattle.state_sets.specs.States.{Has, AreWithin, no_states}
 use Rattle.state_sets.specs.StateAlgebra.{StateAlgebra}
 use Rattle.state_sets.specs.Labellings.{label_at}
-use Rattle.state_sets.specs.Narrowing.{GateSets, IsNarrowing, GivesAtGate, GivesAtPin, gate_sets, gate_lines}
+use Rattle.state_sets.specs.Narrowing.{GateSets, IsNarrowing, IsLinkNarrowing, IsKeptByLink, GivesAtGate, GivesAtPin, gate_sets, gate_lines}
 use Rattle.state_sets.specs.Hulls.{condition_at, IsAtRest}
 use Rattle.state_sets.specs.Hulls.Narrowing.{at_gate, along_link}
 use Rattle.state_laws.proofs.Narrowing.{kept_of_larger}
@@ -31,9 +33,10 @@ use Rattle.state_laws.proofs.Sweeps.{keeps_one, keeps_on}
 use Rattle.hulls.specs.Sets.{Means, set_at}
 use Rattle.hulls.proofs.Whole.{gate_narrowed}
 use Rattle.hulls.specs.Awaiting.{is_inside}
-use Rattle.hulls.specs.Boards.{OnBoard}
+use Rattle.hulls.specs.Boards.{OnBoard, link_turn}
 use Rattle.hulls.specs.Falling.{states_left}
-use Rattle.hulls.specs.Settling.{AllDiffer, IsPassed, IsSameAt, Wakes, HasLess, IsShrunk, ArePinsCut, AreAllPinsCut, IsPinEmptied, IsCutTo, RestsAt, IsAwake, IsAwakeBut, IsNarrowed, IsTurn, IsConflict}
+use Rattle.hulls.specs.Settling.{RestsAlong, AllDiffer, IsPassed, IsSameAt, Wakes, HasLess, IsShrunk, ArePinsCut, AreAllPinsCut, IsPinEmptied, IsCutTo, RestsAt, IsAwake, IsAwakeBut, IsNarrowed, IsTurn, IsConflict}
+use Rattle.hulls.specs.Links.{link_at, link_lines}
 use Rattle.hulls.proofs.Changing.{cut_shrunk, shrunk_on, some_left, follows_on}
 use Rattle.hulls.proofs.Flags.{behind}
 
@@ -120,11 +123,68 @@ not_passed : (passed : Option GateId) (but : ℕ) → IfSome passed (λ other. o
 not_passed None but is gate away same = absurd cc
 not_passed (Some other) but is gate away same = away (sym (ap (λ (g : GateId). g.0) (same_Some other (record { 0 = gate }) same)) ∙ is)
 
+module _ (a : StateAlgebra) (links : LinkList) (link : ℕ) (old new : List StateSet) (same : All (IsSameAt old new) (link_lines links link)) where
+  abbrev source : ℕ
+  source = (link_at links link).0.0
+
+  abbrev line : ℕ
+  line = (link_at links link).1.0
+
+  source_same : label_at new source ≡ label_at old source
+  source_same = same 0 (link_at links link).0 (lit< tt)
+
+  line_same : label_at new line ≡ label_at old line
+  line_same = same 1 (link_at links link).0 (lit< tt)
+
+  -- what a narrowing along a link keeps of old labels it keeps of new ones, where its two lines have the same sets
+  kept_same : (at : ℕ) (state : State) → Has a.count (label_at new at) state → IsKeptByLink a source line old at state
+      → IsKeptByLink a source line new at state
+  kept_same at state had kept = record {
+    had = had;
+    at_source = λ here. let other = kept.at_source here in
+        (other.0, subst (λ (s : StateSet). Has a.count s other.0) (sym line_same) other.1, other.2);
+    at_line = λ here. let other = kept.at_line here in
+        (other.0, subst (λ (s : StateSet). Has a.count s other.0) (sym source_same) other.1, other.2);
+  }
+
+  -- a narrowing along a link that left its lines as they were rests at what it left
+  pub link_rests_after : IsLinkNarrowing a source line old new → IsLinkNarrowing a source line new new
+  link_rests_after narrowed = record {
+    lines = refl;
+    exactly = λ at state. ((λ has. kept_same at state has ((narrowed.exactly at state).0 has)), λ kept. kept.had);
+  }
+
+  -- and one that rests where they have the same sets rests at both
+  pub link_rests_same : IsLinkNarrowing a source line old old → IsLinkNarrowing a source line new new
+  link_rests_same rests = record {
+    lines = refl;
+    exactly = λ at state. (
+      (λ has. record {
+        had = has;
+        at_source = λ here.
+            let e : label_at new at ≡ label_at old at = ap (label_at new) here ∙ source_same ∙ ap (label_at old) (sym here) in
+            let other = ((rests.exactly at state).0 (subst (λ (s : StateSet). Has a.count s state) e has)).at_source here in
+            (other.0, subst (λ (s : StateSet). Has a.count s other.0) (sym line_same) other.1, other.2);
+        at_line = λ here.
+            let e : label_at new at ≡ label_at old at = ap (label_at new) here ∙ line_same ∙ ap (label_at old) (sym here) in
+            let other = ((rests.exactly at state).0 (subst (λ (s : StateSet). Has a.count s state) e has)).at_line here in
+            (other.0, subst (λ (s : StateSet). Has a.count s other.0) (sym source_same) other.1, other.2);
+      }),
+      λ kept. kept.had,
+    );
+  }
+
+-- a link stands at its place
+pub link_stands : (links : LinkList) (link : ℕ) → link < length links → IsLink links (link_at links link).0.0 (link_at links link).1.0
+link_stands links link inside = Contains-get_or links link (record { 0 = 0 }, record { 0 = 0 }) inside
+
 module _ (a : StateAlgebra) (c : Circuit) (kind : Kind) (steps : List PinRef) where
   -- gates that rested wait or rest
-  pub awake_on : (but : ℕ) (passed : Option GateId) → IfSome passed (λ other. other.0 ≡ but) → (old new : OnBoard) → new.inside ≡ old.inside
-      → Wakes c passed old new → IsAwakeBut a c kind steps but old → IsAwakeBut a c kind steps but new
-  awake_on but passed is_but old new same_inside wakes awake gate within here_new away =
+  gates_on : (but : ℕ) (passed : Option GateId) → IfSome passed (λ other. other.0 ≡ but) → (old new : OnBoard) → new.inside ≡ old.inside
+      → Wakes c passed old new → IsAwakeBut a c kind steps but old
+      → (gate : ℕ) → gate < gate_count c → is_inside new.inside gate ≡ true → gate ≢ but
+      → Contains new.waiting (record { 0 = gate }) ⊎ RestsAt a c kind steps new.labels gate
+  gates_on but passed is_but old new same_inside wakes awake gate within here_new away =
       let here : is_inside old.inside gate ≡ true = ap (λ (flags : List Bool). is_inside flags gate) (sym same_inside) ∙ here_new in
       ⊎_elim
       (λ (waits : Contains new.waiting (record { 0 = gate })). inl waits)
@@ -133,8 +193,31 @@ module _ (a : StateAlgebra) (c : Circuit) (kind : Kind) (steps : List PinRef) wh
       (λ (waits : Contains old.waiting (record { 0 = gate })). inl (wakes.stays (record { 0 = gate }) waits))
       (λ (rests : RestsAt a c kind steps old.labels gate).
       inr (same_rests a c gate (condition_at kind steps gate) old.labels new.labels same rests))
-      (awake gate within here away))
+      (awake.gates gate within here away))
       (wakes.woken gate within here (not_passed passed but is_but gate away))
+
+  -- and so do links
+  ties_on : (but : ℕ) (passed : Option GateId) (old new : OnBoard) → new.links ≡ old.links → Wakes c passed old new
+      → IsAwakeBut a c kind steps but old → (link : ℕ) → link < length old.links → (link_turn c link).0 ≢ but
+      → Contains new.waiting (link_turn c link) ⊎ RestsAlong a new.links new.labels link
+  ties_on but passed old new same_links wakes awake link inside away = ⊎_elim
+      (λ (waits : Contains new.waiting (link_turn c link)). inl waits)
+      (λ (same : All (IsSameAt old.labels new.labels) (link_lines old.links link)).
+      ⊎_elim
+      (λ (waits : Contains old.waiting (link_turn c link)). inl (wakes.stays (link_turn c link) waits))
+      (λ (rests : RestsAlong a old.links old.labels link).
+      inr (subst (λ (ls : LinkList). RestsAlong a ls new.labels link) (sym same_links)
+      (link_rests_same a old.links link old.labels new.labels same rests)))
+      (awake.ties link inside away))
+      (wakes.tied link inside)
+
+  pub awake_on : (but : ℕ) (passed : Option GateId) → IfSome passed (λ other. other.0 ≡ but) → (old new : OnBoard) → new.inside ≡ old.inside
+      → new.links ≡ old.links → Wakes c passed old new → IsAwakeBut a c kind steps but old → IsAwakeBut a c kind steps but new
+  awake_on but passed is_but old new same_inside same_links wakes awake = record {
+    gates = gates_on but passed is_but old new same_inside wakes awake;
+    ties = λ link inside away. ties_on but passed old new same_links wakes awake link
+        (subst (λ (ls : LinkList). link < length ls) same_links inside) away;
+  }
 
   module _ (circuit : IsCircuit c) (gate : ℕ) (within : gate < gate_count c) (kept : List StateSet) (given : StateSet) (old : OnBoard)
       (here : is_inside old.inside gate ≡ true) (passed : Option GateId) (is_passed : IsPassed c gate passed)
@@ -144,7 +227,7 @@ module _ (a : StateAlgebra) (c : Circuit) (kind : Kind) (steps : List PinRef) wh
       (at_gate_set : Means a.count given (GivesAtGate a (gate_sets c gate old.labels) (condition_at kind steps gate))) where
     -- cuts at some pins lose no labels at rest
     pins_keep : (pins : ℕ) → pins ≤ length (pins_at c gate) → (new : OnBoard) → ArePinsCut a.count c passed gate kept pins old new
-        → KeepsRests a c (IsNarrowingIn c (is_inside old.inside) kind steps) old.labels new.labels
+        → KeepsRests a c (IsNarrowingIn c (is_inside old.inside) old.links kind steps) old.labels new.labels
     pins_keep pins few new cut = record {
       labelling = record { one_each = cut.shrunk.lines ∙ lines; within = cut.shrunk.within };
       inside = λ line state has. ((cut.labels line state).0 has).0;
@@ -159,6 +242,7 @@ module _ (a : StateAlgebra) (c : Circuit) (kind : Kind) (steps : List PinRef) wh
       narrowed = record {
         keeps = pins_keep empty.pins empty.few new empty.cut;
         inside = empty.cut.shrunk.inside;
+        links = empty.cut.shrunk.links;
         follows = empty.cut.shrunk.follows;
       };
       in_circuit = empty.in_circuit;
@@ -180,9 +264,10 @@ module _ (a : StateAlgebra) (c : Circuit) (kind : Kind) (steps : List PinRef) wh
 
       narrowed : IsNarrowed a c kind steps old new
       narrowed = record {
-        keeps = keeps_one a c (IsNarrowingIn c (is_inside old.inside) kind steps) (at_gate gate (condition_at kind steps gate)) (within, here, refl) old.labels new.labels
+        keeps = keeps_one a c (IsNarrowingIn c (is_inside old.inside) old.links kind steps) (at_gate gate (condition_at kind steps gate)) (within, here, refl) old.labels new.labels
             (record { one_each = lines; within = sets }) is_narrowing shrunk.within;
         inside = shrunk.inside;
+        links = shrunk.links;
         follows = shrunk.follows;
       }
 
@@ -195,15 +280,20 @@ module _ (a : StateAlgebra) (c : Circuit) (kind : Kind) (steps : List PinRef) wh
           (λ away. shrunk.wakes.woken gate within here away)
 
       pub turn_done : IsAwakeBut a c kind steps gate old → label_at new.labels (gate_line c gate) ≢ no_states → IsTurn a c kind steps old new
-      turn_done awake left = record {
-        narrowed = narrowed;
-        awake = λ other inside here_new. ⊎_elim
-            (λ (same : other ≡ gate). subst (λ (n : ℕ). Contains new.waiting (record { 0 = n }) ⊎ RestsAt a c kind steps new.labels n) (sym same) awake_here)
-            (λ (away : other ≢ gate). awake_on gate passed (passed_is c gate passed is_passed) old new shrunk.inside shrunk.wakes awake other inside here_new away)
-            (cases_eq other gate);
-        some = some_left c passed a.count (gate_line c gate) given mid new own pins.some left;
-        falls = shrunk.falls;
-      }
+      turn_done awake left =
+          let awake_but = awake_on gate passed (passed_is c gate passed is_passed) old new shrunk.inside shrunk.links shrunk.wakes awake in
+          record {
+            narrowed = narrowed;
+            awake = record {
+              gates = λ other inside here_new. ⊎_elim
+                  (λ (same : other ≡ gate). subst (λ (n : ℕ). Contains new.waiting (record { 0 = n }) ⊎ RestsAt a c kind steps new.labels n) (sym same) awake_here)
+                  (λ (away : other ≢ gate). awake_but.gates other inside here_new away)
+                  (cases_eq other gate);
+              ties = λ link inside. awake_but.ties link inside (λ same. absurd (omega (arith, same)));
+            };
+            some = some_left c passed a.count (gate_line c gate) given mid new own pins.some left;
+            falls = shrunk.falls;
+          }
 
 -- what falls while a board settles: the states of all lines, and then the gates that wait
 abbrev pub work_left : ℕ → OnBoard → ℕ
@@ -235,26 +325,40 @@ module _ (a : StateAlgebra) (c : Circuit) (kind : Kind) (steps : List PinRef) wh
   -- the gate that is taken is the only one that neither waits nor rests
   pub awake_taken : (old mid : OnBoard) (gate : GateId) → old.waiting ≡ gate ∷ mid.waiting → mid ≡ record old { waiting = mid.waiting }
       → IsAwake a c kind steps old → IsAwakeBut a c kind steps gate.0 mid
-  awake_taken old mid gate first same awake other within here away = ⊎_elim
-      (λ (waits : Contains old.waiting (record { 0 = other })).
-      let stands : Contains (gate ∷ mid.waiting) (record { 0 = other }) =
-      subst (λ (gs : List GateId). Contains gs (record { 0 = other })) first waits in
-      inl (behind gate mid.waiting (record { 0 = other }) (λ is. away (sym (ap (λ (g : GateId). g.0) is))) stands.0 stands.1 stands.2))
-      (λ (rests : RestsAt a c kind steps old.labels other).
-      inr (subst (λ (l : List StateSet). RestsAt a c kind steps l other) (sym (ap (λ (b : OnBoard). b.labels) same)) rests))
-      (awake other within (ap (λ (b : OnBoard). is_inside b.inside other) (sym same) ∙ here))
+  awake_taken old mid gate first same awake = record {
+    gates = λ other within here away. ⊎_elim
+        (λ (waits : Contains old.waiting (record { 0 = other })). inl (still_waits (record { 0 = other }) away waits))
+        (λ (rests : RestsAt a c kind steps old.labels other).
+        inr (subst (λ (l : List StateSet). RestsAt a c kind steps l other) (sym (ap (λ (b : OnBoard). b.labels) same)) rests))
+        (awake.gates other within (ap (λ (b : OnBoard). is_inside b.inside other) (sym same) ∙ here));
+    ties = λ link inside away. ⊎_elim
+        (λ (waits : Contains old.waiting (link_turn c link)). inl (still_waits (link_turn c link) away waits))
+        (λ (rests : RestsAlong a old.links old.labels link).
+        inr (subst (λ (ls : LinkList). RestsAlong a ls mid.labels link) (sym (ap (λ (b : OnBoard). b.links) same))
+        (subst (λ (l : List StateSet). RestsAlong a old.links l link) (sym (ap (λ (b : OnBoard). b.labels) same)) rests)))
+        (awake.ties link (subst (λ (ls : LinkList). link < length ls) (ap (λ (b : OnBoard). b.links) same) inside));
+  }
+    where
+      still_waits : (other : GateId) → other.0 ≢ gate.0 → Contains old.waiting other → Contains mid.waiting other
+      still_waits other away waits =
+          let stands : Contains (gate ∷ mid.waiting) other = subst (λ (gs : List GateId). Contains gs other) first waits in
+          behind gate mid.waiting other (λ is. away (sym (ap (λ (g : GateId). g.0) is))) stands.0 stands.1 stands.2
 
   pub narrowed_on : (old mid next new : OnBoard) → IsNarrowed a c kind steps old mid → next ≡ record mid { waiting = next.waiting }
       → IsNarrowed a c kind steps next new → IsNarrowed a c kind steps old new
   narrowed_on old mid next new before same after =
       let same_inside : next.inside ≡ old.inside = ap (λ (b : OnBoard). b.inside) same ∙ before.inside in
+      let same_links : next.links ≡ old.links = ap (λ (b : OnBoard). b.links) same ∙ before.links in
       record {
-        keeps = keeps_on a c (IsNarrowingIn c (is_inside old.inside) kind steps) old.labels mid.labels new.labels before.keeps
-            (subst (λ (l : List StateSet). KeepsRests a c (IsNarrowingIn c (is_inside old.inside) kind steps) l new.labels)
+        keeps = keeps_on a c (IsNarrowingIn c (is_inside old.inside) old.links kind steps) old.labels mid.labels new.labels before.keeps
+            (subst (λ (l : List StateSet). KeepsRests a c (IsNarrowingIn c (is_inside old.inside) old.links kind steps) l new.labels)
             (ap (λ (b : OnBoard). b.labels) same)
-            (subst (λ (flags : List Bool). KeepsRests a c (IsNarrowingIn c (is_inside flags) kind steps) next.labels new.labels)
-            same_inside after.keeps));
+            (subst (λ (ls : LinkList). KeepsRests a c (IsNarrowingIn c (is_inside old.inside) ls kind steps) next.labels new.labels)
+            same_links
+            (subst (λ (flags : List Bool). KeepsRests a c (IsNarrowingIn c (is_inside flags) next.links kind steps) next.labels new.labels)
+            same_inside after.keeps)));
         inside = after.inside ∙ same_inside;
+        links = after.links ∙ same_links;
         follows = follows_on old mid new before.follows (record {
           more = after.follows.more;
           notes = after.follows.notes ∙ ap (λ (b : OnBoard). b.notes ++ after.follows.more) same;
@@ -262,22 +366,32 @@ module _ (a : StateAlgebra) (c : Circuit) (kind : Kind) (steps : List PinRef) wh
         });
       }
 
-  -- no gate waits, so all gates inside rest
+  -- nothing waits, so all gates inside and all links rest
   pub rests_all : (board : OnBoard) → board.waiting ≡ [] → IsAwake a c kind steps board
-      → IsAtRest a c (IsNarrowingIn c (is_inside board.inside) kind steps) board.labels
-  rests_all board none awake (along_link source line) is_one = absurd is_one
+      → IsAtRest a c (IsNarrowingIn c (is_inside board.inside) board.links kind steps) board.labels
+  rests_all board none awake (along_link source line) is_one =
+      let at : link_at board.links is_one.0 ≡ (record { 0 = source }, record { 0 = line }) =
+      get_or_default board.links is_one.0 _ _ is_one.1 ∙ is_one.2 in
+      ⊎_elim
+      (λ (waits : Contains board.waiting (link_turn c is_one.0)).
+      absurd (let w = waits.1 in let e = ap length none in omega arith))
+      (λ (rests : RestsAlong a board.links board.labels is_one.0).
+      subst (λ (l : LineId × LineId). IsLinkNarrowing a l.0.0 l.1.0 board.labels board.labels) at rests)
+      (awake.ties is_one.0 is_one.1)
   rests_all board none awake (at_gate gate condition) is_one = ⊎_elim
       (λ (waits : Contains board.waiting (record { 0 = gate })).
       absurd (let w = waits.1 in let e = ap length none in omega arith))
       (λ (rests : RestsAt a c kind steps board.labels gate).
       subst (λ o. IsNarrowing a c gate o board.labels board.labels) (sym is_one.2) rests)
-      (awake gate is_one.0 is_one.1)
+      (awake.gates gate is_one.0 is_one.1)
 
-  -- the same, told with the flags of the board that it came from
-  pub rests_inside : (inside : List Bool) (board : OnBoard) → board.inside ≡ inside → board.waiting ≡ [] → IsAwake a c kind steps board
-      → IsAtRest a c (IsNarrowingIn c (is_inside inside) kind steps) board.labels
-  rests_inside inside board same none awake =
-      subst (λ (flags : List Bool). IsAtRest a c (IsNarrowingIn c (is_inside flags) kind steps) board.labels) same (rests_all board none awake)
+  -- the same, told with the flags and links of the board that it came from
+  pub rests_inside : (from board : OnBoard) → board.inside ≡ from.inside → board.links ≡ from.links → board.waiting ≡ []
+      → IsAwake a c kind steps board → IsAtRest a c (IsNarrowingIn c (is_inside from.inside) from.links kind steps) board.labels
+  rests_inside from board same same_links none awake =
+      subst (λ (ls : LinkList). IsAtRest a c (IsNarrowingIn c (is_inside from.inside) ls kind steps) board.labels) same_links
+      (subst (λ (flags : List Bool). IsAtRest a c (IsNarrowingIn c (is_inside flags) board.links kind steps) board.labels) same
+      (rests_all board none awake))
 
 -- what a comparison with the empty set tells of a label
 pub is_none : (r : Bool) (left label : StateSet) → r ≡ eqb left.0 0 → r ≡ true → left ≡ label → label ≡ no_states
@@ -305,14 +419,19 @@ module _ (a : StateAlgebra) (c : Circuit) (gate : ℕ) (seen labels : List State
       (subst (λ (o : Option Condition). Means a.count given (GivesAtGate a (gate_sets c gate seen) o)) is at_gate_set)
 
 module _ (a : StateAlgebra) (c : Circuit) (kind : Kind) (steps : List PinRef) where
-  -- labels at rest, and then cuts: each gate inside waits or rests
-  pub awake_of_rest : (old new : OnBoard) → new.inside ≡ old.inside → Wakes c None old new
-      → IsAtRest a c (IsNarrowingIn c (is_inside old.inside) kind steps) old.labels → IsAwake a c kind steps new
-  awake_of_rest old new same_inside wakes rest gate within here_new =
-      let here : is_inside old.inside gate ≡ true = ap (λ (flags : List Bool). is_inside flags gate) (sym same_inside) ∙ here_new in
-      ⊎_elim
-      (λ (waits : Contains new.waiting (record { 0 = gate })). inl waits)
-      (λ (same : All (IsSameAt old.labels new.labels) (gate_lines c gate)).
-      inr (same_rests a c gate (condition_at kind steps gate) old.labels new.labels same
-      (rest (at_gate gate (condition_at kind steps gate)) (within, here, refl))))
-      (wakes.woken gate within here (λ none. absurd cc))
+  -- labels at rest, and then cuts: each gate inside and each link waits or rests
+  pub awake_of_rest : (old new : OnBoard) → new.inside ≡ old.inside → new.links ≡ old.links → Wakes c None old new
+      → IsAtRest a c (IsNarrowingIn c (is_inside old.inside) old.links kind steps) old.labels → IsAwake a c kind steps new
+  awake_of_rest old new same_inside same_links wakes rest =
+      let awake_old : IsAwakeBut a c kind steps (gate_count c + length old.links) old = record {
+        gates = λ gate within here away. inr (rest (at_gate gate (condition_at kind steps gate)) (within, here, refl));
+        ties = λ link inside away.
+            inr (rest (along_link (link_at old.links link).0.0 (link_at old.links link).1.0) (link_stands old.links link inside));
+      } in
+      let awake_new = awake_on a c kind steps (gate_count c + length old.links) None tt old new same_inside same_links wakes awake_old in
+      record {
+        gates = λ gate within here. awake_new.gates gate within here (λ same. absurd (omega arith));
+        ties = λ link inside.
+            let within : link < length old.links = subst (λ (ls : LinkList). link < length ls) same_links inside in
+            awake_new.ties link inside (λ same. absurd (omega (arith, same, within)));
+      }

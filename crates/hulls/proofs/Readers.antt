@@ -1,15 +1,17 @@
 -- Letting gates wait, one more and at the end all that have the line among theirs.
-use Rattle.std.proofs.Common.{◌≡◌, ◌≢◌, ℕ, ◌<◌, ⊎_elim, Bool, true, List, Option, Some, refl, ap, ◌∙◌, subst, arith}
+use Rattle.std.proofs.Common.{◌≡◌, ◌≢◌, ℕ, ◌<◌, ◌+◌, length, sym, ⊎_elim, Bool, true, List, Option, Some, refl, ap, ◌∙◌, subst, arith}
 use Rattle.std.specs.List.{All, Contains}
 use Rattle.std.proofs.lemmas.List.Elements.{All-contains, Contains-push_cases}
 use Rattle.std.proofs.lemmas.Option.{slice_get-get_or}
+use Rattle.pd_base.specs.Links.{LinkList}
 use Rattle.pd_base.specs.declared.ids.GateId.{GateId}
 use Rattle.pd_base.specs.declared.ids.LineId.{LineId}
 use Rattle.pd_base.specs.declared.ids.PinRef.{PinRef}
 use Rattle.netlist.specs.Circuit.{Circuit, source_count, gate_count, gate_line, pins_at}
 use Rattle.netlist.specs.Pins.{IsFanout}
 use Rattle.hulls.specs.Awaiting.{Awaited, IsMore, is_inside}
-use Rattle.hulls.specs.Settling.{AreWaiting}
+use Rattle.hulls.specs.Settling.{AreWaiting, AreLinksWaiting}
+use Rattle.hulls.specs.Links.{link_lines}
 
 pub more_none : (awaited : Awaited) → IsMore awaited awaited
 more_none awaited = record { inside = refl; stays = λ gate waits. waits; few = λ few. few }
@@ -62,3 +64,12 @@ module _ (c : Circuit) (line : ℕ) (readers : List PinRef) (fanout : IsFanout c
         let e : driver.0 ≡ gate = let e = ap (λ (l : LineId). l.0) own in omega arith in
         subst (λ (n : ℕ). WaitsIn inside passed more (record { 0 = n })) e waits here away)
         (Contains-push_cases (pins_at c gate) (record { 0 = gate_line c gate }) this among)
+
+-- the links at a line wait, as the code has the links and the number of gates
+pub ties_as : (c : Circuit) (seen links : LinkList) → seen ≡ links → (gates : ℕ) → gates ≡ gate_count c → (line : LineId) (waiting : List GateId)
+    → ((link : ℕ) → link < length seen → Contains (link_lines seen link) line → Contains waiting (record { 0 = gates + link }))
+    → AreLinksWaiting c links line.0 waiting
+ties_as c seen links same gates is line waiting waits link inside among =
+    subst (λ (n : ℕ). Contains waiting (record { 0 = n + link })) is
+    (waits link (subst (λ (ls : LinkList). link < length ls) (sym same) inside)
+    (subst (λ (ls : LinkList). Contains (link_lines ls link) line) (sym same) among))

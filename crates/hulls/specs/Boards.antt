@@ -1,19 +1,28 @@
 -- What a board is: labels, the notes of their changes, and the gates that wait (this project's own).
-use Rattle.std.specs.Prelude.{◌≡◌, ℕ, ◌≤◌, ◌<◌, ◌*◌, ◌^◌, ◌++◌, Bool, List, length, All}
+use Rattle.std.specs.Prelude.{◌≡◌, ℕ, ◌≤◌, ◌<◌, ◌+◌, ◌*◌, ◌^◌, ◌++◌, Bool, true, List, length, All}
 use Rattle.pd_base.specs.declared.ids.GateId.{GateId}
+use Rattle.pd_base.specs.Links.{LinkList}
 use Rattle.netlist.specs.Circuit.{Circuit, line_count, gate_count}
+use Rattle.netlist.specs.LinkedPairs.{AreLinksOf}
 use Rattle.state_sets.specs.declared.state.StateSet.{StateSet}
 use Rattle.state_sets.specs.States.{AreWithin}
 use Rattle.undo_trail.specs.declared.trail.Note.{Note}
 use Rattle.undo_trail.specs.Undoing.{undone}
+use Rattle.hulls.specs.Awaiting.{is_inside}
 use Rattle.hulls.specs.Falling.{Falls}
 
--- the sets of all lines, the notes of their changes, the gates that wait in their order, and for each gate whether it is inside
+-- The sets of all lines; the notes of their changes; the gates and links that wait, in their order, links being numbered on behind the
+-- gates; for each of these whether it is inside; and the links.
 pub record OnBoard : Type 0 where
   pub labels : List StateSet
   pub notes : List (Note StateSet)
   pub waiting : List GateId
   pub inside : List Bool
+  pub links : LinkList
+
+-- the number by which a link waits
+abbrev pub link_turn : Circuit → ℕ → GateId
+link_turn c link = record { 0 = gate_count c + link }
 
 -- what is true of every board
 pub record IsBoard (count : ℕ) (board : OnBoard) (room : ℕ) : Type 0 where
@@ -27,7 +36,10 @@ pub record IsBoard (count : ℕ) (board : OnBoard) (room : ℕ) : Type 0 where
 -- the board is one of this circuit
 pub record IsBoardOf (c : Circuit) (board : OnBoard) : Type 0 where
   pub lines : length board.labels ≡ line_count c
-  pub gates : length board.inside ≡ gate_count c
+  pub gates : length board.inside ≡ gate_count c + length board.links
+  pub few : length board.inside < 2 ^ 32
+  pub links : AreLinksOf c board.links
+  pub ties : (link : ℕ) → link < length board.links → is_inside board.inside (link_turn c link).0 ≡ true
 
 -- the new board has more notes, and undoing these leads its labels back to the old ones
 pub record Follows (old new : OnBoard) : Type 0 where

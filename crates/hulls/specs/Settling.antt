@@ -1,5 +1,6 @@
 -- What cuts and narrowings do to a board (this project's own).
 use Rattle.std.specs.Prelude.{◌≡◌, ◌≢◌, ℕ, ◌<◌, ◌≤◌, ◌⊎◌, Bool, true, List, length, slice_set, slice_get, Option, Some, IfSome, All, Contains}
+use Rattle.pd_base.specs.Links.{LinkList}
 use Rattle.pd_base.specs.declared.ids.GateId.{GateId}
 use Rattle.pd_base.specs.declared.ids.LineId.{LineId}
 use Rattle.pd_base.specs.declared.ids.PinRef.{PinRef}
@@ -9,14 +10,15 @@ use Rattle.state_sets.specs.declared.state.StateSet.{StateSet}
 use Rattle.state_sets.specs.States.{AreWithin, both_sets, no_states}
 use Rattle.state_sets.specs.StateAlgebra.{StateAlgebra}
 use Rattle.state_sets.specs.Labellings.{label_at, IsLabelling}
-use Rattle.state_sets.specs.Narrowing.{IsNarrowing, gate_lines}
+use Rattle.state_sets.specs.Narrowing.{IsNarrowing, IsLinkNarrowing, gate_lines}
 use Rattle.state_sets.specs.Hulls.{condition_at, HasNoEmptySet}
 use Rattle.state_laws.specs.Cones.{IsNarrowingIn}
 use Rattle.state_laws.specs.Sweeps.{KeepsRests}
 use Rattle.hulls.specs.Changes.{HasPinsKept}
 use Rattle.hulls.specs.Awaiting.{is_inside}
-use Rattle.hulls.specs.Boards.{OnBoard, IsBoardOf, Follows}
+use Rattle.hulls.specs.Boards.{OnBoard, IsBoardOf, Follows, link_turn}
 use Rattle.hulls.specs.Falling.{states_left}
+use Rattle.hulls.specs.Links.{link_at, link_lines}
 
 -- each gate inside that has the line among its lines waits, but the one that is passed by
 abbrev pub AreWaiting : Circuit → List Bool → Option GateId → ℕ → List GateId → Type 0
@@ -24,10 +26,17 @@ AreWaiting c inside passed line waiting =
     (gate : ℕ) → gate < gate_count c → is_inside inside gate ≡ true → passed ≢ Some (record { 0 = gate })
     → Contains (gate_lines c gate) (record { 0 = line }) → Contains waiting (record { 0 = gate })
 
--- a line lost states, and the gates inside that have it among their lines wait, but the one that is passed by
+-- each link that has the line among its two waits
+abbrev pub AreLinksWaiting : Circuit → LinkList → ℕ → List GateId → Type 0
+AreLinksWaiting c links line waiting =
+    (link : ℕ) → link < length links → Contains (link_lines links link) (record { 0 = line }) → Contains waiting (link_turn c link)
+
+-- a line lost states, and the gates inside that have it among their lines wait, but the one that is passed by, and so do
+-- the links
 pub record IsMoved (count : ℕ) (c : Circuit) (passed : Option GateId) (line : ℕ) (old new : OnBoard) : Type 0 where
   pub fewer : states_left count new.labels < states_left count old.labels
   pub waits : AreWaiting c old.inside passed line new.waiting
+  pub ties : AreLinksWaiting c old.links line new.waiting
   pub few : length new.waiting ≤ length new.inside
 
 -- the set of a line was cut down to another one, which changed the board or did not
@@ -35,6 +44,7 @@ pub record IsCutTo (count : ℕ) (c : Circuit) (passed : Option GateId) (line : 
   pub labels : new.labels ≡ slice_set old.labels line (both_sets (label_at old.labels line) to)
   pub within : AreWithin count new.labels
   pub inside : new.inside ≡ old.inside
+  pub links : new.links ≡ old.links
   pub follows : Follows old new
   pub stays : (gate : GateId) → Contains old.waiting gate → Contains new.waiting gate
   pub moves : (new ≡ old) ⊎ IsMoved count c passed line old new
@@ -43,17 +53,23 @@ pub record IsCutTo (count : ℕ) (c : Circuit) (passed : Option GateId) (line : 
 abbrev pub RestsAt : StateAlgebra → Circuit → Kind → List PinRef → List StateSet → ℕ → Type 0
 RestsAt a c kind steps labels gate = IsNarrowing a c gate (condition_at kind steps gate) labels labels
 
--- each gate inside waits, or rests
-abbrev pub IsAwake : StateAlgebra → Circuit → Kind → List PinRef → OnBoard → Type 0
-IsAwake a c kind steps board =
-    (gate : ℕ) → gate < gate_count c → is_inside board.inside gate ≡ true
-    → Contains board.waiting (record { 0 = gate }) ⊎ RestsAt a c kind steps board.labels gate
+-- nor does the narrowing along a link
+abbrev pub RestsAlong : StateAlgebra → LinkList → List StateSet → ℕ → Type 0
+RestsAlong a links labels link = IsLinkNarrowing a (link_at links link).0.0 (link_at links link).1.0 labels labels
 
--- each gate inside but this one waits, or rests
-abbrev pub IsAwakeBut : StateAlgebra → Circuit → Kind → List PinRef → ℕ → OnBoard → Type 0
-IsAwakeBut a c kind steps but board =
-    (gate : ℕ) → gate < gate_count c → is_inside board.inside gate ≡ true → gate ≢ but
-    → Contains board.waiting (record { 0 = gate }) ⊎ RestsAt a c kind steps board.labels gate
+-- each gate inside waits, or rests, and so does each link
+pub record IsAwake (a : StateAlgebra) (c : Circuit) (kind : Kind) (steps : List PinRef) (board : OnBoard) : Type 0 where
+  pub gates : (gate : ℕ) → gate < gate_count c → is_inside board.inside gate ≡ true
+      → Contains board.waiting (record { 0 = gate }) ⊎ RestsAt a c kind steps board.labels gate
+  pub ties : (link : ℕ) → link < length board.links
+      → Contains board.waiting (link_turn c link) ⊎ RestsAlong a board.links board.labels link
+
+-- each gate inside and each link but the one of this number waits, or rests
+pub record IsAwakeBut (a : StateAlgebra) (c : Circuit) (kind : Kind) (steps : List PinRef) (but : ℕ) (board : OnBoard) : Type 0 where
+  pub gates : (gate : ℕ) → gate < gate_count c → is_inside board.inside gate ≡ true → gate ≢ but
+      → Contains board.waiting (record { 0 = gate }) ⊎ RestsAt a c kind steps board.labels gate
+  pub ties : (link : ℕ) → link < length board.links → (link_turn c link).0 ≢ but
+      → Contains board.waiting (link_turn c link) ⊎ RestsAlong a board.links board.labels link
 
 -- what a board is settled from: a labelling in which each line has some state, and each gate inside waits, or rests
 pub record MaySettle (a : StateAlgebra) (c : Circuit) (kind : Kind) (steps : List PinRef) (board : OnBoard) : Type 0 where
@@ -74,11 +90,14 @@ IsPassed c gate passed = IfSome passed (λ other. (other.0 ≡ gate) × AllDiffe
 abbrev pub IsSameAt : List StateSet → List StateSet → LineId → Type 0
 IsSameAt old new line = label_at new line.0 ≡ label_at old line.0
 
--- Gates that waited wait, and so does each gate inside one of whose lines has changed, but the one that is passed by.
+-- Gates and links that waited wait, and so does each link and each gate inside one of whose lines has changed, but the gate that is
+-- passed by.
 pub record Wakes (c : Circuit) (passed : Option GateId) (old new : OnBoard) : Type 0 where
   pub stays : (gate : GateId) → Contains old.waiting gate → Contains new.waiting gate
   pub woken : (gate : ℕ) → gate < gate_count c → is_inside old.inside gate ≡ true → passed ≢ Some (record { 0 = gate })
       → Contains new.waiting (record { 0 = gate }) ⊎ All (IsSameAt old.labels new.labels) (gate_lines c gate)
+  pub tied : (link : ℕ) → link < length old.links
+      → Contains new.waiting (link_turn c link) ⊎ All (IsSameAt old.labels new.labels) (link_lines old.links link)
 
 -- states were lost, and no more gates wait than there are
 pub record HasLess (count : ℕ) (old new : OnBoard) : Type 0 where
@@ -90,6 +109,7 @@ pub record IsShrunk (count : ℕ) (c : Circuit) (passed : Option GateId) (old ne
   pub lines : length new.labels ≡ length old.labels
   pub within : AreWithin count new.labels
   pub inside : new.inside ≡ old.inside
+  pub links : new.links ≡ old.links
   pub follows : Follows old new
   pub wakes : Wakes c passed old new
   pub falls : (new ≡ old) ⊎ HasLess count old new
@@ -117,8 +137,9 @@ pub record IsPinEmptied (count : ℕ) (c : Circuit) (passed : Option GateId) (ga
 
 -- labels were narrowed at gates inside, and each labelling at rest there that lies in the old ones lies in the new
 pub record IsNarrowed (a : StateAlgebra) (c : Circuit) (kind : Kind) (steps : List PinRef) (old new : OnBoard) : Type 0 where
-  pub keeps : KeepsRests a c (IsNarrowingIn c (is_inside old.inside) kind steps) old.labels new.labels
+  pub keeps : KeepsRests a c (IsNarrowingIn c (is_inside old.inside) old.links kind steps) old.labels new.labels
   pub inside : new.inside ≡ old.inside
+  pub links : new.links ≡ old.links
   pub follows : Follows old new
 
 -- a narrowing at a gate left each line some state

@@ -1,15 +1,18 @@
-// The board: labels that are cut line by line, with a trail by which the changes are undone, and the gates that have to be narrowed
-// again. Its cost goes by what changes: only making a board and asking all gates go over the netlist.
-ghost use Rattle.std.specs.Prelude.{◌≡◌, ◌≢◌, ◌<◌, ◌∷◌, [], ℕ, true, All, Contains, None, bit_and, length, take, drop, replicate, slice_set, IfOk, IfSome, MatchOption};
+// The board: labels that are cut line by line, with a trail by which the changes are undone, and the gates and links that have to be
+// narrowed again. Its cost goes by what changes: only making a board and asking all gates and links go over the netlist.
+ghost use Rattle.std.specs.Prelude.{◌≡◌, ◌≢◌, ◌<◌, ◌≤◌, ◌+◌, ◌^◌, ◌∷◌, ◌++◌, [], ℕ, true, All, Contains, None, bit_and, length, take, drop, replicate, slice_set, IfOk, IfSome, MatchOption};
 ghost use Rattle.netlist.specs.Circuit.{gate_count, line_count};
+ghost use Rattle.netlist.specs.LinkedPairs.{AreLinksOf};
 ghost use Rattle.state_sets.specs.States.{IsWithin, AreWithin, all_states};
 ghost use Rattle.state_sets.specs.Labellings.{IsLabelling, label_at};
 ghost use Rattle.undo_trail.specs.Undoing.{undone};
 ghost use Rattle.hulls.specs.Awaiting.{is_inside};
-ghost use Rattle.hulls.specs.Boards.{IsBoardOf};
+ghost use Rattle.hulls.specs.Boards.{IsBoardOf, link_turn};
 ghost use Rattle.hulls.specs.Settling.{IsCutTo};
+ghost use Rattle.hulls.specs.Links.{link_at};
 
-use crate::waiting::Waiting;
+use crate::tie_lists::Ties;
+use crate::waiting::{Turn, Waiting};
 use crate::waking::wake;
 use netlist::Netlist;
 use pd_base::{GateId, LineId, OutOfMemory};
@@ -18,15 +21,16 @@ use std::alloc::Global;
 use std::marker::Model;
 use undo_trail::{Note, Trail};
 
-/// The labels of all lines of a netlist, the trail of their changes, and the gates that wait to be narrowed, all of them inside a
-/// part of the netlist: all gates, or some.
+/// The labels of all lines of a netlist, the trail of their changes, and the gates and links that wait to be narrowed, all of them inside a
+/// part of the netlist: all gates, or some, and all links of the board.
 ///
-/// Contracts see the labels, the notes of the changes, the gates that wait in their order, and for each gate whether it is inside.
+/// Contracts see the labels, the notes of the changes, what waits in its order, for each gate and link whether it is inside, and the links.
 #[derive(Drop)]
 pub struct Board<A: Algebra> {
     labels: Labels<A>,
     trail: Trail<StateSet>,
     waiting: Waiting,
+    links: Ties,
 }
 
 impl<A: Algebra> Model for Board<A> {
@@ -34,39 +38,73 @@ impl<A: Algebra> Model for Board<A> {
 
     ghost Value = { OnBoard };
 
-    ghost view = { λ b. record { labels = b.labels; notes = b.trail.notes; waiting = b.waiting.waiting; inside = b.waiting.inside } };
+    ghost view = { λ b. record { labels = b.labels; notes = b.trail.notes; waiting = b.waiting.waiting; inside = b.waiting.inside; links = b.links } };
 
     ghost invariant = { λ b. IsBoard A.algebra.count
-        (record { labels = b.labels; notes = b.trail.notes; waiting = b.waiting.waiting; inside = b.waiting.inside }) b.trail.room };
+        (record { labels = b.labels; notes = b.trail.notes; waiting = b.waiting.waiting; inside = b.waiting.inside; links = b.links }) b.trail.room };
 }
 
 impl<A: Algebra> Board<A> {
-    /// All states at each line of the netlist, and those gates inside whose flag, by gate number, is true; nothing is noted, and no gate
-    /// waits. It fails only where memory runs out, of which it takes for each line a note for each state beside its set, and for each
-    /// gate nine bytes.
-    pub fn within(alloc: Global, net: &Netlist, inside: Vec<bool>) -> Result<Board<A>, OutOfMemory>
-        requires { length inside.items ≡ gate_count net.now }
+    /// All states at each line of the netlist, these links, and those gates inside whose flag, by gate number, is true; nothing is noted,
+    /// and nothing waits. It fails only where memory runs out, of which it takes for each line a note for each state beside its set, and
+    /// for each gate and link some bytes; where there are links, some for each line, too.
+    pub fn within(
+        alloc: Global,
+        net: &Netlist,
+        inside: Vec<bool>,
+        links: &[(LineId, LineId)],
+    ) -> Result<Board<A>, OutOfMemory>
+        requires gates { length inside.items ≡ gate_count net.now }
+        requires few { length inside.items + length links.now < 2 ^ 31 }
+        requires of { AreLinksOf net.now links.now }
         ensures { IfOk result (λ b. b ≡ record {
           labels = replicate (line_count net.now) (all_states A.algebra.count);
           notes = [];
           waiting = [];
-          inside = inside.items;
+          inside = inside.items ++ replicate (length links.now) true;
+          links = links.now;
         }) }
     {
         let labels = Labels::full(alloc, net)?;
-        Board::over(alloc, net, labels, inside)
+        let inside = with_links(inside, links.len())?;
+        let links = Ties::new(alloc, net.lines() as usize, links)?;
+        Board::over(alloc, net, labels, inside, links)
     }
 
-    // These labels, and those gates inside whose flag is true.
+    /// The same board with these links, where it had none; nothing waits. It fails only where memory runs out.
+    pub fn with_links(
+        self,
+        alloc: Global,
+        net: &Netlist,
+        links: &[(LineId, LineId)],
+    ) -> Result<Board<A>, OutOfMemory>
+        requires few { length self.inside + length links.now < 2 ^ 31 }
+        requires of { AreLinksOf net.now links.now }
+        ensures { IfOk result (λ b. b ≡ record self {
+          waiting = [];
+          inside = self.inside ++ replicate (length links.now) true;
+          links = links.now;
+        }) }
+    {
+        let inside = with_links(self.waiting.into_inside(), links.len())?;
+        Ok(Board {
+            labels: self.labels,
+            trail: self.trail,
+            waiting: Waiting::new(alloc, inside)?,
+            links: Ties::new(alloc, net.lines() as usize, links)?,
+        })
+    }
+
+    // These labels and links, and those gates inside whose flag is true.
     fn over(
         alloc: Global,
         net: &Netlist,
         labels: Labels<A>,
         inside: Vec<bool>,
+        links: Ties,
     ) -> Result<Board<A>, OutOfMemory>
         requires labelling { IsLabelling A.algebra.count net.now labels }
-        requires gates { length inside.items ≡ gate_count net.now }
-        ensures { IfOk result (λ b. b ≡ record { labels = labels; notes = []; waiting = []; inside = inside.items }) }
+        ensures { IfOk result (λ b. b ≡ record { labels = labels; notes = []; waiting = []; inside = inside.items; links = links }) }
     {
         let trail = Trail::new(alloc, net.lines() as usize * count_states::<A>() as usize)?;
         let waiting = Waiting::new(alloc, inside)?;
@@ -74,6 +112,7 @@ impl<A: Algebra> Board<A> {
             labels,
             trail,
             waiting,
+            links,
         })
     }
 
@@ -102,6 +141,14 @@ impl<A: Algebra> Board<A> {
         self.waiting.is_inside(gate)
     }
 
+    // The link of this number.
+    pub(crate) fn link(&self, link: u32) -> (LineId, LineId)
+        requires { link < length self.now.links }
+        ensures { result ≡ link_at self.now.links link }
+    {
+        self.links.link(link)
+    }
+
     /// How many changes are noted: the mark to which `undo_to` undoes all that change from now on.
     pub fn mark(&self) -> usize
         ensures { result ≡ length self.now.notes }
@@ -127,8 +174,20 @@ impl<A: Algebra> Board<A> {
         self.waiting.add(gate);
     }
 
-    /// Lets all gates inside wait, those of the lowest ranks first. Takes no memory.
+    /// Lets all gates inside wait, those of the lowest ranks first, and behind them all links. Takes no memory.
     pub fn ask_all(&mut self, net: &Netlist)
+        requires { IsBoardOf net.now self.old }
+        ensures labels { self.new ≡ record self.old { waiting = self.new.waiting } }
+        ensures waits { (gate : ℕ) → gate < gate_count net.now → is_inside self.old.inside gate ≡ true
+            → Contains self.new.waiting (record { 0 = gate }) }
+        ensures ties { (link : ℕ) → link < length self.old.links → Contains self.new.waiting (link_turn net.now link) }
+    {
+        self.ask_gates(net);
+        self.ask_links(net.gates());
+    }
+
+    // Lets all gates inside wait.
+    fn ask_gates(&mut self, net: &Netlist)
         requires { IsBoardOf net.now self.old }
         ensures labels { self.new ≡ record self.old { waiting = self.new.waiting } }
         ensures waits { (gate : ℕ) → gate < gate_count net.now → is_inside self.old.inside gate ≡ true
@@ -139,8 +198,22 @@ impl<A: Algebra> Board<A> {
         }
     }
 
-    // Takes the first gate that waits, if one does.
-    pub(crate) fn next(&mut self) -> Option<GateId>
+    // Lets all links wait, which are numbered on from here.
+    fn ask_links(&mut self, gates: u32)
+        requires room { gates + length self.old.links ≤ length self.old.inside }
+        requires few { length self.old.inside < 2 ^ 32 }
+        requires ties { (link : ℕ) → link < length self.old.links → is_inside self.old.inside (gates + link) ≡ true }
+        ensures labels { self.new ≡ record self.old { waiting = self.new.waiting } }
+        ensures stays { (gate : GateId) → Contains self.old.waiting gate → Contains self.new.waiting gate }
+        ensures waits { (link : ℕ) → link < length self.old.links → Contains self.new.waiting (record { 0 = gates + link }) }
+    {
+        for link in 0..self.links.len() {
+            self.ask(GateId(gates + link as u32));
+        }
+    }
+
+    // Takes the first gate or link that waits, if one does.
+    pub(crate) fn next(&mut self) -> Option<Turn>
         ensures cases { MatchOption result ((self.old.waiting ≡ []) × (self.new ≡ self.old))
             (λ gate. self.old.waiting ≡ gate ∷ self.new.waiting) }
         ensures labels { self.new ≡ record self.old { waiting = self.new.waiting } }
@@ -149,7 +222,7 @@ impl<A: Algebra> Board<A> {
         self.waiting.pop()
     }
 
-    /// No gate waits any more.
+    /// Nothing waits any more.
     pub fn rest(&mut self)
         ensures { self.new ≡ record self.old { waiting = [] } }
     {
@@ -157,7 +230,7 @@ impl<A: Algebra> Board<A> {
     }
 
     /// Cuts the set of a line down to the states that it shares with another set. Where that takes states, it notes the change and
-    /// lets the gates inside wait that have the line among theirs. Gives the set that is left. Takes no memory.
+    /// lets the gates inside and the links wait that have the line among theirs. Gives the set that is left. Takes no memory.
     pub fn cut(&mut self, net: &Netlist, line: LineId, to: StateSet) -> StateSet
         requires of { IsBoardOf net.now self.old }
         requires line { line.0 < line_count net.now }
@@ -209,11 +282,12 @@ impl<A: Algebra> Board<A> {
         self.trail.note(line.0, old);
         self.labels.cut(line, to);
         wake(&mut self.waiting, net, line, passed);
+        self.links.wake(&mut self.waiting, net.gates(), line);
         new
     }
 
-    /// Gives a line another set in the place of its own, as before a first narrowing: this is noted nowhere, and wakes no gate.
-    /// Takes no memory.
+    /// Gives a line another set in the place of its own, as before a first narrowing: this is noted nowhere, and lets nothing wait. Takes
+    /// no memory.
     pub fn write(&mut self, line: LineId, set: StateSet)
         requires line { line.0 < length self.old.labels }
         requires set { IsWithin A.algebra.count set }
@@ -224,15 +298,24 @@ impl<A: Algebra> Board<A> {
         sets[line.0 as usize] = set;
     }
 
-    /// Undoes the changes that were noted since there were so many, the last one first, and lets no gate wait any more. Takes no
-    /// memory.
+    /// Undoes the changes that were noted since there were so many, the last one first, and lets nothing wait any more. Takes no memory.
     pub fn undo_to(&mut self, mark: usize)
         ensures labels { self.new.labels ≡ undone (drop mark self.old.notes) self.old.labels }
         ensures notes { self.new.notes ≡ take mark self.old.notes }
         ensures waiting { self.new.waiting ≡ [] }
         ensures inside { self.new.inside ≡ self.old.inside }
+        ensures links { self.new.links ≡ self.old.links }
     {
         self.waiting.clear();
         self.trail.undo_to(self.labels.as_mut_slice(), mark);
     }
+}
+
+// The flags with as many more that are up.
+fn with_links(mut inside: Vec<bool>, links: usize) -> Result<Vec<bool>, OutOfMemory>
+    requires { length inside.items + links < 2 ^ 32 }
+    ensures { IfOk result (λ flags. flags.items ≡ inside.items ++ replicate links true) }
+{
+    inside.resize(inside.len() + links, true)?;
+    Ok(inside)
 }

@@ -23,6 +23,7 @@ mod selecting;
 mod settling;
 mod starting;
 mod three;
+mod tie_lists;
 mod view;
 mod waiting;
 mod waking;

@@ -40,7 +40,7 @@ fn narrow_sets<A: Algebra>(labels: &mut [StateSet], source: LineId, line: LineId
 }
 
 // The states in which a source may be linked to a line with one of these states.
-fn linked_sources<A: Algebra>(lines: StateSet) -> StateSet
+pub(crate) fn linked_sources<A: Algebra>(lines: StateSet) -> StateSet
     ensures { Means A.algebra.count result (λ s. (s.0 < A.algebra.count)
         × ((c : State) × Has A.algebra.count lines c × IsTrue (A.algebra.link s c))) }
 {
@@ -53,7 +53,7 @@ fn linked_sources<A: Algebra>(lines: StateSet) -> StateSet
 }
 
 // The states of a line to which a source with one of these states may be linked.
-fn linked_lines<A: Algebra>(sources: StateSet) -> StateSet
+pub(crate) fn linked_lines<A: Algebra>(sources: StateSet) -> StateSet
     ensures { Means A.algebra.count result (λ c. (c.0 < A.algebra.count)
         × ((s : State) × Has A.algebra.count sources s × IsTrue (A.algebra.link s c))) }
 {

@@ -1,4 +1,4 @@
-// A board settles: gate by gate is narrowed, as long as one waits and each line has some state.
+// A board settles: one gate or link after another is narrowed, as long as one waits and each line has some state.
 ghost use Rattle.std.specs.Prelude.{◌≡◌, ◌≢◌, ◌<◌, ◌+◌, ◌↔◌, [], true, length, Contains, IfSome, IfNone, IsTrue, MatchOption};
 ghost use Rattle.netlist.specs.Circuit.{gate_count, line_count};
 ghost use Rattle.netlist.specs.Lawful.{IsCircuit};
@@ -6,12 +6,13 @@ ghost use Rattle.state_sets.specs.States.{AreWithin, no_states};
 ghost use Rattle.state_sets.specs.Labellings.{label_at};
 ghost use Rattle.state_sets.specs.Hulls.{IsHull, IsEmptied, HasAt, HasNoEmptySet};
 ghost use Rattle.state_laws.specs.Cones.{IsNarrowingIn};
-ghost use Rattle.state_laws.specs.Sweeps.{KeepsRests};
 ghost use Rattle.hulls.specs.Conditions.{IsEnteredOn};
 ghost use Rattle.hulls.specs.Awaiting.{is_inside};
-ghost use Rattle.hulls.specs.Boards.{IsBoardOf, Follows};
-ghost use Rattle.hulls.specs.Settling.{MaySettle, IsAwakeBut, AllDiffer, IsPassed, AreAllPinsCut, IsPinEmptied, IsTurn, IsConflict};
+ghost use Rattle.hulls.specs.Boards.{IsBoardOf, link_turn};
+ghost use Rattle.hulls.specs.Settling.{MaySettle, IsAwakeBut, AllDiffer, IsNarrowed, IsPassed, AreAllPinsCut, IsPinEmptied, IsTurn, IsConflict};
 
+use crate::link::{linked_lines, linked_sources};
+use crate::waiting::Turn;
 use crate::{Board, Conditions, NarrowScratch, kept_at};
 use netlist::Netlist;
 use pd_base::{GateId, LineId};
@@ -22,9 +23,9 @@ use state_sets::{Algebra, StateSet};
 const MOST_COMPARED: usize = 8;
 
 impl<A: Algebra> Board<A> {
-    /// Narrows labels to their hull: the greatest labels in them that no narrowing changes, at any gate inside, under these
-    /// conditions. Each gate inside that does not wait has to rest. Gives a line that has no state there, if there is one; the labels
-    /// then lie somewhere between those before and the hull. No gate waits afterwards. Takes no memory.
+    /// Narrows labels to their hull: the greatest labels in them that no narrowing changes, at any gate inside, under these conditions, or
+    /// along any link. Each gate inside and each link that does not wait has to rest. Gives a line that has no state there, if there is one;
+    /// the labels then lie somewhere between those before and the hull. Nothing waits afterwards. Takes no memory.
     pub fn settle(
         &mut self,
         net: &Netlist,
@@ -33,21 +34,18 @@ impl<A: Algebra> Board<A> {
     ) -> Option<LineId>
         requires conditions { IsEnteredOn net.now conditions.now }
         requires ready { MaySettle A.algebra net.now conditions.now.kind conditions.now.steps self.old }
-        ensures keeps { KeepsRests A.algebra net.now
-            (IsNarrowingIn net.now (is_inside self.old.inside) conditions.now.kind conditions.now.steps) self.old.labels self.new.labels }
+        ensures narrowed { IsNarrowed A.algebra net.now conditions.now.kind conditions.now.steps self.old self.new }
         ensures hull { IfNone result (IsHull A.algebra net.now
-            (IsNarrowingIn net.now (is_inside self.old.inside) conditions.now.kind conditions.now.steps)
+            (IsNarrowingIn net.now (is_inside self.old.inside) self.old.links conditions.now.kind conditions.now.steps)
             (HasAt A.algebra.count self.old.labels) self.new.labels) }
         ensures none_empty { IfNone result (HasNoEmptySet net.now self.new.labels) }
         ensures emptied { IfSome result (λ line. (line.0 < line_count net.now)
-            × IsEmptied A.algebra net.now (IsNarrowingIn net.now (is_inside self.old.inside) conditions.now.kind conditions.now.steps)
+            × IsEmptied A.algebra net.now (IsNarrowingIn net.now (is_inside self.old.inside) self.old.links conditions.now.kind conditions.now.steps)
             (HasAt A.algebra.count self.old.labels) line.0) }
-        ensures inside { self.new.inside ≡ self.old.inside }
-        ensures follows { Follows self.old self.new }
         ensures waiting { self.new.waiting ≡ [] }
     {
-        while let Some(gate) = self.next() {
-            if let Some(line) = self.narrow_at(net, conditions, gate, scratch) {
+        while let Some(turn) = self.next() {
+            if let Some(line) = self.narrow_turn(net, conditions, turn, scratch) {
                 self.rest();
                 return Some(line);
             }
@@ -55,7 +53,7 @@ impl<A: Algebra> Board<A> {
         None
     }
 
-    /// The same for any labels, with all gates inside asked first. This goes over the netlist. Takes no memory.
+    /// The same for any labels, with all gates inside and all links asked first. This goes over the netlist. Takes no memory.
     pub fn settle_all(
         &mut self,
         net: &Netlist,
@@ -64,17 +62,14 @@ impl<A: Algebra> Board<A> {
     ) -> Option<LineId>
         requires of { IsBoardOf net.now self.old }
         requires conditions { IsEnteredOn net.now conditions.now }
-        ensures keeps { KeepsRests A.algebra net.now
-            (IsNarrowingIn net.now (is_inside self.old.inside) conditions.now.kind conditions.now.steps) self.old.labels self.new.labels }
+        ensures narrowed { IsNarrowed A.algebra net.now conditions.now.kind conditions.now.steps self.old self.new }
         ensures hull { IfNone result (IsHull A.algebra net.now
-            (IsNarrowingIn net.now (is_inside self.old.inside) conditions.now.kind conditions.now.steps)
+            (IsNarrowingIn net.now (is_inside self.old.inside) self.old.links conditions.now.kind conditions.now.steps)
             (HasAt A.algebra.count self.old.labels) self.new.labels) }
         ensures none_empty { IfNone result (HasNoEmptySet net.now self.new.labels) }
         ensures emptied { IfSome result (λ line. (line.0 < line_count net.now)
-            × IsEmptied A.algebra net.now (IsNarrowingIn net.now (is_inside self.old.inside) conditions.now.kind conditions.now.steps)
+            × IsEmptied A.algebra net.now (IsNarrowingIn net.now (is_inside self.old.inside) self.old.links conditions.now.kind conditions.now.steps)
             (HasAt A.algebra.count self.old.labels) line.0) }
-        ensures inside { self.new.inside ≡ self.old.inside }
-        ensures follows { Follows self.old self.new }
         ensures waiting { self.new.waiting ≡ [] }
     {
         if let Some(line) = empty_line(net, self.labels()) {
@@ -83,6 +78,52 @@ impl<A: Algebra> Board<A> {
         }
         self.ask_all(net);
         self.settle(net, conditions, scratch)
+    }
+
+    // Narrows at one gate, or along one link.
+    fn narrow_turn(
+        &mut self,
+        net: &Netlist,
+        conditions: &Conditions,
+        turn: Turn,
+        scratch: &mut NarrowScratch,
+    ) -> Option<LineId>
+        requires of { IsBoardOf net.now self.old }
+        requires within { AreWithin A.algebra.count self.old.labels }
+        requires some { HasNoEmptySet net.now self.old.labels }
+        requires conditions { IsEnteredOn net.now conditions.now }
+        requires inside { is_inside self.old.inside turn.0 ≡ true }
+        requires awake { IsAwakeBut A.algebra net.now conditions.now.kind conditions.now.steps turn.0 self.old }
+        ensures turn { MatchOption result (IsTurn A.algebra net.now conditions.now.kind conditions.now.steps self.old self.new)
+            (λ line. IsConflict A.algebra net.now conditions.now.kind conditions.now.steps self.old self.new line.0) }
+    {
+        if turn.0 < net.gates() {
+            self.narrow_at(net, conditions, turn, scratch)
+        } else {
+            self.narrow_along(net, conditions, turn.0 - net.gates())
+        }
+    }
+
+    // Narrows along the link of this number.
+    fn narrow_along(&mut self, net: &Netlist, conditions: &Conditions, link: u32) -> Option<LineId>
+        requires of { IsBoardOf net.now self.old }
+        requires within { AreWithin A.algebra.count self.old.labels }
+        requires some { HasNoEmptySet net.now self.old.labels }
+        requires link { link < length self.old.links }
+        requires awake { IsAwakeBut A.algebra net.now conditions.now.kind conditions.now.steps (link_turn net.now link).0 self.old }
+        ensures turn { MatchOption result (IsTurn A.algebra net.now conditions.now.kind conditions.now.steps self.old self.new)
+            (λ line. IsConflict A.algebra net.now conditions.now.kind conditions.now.steps self.old self.new line.0) }
+    {
+        let (source, line) = self.link(link);
+        let at_source = linked_sources::<A>(self.get(line));
+        let at_line = linked_lines::<A>(self.get(source));
+        if self.cut_in(net, source, at_source, None) == StateSet::EMPTY {
+            return Some(source);
+        }
+        if self.cut_in(net, line, at_line, None) == StateSet::EMPTY {
+            return Some(line);
+        }
+        None
     }
 
     // Narrows at one gate.

@@ -1,5 +1,6 @@
-// The gates that wait to be narrowed, first in, first out, with a flag by gate, so that none is added that waits already. Only gates
-// inside wait, of which there is a flag by gate too.
+// The gates and links that wait to be narrowed, first in, first out, with a flag for each, so that none is added that waits already. Only
+// those inside wait, of which there is a flag for each too. Where a link waits, a gate is to be read as the link. That no gate stands twice
+// in the queue is true, and no proof needs it.
 ghost use Rattle.std.specs.Prelude.{◌≡◌, ◌<◌, ◌∷◌, true, [], length, IfOk, IfSome, MatchOption};
 ghost use Rattle.hulls.specs.Awaiting.{is_inside, IsWoken};
 
@@ -7,6 +8,9 @@ use crate::queue::Queue;
 use pd_base::{GateId, OutOfMemory};
 use std::alloc::Global;
 use std::marker::Model;
+
+/// What waits to be narrowed: a gate by its number, or a link by its own number behind those of all gates.
+pub type Turn = GateId;
 
 /// The gates that wait, of those inside. Contracts see for each gate whether it is inside, and the gates that wait in their order.
 #[derive(Drop)]
@@ -49,7 +53,7 @@ impl Waiting {
     }
 
     /// Lets a gate wait, if it is inside and does not wait yet. Takes no memory.
-    pub fn add(&mut self, gate: GateId)
+    pub fn add(&mut self, gate: Turn)
         requires { gate.0 < length self.old.inside }
         ensures { IsWoken gate self.old self.new }
     {
@@ -65,7 +69,7 @@ impl Waiting {
     }
 
     /// Takes the first gate, if one waits.
-    pub fn pop(&mut self) -> Option<GateId>
+    pub fn pop(&mut self) -> Option<Turn>
         ensures cases { MatchOption result ((self.old.waiting ≡ []) × (self.new.waiting ≡ []))
             (λ gate. self.old.waiting ≡ gate ∷ self.new.waiting) }
         ensures inside { self.new.inside ≡ self.old.inside }
@@ -76,6 +80,13 @@ impl Waiting {
         };
         self.flags[gate.0 as usize] = false;
         Some(gate)
+    }
+
+    /// For each gate whether it is inside. Takes no memory.
+    pub(crate) fn into_inside(self) -> Vec<bool>
+        ensures { result.items ≡ self.inside }
+    {
+        self.inside
     }
 
     /// No gate waits any more.

@@ -1,9 +1,10 @@
 // Where a line lost states, the gates that have it among their lines are to be narrowed: those that read it, and the one that
 // drives it. The gate whose narrowing cut the line is passed by where narrowing it again would change nothing.
-ghost use Rattle.std.specs.Prelude.{◌≡◌, ◌≢◌, ◌<◌, ◌↔◌, true, length, Some, All, Contains, IsTrue};
+ghost use Rattle.std.specs.Prelude.{◌≡◌, ◌≢◌, ◌<◌, ◌≤◌, ◌+◌, ◌^◌, ◌∷◌, ◌↔◌, [], ℕ, true, length, Some, All, Contains, IsTrue};
 ghost use Rattle.netlist.specs.Circuit.{gate_count, line_count};
 ghost use Rattle.hulls.specs.Awaiting.{is_inside, IsMore};
 ghost use Rattle.hulls.specs.Settling.{AreWaiting};
+ghost use Rattle.hulls.specs.Links.{link_lines};
 
 use crate::waiting::Waiting;
 use netlist::Netlist;
@@ -11,7 +12,7 @@ use pd_base::{GateId, LineId, PinRef};
 
 // Lets all gates inside wait that have this line among theirs, but the one that is passed by. Takes no memory.
 pub(crate) fn wake(waiting: &mut Waiting, net: &Netlist, line: LineId, passed: Option<GateId>)
-    requires gates { length waiting.old.inside ≡ gate_count net.now }
+    requires gates { gate_count net.now ≤ length waiting.old.inside }
     requires line { line.0 < line_count net.now }
     ensures more { IsMore waiting.old waiting.new }
     ensures waits { AreWaiting net.now waiting.old.inside passed line.0 waiting.new.waiting }

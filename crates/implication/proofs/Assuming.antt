@@ -2,6 +2,7 @@
 use Rattle.std.proofs.Common.{◌≡◌, ◌≢◌, ℕ, ◌<◌, ◌≤◌, ◌==◌, nat_eq, true, false, List, length, get_or, [], ◌∷◌, ◌++◌, bit_and, Option, Some, None, Result, Ok, Err, OnOk, IfErr, if◌then◌else◌, refl, sym, ap, ◌∙◌, subst, arith}
 use Rattle.std.proofs.lemmas.Bool.{eqb-false, eqb-true, eq-eqb, ne_eqb}
 use Rattle.std.proofs.lemmas.List.{get_or_default}
+use Rattle.pd_base.specs.Links.{links_of}
 use Rattle.pd_base.specs.declared.ids.LineId.{LineId}
 use Rattle.pd_base.specs.declared.ids.PinRef.{PinRef}
 use Rattle.pd_base.specs.declared.rules.Rules.{Rules}
@@ -20,7 +21,7 @@ use Rattle.implication.specs.Standing.{Standing, IsTold, IsToldBy, end_from, end
 use Rattle.implication.specs.Moves.{with_assumed, grown, closed_at}
 use Rattle.implication.specs.Clients.{ExtendsStanding}
 use Rattle.implication.specs.Kept.{Kept, IsListFrom, StandsFrom, KeepsStanding}
-use Rattle.implication.proofs.Lists.{list_with_pin, list_with_set, told_with_pin, told_with_set}
+use Rattle.implication.proofs.Lists.{list_with_pin, list_with_set, told_with}
 use Rattle.implication.proofs.Restoring.{extends_by_one}
 
 -- what stood is extended, whether an entry more is answered by Ok or by a conflict
@@ -75,20 +76,20 @@ module _ (a : StateAlgebra) (c : Circuit) (rules : Rules) (ends : Option (List L
   left_from (Some begun) stands source within = stands.left.each source.0 within
 
   set_from : (beginning : Option Beginning) → StandsFrom a c rules ends beginning list conflict kept → (source : LineId) (to cut : StateSet)
-      → source.0 < source_count c → cut.0 ≡ bit_and (left_of a.count source list).0 to.0 → (left_of a.count source list).0 ≢ cut.0
-      → IsListFrom a.count c ends beginning (list ++ Assumed source cut ∷ [])
-  set_from None stands source to cut within cuts differs = tt
-  set_from (Some begun) stands source to cut within cuts differs = (
+      → source.0 < source_count c → IsToldBy c (links_of rules) ends source.0 → cut.0 ≡ bit_and (left_of a.count source list).0 to.0 → (left_of a.count source list).0 ≢ cut.0
+      → IsListFrom a.count c (links_of rules) ends beginning (list ++ Assumed source cut ∷ [])
+  set_from None stands source to cut within told cuts differs = tt
+  set_from (Some begun) stands source to cut within told cuts differs = (
     list_with_set a.count c begun list stands.list source to cut within cuts differs,
-    told_with_set c ends list source cut stands.told,
+    told_with c (links_of rules) ends list (Assumed source cut) stands.told told,
   )
 
   pin_from : (beginning : Option Beginning) → StandsFrom a c rules ends beginning list conflict kept → (pin : PinRef)
-      → IsPinOn c pin (end_from c beginning list) → IsToldBy c ends (gate_line c pin.gate.0)
-      → IsListFrom a.count c ends beginning (list ++ Entered pin ∷ [])
+      → IsPinOn c pin (end_from c beginning list) → IsToldBy c (links_of rules) ends (gate_line c pin.gate.0)
+      → IsListFrom a.count c (links_of rules) ends beginning (list ++ Entered pin ∷ [])
   pin_from None stands pin on told = tt
   pin_from (Some begun) stands pin on told =
-      (list_with_pin a.count c begun list stands.list pin on, told_with_pin c ends list pin stands.told told)
+      (list_with_pin a.count c begun list stands.list pin on, told_with c (links_of rules) ends list (Entered pin) stands.told told)
 
 module _ (a : StateAlgebra) {standing : Standing} {kept : Kept} {room befores_room : ℕ}
     (keeps : KeepsStanding a standing kept room befores_room) (now : Standing) (is_now : standing ≡ now) where
@@ -105,11 +106,12 @@ module _ (a : StateAlgebra) {standing : Standing} {kept : Kept} {room befores_ro
       ∙ ap (λ (s : Standing). left_of a.count source s.assumptions) is_now
 
   -- a set that takes some state away
-  pub assumed_fits : (source : LineId) (to left cut : StateSet) → source.0 < source_count now.net → left ≡ get_or kept.left source.0 left
+  pub assumed_fits : (source : LineId) (to left cut : StateSet) → source.0 < source_count now.net → IsTold now source.0 → left ≡ get_or kept.left source.0 left
       → cut.0 ≡ bit_and left.0 to.0 → false ≡ nat_eq cut.0 left.0
-      → IsListFrom a.count now.net now.ends now.beginning (now.assumptions ++ Assumed source cut ∷ [])
-  assumed_fits source to left cut within seen cuts other =
-      let P : Standing → Type 0 = λ s. IsListFrom a.count s.net s.ends s.beginning (s.assumptions ++ Assumed source cut ∷ []) in
+      → IsListFrom a.count now.net (links_of now.rules) now.ends now.beginning (now.assumptions ++ Assumed source cut ∷ [])
+  assumed_fits source to left cut within told seen cuts other =
+      let T : Standing → Type 0 = λ s. IsTold s source.0 in
+      let P : Standing → Type 0 = λ s. IsListFrom a.count s.net (links_of s.rules) s.ends s.beginning (s.assumptions ++ Assumed source cut ∷ []) in
       let Q : Standing → Type 0 = λ s. source.0 < source_count s.net in
       let R : Standing → Type 0 = λ s. left ≡ left_of a.count source s.assumptions in
       let from : left ≡ left_of a.count source standing.assumptions = subst R (sym is_now) (left_seen source within left seen) in
@@ -117,13 +119,13 @@ module _ (a : StateAlgebra) {standing : Standing} {kept : Kept} {room befores_ro
       let S : StateSet → Type 0 = λ l. l.0 ≢ cut.0 in
       subst P is_now
       (set_from a standing.net standing.rules standing.ends standing.assumptions standing.conflict kept standing.beginning keeps.stands source to
-      cut (subst Q (sym is_now) within) (cuts ∙ ap (λ (s : StateSet). bit_and s.0 to.0) from) (subst S from differs))
+      cut (subst Q (sym is_now) within) (subst T (sym is_now) told) (cuts ∙ ap (λ (s : StateSet). bit_and s.0 to.0) from) (subst S from differs))
 
   -- a pin on the last line
   pub entered_fits : (pin : PinRef) → IsPinOn now.net pin (end_of_scope now) → IsTold now (gate_line now.net pin.gate.0)
-      → IsListFrom a.count now.net now.ends now.beginning (now.assumptions ++ Entered pin ∷ [])
+      → IsListFrom a.count now.net (links_of now.rules) now.ends now.beginning (now.assumptions ++ Entered pin ∷ [])
   entered_fits pin on told =
-      let P : Standing → Type 0 = λ s. IsListFrom a.count s.net s.ends s.beginning (s.assumptions ++ Entered pin ∷ []) in
+      let P : Standing → Type 0 = λ s. IsListFrom a.count s.net (links_of s.rules) s.ends s.beginning (s.assumptions ++ Entered pin ∷ []) in
       let Q : Standing → Type 0 = λ s. IsPinOn s.net pin (end_of_scope s) in
       let R : Standing → Type 0 = λ s. IsTold s (gate_line s.net pin.gate.0) in
       subst P is_now

@@ -3,10 +3,9 @@ use Rattle.std.proofs.Common.{◌≡◌, ℕ, ◌<◌, ◌≤◌, Bool, List, []
 use Rattle.std.proofs.lemmas.List.{get_or-replicate, length-replicate}
 use Rattle.std.proofs.lemmas.List.Elements.{All-nil}
 use Rattle.pd_base.specs.declared.ids.LineId.{LineId}
-use Rattle.pd_base.specs.declared.ids.PinRef.{PinRef}
 use Rattle.pd_base.specs.declared.rules.Rules.{Rules}
 use Rattle.pd_base.specs.declared.fault.Kind.TheVariants.{Robust}
-use Rattle.netlist.specs.Circuit.{Circuit, source_count, gate_count, line_count, gate_line}
+use Rattle.netlist.specs.Circuit.{Circuit, source_count, gate_count, line_count}
 use Rattle.netlist.specs.Lawful.{IsCircuit}
 use Rattle.netlist.specs.Levels.{greatest_level}
 use Rattle.state_sets.specs.declared.state.StateSet.{StateSet}
@@ -20,20 +19,25 @@ use Rattle.state_laws.specs.Cones.{IsNarrowingIn}
 use Rattle.hulls.specs.Conditions.{Entered as Steps}
 use Rattle.hulls.specs.Awaiting.{is_inside}
 use Rattle.hulls.specs.Boards.{OnBoard}
+use Rattle.pd_base.specs.Links.{LinkList, links_of}
+use Rattle.implication.proofs.Idling.{still_of}
 use Rattle.implication.specs.declared.assumption.Beginning.{Beginning}
 use Rattle.implication.specs.declared.assumption.Assumption.{Assumption}
 use Rattle.implication.specs.declared.before.Before.{Before}
 use Rattle.implication.specs.Assumptions.{entered_pins}
-use Rattle.implication.specs.Standing.{Standing, IsToldBy}
+use Rattle.implication.specs.Standing.{Standing, IsToldBy, IsTold}
 use Rattle.implication.specs.Idling.{Idling, StandsBy, IsIdleBoard}
-use Rattle.implication.specs.Kept.{most_assumptions, Outset, Kept, AreLabelsUnder, AreLeft, StandsOpen, StandsIdle, StandsFrom, AreToldGates, KeepsStanding}
+use Rattle.implication.specs.Kept.{most_assumptions, Outset, Kept, AreLabelsUnder, AreLeft, StandsOpen, StandsIdle, StandsFrom, AreToldGates, IsToldEntry, KeepsStanding}
+use Rattle.implication.proofs.Linking.{same_cone}
 use Rattle.implication.proofs.Lists.{list_empty}
+use Rattle.netlist.specs.LinkedPairs.{AreLinksOf}
 use Rattle.implication.proofs.Labels.{labels_at_start}
 use Rattle.implication.proofs.Starting.{free_at_start}
 
 -- what an engine keeps as it is made
 pub kept_new : (a : StateAlgebra) (c : Circuit) (rules : Rules) (ends : Option (List LineId)) (list : List Assumption) (kept : Kept)
-    (room befores_room : ℕ) → IsCircuit c → AreToldGates c ends kept.board.inside → IsIdleBoard a c rules kept.idle kept.board
+    (room befores_room : ℕ) → IsCircuit c → AreToldGates c (links_of rules) ends kept.board.inside kept.board.links → IsIdleBoard a c rules kept.idle kept.board
+    → AreLinksOf c (links_of rules)
     → list ≡ [] → kept.befores ≡ [] → kept.left ≡ replicate (source_count c) (all_states a.count)
     → kept.steps ≡ record { kind = Robust; gates = gate_count c; room = greatest_level c; steps = [] }
     → most_assumptions a.count c ≤ room → most_assumptions a.count c ≤ befores_room
@@ -46,9 +50,10 @@ pub kept_new : (a : StateAlgebra) (c : Circuit) (rules : Rules) (ends : Option (
       conflict = None;
       closings = 0;
     }) kept room befores_room
-kept_new a c rules ends list kept room befores_room circuit cone idle nothing none_before all_left stepped enough befores_enough = record {
+kept_new a c rules ends list kept room befores_room circuit cone idle links nothing none_before all_left stepped enough befores_enough = record {
   circuit = circuit;
-  board = record { lines = idle.stands.lines; gates = idle.stands.gates };
+  board = idle.stands.of;
+  links = links;
   cone = cone;
   at_rest = idle.at_rest;
   stands = record {
@@ -70,7 +75,7 @@ kept_new a c rules ends list kept room befores_room circuit cone idle nothing no
 
 module _ (a : StateAlgebra) {standing : Standing} {kept : Kept} {room befores_room : ℕ}
     (keeps : KeepsStanding a standing kept room befores_room) (now : Standing) (is_now : standing ≡ now) (idle : now.beginning ≡ None)
-    (begun : Beginning) (within : begun.source.0 < source_count now.net) where
+    (begun : Beginning) (within : begun.source.0 < source_count now.net) (told : IsTold now begun.source.0) where
   stands : StandsIdle a standing.net standing.rules standing.assumptions standing.conflict kept
   stands =
       let P : Option Beginning → Type 0 =
@@ -81,18 +86,21 @@ module _ (a : StateAlgebra) {standing : Standing} {kept : Kept} {room befores_ro
   source = let P : Standing → Type 0 = λ s. begun.source.0 < source_count s.net in subst P (sym is_now) within
 
   module _ (board : OnBoard) (idling : Idling) (inside : board.inside ≡ kept.board.inside)
-      (lines : length board.labels ≡ length kept.board.labels) (at_rest : board.waiting ≡ []) (steps : Steps)
+      (links : board.links ≡ kept.board.links) (lines : length board.labels ≡ length kept.board.labels) (at_rest : board.waiting ≡ []) (steps : Steps)
       (stepped : steps ≡ record kept.steps { kind = begun.kind }) (seen : Circuit) (circuits : seen ≡ standing.net) (seen_rules : Rules)
       (rules_are : seen_rules ≡ standing.rules) (answer : Option LineId)
-      (hull : IfNone answer (IsHull a seen (IsNarrowingIn seen (is_inside kept.board.inside) steps.kind [])
+      (hull : IfNone answer (IsHull a seen (IsNarrowingIn seen (is_inside kept.board.inside) kept.board.links steps.kind [])
       (MayStart a seen seen_rules begun.source.0 begun.direction) board.labels))
       (none_empty : IfNone answer (HasNoEmptySet seen board.labels))
       (emptied : IfSome answer (λ line. (line.0 < line_count seen)
-      × IsEmptied a seen (IsNarrowingIn seen (is_inside kept.board.inside) steps.kind [])
+      × IsEmptied a seen (IsNarrowingIn seen (is_inside kept.board.inside) kept.board.links steps.kind [])
       (MayStart a seen seen_rules begun.source.0 begun.direction) line.0))
       (stands_by : StandsBy a seen seen_rules idling board) where
     abbrev from : Circuit → List Bool → Rules → Outset
-    from c flags rules = record { net = c; inside = flags; rules = rules; begun = begun }
+    from c flags rules = record { net = c; inside = flags; inner = kept.board.links; rules = rules; begun = begun }
+
+    begins : IsToldBy standing.net (links_of standing.rules) standing.ends begun.source.0
+    begins = let P : Standing → Type 0 = λ s. IsTold s begun.source.0 in subst P (sym is_now) told
 
     under : AreLabelsUnder a (from standing.net kept.board.inside standing.rules) [] board.labels answer
     under =
@@ -100,13 +108,13 @@ module _ (a : StateAlgebra) {standing : Standing} {kept : Kept} {room befores_ro
         let Q : Rules → Type 0 = λ r. AreLabelsUnder a (from standing.net kept.board.inside r) [] board.labels answer in
         subst Q rules_are
         (subst P circuits
-        (labels_at_start a (from seen kept.board.inside seen_rules) steps.kind (ap (λ (s : Steps). s.kind) stepped) board.labels answer hull
-        none_empty emptied))
+        (labels_at_start a (from seen kept.board.inside seen_rules) steps.kind (ap (λ (s : Steps). s.kind) stepped) board.labels answer
+        hull none_empty emptied))
 
     -- with the four states no conflict stands then
-    pub free_begun : a ≡ four_states → answer ≡ None
-    free_begun four =
-        free_at_start a (from standing.net kept.board.inside standing.rules) board.labels answer keeps.circuit source under four
+    pub free_begun : links_of standing.rules ≡ [] → a ≡ four_states → answer ≡ None
+    free_begun unlinked four =
+        free_at_start a (from standing.net kept.board.inside standing.rules) board.labels answer keeps.circuit keeps.cone.closed.among source under unlinked four
 
     abbrev new : Kept
     new = record { board = board; idle = idling; befores = kept.befores; left = kept.left; steps = steps }
@@ -119,7 +127,8 @@ module _ (a : StateAlgebra) {standing : Standing} {kept : Kept} {room befores_ro
     opens : StandsOpen a (from standing.net kept.board.inside standing.rules) standing.ends [] answer new
     opens = record {
       list = list_empty a.count standing.net begun source;
-      told = All-nil (λ (pin : PinRef). IsToldBy standing.net standing.ends (gate_line standing.net pin.gate.0));
+      begins = begins;
+      told = All-nil (IsToldEntry standing.net (links_of standing.rules) standing.ends);
       kind = ap (λ (s : Steps). s.kind) stepped;
       entered = ap (λ (s : Steps). s.steps) stepped ∙ stands.no_step;
       stood = record {
@@ -143,16 +152,19 @@ module _ (a : StateAlgebra) {standing : Standing} {kept : Kept} {room befores_ro
       closings = closings;
     }) new room befores_room
     kept_begun closings =
-        let P : List Bool → Type 0 = λ flags. AreToldGates standing.net standing.ends flags in
         let Q : List Bool → Type 0 = λ flags. StandsOpen a (from standing.net flags standing.rules) standing.ends [] answer new in
-        let R : List Assumption → Type 0 =
-        λ list. StandsOpen a (from standing.net board.inside standing.rules) standing.ends list answer new in
+        let L : LinkList → Type 0 = λ ls. StandsOpen a
+        (record { net = standing.net; inside = board.inside; inner = ls; rules = standing.rules; begun = begun }) standing.ends [] answer new in
+        let R : List Assumption → Type 0 = λ list. StandsOpen a
+        (record { net = standing.net; inside = board.inside; inner = board.links; rules = standing.rules; begun = begun }) standing.ends list answer new in
         record {
           circuit = keeps.circuit;
-          board = record { lines = lines ∙ keeps.board.lines; gates = ap length inside ∙ keeps.board.gates };
-          cone = subst P (sym inside) keeps.cone;
+          board = still_of standing.net kept.board board inside links lines keeps.board;
+          links = keeps.links;
+          cone = same_cone standing.net (links_of standing.rules) standing.ends kept.board.inside board.inside inside kept.board.links board.links
+              links keeps.cone;
           at_rest = at_rest;
-          stands = subst R (sym stands.nothing) (subst Q (sym inside) opens);
+          stands = subst R (sym stands.nothing) (subst L (sym links) (subst Q (sym inside) opens));
           step_room = record {
             gates = ap (λ (s : Steps). s.gates) stepped ∙ keeps.step_room.gates;
             levels = ap (λ (s : Steps). s.room) stepped ∙ keeps.step_room.levels;
@@ -203,8 +215,8 @@ idle_on_all a {standing} {kept} keeps = on_all standing.beginning keeps.stands
 pub kept_ended : (a : StateAlgebra) {standing : Standing} {kept : Kept} {room befores_room : ℕ}
     (keeps : KeepsStanding a standing kept room befores_room) (nothing : standing.assumptions ≡ []) (board : OnBoard) (idling : Idling)
     (ended : (c : Circuit) (rules : Rules) → StandsBy a c rules kept.idle kept.board → IsIdleBoard a c rules idling board)
-    (inside : board.inside ≡ kept.board.inside) (lines : length board.labels ≡ length kept.board.labels) (at_rest : board.waiting ≡ [])
-    (closings : ℕ) → KeepsStanding a (record {
+    (inside : board.inside ≡ kept.board.inside) (links : board.links ≡ kept.board.links)
+    (lines : length board.labels ≡ length kept.board.labels) (at_rest : board.waiting ≡ []) (closings : ℕ) → KeepsStanding a (record {
       net = standing.net;
       rules = standing.rules;
       ends = standing.ends;
@@ -214,14 +226,15 @@ pub kept_ended : (a : StateAlgebra) {standing : Standing} {kept : Kept} {room be
       closings = closings;
     })
     (record { board = board; idle = idling; befores = kept.befores; left = kept.left; steps = kept.steps }) room befores_room
-kept_ended a {standing} {kept} {room} {befores_room} keeps nothing board idling ended inside lines at_rest closings =
-    let P : List Bool → Type 0 = λ flags. AreToldGates standing.net standing.ends flags in
+kept_ended a {standing} {kept} {room} {befores_room} keeps nothing board idling ended inside links lines at_rest closings =
     let parts = idle_parts a standing.net standing.rules standing.ends standing.assumptions nothing standing.conflict kept standing.beginning
     keeps.stands in
     record {
       circuit = keeps.circuit;
-      board = record { lines = lines ∙ keeps.board.lines; gates = ap length inside ∙ keeps.board.gates };
-      cone = subst P (sym inside) keeps.cone;
+      board = still_of standing.net kept.board board inside links lines keeps.board;
+      links = keeps.links;
+      cone = same_cone standing.net (links_of standing.rules) standing.ends kept.board.inside board.inside inside kept.board.links board.links
+          links keeps.cone;
       at_rest = at_rest;
       stands = record {
         nothing = nothing;

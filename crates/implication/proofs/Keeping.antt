@@ -22,14 +22,20 @@ use Rattle.undo_trail.proofs.Undoing.{length-undone}
 use Rattle.hulls.specs.Awaiting.{is_inside}
 use Rattle.hulls.specs.Boards.{OnBoard, IsBoardOf, Follows}
 use Rattle.hulls.specs.Settling.{MaySettle}
+use Rattle.pd_base.specs.Links.{LinkList, links_of, IsLink}
+use Rattle.hulls.specs.Links.{link_at}
+use Rattle.hulls.proofs.Narrowed.{link_stands}
+use Rattle.state_sets.specs.Hulls.Narrowing.{along_link}
+use Rattle.implication.proofs.Idling.{still_of}
 use Rattle.implication.specs.declared.assumption.Beginning.{Beginning}
 use Rattle.implication.specs.declared.assumption.Assumption.{Assumption}
 use Rattle.implication.specs.declared.assumption.Assumption.TheVariants.{Entered, Assumed}
 use Rattle.implication.specs.declared.before.Before.{Before}
 use Rattle.implication.specs.Assumptions.{entered_pins, left_of}
 use Rattle.implication.specs.Standing.{Standing}
-use Rattle.implication.specs.Kept.{Outset, Kept, AreAssumptions, AreToldPins, IsListFrom, AreToldGates, TakesFrom, DoShrink, IsAboutSource, IsLeftBefore, IsNarrowedMore, IsOpenHull, AreLabelsUnder, AreLeft, Stood, StandsOpen, StandsFrom, HasStepRoom, CanStep, KeepsStanding, left_with, left_without, steps_without}
+use Rattle.implication.specs.Kept.{Outset, Kept, AreAssumptions, AreToldEntries, IsListFrom, TakesFrom, DoShrink, IsAboutSource, IsLeftBefore, IsNarrowedMore, IsOpenHull, AreLabelsUnder, AreLeft, Stood, StandsOpen, StandsFrom, HasStepRoom, CanStep, KeepsStanding, left_with, left_without, steps_without}
 use Rattle.implication.proofs.Entering.{pins_of, entered_append, entered_on, can_step}
+use Rattle.implication.proofs.Linking.{same_cone}
 use Rattle.implication.proofs.Lists.{list_taken, list_fits, told_taken}
 use Rattle.implication.proofs.Labels.{settled_more, all_back}
 use Rattle.implication.proofs.Shrinking.{about_source, shrink_last, left_of_more}
@@ -106,26 +112,30 @@ module _ (steps : Steps) (front : List Assumption) where
   room_back c (Assumed source set_left) room = room
 
 -- a board that follows another one has as many lines
-pub of_circuit : (c : Circuit) (old new : OnBoard) → IsBoardOf c old → Follows old new → new.inside ≡ old.inside → IsBoardOf c new
-of_circuit c old new of follows inside = record {
-  lines = sym (length-undone follows.more new.labels) ∙ ap length follows.back ∙ of.lines;
-  gates = ap length inside ∙ of.gates;
-}
+pub of_circuit : (c : Circuit) (old new : OnBoard) → IsBoardOf c old → Follows old new → new.inside ≡ old.inside → new.links ≡ old.links → IsBoardOf c new
+of_circuit c old new of follows inside links =
+    still_of c old new inside links (sym (length-undone follows.more new.labels) ∙ ap length follows.back) of
 
 -- labels at rest are ready for cuts
 pub is_ready : (a : StateAlgebra) (from : Outset) (list : List Assumption) (board : OnBoard) (kind : Kind) (steps : List PinRef)
-    → IsBoardOf from.net board → from.inside ≡ board.inside → kind ≡ from.begun.kind → steps ≡ entered_pins list
+    → IsBoardOf from.net board → from.inside ≡ board.inside → board.links ≡ from.inner → kind ≡ from.begun.kind → steps ≡ entered_pins list
     → IsOpenHull a from list board.labels → MaySettle a from.net kind steps board
-is_ready a from list board kind steps of inside same_kind same_steps is =
+is_ready a from list board kind steps of inside same_links same_kind same_steps is =
     let P : Kind → Type 0 = λ k. MaySettle a from.net k steps board in
     let Q : List PinRef → Type 0 = λ s. MaySettle a from.net from.begun.kind s board in
     subst P (sym same_kind) (subst Q (sym same_steps) (record {
       of = of;
       labelling = is.hull.rest.labelling;
       some = is.none_empty;
-      awake = λ gate within here.
-          inr (is.hull.rest.rest (at_gate gate (condition_at from.begun.kind (entered_pins list) gate))
-          (within, ap (λ (i : List Bool). is_inside i gate) inside ∙ here, refl));
+      awake = record {
+        gates = λ gate within here.
+            inr (is.hull.rest.rest (at_gate gate (condition_at from.begun.kind (entered_pins list) gate))
+            (within, ap (λ (i : List Bool). is_inside i gate) inside ∙ here, refl));
+        ties = λ link in_links.
+            let tie = link_at board.links link in
+            inr (is.hull.rest.rest (along_link tie.0.0 tie.1.0)
+            (subst (λ (ls : LinkList). IsLink ls tie.0.0 tie.1.0) same_links (link_stands board.links link in_links)));
+      };
     }))
 
 -- where something is assumed, a scope has begun
@@ -146,7 +156,7 @@ module _ (a : StateAlgebra) {standing : Standing} {kept : Kept} {room befores_ro
   list = standing.assumptions
 
   abbrev from : Outset
-  from = record { net = standing.net; inside = kept.board.inside; rules = standing.rules; begun = begun }
+  from = record { net = standing.net; inside = kept.board.inside; inner = kept.board.links; rules = standing.rules; begun = begun }
 
   stands : StandsOpen a from standing.ends list standing.conflict kept
   stands =
@@ -158,7 +168,8 @@ module _ (a : StateAlgebra) {standing : Standing} {kept : Kept} {room befores_ro
 
   -- what stands when the list, the board and the rest are these
   kept_now : (now : List Assumption) (answer : Option LineId) (closings : ℕ) (new : Kept) (room' befores_room' : ℕ) → room' ≡ room
-      → befores_room' ≡ befores_room → IsBoardOf standing.net new.board → new.board.inside ≡ kept.board.inside → new.board.waiting ≡ []
+      → befores_room' ≡ befores_room → IsBoardOf standing.net new.board → new.board.inside ≡ kept.board.inside → new.board.links ≡ kept.board.links
+      → new.board.waiting ≡ []
       → HasStepRoom standing.net new.steps → StandsOpen a from standing.ends now answer new
       → KeepsStanding a (record {
         net = standing.net;
@@ -169,17 +180,22 @@ module _ (a : StateAlgebra) {standing : Standing} {kept : Kept} {room befores_ro
         conflict = answer;
         closings = closings;
       }) new room' befores_room'
-  kept_now now answer closings new room' befores_room' same_room same_befores of inside at_rest step_room open_ =
-      let P : List Bool → Type 0 = λ i. AreToldGates standing.net standing.ends i in
+  kept_now now answer closings new room' befores_room' same_room same_befores of inside links at_rest step_room open_ =
       let Q : List Bool → Type 0 =
-      λ i. StandsOpen a (record { net = standing.net; inside = i; rules = standing.rules; begun = begun }) standing.ends now answer new in
+      λ i. StandsOpen a (record { net = standing.net; inside = i; inner = kept.board.links; rules = standing.rules; begun = begun }) standing.ends now
+      answer new in
+      let L : LinkList → Type 0 =
+      λ ls. StandsOpen a (record { net = standing.net; inside = new.board.inside; inner = ls; rules = standing.rules; begun = begun }) standing.ends now
+      answer new in
       let R : Option Beginning → Type 0 = λ b. StandsFrom a standing.net standing.rules standing.ends b now answer new in
       record {
         circuit = keeps.circuit;
         board = of;
-        cone = subst P (sym inside) keeps.cone;
+        links = keeps.links;
+        cone = same_cone standing.net (links_of standing.rules) standing.ends kept.board.inside new.board.inside inside kept.board.links
+            new.board.links links keeps.cone;
         at_rest = at_rest;
-        stands = subst R (sym is) (subst Q (sym inside) open_);
+        stands = subst R (sym is) (subst L (sym links) (subst Q (sym inside) open_));
         step_room = step_room;
         room = omega (arith, keeps.room, same_room);
         befores_room = omega (arith, keeps.befores_room, same_befores);
@@ -190,12 +206,12 @@ module _ (a : StateAlgebra) {standing : Standing} {kept : Kept} {room befores_ro
     open_now = let P : Option LineId → Type 0 = λ x. AreLabelsUnder a from list kept.board.labels x in subst P free stands.answer
 
     pub ready_now : MaySettle a standing.net kept.steps.kind kept.steps.steps kept.board
-    ready_now = is_ready a from list kept.board kept.steps.kind kept.steps.steps keeps.board refl stands.kind stands.entered open_now
+    ready_now = is_ready a from list kept.board kept.steps.kind kept.steps.steps keeps.board refl refl stands.kind stands.entered open_now
 
     module _ (entry : Assumption)
-        (fits : IsListFrom a.count standing.net standing.ends standing.beginning (list ++ entry ∷ [])) where
-      fit : AreAssumptions a.count standing.net begun (list ++ entry ∷ []) × AreToldPins standing.net standing.ends (list ++ entry ∷ [])
-      fit = let P : Option Beginning → Type 0 = λ b. IsListFrom a.count standing.net standing.ends b (list ++ entry ∷ []) in subst P is fits
+        (fits : IsListFrom a.count standing.net (links_of standing.rules) standing.ends standing.beginning (list ++ entry ∷ [])) where
+      fit : AreAssumptions a.count standing.net begun (list ++ entry ∷ []) × AreToldEntries standing.net (links_of standing.rules) standing.ends (list ++ entry ∷ [])
+      fit = let P : Option Beginning → Type 0 = λ b. IsListFrom a.count standing.net (links_of standing.rules) standing.ends b (list ++ entry ∷ []) in subst P is fits
 
       -- there is room for it
       pub room_for_one : length list < room
@@ -235,7 +251,8 @@ module _ (a : StateAlgebra) {standing : Standing} {kept : Kept} {room befores_ro
           (stands.entered ∙ ap entered_pins (sym (take-append_seam list (entry ∷ []))))
 
       module _ (was : Before) (marked : was.changes ≡ length kept.board.notes) (left : IsLeftBefore a.count list entry was.left)
-          (board : OnBoard) (inside : board.inside ≡ kept.board.inside) (follows : Follows kept.board board) (at_rest : board.waiting ≡ [])
+          (board : OnBoard) (inside : board.inside ≡ kept.board.inside) (links : board.links ≡ kept.board.links)
+          (follows : Follows kept.board board) (at_rest : board.waiting ≡ [])
           (steps : Steps) (stepped : steps ≡ record kept.steps { steps = kept.steps.steps ++ entered_pins (entry ∷ []) })
           (answer : Option LineId) (seen : Circuit) (circuits : seen ≡ standing.net)
           (narrowed : IsNarrowedMore a seen entry steps.kind steps.steps kept.board board answer) where
@@ -264,14 +281,16 @@ module _ (a : StateAlgebra) {standing : Standing} {kept : Kept} {room befores_ro
         stands_more : StandsOpen a from standing.ends (list ++ entry ∷ []) answer grown
         stands_more = record {
           list = fit.0;
+          begins = stands.begins;
           told = fit.1;
           kind = kind_now;
           entered = steps_now;
           stood = stood_more a from kept.board board follows list kept.befores entry was marked stands.stood open_now left;
           left = left_more a.count (source_count standing.net) list kept.left stands.left entry takes;
           answer = settled_more a from list entry kept.board.labels narrowed_here.first open_now narrowed_here.cut steps.kind steps.steps
-              kind_now steps_now board.labels answer narrowed_here.settled;
-          idling = stands_on a standing.net standing.rules kept.idle kept.board board stands.idling follows inside;
+              kind_now steps_now board.labels answer
+              narrowed_here.settled;
+          idling = stands_on a standing.net standing.rules kept.idle kept.board board stands.idling follows inside links;
         }
 
         -- what an engine keeps after an assumption more
@@ -296,7 +315,7 @@ module _ (a : StateAlgebra) {standing : Standing} {kept : Kept} {room befores_ro
             let R : List StateSet → Type 0 =
             λ l. StandsOpen a from standing.ends (list ++ entry ∷ []) answer (new (kept.befores ++ was ∷ []) l) in
             kept_now now answer closings (new befores left_now) room' befores_room' same_room same_befores
-            (of_circuit standing.net kept.board board keeps.board follows inside) inside at_rest
+            (of_circuit standing.net kept.board board keeps.board follows inside links) inside links at_rest
             (record {
               gates = ap (λ (s : Steps). s.gates) stepped ∙ keeps.step_room.gates;
               levels = ap (λ (s : Steps). s.room) stepped ∙ keeps.step_room.levels;
@@ -327,6 +346,7 @@ module _ (a : StateAlgebra) {standing : Standing} {kept : Kept} {room befores_ro
 
     module _ (board : OnBoard) (labels : board.labels ≡ undone (drop was.changes kept.board.notes) kept.board.labels)
         (notes : board.notes ≡ take was.changes kept.board.notes) (at_rest : board.waiting ≡ []) (inside : board.inside ≡ kept.board.inside)
+        (links : board.links ≡ kept.board.links)
         (left : List StateSet) (left_is : left ≡ left_without entry was.left kept.left) (steps : Steps)
         (steps_is : steps ≡ steps_without entry kept.steps) where
       abbrev back : Kept
@@ -336,8 +356,9 @@ module _ (a : StateAlgebra) {standing : Standing} {kept : Kept} {room befores_ro
       stands_less = record {
         list = let P : List Assumption → Type 0 = λ x. AreAssumptions a.count standing.net begun x in
             subst P taken (list_taken a.count standing.net begun list stands.list (length front));
-        told = let P : List Assumption → Type 0 = λ x. AreToldPins standing.net standing.ends x in
-            subst P taken (told_taken standing.net standing.ends list (length front) stands.told);
+        begins = stands.begins;
+        told = let P : List Assumption → Type 0 = λ x. AreToldEntries standing.net (links_of standing.rules) standing.ends x in
+            subst P taken (told_taken standing.net (links_of standing.rules) standing.ends list (length front) stands.told);
         kind = ap (λ (s : Steps). s.kind) steps_is ∙ kind_back kept.steps front entry ∙ stands.kind;
         entered = ap (λ (s : Steps). s.steps) steps_is ∙ steps_back kept.steps front entry (stands.entered ∙ ap entered_pins lists);
         stood = stood_back a from kept.board board front befores entry was stood_here notes labels;
@@ -346,7 +367,7 @@ module _ (a : StateAlgebra) {standing : Standing} {kept : Kept} {room befores_ro
             (left_less a.count (source_count standing.net) list front kept.left stands.left entry was.left lists about_here
             (stood_last a from kept.board board front befores entry was stood_here notes labels).left);
         answer = open_again a from kept.board board front befores entry was stood_here notes labels;
-        idling = stands_back a standing.net standing.rules kept.idle kept.board board was.changes stands.idling notes labels inside;
+        idling = stands_back a standing.net standing.rules kept.idle kept.board board was.changes stands.idling notes labels inside links;
       }
 
       pub kept_taken_back : (room' befores_room' : ℕ) → room' ≡ room → befores_room' ≡ befores_room → (closings : ℕ)
@@ -361,27 +382,25 @@ module _ (a : StateAlgebra) {standing : Standing} {kept : Kept} {room befores_ro
           }) back room' befores_room'
       kept_taken_back room' befores_room' same_room same_befores closings =
           kept_now front None closings back room' befores_room' same_room same_befores
-          (record {
-            lines = ap length labels ∙ length-undone (drop was.changes kept.board.notes) kept.board.labels ∙ keeps.board.lines;
-            gates = ap length inside ∙ keeps.board.gates;
-          })
-          inside at_rest
+          (still_of standing.net kept.board board inside links
+          (ap length labels ∙ length-undone (drop was.changes kept.board.notes) kept.board.labels) keeps.board)
+          inside links at_rest
           (subst (HasStepRoom standing.net) (sym steps_is) (room_back kept.steps front standing.net entry keeps.step_room)) stands_less
 
 -- An entry is added to what an engine keeps, as its calls see it.
 module _ (a : StateAlgebra) {standing : Standing} {kept : Kept} {room befores_room : ℕ}
     (keeps : KeepsStanding a standing kept room befores_room) (now : Standing) (is_now : standing ≡ now) (some : IsSome now.beginning)
     (free : now.conflict ≡ None) (entry : Assumption)
-    (fits : IsListFrom a.count now.net now.ends now.beginning (now.assumptions ++ entry ∷ [])) where
+    (fits : IsListFrom a.count now.net (links_of now.rules) now.ends now.beginning (now.assumptions ++ entry ∷ [])) where
   begun_here : (begun : Beginning) × (standing.beginning ≡ Some begun)
   begun_here = some_beginning standing.beginning (let P : Standing → Type 0 = λ s. IsSome s.beginning in subst P (sym is_now) some)
 
   free_here : standing.conflict ≡ None
   free_here = ap (λ (s : Standing). s.conflict) is_now ∙ free
 
-  fits_here : IsListFrom a.count standing.net standing.ends standing.beginning (standing.assumptions ++ entry ∷ [])
+  fits_here : IsListFrom a.count standing.net (links_of standing.rules) standing.ends standing.beginning (standing.assumptions ++ entry ∷ [])
   fits_here =
-      let P : Standing → Type 0 = λ s. IsListFrom a.count s.net s.ends s.beginning (s.assumptions ++ entry ∷ []) in
+      let P : Standing → Type 0 = λ s. IsListFrom a.count s.net (links_of s.rules) s.ends s.beginning (s.assumptions ++ entry ∷ []) in
       subst P (sym is_now) fits
 
   pub add_room : length standing.assumptions < room
@@ -418,7 +437,8 @@ module _ (a : StateAlgebra) {standing : Standing} {kept : Kept} {room befores_ro
         subst P (sym circuits) (source_fits a keeps begun_here.0 begun_here.1 free_here entry fits_here)
 
     module _ (was : Before) (marked : was.changes ≡ length kept.board.notes) (left : IsLeftBefore a.count now.assumptions entry was.left)
-        (board : OnBoard) (inside : board.inside ≡ kept.board.inside) (follows : Follows kept.board board) (at_rest : board.waiting ≡ [])
+        (board : OnBoard) (inside : board.inside ≡ kept.board.inside) (links : board.links ≡ kept.board.links)
+        (follows : Follows kept.board board) (at_rest : board.waiting ≡ [])
         (steps : Steps) (stepped : steps ≡ record kept.steps { steps = kept.steps.steps ++ entered_pins (entry ∷ []) })
         (answer : Option LineId) (narrowed : IsNarrowedMore a seen entry steps.kind steps.steps kept.board board answer)
         (list : List Assumption) (grows : list ≡ standing.assumptions ++ entry ∷ []) (befores : List Before)
@@ -436,7 +456,7 @@ module _ (a : StateAlgebra) {standing : Standing} {kept : Kept} {room befores_ro
           (record { board = board; idle = kept.idle; befores = befores; left = left_now; steps = steps }) room' befores_room'
       added =
           let P : Standing → Type 0 = λ s. IsLeftBefore a.count s.assumptions entry was.left in
-          kept_added a keeps begun_here.0 begun_here.1 free_here entry fits_here was marked (subst P (sym is_now) left) board inside follows
+          kept_added a keeps begun_here.0 begun_here.1 free_here entry fits_here was marked (subst P (sym is_now) left) board inside links follows
           at_rest steps stepped answer seen circuits narrowed list grows befores befores_grow left_now left_is room' befores_room' same_room
           same_befores closings
 
@@ -455,6 +475,7 @@ module _ (a : StateAlgebra) {standing : Standing} {kept : Kept} {room befores_ro
 
     module _ (board : OnBoard) (labels : board.labels ≡ undone (drop was.changes kept.board.notes) kept.board.labels)
         (notes : board.notes ≡ take was.changes kept.board.notes) (at_rest : board.waiting ≡ []) (inside : board.inside ≡ kept.board.inside)
+        (links : board.links ≡ kept.board.links)
         (left : List StateSet) (left_is : left ≡ left_without entry was.left kept.left) (steps : Steps)
         (steps_is : steps ≡ steps_without entry kept.steps) (room' befores_room' : ℕ) (same_room : room' ≡ room)
         (same_befores : befores_room' ≡ befores_room) (closings : ℕ) where
@@ -469,5 +490,5 @@ module _ (a : StateAlgebra) {standing : Standing} {kept : Kept} {room befores_ro
       })
           (record { board = board; idle = kept.idle; befores = befores; left = left; steps = steps }) room' befores_room'
       taken_back =
-          kept_taken_back a keeps begun_once.0 begun_once.1 front entry lists befores was before board labels notes at_rest inside left left_is
+          kept_taken_back a keeps begun_once.0 begun_once.1 front entry lists befores was before board labels notes at_rest inside links left left_is
           steps steps_is room' befores_room' same_room same_befores closings

@@ -59,24 +59,24 @@ module _ (a : StateAlgebra) (from : Outset) where
   May = MayUnder a from.net from.rules from.begun
 
   abbrev Inside : List Assumption → Narrowing → Type 0
-  Inside list = IsNarrowingIn from.net (is_inside from.inside) from.begun.kind (entered_pins list)
+  Inside list = IsNarrowingIn from.net (is_inside from.inside) from.inner from.begun.kind (entered_pins list)
 
   -- labels settled from others are the labels under the assumptions, if the hull and the emptied lines of the others are those under them
   settled_from : (list : List Assumption) (first : List StateSet)
       → ((hull : List StateSet) → IsHull a from.net (Inside list) (HasAt a.count first) hull → IsHull a from.net (Inside list) (May list) hull)
       → ((line : ℕ) → IsEmptied a from.net (Inside list) (HasAt a.count first) line → IsEmptied a from.net (Inside list) (May list) line)
       → (kind : Kind) (steps : List PinRef) → kind ≡ from.begun.kind → steps ≡ entered_pins list
-      → (labels : List StateSet) (answer : Option LineId) → IsSettledFrom a from.net from.inside kind steps first labels answer
+      → (labels : List StateSet) (answer : Option LineId) → IsSettledFrom a from.net from.inside from.inner kind steps first labels answer
       → AreLabelsUnder a from list labels answer
   settled_from list first hulls empties kind steps same_kind same_steps labels None settled =
-      let P : Kind → Type 0 = λ k. IsHull a from.net (IsNarrowingIn from.net (is_inside from.inside) k steps) (HasAt a.count first) labels in
+      let P : Kind → Type 0 = λ k. IsHull a from.net (IsNarrowingIn from.net (is_inside from.inside) from.inner k steps) (HasAt a.count first) labels in
       let Q : List PinRef → Type 0 =
-      λ s. IsHull a from.net (IsNarrowingIn from.net (is_inside from.inside) from.begun.kind s) (HasAt a.count first) labels in
+      λ s. IsHull a from.net (IsNarrowingIn from.net (is_inside from.inside) from.inner from.begun.kind s) (HasAt a.count first) labels in
       record { hull = hulls labels (subst Q same_steps (subst P same_kind settled.hull)); none_empty = settled.none_empty }
   settled_from list first hulls empties kind steps same_kind same_steps labels (Some line) settled =
-      let P : Kind → Type 0 = λ k. IsEmptied a from.net (IsNarrowingIn from.net (is_inside from.inside) k steps) (HasAt a.count first) line.0 in
+      let P : Kind → Type 0 = λ k. IsEmptied a from.net (IsNarrowingIn from.net (is_inside from.inside) from.inner k steps) (HasAt a.count first) line.0 in
       let Q : List PinRef → Type 0 =
-      λ s. IsEmptied a from.net (IsNarrowingIn from.net (is_inside from.inside) from.begun.kind s) (HasAt a.count first) line.0 in
+      λ s. IsEmptied a from.net (IsNarrowingIn from.net (is_inside from.inside) from.inner from.begun.kind s) (HasAt a.count first) line.0 in
       record {
         in_circuit = settled.emptied.0;
         emptied = empties line.0 (subst Q same_steps (subst P same_kind settled.emptied.1));
@@ -97,8 +97,8 @@ module _ (a : StateAlgebra) (from : Outset) where
         → IsRestAmong a from.net (Inside before) (May before) labels
     rest_before labels is =
         let P : List PinRef → Type 0 =
-        λ s. IsRestAmong a from.net (IsNarrowingIn from.net (is_inside from.inside) from.begun.kind s) (May before) labels in
-        widens_by_steps_in a from.net (is_inside from.inside) from.begun.kind (entered_pins before) (entered_pins (entry ∷ [])) (May before)
+        λ s. IsRestAmong a from.net (IsNarrowingIn from.net (is_inside from.inside) from.inner from.begun.kind s) (May before) labels in
+        widens_by_steps_in a from.net (is_inside from.inside) from.inner from.begun.kind (entered_pins before) (entered_pins (entry ∷ [])) (May before)
         labels
         (subst P (entered_append before (entry ∷ [])) (record {
           labelling = is.labelling;
@@ -141,7 +141,7 @@ module _ (a : StateAlgebra) (from : Outset) where
 
     -- settled, they are the labels under all
     pub settled_more : (kind : Kind) (steps : List PinRef) → kind ≡ from.begun.kind → steps ≡ entered_pins list
-        → (labels : List StateSet) (answer : Option LineId) → IsSettledFrom a from.net from.inside kind steps first labels answer
+        → (labels : List StateSet) (answer : Option LineId) → IsSettledFrom a from.net from.inside from.inner kind steps first labels answer
         → AreLabelsUnder a from list labels answer
     settled_more = settled_from list first hull_more emptied_more
 
@@ -157,19 +157,19 @@ module _ (a : StateAlgebra) (from : Outset) where
 
   -- so the hull of the start is that under no assumptions
   pub labels_at_start : (kind : Kind) → kind ≡ from.begun.kind → (labels : List StateSet) (answer : Option LineId)
-      → IfNone answer (IsHull a from.net (IsNarrowingIn from.net (is_inside from.inside) kind []) Start labels)
+      → IfNone answer (IsHull a from.net (IsNarrowingIn from.net (is_inside from.inside) from.inner kind []) Start labels)
       → IfNone answer (HasNoEmptySet from.net labels)
       → IfSome answer (λ line. (line.0 < line_count from.net)
-      × IsEmptied a from.net (IsNarrowingIn from.net (is_inside from.inside) kind []) Start line.0)
+      × IsEmptied a from.net (IsNarrowingIn from.net (is_inside from.inside) from.inner kind []) Start line.0)
       → AreLabelsUnder a from [] labels answer
   labels_at_start kind is labels None hull none_empty emptied =
-      let P : Kind → Type 0 = λ k. IsHull a from.net (IsNarrowingIn from.net (is_inside from.inside) k []) Start labels in
+      let P : Kind → Type 0 = λ k. IsHull a from.net (IsNarrowingIn from.net (is_inside from.inside) from.inner k []) Start labels in
       record {
         hull = hull_of_same a from.net (Inside []) Start (May []) start_may may_start labels (subst P is hull);
         none_empty = none_empty;
       }
   labels_at_start kind is labels (Some line) hull none_empty emptied =
-      let P : Kind → Type 0 = λ k. IsEmptied a from.net (IsNarrowingIn from.net (is_inside from.inside) k []) Start line.0 in
+      let P : Kind → Type 0 = λ k. IsEmptied a from.net (IsNarrowingIn from.net (is_inside from.inside) from.inner k []) Start line.0 in
       record {
         in_circuit = emptied.0;
         emptied = emptied_if_wider a from.net (Inside []) (Inside []) (May []) Start

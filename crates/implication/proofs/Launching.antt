@@ -26,15 +26,16 @@ use Rattle.state_laws.proofs.Choices.{some_choice, choice_with}
 use Rattle.state_laws.proofs.Cones.{same_rests}
 use Rattle.state_laws.proofs.Forward.{stands_or_not, rest_lies}
 use Rattle.state_laws.proofs.Images.{has_some}
+use Rattle.state_laws.proofs.Linked.{none_linked}
 use Rattle.state_laws.proofs.Sets.{none_has, label_within}
 use Rattle.implication.specs.Begun.{IsImage, HasBegunWith}
 
 module _ (a : StateAlgebra) (laws : HasLaws a) (c : Circuit) (circuit : IsCircuit c) (inside : ℕ → Bool) (start : StateSet)
     (base : List StateSet) (forward : IsForward a c inside start base) (rules : Rules) (source : ℕ) (is_source : source < source_count c)
     (others : (line : ℕ) → line < source_count c → line ≢ source → (state : State) → state.0 < a.count
-    → IsOtherStart a rules state ↔ Has a.count start state)
+    → (IsOtherStart a rules state × Has a.count a.sources state) ↔ Has a.count start state)
     (direction : Direction) (launched : StateSet) (launched_within : launched.0 < 2 ^ a.count) (launched_some : launched ≢ no_states)
-    (launches : (state : State) → Has a.count launched state ↔ ((state.0 < a.count) × IsLaunching a direction state))
+    (launches : (state : State) → Has a.count launched state ↔ (Has a.count a.sources state × IsLaunching a direction state))
     (reached : List LineId) (of : AreReached c inside source reached) (all_inside : All (λ line. IsLineIn c inside line.0) reached)
     (labels : List StateSet) (labelling : IsLabelling a.count c labels)
     (each : (line : LineId) → Contains reached line → HasBegunWith a c launched labels line.0 (label_at labels line.0))
@@ -160,22 +161,32 @@ module _ (a : StateAlgebra) (laws : HasLaws a) (c : Circuit) (circuit : IsCircui
       (pins_same gate within is_in not) (same (line_of (gate_line c gate)) not))
       (forward.rests kind (at_gate gate None) (within, is_in, refl)))
 
-  rests : (kind : Kind) → IsAtRest a c (IsNarrowingIn c inside kind []) labels
+  rests : (kind : Kind) → IsAtRest a c (IsNarrowingIn c inside [] kind []) labels
   rests kind (at_gate gate condition) is =
       subst (λ o. IsNarrowing a c gate o labels labels) (sym is.2) (gate_rests kind gate is.0 is.1)
-  rests kind (along_link from line) is = absurd is
+  rests kind (along_link from line) is = absurd (none_linked from line is)
+
+  started : (line : ℕ) → line < source_count c → line ≢ source → (state : State) → Has a.count (label_at labels line) state
+      → IsOtherStart a rules state × Has a.count a.sources state
+  started line below away state has =
+      let base_has : Has a.count (label_at base line) state =
+      subst (λ (set : StateSet). Has a.count set state) (same (line_of line) (not_reached line below away)) has in
+      (others line below away state has.in_range).1
+      (subst (λ (set : StateSet). Has a.count set state) (forward.sources line below) base_has)
 
   -- a line has only states that it may start in
   among : IsAmong a.count May labels
   among line state has = record {
+    is_source = λ below. ⊎_elim
+        (λ (here : line ≡ source).
+        ((launches state).0 (subst (λ (set : StateSet). Has a.count set state) own_set
+        (subst (λ (l : ℕ). Has a.count (label_at labels l) state) here has))).0)
+        (λ (away : line ≢ source). (started line below away state has).1)
+        (cases_eq line source);
     own = λ here.
         ((launches state).0 (subst (λ (set : StateSet). Has a.count set state) own_set
         (subst (λ (l : ℕ). Has a.count (label_at labels l) state) here has))).1;
-    other = λ below away.
-        let base_has : Has a.count (label_at base line) state =
-        subst (λ (set : StateSet). Has a.count set state) (same (line_of line) (not_reached line below away)) has in
-        (others line below away state has.in_range).1
-        (subst (λ (set : StateSet). Has a.count set state) (forward.sources line below) base_has);
+    other = λ below away. (started line below away state has).0;
   }
 
   -- a source has the states that it may start in
@@ -183,11 +194,11 @@ module _ (a : StateAlgebra) (laws : HasLaws a) (c : Circuit) (circuit : IsCircui
   at_sources line below state in_range may = ⊎_elim
       (λ (here : line ≡ source).
       subst (λ (l : ℕ). Has a.count (label_at labels l) state) (sym here)
-      (subst (λ (set : StateSet). Has a.count set state) (sym own_set) ((launches state).1 (in_range, may.own here))))
+      (subst (λ (set : StateSet). Has a.count set state) (sym own_set) ((launches state).1 (may.is_source below, may.own here))))
       (λ (away : line ≢ source).
       subst (λ (set : StateSet). Has a.count set state)
       (sym (forward.sources line below) ∙ sym (same (line_of line) (not_reached line below away)))
-      ((others line below away state in_range).0 (may.other below away)))
+      ((others line below away state in_range).0 (may.other below away, may.is_source below)))
       (cases_eq line source)
 
   -- a gate inside has what it makes of its pins' lines
@@ -214,8 +225,8 @@ module _ (a : StateAlgebra) (laws : HasLaws a) (c : Circuit) (circuit : IsCircui
       (cases_Bool (inside gate))
 
   -- so the labels are the hull of the start
-  pub begun_hull : (kind : Kind) → IsHull a c (IsNarrowingIn c inside kind []) May labels
+  pub begun_hull : (kind : Kind) → IsHull a c (IsNarrowingIn c inside [] kind []) May labels
   begun_hull kind = record {
     rest = record { labelling = labelling; rest = rests kind; among = among };
-    greatest = λ other is. rest_lies a c circuit.reads_lines circuit.loop_free inside kind May labels at_sources at_gates other is;
+    greatest = λ other is. rest_lies a c circuit.reads_lines circuit.loop_free inside [] kind May labels at_sources at_gates other is;
   }

@@ -1,5 +1,6 @@
 pub mod Entering
 pub mod Shrinking
+pub mod Linking
 pub mod Lists
 pub mod Labels
 pub mod NarrowingOn
@@ -18,3 +19,10 @@ pub mod GoingBack
 pub mod Keeping
 pub mod Assuming
 pub mod Restoring
+pub mod Told
+pub mod MoreAssumed
+pub mod Entered
+pub mod AssumedHalves
+pub mod ScopeLabels
+pub mod NodeScopes
+pub mod Settings

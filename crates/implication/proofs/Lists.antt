@@ -1,9 +1,10 @@
 -- The lists of assumptions that scopes make: how they grow, are cut, and that there is room for each.
-use Rattle.std.proofs.Common.{◌≡◌, ◌≢◌, ℕ, ◌<◌, ◌≤◌, List, [], ◌∷◌, ◌++◌, length, take, bit_and, All, Option, Some, None, inl, sym, ap, ◌∙◌, subst, arith}
+use Rattle.std.proofs.Common.{◌≡◌, ◌≢◌, ℕ, ◌<◌, ◌≤◌, List, [], ◌∷◌, ◌++◌, length, take, bit_and, All, Option, sym, ap, ◌∙◌, subst, arith}
 use Rattle.std.specs.Int.Bits.{and_self}
 use Rattle.std.proofs.lemmas.Nat.{and_assoc}
 use Rattle.std.proofs.lemmas.List.{append-nil}
-use Rattle.std.proofs.lemmas.List.Elements.{All-head, All-tail, All-push, All-take}
+use Rattle.std.proofs.lemmas.List.Elements.{All-nil, All-cons, All-head, All-tail, All-push, All-take}
+use Rattle.pd_base.specs.Links.{LinkList}
 use Rattle.pd_base.specs.declared.ids.LineId.{LineId}
 use Rattle.pd_base.specs.declared.ids.PinRef.{PinRef}
 use Rattle.netlist.specs.Circuit.{Circuit, source_count, line_count, gate_line}
@@ -17,8 +18,8 @@ use Rattle.implication.specs.declared.assumption.Assumption.{Assumption}
 use Rattle.implication.specs.declared.assumption.Assumption.TheVariants.{Entered, Assumed}
 use Rattle.implication.specs.Assumptions.{entered_pins, left_of, end_under}
 use Rattle.implication.specs.Standing.{IsToldBy}
-use Rattle.implication.specs.Kept.{AreAssumptions, AreToldPins, most_assumptions}
-use Rattle.implication.proofs.Entering.{entered_append, connects_more, connects_taken, entered_taken}
+use Rattle.implication.specs.Kept.{AreAssumptions, IsToldEntry, AreToldEntries, most_assumptions}
+use Rattle.implication.proofs.Entering.{entered_append, connects_more, connects_taken}
 use Rattle.implication.proofs.Shrinking.{shrink_taken, shrink_more, sets_within_weight, weight_most, entries_counted}
 
 -- the set of a number
@@ -80,40 +81,33 @@ module _ (count : ℕ) (c : Circuit) (begun : Beginning) where
           weight_most count (source_count c) [],
         )
 
-module _ (c : Circuit) (ends : Option (List LineId)) where
+module _ (c : Circuit) (links : LinkList) (ends : Option (List LineId)) where
   abbrev IsToldPin : PinRef → Type 0
-  IsToldPin pin = IsToldBy c ends (gate_line c pin.gate.0)
+  IsToldPin pin = IsToldBy c links ends (gate_line c pin.gate.0)
 
-  -- the gates of the first pins are told
-  pub told_taken : (list : List Assumption) (mark : ℕ) → AreToldPins c ends list → AreToldPins c ends (take mark list)
-  told_taken list mark told =
-      let few = entered_taken list mark in
-      subst (All IsToldPin) (sym few.1) (All-take IsToldPin few.0 (entered_pins list) told)
+  -- the first entries are told
+  pub told_taken : (list : List Assumption) (mark : ℕ) → AreToldEntries c links ends list → AreToldEntries c links ends (take mark list)
+  told_taken list mark told = All-take (IsToldEntry c links ends) mark list told
 
-  pub told_with_pin : (list : List Assumption) (pin : PinRef) → AreToldPins c ends list → IsToldPin pin
-      → AreToldPins c ends (list ++ Entered pin ∷ [])
-  told_with_pin list pin told also =
-      subst (All IsToldPin) (sym (entered_append list (Entered pin ∷ []))) (All-push IsToldPin (entered_pins list) pin told also)
+  -- and with them one more
+  pub told_with : (list : List Assumption) (entry : Assumption) → AreToldEntries c links ends list → IsToldEntry c links ends entry
+      → AreToldEntries c links ends (list ++ entry ∷ [])
+  told_with list entry told also = All-push (IsToldEntry c links ends) list entry told also
 
-  pub told_with_set : (list : List Assumption) (source : LineId) (set : StateSet) → AreToldPins c ends list
-      → AreToldPins c ends (list ++ Assumed source set ∷ [])
-  told_with_set list source set told =
-      subst (All IsToldPin) (sym (entered_append list (Assumed source set ∷ []) ∙ append-nil (entered_pins list))) told
-
-  -- a source is told
-  pub told_source : (line : ℕ) → line < source_count c → IsToldBy c ends line
-  told_source = told_source_by ends
-    where
-      told_source_by : (by : Option (List LineId)) (line : ℕ) → line < source_count c → IsToldBy c by line
-      told_source_by None line within = tt
-      told_source_by (Some list) line within = inl within
+  -- then the pins that were entered are
+  pub told_pins : (list : List Assumption) → AreToldEntries c links ends list → All IsToldPin (entered_pins list)
+  told_pins [] told = All-nil IsToldPin
+  told_pins (Entered pin ∷ list) told =
+      All-cons IsToldPin pin (entered_pins list) (All-head (IsToldEntry c links ends) (Entered pin) list told)
+      (told_pins list (All-tail (IsToldEntry c links ends) (Entered pin) list told))
+  told_pins (Assumed source set ∷ list) told = told_pins list (All-tail (IsToldEntry c links ends) (Assumed source set) list told)
 
   -- so is the last line of a prefix whose gates are told
-  told_after : (line : ℕ) (steps : List PinRef) → IsToldBy c ends line → All IsToldPin steps → IsToldBy c ends (line_after c line steps)
+  told_after : (line : ℕ) (steps : List PinRef) → IsToldBy c links ends line → All IsToldPin steps → IsToldBy c links ends (line_after c line steps)
   told_after line [] here told = here
   told_after line (step ∷ steps) here told =
       told_after (gate_line c step.gate.0) steps (All-head IsToldPin step steps told) (All-tail IsToldPin step steps told)
 
-  pub told_end : (begun : Beginning) (list : List Assumption) → begun.source.0 < source_count c → AreToldPins c ends list
-      → IsToldBy c ends (end_under c begun list)
-  told_end begun list source told = told_after begun.source.0 (entered_pins list) (told_source begun.source.0 source) told
+  pub told_end : (begun : Beginning) (list : List Assumption) → IsToldBy c links ends begun.source.0 → AreToldEntries c links ends list
+      → IsToldBy c links ends (end_under c begun list)
+  told_end begun list source told = told_after begun.source.0 (entered_pins list) source (told_pins list told)

@@ -1,4 +1,5 @@
 -- A board that is narrowed on under an entry more.
+use Rattle.netlist.specs.Circuit.{gate_count}
 use Rattle.std.proofs.Common.{◌≡◌, ◌≢◌, ℕ, ◌<◌, ⊎_elim, ◌+◌, Bool, true, List, length, [], ◌∷◌, ◌++◌, Option, Some, None, IfSome, IfNone, sym, ap, ◌∙◌, subst, arith}
 use Rattle.std.proofs.Math.ListN.{set}
 use Rattle.std.specs.List.{Contains}
@@ -22,6 +23,8 @@ use Rattle.hulls.specs.Settling.{MaySettle, IsCutTo}
 use Rattle.hulls.proofs.Entered.{awake_entered}
 use Rattle.hulls.proofs.Changing.{cut_shrunk, follows_on}
 use Rattle.hulls.proofs.Narrowed.{awake_on}
+use Rattle.pd_base.specs.Links.{LinkList}
+use Rattle.implication.proofs.Idling.{still_of}
 use Rattle.implication.specs.declared.assumption.Assumption.TheVariants.{Assumed}
 use Rattle.implication.specs.Kept.{IsSettledFrom, IsNarrowedMore, AreCutBy}
 use Rattle.implication.proofs.Labels.{cut_by_assumed}
@@ -37,10 +40,8 @@ module _ (a : StateAlgebra) (c : Circuit) (old : OnBoard) (steps : Steps) (ready
       let P : Steps → Type 0 = λ s. MaySettle a c s.kind s.steps new in
       let labels : new.labels ≡ old.labels = ap (λ (b : OnBoard). b.labels) same in
       subst P (sym is) (record {
-        of = record {
-          lines = ap (λ (b : OnBoard). length b.labels) same ∙ ready.of.lines;
-          gates = ap (λ (b : OnBoard). length b.inside) same ∙ ready.of.gates;
-        };
+        of = still_of c old new (ap (λ (b : OnBoard). b.inside) same) (ap (λ (b : OnBoard). b.links) same)
+            (ap (λ (b : OnBoard). length b.labels) same) ready.of;
         labelling = subst (IsLabelling a.count c) (sym labels) ready.labelling;
         some = subst (HasNoEmptySet c) (sym labels) ready.some;
         awake = awake_entered a c steps.kind steps.steps pin old new same stays waits ready.awake;
@@ -69,7 +70,7 @@ module _ (a : StateAlgebra) (c : Circuit) (old : OnBoard) (steps : Steps) (ready
     -- where the source has some state left, the board is ready again
     pub ready_cut : label_at cut.labels source.0 ≢ no_states → MaySettle a c steps.kind steps.steps cut
     ready_cut left = record {
-      of = record { lines = lines; gates = ap length is.inside ∙ ready.of.gates };
+      of = still_of c old cut is.inside is.links (cut_shrunk c None a.count source.0 to old cut is).lines ready.of;
       labelling = labelling;
       some = λ line in_circuit. ⊎_elim
           (λ (here : source.0 ≡ line).
@@ -80,14 +81,22 @@ module _ (a : StateAlgebra) (c : Circuit) (old : OnBoard) (steps : Steps) (ready
           ∙ get_or-set_other old.labels source.0 line (both_sets (label_at old.labels source.0) to) no_states (λ s. away (sym s)) in
           λ none. ready.some line in_circuit (sym e ∙ none))
           (cases_eq source.0 line);
-      awake = λ gate in_circuit here.
-          awake_on a c steps.kind steps.steps (gate + 1) None tt old cut is.inside (cut_shrunk c None a.count source.0 to old cut is).wakes
-          (λ other in_c other_here away. ready.awake other in_c other_here) gate in_circuit here (λ e. absurd (omega (arith, e)));
+      awake =
+          let past = gate_count c + length old.links in
+          let wakes = awake_on a c steps.kind steps.steps past None tt old cut is.inside is.links
+          (cut_shrunk c None a.count source.0 to old cut is).wakes
+          (record { gates = λ other in_c here away. ready.awake.gates other in_c here; ties = λ link inside away. ready.awake.ties link inside }) in
+          record {
+            gates = λ gate in_circuit here. wakes.gates gate in_circuit here (λ same. absurd (omega (arith, same, in_circuit)));
+            ties = λ link inside.
+                let low : link < length old.links = subst (λ (ls : LinkList). link < length ls) is.links inside in
+                wakes.ties link inside (λ same. absurd (omega (arith, same, low)));
+          };
     }
 
     -- where it has none, the source is emptied
     pub emptied_cut : label_at cut.labels source.0 ≡ no_states → (labels : List StateSet)
-        → IsSettledFrom a c old.inside steps.kind steps.steps cut.labels labels (Some source)
+        → IsSettledFrom a c old.inside old.links steps.kind steps.steps cut.labels labels (Some source)
     emptied_cut none labels = record {
       hull = tt;
       none_empty = tt;
@@ -99,22 +108,23 @@ module _ (a : StateAlgebra) (c : Circuit) (old : OnBoard) (steps : Steps) (ready
     }
 
     pub narrowed_cut : (labels : List StateSet) (answer : Option LineId)
-        → IsSettledFrom a c old.inside steps.kind steps.steps cut.labels labels answer → (new : OnBoard) → new.labels ≡ labels
+        → IsSettledFrom a c old.inside old.links steps.kind steps.steps cut.labels labels answer → (new : OnBoard) → new.labels ≡ labels
         → IsNarrowedMore a c (Assumed source to) steps.kind steps.steps old new answer
     narrowed_cut labels answer settled new is_new =
-        let P : List StateSet → Type 0 = λ x. IsSettledFrom a c old.inside steps.kind steps.steps cut.labels x answer in
+        let P : List StateSet → Type 0 = λ x. IsSettledFrom a c old.inside old.links steps.kind steps.steps cut.labels x answer in
         record { first = cut.labels; cut = cuts; settled = subst P (sym is_new) settled }
 
     -- what settling the cut board tells
     pub settled_cut : (new : OnBoard) (answer : Option LineId)
-        → IfNone answer (IsHull a c (IsNarrowingIn c (is_inside cut.inside) steps.kind steps.steps) (HasAt a.count cut.labels) new.labels)
+        → IfNone answer (IsHull a c (IsNarrowingIn c (is_inside cut.inside) cut.links steps.kind steps.steps) (HasAt a.count cut.labels) new.labels)
         → IfNone answer (HasNoEmptySet c new.labels)
         → IfSome answer (λ line. (line.0 < line_count c)
-        × IsEmptied a c (IsNarrowingIn c (is_inside cut.inside) steps.kind steps.steps) (HasAt a.count cut.labels) line.0)
-        → IsSettledFrom a c old.inside steps.kind steps.steps cut.labels new.labels answer
+        × IsEmptied a c (IsNarrowingIn c (is_inside cut.inside) cut.links steps.kind steps.steps) (HasAt a.count cut.labels) line.0)
+        → IsSettledFrom a c old.inside old.links steps.kind steps.steps cut.labels new.labels answer
     settled_cut new answer hull none_empty emptied =
-        let P : List Bool → Type 0 = λ i. IsSettledFrom a c i steps.kind steps.steps cut.labels new.labels answer in
-        subst P is.inside (record { hull = hull; none_empty = none_empty; emptied = emptied })
+        let P : List Bool → Type 0 = λ i. IsSettledFrom a c i old.links steps.kind steps.steps cut.labels new.labels answer in
+        let Q : LinkList → Type 0 = λ ls. IsSettledFrom a c cut.inside ls steps.kind steps.steps cut.labels new.labels answer in
+        subst P is.inside (subst Q is.links (record { hull = hull; none_empty = none_empty; emptied = emptied }))
 
 -- what was noted since a board was cut and settled was noted since before
 pub follows_cut : (count : ℕ) (c : Circuit) (line : ℕ) (to : StateSet) (old cut new : OnBoard) → IsCutTo count c None line to old cut

@@ -1,5 +1,8 @@
 -- A start never closes for the four states: some pair of vectors launches the transition and
 -- holds all other sources steady, and no pair is lost.
+use Rattle.std.proofs.Common.{arith}
+use Rattle.std.proofs.Common.{ℕ}
+use Rattle.std.proofs.Common.{sym}
 use Rattle.std.proofs.Common.{◌≡◌, ◌<◌, not, List, [], replicate, Option, Some, None, refl, subst}
 use Rattle.std.proofs.lemmas.List.{get_or-replicate}
 use Rattle.std.proofs.lemmas.List.Elements.{All-nil}
@@ -17,12 +20,16 @@ use Rattle.state_sets.specs.FourStates.{four_states}
 use Rattle.state_laws.specs.Steadied.{steadied}
 use Rattle.state_laws.proofs.Pairs.{never_closes, pair_may_start}
 use Rattle.state_laws.proofs.Steadied.{steadied_keeps, steadied_meets}
+use Rattle.pd_base.specs.Links.{LinkList, links_of, IsLink}
+use Rattle.netlist.specs.LinkedPairs.{AreLinksOf, FitRules, IsOfRules}
+use Rattle.state_sets.specs.FourLaws.{four_laws}
+use Rattle.state_laws.proofs.Linked.{none_linked}
 use Rattle.implication.specs.declared.assumption.Beginning.{Beginning}
 use Rattle.implication.specs.Assumptions.{MayUnder, IsLetBy, ClosesUnder}
 use Rattle.implication.specs.Kept.{Outset, AreLabelsUnder}
 use Rattle.implication.proofs.Wholes.{emptied_under}
 
-module _ (c : Circuit) (circuit : IsCircuit c) (rules : Rules) (begun : Beginning) (within : begun.source.0 < source_count c) where
+module _ (c : Circuit) (circuit : IsCircuit c) (rules : Rules) (unlinked : links_of rules ≡ []) (begun : Beginning) (within : begun.source.0 < source_count c) where
   -- all sources change as the transition has it
   abbrev launching : Vectors
   launching = record {
@@ -53,23 +60,39 @@ module _ (c : Circuit) (circuit : IsCircuit c) (rules : Rules) (begun : Beginnin
   held_meets : Meets c start held
   held_meets = steadied_meets c circuit start starts launching meets
 
+  -- there is no link to keep
+  none_stands : (source line : ℕ) → ¬ IsLink (links_of rules) source line
+  none_stands source line link = none_linked source line (subst (λ (ls : LinkList). IsLink ls source line) unlinked link)
+
+  keeps : IsOfRules c rules held
+  keeps source line link = absurd (none_stands source line link)
+
+  fit : FitRules c rules
+  fit = subst (AreLinksOf c) (sym unlinked) (record {
+    sources = λ k d inside. absurd (omega (arith, inside));
+    lines = λ k d inside. absurd (omega (arith, inside));
+    once = λ i j d before inside. absurd (omega (arith, inside));
+  })
+
   -- so no line is emptied at the start
   pub start_never_closes : ClosesUnder four_states c rules begun [] → ⊥
   start_never_closes =
-      never_closes c circuit held start.kind start.path starts held_meets.sides (MayUnder four_states c rules begun [])
+      never_closes four_states four_laws c circuit held start.kind start.path starts (links_of rules) fit keeps held_meets.sides
+      (MayUnder four_states c rules begun [])
       (λ line in_circuit. record {
-        start = pair_may_start c circuit rules start starts held held_meets (steadied_keeps c begun.source.0 launching rules) line;
+        start = pair_may_start four_states four_laws c circuit rules fit start starts held keeps held_meets
+            (steadied_keeps c begun.source.0 launching four_states four_laws rules) line;
         assumed = All-nil (IsLetBy four_states.count line _);
       })
 
 -- and no conflict stands there
 pub free_at_start : (a : StateAlgebra) (from : Outset) (labels : List StateSet) (answer : Option LineId) → IsCircuit from.net
-    → from.begun.source.0 < source_count from.net → AreLabelsUnder a from [] labels answer → a ≡ four_states → answer ≡ None
-free_at_start a from labels None circuit within under four = refl
-free_at_start a from labels (Some line) circuit within under four =
-    let emptied = emptied_under a from [] line.0 under in
+    → ((source line : ℕ) → IsLink from.inner source line → IsLink (links_of from.rules) source line) → from.begun.source.0 < source_count from.net → AreLabelsUnder a from [] labels answer → links_of from.rules ≡ [] → a ≡ four_states → answer ≡ None
+free_at_start a from labels None circuit among within under unlinked four = refl
+free_at_start a from labels (Some line) circuit among within under unlinked four =
+    let emptied = emptied_under a from [] among line.0 under in
     let P : StateAlgebra → Type 0 = λ x. ClosesUnder x from.net from.rules from.begun [] in
-    absurd (start_never_closes from.net circuit from.rules from.begun within (subst P four (record {
+    absurd (start_never_closes from.net circuit from.rules unlinked from.begun within (subst P four (record {
       line = line.0;
       in_circuit = emptied.0;
       emptied = emptied.1;

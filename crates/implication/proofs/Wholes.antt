@@ -1,4 +1,5 @@
 -- What labels at the gates inside tell of the whole circuit: they are those of its hull where lines are told, and close where it closes.
+use Rattle.pd_base.specs.Links.{LinkList, links_of, IsLink}
 use Rattle.std.proofs.Common.{◌≡◌, ℕ, ◌-◌, ◌<◌, ◌≤◌, ⊎_elim, inl, inr, Bool, true, false, List, length, replicate, [], get_or, All, Option, Some, None, IfSome, IfNone, refl, sym, ap, ◌∙◌, subst, arith}
 use Rattle.std.proofs.lemmas.Bool.{cases_lt}
 use Rattle.std.proofs.lemmas.List.{get_or-replicate, length-replicate}
@@ -8,15 +9,20 @@ use Rattle.pd_base.specs.declared.rules.Rules.{Rules}
 use Rattle.netlist.specs.Circuit.{Circuit, source_count, gate_count, line_count, gate_line, pins_at}
 use Rattle.netlist.specs.Lawful.{IsCircuit}
 use Rattle.netlist.specs.Pins.{IsPin}
-use Rattle.netlist.proofs.Evaluation.{gate_line_of, all_at_place}
+use Rattle.netlist.proofs.Evaluation.{gate_line_of}
 use Rattle.state_sets.specs.declared.state.State.{State}
 use Rattle.state_sets.specs.declared.state.StateSet.{StateSet}
 use Rattle.state_sets.specs.States.{Has}
 use Rattle.state_sets.specs.StateAlgebra.{StateAlgebra, HasLaws}
 use Rattle.state_sets.specs.Labellings.{label_at}
 use Rattle.state_sets.specs.Hulls.{IsNarrowingOf}
-use Rattle.state_laws.specs.Cones.{IsLineIn, IsPartOfHull}
-use Rattle.state_laws.proofs.Cones.{part_of_hull, emptied_inside}
+use Rattle.state_laws.specs.Cones.{IsLineWithin, AreFreeOutside, IsPartOfHull}
+use Rattle.state_laws.proofs.LinkedCones.{part_of_linked_hull, emptied_within}
+use Rattle.state_laws.proofs.Linked.{none_linked, linked_source, linked_line}
+use Rattle.netlist.specs.LinkedPairs.{AreLinksOf}
+use Rattle.state_sets.specs.Starts.{IsOtherStart}
+use Rattle.pd_base.specs.declared.rules.Rules.TheVariants.{One, Two, Linked}
+use Rattle.implication.proofs.Lists.{told_pins}
 use Rattle.state_laws.proofs.Hulls.{not_closing}
 use Rattle.hulls.specs.Awaiting.{is_inside}
 use Rattle.implication.specs.declared.assumption.Beginning.{Beginning}
@@ -24,7 +30,7 @@ use Rattle.implication.specs.declared.assumption.Assumption.{Assumption}
 use Rattle.implication.specs.declared.assumption.Assumption.TheVariants.{Entered, Assumed}
 use Rattle.implication.specs.Assumptions.{entered_pins, MayUnder, IsLetBy, IsEmptiedUnder, ClosesUnder}
 use Rattle.implication.specs.Standing.{Standing, IsToldBy, TellsLabels, IsLabels, IsHullFrom, IsOpenFrom, IsOpenIn, IsEmptiedFrom, IsEmptiedIn}
-use Rattle.implication.specs.Kept.{Outset, Kept, AreAssumptions, AreToldPins, IsAboutSource, AreToldGates, IsOpenHull, IsEmptiedInside, StandsFrom, KeepsStanding}
+use Rattle.implication.specs.Kept.{Outset, Kept, AreAssumptions, AreToldEntries, IsToldEntry, IsAboutSource, AreToldGates, IsOpenHull, IsEmptiedInside, StandsFrom, KeepsStanding}
 use Rattle.implication.proofs.Entering.{pins_of}
 use Rattle.implication.proofs.Shrinking.{about_sources}
 
@@ -34,37 +40,56 @@ lets_others : (count sources line : ℕ) (state : State) → sources ≤ line �
 lets_others count sources line state past (Entered pin) about = tt
 lets_others count sources line state past (Assumed source set) about = λ here. absurd (omega (arith, here, about, past))
 
--- where all gates are inside, all lines are told
-pub cone_of_all : (c : Circuit) → IsCircuit c → (inside : List Bool) → inside ≡ replicate (gate_count c) true → AreToldGates c None inside
-cone_of_all c circuit inside is =
-    let whole : (gate : ℕ) → gate < gate_count c → is_inside inside gate ≡ true =
-    λ gate within. ap (λ (flags : List Bool). is_inside flags gate) is ∙ get_or-replicate (gate_count c) gate true false within in
-    record {
-      one_each = ap length is ∙ length-replicate (gate_count c) true;
-      closed = λ gate other within here reads.
-          whole other
-          (let line : gate_line c other < line_count c =
-          all_at_place (λ (l : LineId). l.0 < line_count c) (pins_at c gate) reads.0 (record { 0 = gate_line c other })
-          (circuit.reads_lines gate within) reads.1 in omega (arith, line));
-      told = λ gate within. ((λ _. tt), (λ _. whole gate within));
-    }
+-- where all gates and links are inside, all lines are told
+pub cone_of_all : (c : Circuit) → IsCircuit c → (links : LinkList) → AreLinksOf c links → (inside : List Bool)
+    → inside ≡ replicate (gate_count c) true → AreToldGates c links None inside links
+cone_of_all c circuit links of inside is = record {
+  gates = let e = ap length is in let f = length-replicate (gate_count c) true in omega arith;
+  closed = record {
+    pins = λ gate within here i d in_pins. all_within (get_or (pins_at c gate) i d).0 (circuit.reads_lines gate within i d in_pins);
+    among = λ source line link. link;
+    lines = λ source line link. all_within line (linked_line c links of source line link);
+  };
+  told = λ gate within. ((λ _. tt), (λ _. whole gate within));
+  sources = λ source line told link. link;
+}
+  where
+    whole : (gate : ℕ) → gate < gate_count c → is_inside inside gate ≡ true
+    whole gate within = ap (λ (flags : List Bool). is_inside flags gate) is ∙ get_or-replicate (gate_count c) gate true false within
+
+    all_within : (line : ℕ) → line < line_count c → IsLineWithin c (is_inside inside) links links line
+    all_within line within = ⊎_elim
+        (λ (source : line < source_count c). inl (source, (λ other link. link)))
+        (λ (above : source_count c ≤ line).
+        let gate = line - source_count c in
+        let below : gate < gate_count c = omega (arith, within, above) in
+        inr (gate, below, whole gate below, sym (gate_line_of c line above)))
+        (cases_lt line (source_count c))
 
 -- a line that is told is one inside
-told_inside : (c : Circuit) (ends : Option (List LineId)) (inside : _) → AreToldGates c ends inside → (line : ℕ) → line < line_count c
-    → IsToldBy c ends line → IsLineIn c (is_inside inside) line
-told_inside c ends inside cone line within told = ⊎_elim
-    (λ (source : line < source_count c). inl source)
+told_inside : (c : Circuit) (links : LinkList) (ends : Option (List LineId)) (inside : _) (inner : LinkList) → AreToldGates c links ends inside inner
+    → (line : ℕ) → line < line_count c → IsToldBy c links ends line → IsLineWithin c (is_inside inside) links inner line
+told_inside c links ends inside inner cone line within told = ⊎_elim
+    (λ (source : line < source_count c). inl (source, (λ other link. cone.sources line other told link)))
     (λ (above : source_count c ≤ line).
     let gate = line - source_count c in
     let is : gate_line c gate ≡ line = gate_line_of c line above in
     let below : gate < gate_count c = omega (arith, within, above) in
-    let P : ℕ → Type 0 = λ l. IsToldBy c ends l in
+    let P : ℕ → Type 0 = λ l. IsToldBy c links ends l in
     inr (gate, below, (cone.told gate below).1 (subst P (sym is) told), sym is))
     (cases_lt line (source_count c))
 
-module _ (a : StateAlgebra) (laws : HasLaws a) (from : Outset) (circuit : IsCircuit from.net) (ends : Option (List LineId))
-    (cone : AreToldGates from.net ends from.inside) (list : List Assumption) (are : AreAssumptions a.count from.net from.begun list)
-    (told : AreToldPins from.net ends list) where
+-- under rules with a link other sources may start in every state of a source
+linked_start : (a : StateAlgebra) (rules : Rules) (source line : ℕ) → IsLink (links_of rules) source line → (state : State)
+    → IsOtherStart a rules state
+linked_start a One source line link state = tt
+linked_start a Two source line link state = absurd (none_linked source line link)
+linked_start a (Linked links) source line link state = tt
+
+module _ (a : StateAlgebra) (laws : HasLaws a) (from : Outset) (circuit : IsCircuit from.net) (linked : AreLinksOf from.net (links_of from.rules))
+    (ends : Option (List LineId)) (cone : AreToldGates from.net (links_of from.rules) ends from.inside from.inner) (list : List Assumption)
+    (are : AreAssumptions a.count from.net from.begun list) (begins : IsToldBy from.net (links_of from.rules) ends from.begun.source.0)
+    (told : AreToldEntries from.net (links_of from.rules) ends list) where
   abbrev May : ℕ → State → Type 0
   May = MayUnder a from.net from.rules from.begun list
 
@@ -76,13 +101,15 @@ module _ (a : StateAlgebra) (laws : HasLaws a) (from : Outset) (circuit : IsCirc
   through k d within =
       let step = get_or steps k d in
       let pins : All (IsPin from.net) steps = pins_of from.net from.begun.source.0 steps are.connects in
-      (cone.told step.gate.0 (pins k d within).in_circuit).1 (told k d within)
+      (cone.told step.gate.0 (pins k d within).in_circuit).1 (told_pins from.net (links_of from.rules) ends list told k d within)
 
   -- the line of a gate may be in every state
-  free : (gate : ℕ) → gate < gate_count from.net → (state : State) → state.0 < a.count → May (gate_line from.net gate) state
-  free gate within state below =
+  free : (gate : ℕ) → gate < gate_count from.net → is_inside from.inside gate ≡ false → (state : State) → state.0 < a.count
+      → May (gate_line from.net gate) state
+  free gate within outside state below =
       let source = are.source in record {
         start = record {
+          is_source = λ less. absurd (omega (arith, less));
           own = λ here. absurd (omega (arith, here, source));
           other = λ less apart. absurd (omega (arith, less));
         };
@@ -91,65 +118,95 @@ module _ (a : StateAlgebra) (laws : HasLaws a) (from : Outset) (circuit : IsCirc
             (about_sources a.count (source_count from.net) [] list are.shrink k d inside);
       }
 
+  -- no entry is about a source that is linked from outside
+  lets_loose : (source line : ℕ) → IsLink (links_of from.rules) source line → ¬ IsLink from.inner source line → (state : State)
+      → (entry : Assumption) → IsToldEntry from.net (links_of from.rules) ends entry → IsLetBy a.count source state entry
+  lets_loose source line link outside state (Entered pin) told = tt
+  lets_loose source line link outside state (Assumed about set) told = λ here.
+      let P : ℕ → Type 0 = λ s. IsToldBy from.net (links_of from.rules) ends s in
+      absurd (outside (cone.sources source line (subst P (sym here) told) link))
+
+  -- such a source may be in every state of a source
+  loose : AreFreeOutside a (links_of from.rules) from.inner May
+  loose source line link outside state = (
+    (λ may. may.start.is_source (linked_source from.net (links_of from.rules) linked source line link)),
+    λ has. record {
+      start = record {
+        is_source = λ less. has;
+        own = λ here.
+            let P : ℕ → Type 0 = λ s. IsToldBy from.net (links_of from.rules) ends s in
+            absurd (outside (cone.sources source line (subst P (sym here) begins) link));
+        other = λ less away. linked_start a from.rules source line link state;
+      };
+      assumed = λ k d inside. lets_loose source line link outside state (get_or list k d) (told k d inside);
+    },
+  )
+
   -- so the labels are part of the hull of the whole circuit
   pub part : (labels : List StateSet) → IsOpenHull a from list labels
-      → IsPartOfHull a from.net (is_inside from.inside) from.begun.kind steps May labels
+      → IsPartOfHull a from.net (IsLineWithin from.net (is_inside from.inside) (links_of from.rules) from.inner) (links_of from.rules)
+      from.begun.kind steps May labels
   part labels is =
-      part_of_hull a from.net laws circuit.reads_lines circuit.loop_free (is_inside from.inside) cone.closed from.begun.kind steps through
-      May free labels is.hull is.none_empty
+      part_of_linked_hull a from.net laws circuit.reads_lines (is_inside from.inside) (links_of from.rules) from.inner linked cone.closed
+      from.begun.kind steps through May free loose labels is.hull is.none_empty
 
   -- each line has some state, then, and the assumptions do not close
   pub open_if_settled : (labels : List StateSet) → IsOpenHull a from list labels → ¬ ClosesUnder a from.net from.rules from.begun list
   open_if_settled labels is =
-      let whole = part labels is in
-      not_closing a from.net (IsNarrowingOf from.net from.begun.kind steps) May whole.whole whole.hull whole.none_empty
+      let in_whole = part labels is in
+      not_closing a from.net (IsNarrowingOf from.net (links_of from.rules) from.begun.kind steps) May in_whole.whole in_whole.hull in_whole.none_empty
 
   -- what the labels tell of a line
   pub told_by : (labels : List StateSet) (is : IsOpenHull a from list labels) (line : ℕ) → line < line_count from.net
       → ((state : State) → Has a.count (label_at (part labels is).whole line) state → Has a.count (label_at labels line) state)
-      × (IsToldBy from.net ends line → label_at labels line ≡ label_at (part labels is).whole line)
+      × (IsToldBy from.net (links_of from.rules) ends line → label_at labels line ≡ label_at (part labels is).whole line)
   told_by labels is line within =
-      let whole = part labels is in (
-        (λ state has. whole.lies line state has),
-        (λ told_line. sym (whole.same line (told_inside from.net ends from.inside cone line within told_line))),
+      let in_whole = part labels is in (
+        (λ state has. in_whole.lies line state has),
+        (λ told_line. sym (in_whole.same line
+            (told_inside from.net (links_of from.rules) ends from.inside from.inner cone line within told_line))),
       )
 
--- what is emptied by the gates inside is emptied in the whole circuit
-pub emptied_under : (a : StateAlgebra) (from : Outset) (list : List Assumption) (line : ℕ) → IsEmptiedInside a from list line
-    → (line < line_count from.net) × IsEmptiedUnder a from.net from.rules from.begun list line
-emptied_under a from list line is = (
+-- what is emptied by the narrowings inside is emptied in the whole circuit
+pub emptied_under : (a : StateAlgebra) (from : Outset) (list : List Assumption)
+    → ((source line : ℕ) → IsLink from.inner source line → IsLink (links_of from.rules) source line) → (line : ℕ)
+    → IsEmptiedInside a from list line → (line < line_count from.net) × IsEmptiedUnder a from.net from.rules from.begun list line
+emptied_under a from list among line is = (
   is.in_circuit,
-  emptied_inside a from.net (is_inside from.inside) from.begun.kind (entered_pins list)
+  emptied_within a from.net (is_inside from.inside) (links_of from.rules) from.inner among from.begun.kind (entered_pins list)
       (MayUnder a from.net from.rules from.begun list) line is.emptied,
 )
 
 -- so it is as an engine stands
 module _ (a : StateAlgebra) (laws : HasLaws a) (c : Circuit) (circuit : IsCircuit c) (rules : Rules) (ends : Option (List LineId))
-    (list : List Assumption) (kept : Kept) (cone : AreToldGates c ends kept.board.inside) where
+    (list : List Assumption) (kept : Kept) (linked : AreLinksOf c (links_of rules))
+    (cone : AreToldGates c (links_of rules) ends kept.board.inside kept.board.links) where
   open_from : (beginning : Option Beginning) → StandsFrom a c rules ends beginning list None kept → IsOpenFrom a c rules beginning list
   open_from None stands = tt
   open_from (Some begun) stands =
-      open_if_settled a laws (record { net = c; inside = kept.board.inside; rules = rules; begun = begun }) circuit ends cone list
-      stands.list stands.told kept.board.labels stands.answer
+      open_if_settled a laws
+      (record { net = c; inside = kept.board.inside; inner = kept.board.links; rules = rules; begun = begun }) circuit linked ends cone list
+      stands.list stands.begins stands.told kept.board.labels stands.answer
 
   emptied_from : (beginning : Option Beginning) (line : LineId) → StandsFrom a c rules ends beginning list (Some line) kept
       → IsEmptiedFrom a c rules beginning list line.0
   emptied_from None line stands = tt
   emptied_from (Some begun) line stands =
-      emptied_under a (record { net = c; inside = kept.board.inside; rules = rules; begun = begun }) list line.0 stands.answer
+      emptied_under a (record { net = c; inside = kept.board.inside; inner = kept.board.links; rules = rules; begun = begun }) list
+      cone.closed.among line.0 stands.answer
 
   tells_from : (beginning : Option Beginning) → StandsFrom a c rules ends beginning list None kept
       → (labels : List StateSet) × IsHullFrom a c rules beginning list labels
       × ((line : ℕ) → line < line_count c
       → ((state : State) → Has a.count (label_at labels line) state → Has a.count (label_at kept.board.labels line) state)
-      × (IsToldBy c ends line → label_at kept.board.labels line ≡ label_at labels line))
+      × (IsToldBy c (links_of rules) ends line → label_at kept.board.labels line ≡ label_at labels line))
   tells_from None stands = (kept.board.labels, tt, (λ line within. ((λ state has. has), (λ told. refl))))
   tells_from (Some begun) stands =
-      let from : Outset = record { net = c; inside = kept.board.inside; rules = rules; begun = begun } in
+      let from : Outset = record { net = c; inside = kept.board.inside; inner = kept.board.links; rules = rules; begun = begun } in
       let is : IsOpenHull a from list kept.board.labels = stands.answer in (
-        (part a laws from circuit ends cone list stands.list stands.told kept.board.labels is).whole,
-        (part a laws from circuit ends cone list stands.list stands.told kept.board.labels is).hull,
-        told_by a laws from circuit ends cone list stands.list stands.told kept.board.labels is,
+        (part a laws from circuit linked ends cone list stands.list stands.begins stands.told kept.board.labels is).whole,
+        (part a laws from circuit linked ends cone list stands.list stands.begins stands.told kept.board.labels is).hull,
+        told_by a laws from circuit linked ends cone list stands.list stands.begins stands.told kept.board.labels is,
       )
 
 module _ (a : StateAlgebra) (laws : HasLaws a) {standing : Standing} {kept : Kept} {room befores_room : ℕ}
@@ -164,13 +221,13 @@ module _ (a : StateAlgebra) (laws : HasLaws a) {standing : Standing} {kept : Kep
   -- where no conflict stands, each line has some state
   open_in : standing.conflict ≡ None → IsOpenIn a standing
   open_in free =
-      open_from a laws standing.net keeps.circuit standing.rules standing.ends standing.assumptions kept keeps.cone standing.beginning
+      open_from a laws standing.net keeps.circuit standing.rules standing.ends standing.assumptions kept keeps.links keeps.cone standing.beginning
       (stands_with None free)
 
   -- and where one stands, its line has none
   emptied_in : (line : LineId) → standing.conflict ≡ Some line → IsEmptiedIn a standing line.0
   emptied_in line is =
-      emptied_from a laws standing.net keeps.circuit standing.rules standing.ends standing.assumptions kept keeps.cone standing.beginning line
+      emptied_from a laws standing.net keeps.circuit standing.rules standing.ends standing.assumptions kept keeps.links keeps.cone standing.beginning line
       (stands_with (Some line) is)
 
   -- what the labels on the board tell
@@ -178,7 +235,7 @@ module _ (a : StateAlgebra) (laws : HasLaws a) {standing : Standing} {kept : Kep
       → (labels : List StateSet) × IsLabels a standing labels
       × TellsLabels a.count standing labels kept.board.labels
   tells_in free =
-      let tells = tells_from a laws standing.net keeps.circuit standing.rules standing.ends standing.assumptions kept keeps.cone
+      let tells = tells_from a laws standing.net keeps.circuit standing.rules standing.ends standing.assumptions kept keeps.links keeps.cone
       standing.beginning (stands_with None free) in (
         tells.0,
         tells.1,

@@ -2,6 +2,7 @@
 -- what lines may be in then (this project's own).
 use Rattle.std.specs.Prelude.{◌≡◌, ⊤, ℕ, ◌==◌, List, [], ◌∷◌, All, if◌then◌else◌}
 use Rattle.std.specs.List.{fold}
+use Rattle.pd_base.specs.Links.{links_of}
 use Rattle.pd_base.specs.declared.ids.LineId.{LineId}
 use Rattle.pd_base.specs.declared.ids.PinRef.{PinRef}
 use Rattle.pd_base.specs.declared.rules.Rules.{Rules}
@@ -49,14 +50,14 @@ pub record MayUnder (a : StateAlgebra) (c : Circuit) (rules : Rules) (begun : Be
 -- the hull under assumptions: with the conditions of the kind of test at the gates of the pins entered
 abbrev pub IsHullUnder : StateAlgebra → Circuit → Rules → Beginning → List Assumption → List StateSet → Type 0
 IsHullUnder a c rules begun assumptions hull =
-    IsHull a c (IsNarrowingOf c begun.kind (entered_pins assumptions)) (MayUnder a c rules begun assumptions) hull
+    IsHull a c (IsNarrowingOf c (links_of rules) begun.kind (entered_pins assumptions)) (MayUnder a c rules begun assumptions) hull
 
 -- no state is left at this line
 abbrev pub IsEmptiedUnder : StateAlgebra → Circuit → Rules → Beginning → List Assumption → ℕ → Type 0
 IsEmptiedUnder a c rules begun assumptions line =
-    IsEmptied a c (IsNarrowingOf c begun.kind (entered_pins assumptions)) (MayUnder a c rules begun assumptions) line
+    IsEmptied a c (IsNarrowingOf c (links_of rules) begun.kind (entered_pins assumptions)) (MayUnder a c rules begun assumptions) line
 
 -- no state is left at some line
 abbrev pub ClosesUnder : StateAlgebra → Circuit → Rules → Beginning → List Assumption → Type 0
 ClosesUnder a c rules begun assumptions =
-    Closes a c (IsNarrowingOf c begun.kind (entered_pins assumptions)) (MayUnder a c rules begun assumptions)
+    Closes a c (IsNarrowingOf c (links_of rules) begun.kind (entered_pins assumptions)) (MayUnder a c rules begun assumptions)

@@ -14,20 +14,20 @@ use Rattle.state_laws.specs.Cones.{IsClosedBack}
 use Rattle.state_laws.specs.Forward.{IsForward}
 use Rattle.undo_trail.specs.Undoing.{undone}
 use Rattle.hulls.specs.Awaiting.{is_inside}
-use Rattle.hulls.specs.Boards.{OnBoard}
+use Rattle.hulls.specs.Boards.{OnBoard, IsBoardOf}
 
 -- the labels while no scope is open, and the lines reached from the source of the scope that is
 pub record Idling : Type 0 where
   pub labels : List StateSet
   pub reached : List LineId
 
--- the set has the states in which a source that is not the path's may start
+-- the set has the states of a source in which one that is not the path's may start
 abbrev pub HasOtherStarts : StateAlgebra → Rules → StateSet → Type 0
-HasOtherStarts a rules set = (state : State) → state.0 < a.count → IsOtherStart a rules state ↔ Has a.count set state
+HasOtherStarts a rules set = (state : State) → state.0 < a.count → (IsOtherStart a rules state × Has a.count a.sources state) ↔ Has a.count set state
 
 -- there is no such state
 abbrev pub StartsNowhere : StateAlgebra → Rules → Type 0
-StartsNowhere a rules = (state : State) → state.0 < a.count → ¬ IsOtherStart a rules state
+StartsNowhere a rules = (state : State) → state.0 < a.count → ¬ (IsOtherStart a rules state × Has a.count a.sources state)
 
 -- sources have this set while no scope is open: the states in which they may start, or some where they may start in none
 pub record IsIdleSet (a : StateAlgebra) (rules : Rules) (set : StateSet) : Type 0 where
@@ -37,12 +37,11 @@ pub record IsIdleSet (a : StateAlgebra) (rules : Rules) (set : StateSet) : Type 
 -- The idle labels are those computed forward from sources in such a set. A board whose changes are undone has them at each line that
 -- is not reached.
 pub record StandsBy (a : StateAlgebra) (c : Circuit) (rules : Rules) (idling : Idling) (board : OnBoard) : Type 0 where
-  pub gates : length board.inside ≡ gate_count c
+  pub of : IsBoardOf c board
   pub closed : IsClosedBack c (is_inside board.inside)
   pub start : StateSet
   pub is_start : IsIdleSet a rules start
   pub forward : IsForward a c (is_inside board.inside) start idling.labels
-  pub lines : length board.labels ≡ line_count c
   pub same : (line : LineId) → ¬ Contains idling.reached line
       → label_at (undone board.notes board.labels) line.0 ≡ label_at idling.labels line.0
 
@@ -58,10 +57,12 @@ pub record IsNewBoard (count : ℕ) (c : Circuit) (board : OnBoard) : Type 0 whe
   pub labels : board.labels ≡ replicate (line_count c) (all_states count)
   pub unnoted : board.notes ≡ []
   pub gates : length board.inside ≡ gate_count c
+  pub unlinked : board.links ≡ []
   pub closed : IsClosedBack c (is_inside board.inside)
 
 -- the same gates are inside, there are as many labels, and no gate waits
 pub record IsLeftAtRest (old new : OnBoard) : Type 0 where
   pub inside : new.inside ≡ old.inside
+  pub links : new.links ≡ old.links
   pub lines : length new.labels ≡ length old.labels
   pub at_rest : new.waiting ≡ []

@@ -1,6 +1,7 @@
 -- What an engine keeps: the board, whose trail leads back to the labels before each assumption, and what was left of each source (this
 -- project's own).
 use Rattle.std.specs.Prelude.{◌≡◌, ◌≢◌, ⊤, ℕ, ◌+◌, ◌-◌, ◌*◌, ◌<◌, ◌≤◌, List, length, take, drop, slice_index_or, slice_set, ◌↔◌, [], ◌∷◌, ◌++◌, All, Bool, true, Option, Some, None, IfSome, IfNone}
+use Rattle.pd_base.specs.Links.{LinkList, links_of, IsLink}
 use Rattle.pd_base.specs.declared.ids.LineId.{LineId}
 use Rattle.pd_base.specs.declared.ids.PinRef.{PinRef}
 use Rattle.pd_base.specs.declared.rules.Rules.{Rules}
@@ -8,6 +9,7 @@ use Rattle.pd_base.specs.declared.fault.Kind.{Kind}
 use Rattle.netlist.specs.Circuit.{Circuit, source_count, gate_count, line_count, gate_line}
 use Rattle.netlist.specs.declared.limits.TheConstants.{MOST_FAN_IN}
 use Rattle.netlist.specs.Lawful.{IsCircuit}
+use Rattle.netlist.specs.LinkedPairs.{AreLinksOf}
 use Rattle.netlist.specs.Levels.{greatest_level}
 use Rattle.netlist.specs.Paths.{Connects}
 use Rattle.state_sets.specs.declared.state.State.{State}
@@ -16,7 +18,7 @@ use Rattle.state_sets.specs.States.{both_sets, no_states}
 use Rattle.state_sets.specs.StateAlgebra.{StateAlgebra}
 use Rattle.state_sets.specs.Labellings.{label_at}
 use Rattle.state_sets.specs.Hulls.{HasAt, HasNoEmptySet, IsHull, IsEmptied, condition_at}
-use Rattle.state_laws.specs.Cones.{IsClosedBack, IsNarrowingIn}
+use Rattle.state_laws.specs.Cones.{IsClosedUnder, IsNarrowingIn}
 use Rattle.hulls.specs.Conditions.{Entered as EnteredSteps}
 use Rattle.undo_trail.specs.Undoing.{undone}
 use Rattle.hulls.specs.Awaiting.{is_inside}
@@ -57,14 +59,19 @@ pub record AreAssumptions (count : ℕ) (c : Circuit) (begun : Beginning) (assum
   pub connects : Connects c begun.source.0 (entered_pins assumptions)
   pub shrink : DoShrink count (source_count c) [] assumptions
 
--- the gate of each pin that was entered has a line that is told
-abbrev pub AreToldPins : Circuit → Option (List LineId) → List Assumption → Type 0
-AreToldPins c ends assumptions = All (λ pin. IsToldBy c ends (gate_line c pin.gate.0)) (entered_pins assumptions)
+-- the gate of a pin that was entered has a line that is told, and so is a source of which a set was assumed
+abbrev pub IsToldEntry : Circuit → LinkList → Option (List LineId) → Assumption → Type 0
+IsToldEntry c links ends (Entered pin) = IsToldBy c links ends (gate_line c pin.gate.0)
+IsToldEntry c links ends (Assumed source set) = IsToldBy c links ends source.0
+
+-- the same for each entry
+abbrev pub AreToldEntries : Circuit → LinkList → Option (List LineId) → List Assumption → Type 0
+AreToldEntries c links ends assumptions = All (IsToldEntry c links ends) assumptions
 
 -- the list is one as scopes make it, where a scope is open
-abbrev pub IsListFrom : ℕ → Circuit → Option (List LineId) → Option Beginning → List Assumption → Type 0
-IsListFrom count c ends None assumptions = ⊤
-IsListFrom count c ends (Some begun) assumptions = AreAssumptions count c begun assumptions × AreToldPins c ends assumptions
+abbrev pub IsListFrom : ℕ → Circuit → LinkList → Option (List LineId) → Option Beginning → List Assumption → Type 0
+IsListFrom count c links ends None assumptions = ⊤
+IsListFrom count c links ends (Some begun) assumptions = AreAssumptions count c begun assumptions × AreToldEntries c links ends assumptions
 
 -- so many assumptions can stand at most: of each source as many as there are states, and as many pins as there are levels
 abbrev pub most_assumptions : ℕ → Circuit → ℕ
@@ -94,19 +101,19 @@ AreCutBy count assumptions old new = (line : ℕ) (state : State)
 
 -- What settling tells: the labels are the hull of others, by the narrowings inside, and each line has some state; or no state is left
 -- at this line.
-pub record IsSettledFrom (a : StateAlgebra) (c : Circuit) (inside : List Bool) (kind : Kind) (steps : List PinRef)
+pub record IsSettledFrom (a : StateAlgebra) (c : Circuit) (inside : List Bool) (links : LinkList) (kind : Kind) (steps : List PinRef)
     (first labels : List StateSet) (answer : Option LineId) : Type 0 where
-  pub hull : IfNone answer (IsHull a c (IsNarrowingIn c (is_inside inside) kind steps) (HasAt a.count first) labels)
+  pub hull : IfNone answer (IsHull a c (IsNarrowingIn c (is_inside inside) links kind steps) (HasAt a.count first) labels)
   pub none_empty : IfNone answer (HasNoEmptySet c labels)
   pub emptied : IfSome answer (λ line. (line.0 < line_count c)
-      × IsEmptied a c (IsNarrowingIn c (is_inside inside) kind steps) (HasAt a.count first) line.0)
+      × IsEmptied a c (IsNarrowingIn c (is_inside inside) links kind steps) (HasAt a.count first) line.0)
 
 -- the board was narrowed on under one entry more
 pub record IsNarrowedMore (a : StateAlgebra) (c : Circuit) (entry : Assumption) (kind : Kind) (steps : List PinRef) (old new : OnBoard)
     (answer : Option LineId) : Type 0 where
   pub first : List StateSet
   pub cut : AreCutBy a.count (entry ∷ []) old.labels first
-  pub settled : IsSettledFrom a c old.inside kind steps first new.labels answer
+  pub settled : IsSettledFrom a c old.inside old.links kind steps first new.labels answer
 
 -- what is left of the sources under an entry more
 abbrev pub left_with : Assumption → List StateSet → List StateSet
@@ -123,23 +130,24 @@ abbrev pub steps_without : Assumption → EnteredSteps → EnteredSteps
 steps_without (Entered pin) steps = record steps { steps = take (length steps.steps - 1) steps.steps }
 steps_without (Assumed source set) steps = steps
 
--- from what the labels of a scope are: the circuit, the gates inside, the rules, and with what the scope began
+-- from what the labels of a scope are: the circuit, the gates and links inside, the rules, and with what the scope began
 pub record Outset : Type 0 where
   pub net : Circuit
   pub inside : List Bool
+  pub inner : LinkList
   pub rules : Rules
   pub begun : Beginning
 
 -- the labels are the hull by the narrowings inside, and each line has some state
 pub record IsOpenHull (a : StateAlgebra) (from : Outset) (assumptions : List Assumption) (labels : List StateSet) : Type 0 where
-  pub hull : IsHull a from.net (IsNarrowingIn from.net (is_inside from.inside) from.begun.kind (entered_pins assumptions))
+  pub hull : IsHull a from.net (IsNarrowingIn from.net (is_inside from.inside) from.inner from.begun.kind (entered_pins assumptions))
       (MayUnder a from.net from.rules from.begun assumptions) labels
   pub none_empty : HasNoEmptySet from.net labels
 
 -- the narrowings inside leave no state at this line
 pub record IsEmptiedInside (a : StateAlgebra) (from : Outset) (assumptions : List Assumption) (line : ℕ) : Type 0 where
   pub in_circuit : line < line_count from.net
-  pub emptied : IsEmptied a from.net (IsNarrowingIn from.net (is_inside from.inside) from.begun.kind (entered_pins assumptions))
+  pub emptied : IsEmptied a from.net (IsNarrowingIn from.net (is_inside from.inside) from.inner from.begun.kind (entered_pins assumptions))
       (MayUnder a from.net from.rules from.begun assumptions) line
 
 -- what labels and an answer tell: the labels are the hull and each line has some state; or no state is left at this line
@@ -197,7 +205,8 @@ pub record Stood (a : StateAlgebra) (from : Outset) (board : OnBoard) (list : Li
 pub record StandsOpen (a : StateAlgebra) (from : Outset) (ends : Option (List LineId)) (assumptions : List Assumption)
     (conflict : Option LineId) (kept : Kept) : Type 0 where
   pub list : AreAssumptions a.count from.net from.begun assumptions
-  pub told : AreToldPins from.net ends assumptions
+  pub begins : IsToldBy from.net (links_of from.rules) ends from.begun.source.0
+  pub told : AreToldEntries from.net (links_of from.rules) ends assumptions
   pub kind : kept.steps.kind ≡ from.begun.kind
   pub entered : kept.steps.steps ≡ entered_pins assumptions
   pub stood : Stood a from kept.board assumptions kept.befores
@@ -220,19 +229,26 @@ abbrev pub StandsFrom : StateAlgebra → Circuit → Rules → Option (List Line
     → Type 0
 StandsFrom a c rules ends None list conflict kept = StandsIdle a c rules list conflict kept
 StandsFrom a c rules ends (Some begun) list conflict kept =
-    StandsOpen a (record { net = c; inside = kept.board.inside; rules = rules; begun = begun }) ends list conflict kept
+    StandsOpen a (record { net = c; inside = kept.board.inside; inner = kept.board.links; rules = rules; begun = begun }) ends list conflict kept
 
--- the gates inside are those whose lines are told
-pub record AreToldGates (c : Circuit) (ends : Option (List LineId)) (inside : List Bool) : Type 0 where
-  pub one_each : length inside ≡ gate_count c
-  pub closed : IsClosedBack c (is_inside inside)
-  pub told : (gate : ℕ) → gate < gate_count c → (is_inside inside gate ≡ true) ↔ IsToldBy c ends (gate_line c gate)
+-- the gates inside are those whose lines are told, and the links inside those of sources that are told
+pub record AreToldGates (c : Circuit) (links : LinkList) (ends : Option (List LineId)) (inside : List Bool) (inner : LinkList) : Type 0 where
+  pub gates : gate_count c ≤ length inside
+  pub closed : IsClosedUnder c (is_inside inside) links inner
+  pub told : (gate : ℕ) → gate < gate_count c → (is_inside inside gate ≡ true) ↔ IsToldBy c links ends (gate_line c gate)
+  pub sources : (source line : ℕ) → IsToldBy c links ends source → IsLink links source line → IsLink inner source line
+
+-- one flag for each source, true where it is told
+pub record AreToldSources (c : Circuit) (links : LinkList) (ends : Option (List LineId)) (told : List Bool) : Type 0 where
+  pub one_each : length told ≡ source_count c
+  pub exactly : (source : ℕ) → source < source_count c → (is_inside told source ≡ true) ↔ IsToldBy c links ends source
 
 -- what an engine keeps stands, and there is room for every list
 pub record KeepsStanding (a : StateAlgebra) (standing : Standing) (kept : Kept) (capacity befores_capacity : ℕ) : Type 0 where
   pub circuit : IsCircuit standing.net
   pub board : IsBoardOf standing.net kept.board
-  pub cone : AreToldGates standing.net standing.ends kept.board.inside
+  pub links : AreLinksOf standing.net (links_of standing.rules)
+  pub cone : AreToldGates standing.net (links_of standing.rules) standing.ends kept.board.inside kept.board.links
   pub at_rest : kept.board.waiting ≡ []
   pub stands : StandsFrom a standing.net standing.rules standing.ends standing.beginning standing.assumptions standing.conflict kept
   pub step_room : HasStepRoom standing.net kept.steps

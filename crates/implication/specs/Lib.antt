@@ -9,3 +9,5 @@ pub mod Begun
 pub mod Idling
 pub mod Kept
 pub mod Scopes
+pub mod NodeScopes
+pub mod Settings

@@ -1,9 +1,10 @@
 -- What contracts see of an engine and of the scopes on it (this project's own).
 use Rattle.std.specs.Prelude.{◌≡◌, ⊤, ℕ, ◌<◌, ◌⊎◌, List, [], Option, Some, None, IsSome, Contains}
+use Rattle.pd_base.specs.Links.{LinkList, links_of, IsLink}
 use Rattle.pd_base.specs.declared.ids.LineId.{LineId}
 use Rattle.pd_base.specs.declared.rules.Rules.{Rules}
 use Rattle.netlist.specs.Circuit.{Circuit, source_count, line_count}
-use Rattle.netlist.specs.Pins.{IsInFanIn}
+use Rattle.netlist.specs.LinkedPairs.{IsSupported}
 use Rattle.state_sets.specs.declared.state.State.{State}
 use Rattle.state_sets.specs.declared.state.StateSet.{StateSet}
 use Rattle.state_sets.specs.States.{Has}
@@ -13,7 +14,7 @@ use Rattle.implication.specs.declared.assumption.Beginning.{Beginning}
 use Rattle.implication.specs.declared.assumption.Assumption.{Assumption}
 use Rattle.implication.specs.Assumptions.{end_under, IsHullUnder, IsEmptiedUnder, ClosesUnder}
 
--- How an engine and the innermost scope on it stand: the circuit; the rules of the start; the lines whose fan-in is told, or None
+-- How an engine and the innermost scope on it stand: the circuit; the rules of the start; the lines whose support is told, or None
 -- where all lines are; with what the outermost scope began, and None where no scope is open; what was assumed and entered since, in
 -- order; the line of the conflict that stands, if there is one; and how many times an assume or enter has come upon a conflict.
 pub record Standing : Type 0 where
@@ -25,14 +26,19 @@ pub record Standing : Type 0 where
   pub conflict : Option LineId
   pub closings : ℕ
 
--- a line is told where all are, and otherwise where it is a source or in the transitive fan-in of one of the ends
-abbrev pub IsToldBy : Circuit → Option (List LineId) → ℕ → Type 0
-IsToldBy c None line = ⊤
-IsToldBy c (Some ends) line = (line < source_count c) ⊎ ((end : LineId) × Contains ends end × IsInFanIn c end.0 line)
+-- the line is in the support of one of these ends
+abbrev pub IsBehind : Circuit → LinkList → List LineId → ℕ → Type 0
+IsBehind c links ends line = (end : LineId) × Contains ends end × IsSupported c links end.0 line
+
+-- a line is told where all are, and otherwise where it is a source without a link, or in the support of one of the ends
+abbrev pub IsToldBy : Circuit → LinkList → Option (List LineId) → ℕ → Type 0
+IsToldBy c links None line = ⊤
+IsToldBy c links (Some ends) line =
+    ((line < source_count c) × ((other : ℕ) → ¬ IsLink links line other)) ⊎ IsBehind c links ends line
 
 -- the same as an engine stands
 abbrev pub IsTold : Standing → ℕ → Type 0
-IsTold standing line = IsToldBy standing.net standing.ends line
+IsTold standing line = IsToldBy standing.net (links_of standing.rules) standing.ends line
 
 -- the answer for a line: each state that the line has by these labels, and where the line is told no other one
 pub record TellsLabel (count : ℕ) (standing : Standing) (labels : List StateSet) (line : ℕ) (answer : StateSet) : Type 0 where

@@ -1,4 +1,5 @@
-// What stood before an entry of the list of assumptions.
+// What stood before an entry of the list of assumptions. What was left of a source stands with the assumption that cut it, so that taking
+// the assumption back gives it back, without a second trail.
 use state_sets::StateSet;
 
 /// What an engine goes back to when it takes back an entry.

@@ -1,10 +1,13 @@
 // The engine: a netlist with the rules, what is assumed of it, and the labels that follow. Its board narrows on from each assumption
 // at the gates that have to be narrowed again, and the trail of the board leads back to what stood before. After an engine is made,
 // nothing costs the circuit: a call costs what changes, and one that begins or ends what its source reaches.
-ghost use Rattle.std.specs.Prelude.{◌≡◌, ◌≢◌, ◌<◌, ◌≤◌, ◌-◌, ◌∷◌, ◌++◌, [], ℕ, List, length, All, Some, None, Ok, Err, IfOk, IfErr, OnOk, OnErr, IfSome, IfNone, IsSome};
+ghost use Rattle.std.specs.Prelude.{◌≡◌, ◌≢◌, ◌<◌, ◌≤◌, ◌-◌, ◌^◌, ◌⊎◌, true, ◌∷◌, ◌++◌, [], ℕ, List, length, All, Some, None, Ok, Err, IfOk, IfErr, OnOk, OnErr, IfSome, IfNone, IsSome, IsTrue, ◌↔◌};
 ghost use Rattle.std.specs.Option.{option_map};
+ghost use Rattle.pd_base.specs.Links.{links_of};
 ghost use Rattle.netlist.specs.Circuit.{source_count, line_count, gate_count, gate_line};
 ghost use Rattle.netlist.specs.Lawful.{IsCircuit};
+ghost use Rattle.netlist.specs.LinkedPairs.{FitRules, AreLinksOf};
+ghost use Rattle.hulls.specs.Awaiting.{is_inside};
 ghost use Rattle.netlist.specs.Paths.{Connects, line_after};
 ghost use Rattle.netlist.specs.Pins.{IsPinOn};
 ghost use Rattle.state_sets.specs.States.{AreWithin};
@@ -12,10 +15,10 @@ ghost use Rattle.state_sets.specs.FourStates.{four_states};
 ghost use Rattle.implication.specs.Standing.{IsIdle, IsFree, IsLabels, IsTold, TellsLabels, IsEmptiedIn, IsOpenIn, end_of_scope};
 ghost use Rattle.implication.specs.Moves.{with_entered, with_assumed, grown, closed_at, back_at, left_behind, idle_again, HasBegun};
 ghost use Rattle.implication.specs.Clients.{ExtendsStanding};
-ghost use Rattle.implication.specs.Kept.{IsListFrom, IsLeftBefore, AreToldGates};
+ghost use Rattle.implication.specs.Kept.{IsListFrom, IsLeftBefore, AreToldGates, AreToldSources};
 
 use crate::before::Before;
-use crate::cones::inside_of;
+use crate::cones::{Cone, all_of, cone_of};
 use crate::making::{BoardParts, Lists};
 use crate::narrowing_on::{leave_step, narrow_on, put_back, take_from};
 use crate::{Assumption, Beginning, Conflict, Origin, Setting};
@@ -28,7 +31,7 @@ use undo_trail::Note;
 
 /// A netlist with the assumptions that the scopes on it have made, and the labels under them. All room is there from the start.
 ///
-/// Contracts see how it stands: the circuit, the rules, the lines whose fan-in is told, with what the outermost scope began, the list
+/// Contracts see how it stands: the circuit, the rules, the lines whose support is told, with what the outermost scope began, the list
 /// of assumptions, the conflict that stands, and the count of conflicts.
 // No Debug: it would print the labels of all lines, and all private types within would need it.
 #[derive(Drop)]
@@ -40,6 +43,8 @@ pub struct Engine<A: Algebra, S: Setting> {
     lists: Lists,
     conflict: Option<LineId>,
     closings: u64,
+    // For each source whether it is told.
+    told: Vec<bool>,
     parts: BoardParts<A>,
 }
 
@@ -50,7 +55,8 @@ impl<A: Algebra, S: Setting> Model for Engine<A, S> {
 
     ghost use Rattle.std.specs.Prelude.{length, vec_capacity};
     ghost use Rattle.std.specs.Option.{option_map};
-    ghost use Rattle.implication.specs.Kept.{KeepsStanding};
+    ghost use Rattle.pd_base.specs.Links.{links_of};
+    ghost use Rattle.implication.specs.Kept.{KeepsStanding, AreToldSources};
 
     ghost view = { λ e. record {
       net = S.circuit e.setting;
@@ -62,7 +68,7 @@ impl<A: Algebra, S: Setting> Model for Engine<A, S> {
       closings = e.closings;
     } };
 
-    ghost invariant = { λ e. KeepsStanding A.algebra (record {
+    ghost invariant = { λ e. (KeepsStanding A.algebra (record {
       net = S.circuit e.setting;
       rules = S.rules e.setting;
       ends = option_map (λ v. v.items) e.ends;
@@ -76,13 +82,16 @@ impl<A: Algebra, S: Setting> Model for Engine<A, S> {
       befores = e.lists.befores.items;
       left = e.lists.left.items;
       steps = e.parts.conditions;
-    }) (vec_capacity e.lists.assumptions) (vec_capacity e.lists.befores) };
+    }) (vec_capacity e.lists.assumptions) (vec_capacity e.lists.befores))
+        × AreToldSources (S.circuit e.setting) (links_of (S.rules e.setting)) (option_map (λ v. v.items) e.ends) e.told.items };
 }
 
 impl<A: Algebra, S: Setting> Engine<A, S> {
     /// An engine over a netlist, on which no scope is open, with room for every list of assumptions. It tells of all lines. It fails
     /// only where memory runs out.
     pub fn new(alloc: Global, setting: S) -> Result<Engine<A, S>, OutOfMemory>
+        requires fit { FitRules (S.circuit setting) (S.rules setting) }
+        requires few { length (links_of (S.rules setting)) < 2 ^ 30 }
         ensures { IfOk result (λ engine. engine ≡ record {
           net = S.circuit setting;
           rules = S.rules setting;
@@ -93,14 +102,16 @@ impl<A: Algebra, S: Setting> Engine<A, S> {
           closings = 0;
         }) }
     {
-        let inside = all_gates(alloc, setting.netlist())?;
-        Engine::with_inside(alloc, setting, None, inside)
+        let cone = all_of(alloc, setting.netlist(), setting.rules())?;
+        Engine::with_cone(alloc, setting, None, cone)
     }
 
-    /// The same, but it tells of the sources and of the lines in the fan-in of these ends alone, and only gates whose lines are told
-    /// can be entered.
+    /// The same, but it tells of the lines in the support of these ends and of the sources without a link alone; a scope begins at a
+    /// source that is told, and only sources that are told and gates whose lines are told can be assumed and entered.
     pub fn within(alloc: Global, setting: S, ends: &[LineId]) -> Result<Engine<A, S>, OutOfMemory>
-        requires { All (λ end. end.0 < line_count (S.circuit setting)) ends.now }
+        requires ends { All (λ end. end.0 < line_count (S.circuit setting)) ends.now }
+        requires fit { FitRules (S.circuit setting) (S.rules setting) }
+        requires few { length (links_of (S.rules setting)) < 2 ^ 30 }
         ensures { IfOk result (λ engine. engine ≡ record {
           net = S.circuit setting;
           rules = S.rules setting;
@@ -111,20 +122,26 @@ impl<A: Algebra, S: Setting> Engine<A, S> {
           closings = 0;
         }) }
     {
-        // narrowing at these gates alone is enough for the lines that are told
-        let inside = inside_of(alloc, setting.netlist(), ends)?;
+        // narrowing at these gates and along these links alone is enough for the lines that are told
+        let cone = cone_of(alloc, setting.netlist(), setting.rules().links(), ends)?;
         let ends = Vec::from_slice(alloc, ends)?;
-        Engine::with_inside(alloc, setting, Some(ends), inside)
+        Engine::with_cone(alloc, setting, Some(ends), cone)
     }
 
-    // The same, with these ends and the gates inside.
-    fn with_inside(
+    // The same, with these ends, and the gates and links inside.
+    fn with_cone(
         alloc: Global,
         setting: S,
         ends: Option<Vec<LineId>>,
-        inside: Vec<bool>,
+        cone: Cone,
     ) -> Result<Engine<A, S>, OutOfMemory>
-        requires { AreToldGates (S.circuit setting) (option_map (λ list. list.items) ends) inside.items }
+        requires told { AreToldGates (S.circuit setting) (links_of (S.rules setting)) (option_map (λ list. list.items) ends) cone.inside.items
+            cone.links.items }
+        requires one_each { length cone.inside.items ≡ gate_count (S.circuit setting) }
+        requires of { AreLinksOf (S.circuit setting) cone.links.items }
+        requires sources { AreToldSources (S.circuit setting) (links_of (S.rules setting)) (option_map (λ list. list.items) ends) cone.told.items }
+        requires fit { FitRules (S.circuit setting) (S.rules setting) }
+        requires few { length cone.links.items < 2 ^ 30 }
         ensures { IfOk result (λ engine. engine ≡ record {
           net = S.circuit setting;
           rules = S.rules setting;
@@ -136,7 +153,18 @@ impl<A: Algebra, S: Setting> Engine<A, S> {
         }) }
     {
         let lists = Lists::new::<A>(alloc, setting.netlist())?;
-        let parts = BoardParts::new(alloc, setting.netlist(), setting.rules(), inside)?;
+        let Cone {
+            inside,
+            links,
+            told,
+        } = cone;
+        let parts = BoardParts::new(
+            alloc,
+            setting.netlist(),
+            setting.rules(),
+            inside,
+            links.as_slice(),
+        )?;
         Ok(Engine {
             setting,
             ends,
@@ -144,6 +172,7 @@ impl<A: Algebra, S: Setting> Engine<A, S> {
             lists,
             conflict: None,
             closings: 0,
+            told,
             parts,
         })
     }
@@ -162,15 +191,27 @@ impl<A: Algebra, S: Setting> Engine<A, S> {
         self.setting.rules()
     }
 
+    /// Whether a line is told.
+    pub fn tells(&self, line: LineId) -> bool
+        requires { line.0 < line_count self.now.net }
+        ensures { IsTrue result ↔ IsTold self.now line.0 }
+    {
+        match self.setting.netlist().gate_of(line) {
+            Some(gate) => self.parts.board.is_inside(gate),
+            None => self.told[line.0 as usize],
+        }
+    }
+
     // Opens the outermost scope.
     pub(crate) fn begin(&mut self, begun: Beginning)
         requires idle { self.old.beginning ≡ None }
         requires source { begun.source.0 < source_count self.old.net }
+        requires told { IsTold self.old begun.source.0 }
         ensures begun { HasBegun begun self.old self.new }
         ensures idle { IsIdle self.old }
         ensures open { IfNone self.new.conflict (IsOpenIn A.algebra self.new) }
         ensures emptied { IfSome self.new.conflict (λ line. IsEmptiedIn A.algebra self.new line.0) }
-        ensures four_states { A.algebra ≡ four_states → self.new.conflict ≡ None }
+        ensures four_states { links_of self.old.rules ≡ [] → A.algebra ≡ four_states → self.new.conflict ≡ None }
     {
         self.parts.conditions.set_kind(begun.kind);
         self.beginning = Some(begun);
@@ -250,7 +291,8 @@ impl<A: Algebra, S: Setting> Engine<A, S> {
 
     // Assumes a set of a source, unless a conflict stands or no scope is open.
     pub(crate) fn assume(&mut self, source: LineId, to: StateSet) -> Result<(), Conflict>
-        requires { source.0 < source_count self.old.net }
+        requires source { source.0 < source_count self.old.net }
+        requires told { IsTold self.old source.0 }
         ensures idle { self.old.beginning ≡ None → self.new ≡ self.old }
         ensures held { IfSome self.old.conflict (λ line. (result ≡ Err (record { 0 = line })) × (self.new ≡ self.old)) }
         ensures ok { OnOk result (self.new ≡ grown self.old (with_assumed A.algebra.count self.old.assumptions source to)) }
@@ -300,7 +342,7 @@ impl<A: Algebra, S: Setting> Engine<A, S> {
     fn add(&mut self, entry: Assumption, left: StateSet) -> Result<(), Conflict>
         requires begun { IsSome self.old.beginning }
         requires free { self.old.conflict ≡ None }
-        requires fits { IsListFrom A.algebra.count self.old.net self.old.ends self.old.beginning (self.old.assumptions ++ entry ∷ []) }
+        requires fits { IsListFrom A.algebra.count self.old.net (links_of self.old.rules) self.old.ends self.old.beginning (self.old.assumptions ++ entry ∷ []) }
         requires left { IsLeftBefore A.algebra.count self.old.assumptions entry left }
         ensures ok { OnOk result (self.new ≡ grown self.old (self.old.assumptions ++ entry ∷ [])) }
         ensures err { IfErr result (λ conflict. self.new ≡ closed_at self.old (self.old.assumptions ++ entry ∷ []) conflict.0) }
@@ -373,15 +415,6 @@ impl<A: Algebra, S: Setting> Engine<A, S> {
         self.beginning = None;
         self.conflict = None;
     }
-}
-
-// A flag for each gate, all of them true.
-fn all_gates(alloc: Global, net: &Netlist) -> Result<Vec<bool>, OutOfMemory>
-    ensures { IfOk result (λ inside. AreToldGates net.now None inside.items) }
-{
-    let gates = net.lines() - net.sources();
-    let inside = vec![in alloc; true; gates as usize]?;
-    Ok(inside)
 }
 
 // The line to which these steps lead from a source.

@@ -1,8 +1,9 @@
 // The labels of a board while no scope is open, and how a scope begins. The idle labels are computed once, forward from sources that start
-// as the rules leave them. Where the source may launch its transition by its idle label, a beginning cuts that label, at the cost of what
+// as the rules leave them; links rest there too, since a source may be linked to a line in any state. Where the source may launch its transition by its idle label, a beginning cuts that label, at the cost of what
 // changes. Else it writes the states that launch the transition at the source, and at each line that the source reaches, by level, what
 // its gate makes of the sets of its pins' lines: no narrowing changes these sets, and no other line has another set than its idle label.
 ghost use Rattle.std.specs.Prelude.{◌≡◌, ◌≢◌, ◌<◌, ◌≤◌, ◌∷◌, [], ℕ, length, replicate, All, Contains, IfOk, IfSome, IfNone};
+ghost use Rattle.pd_base.specs.Links.{links_of};
 ghost use Rattle.pd_base.specs.declared.ids.LineId.{LineId};
 ghost use Rattle.pd_base.specs.declared.rules.Rules.{Rules};
 ghost use Rattle.netlist.specs.Circuit.{Circuit, source_count, gate_count, line_count};
@@ -97,13 +98,14 @@ impl IdleLabels {
     ) -> Option<LineId>
         requires source { begun.source.0 < source_count net.now }
         requires idle { IsIdleBoard A.algebra net.now rules.now self.old board.old }
+        requires links { links_of rules.now ≡ [] → board.old.links ≡ [] }
         requires conditions { IsEnteredOn net.now conditions.now }
         requires no_steps { conditions.now.steps ≡ [] }
-        ensures hull { IfNone result (IsHull A.algebra net.now (IsNarrowingIn net.now (is_inside board.old.inside) conditions.now.kind [])
+        ensures hull { IfNone result (IsHull A.algebra net.now (IsNarrowingIn net.now (is_inside board.old.inside) board.old.links conditions.now.kind [])
             (MayStart A.algebra net.now rules.now begun.source.0 begun.direction) board.new.labels) }
         ensures none_empty { IfNone result (HasNoEmptySet net.now board.new.labels) }
         ensures emptied { IfSome result (λ line. (line.0 < line_count net.now)
-            × IsEmptied A.algebra net.now (IsNarrowingIn net.now (is_inside board.old.inside) conditions.now.kind [])
+            × IsEmptied A.algebra net.now (IsNarrowingIn net.now (is_inside board.old.inside) board.old.links conditions.now.kind [])
             (MayStart A.algebra net.now rules.now begun.source.0 begun.direction) line.0) }
         ensures stands { StandsBy A.algebra net.now rules.now self.new board.new }
         ensures board { IsLeftAtRest board.old board.new }
@@ -195,6 +197,7 @@ fn settle_idle<A: Algebra>(
     requires board { IsNewBoard A.algebra.count net.now board.old }
     requires conditions { IsEnteredOn net.now conditions.now }
     requires no_steps { conditions.now.steps ≡ [] }
+    ensures of { IsBoardOf net.now board.new }
     ensures forward { IsForward A.algebra net.now (is_inside board.old.inside) set board.new.labels }
     ensures board { IsLeftAtRest board.old board.new }
 {

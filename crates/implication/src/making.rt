@@ -1,8 +1,9 @@
 // What an engine is made of: a board with what narrows it, idle as it is made, and the lists of what is assumed, each made by itself, so
 // that few values stand at once where memory may run out.
-ghost use Rattle.std.specs.Prelude.{◌≡◌, ◌<◌, ◌≤◌, [], ℕ, length, replicate, vec_capacity, IfOk};
+ghost use Rattle.std.specs.Prelude.{◌≡◌, ◌<◌, ◌≤◌, ◌+◌, ◌^◌, ◌++◌, true, [], ℕ, length, replicate, vec_capacity, IfOk};
 ghost use Rattle.pd_base.specs.declared.fault.Kind.TheVariants.{Robust};
 ghost use Rattle.netlist.specs.Circuit.{source_count, gate_count, line_count};
+ghost use Rattle.netlist.specs.LinkedPairs.{AreLinksOf};
 ghost use Rattle.netlist.specs.Lawful.{IsCircuit};
 ghost use Rattle.netlist.specs.Levels.{greatest_level};
 ghost use Rattle.state_sets.specs.States.{all_states};
@@ -16,7 +17,7 @@ use crate::before::Before;
 use crate::idle::IdleLabels;
 use hulls::{Board, Conditions, NarrowScratch};
 use netlist::Netlist;
-use pd_base::{Kind, OutOfMemory, Rules};
+use pd_base::{Kind, LineId, OutOfMemory, Rules};
 use state_sets::{Algebra, StateSet, count_states, every_state};
 use std::alloc::Global;
 
@@ -30,24 +31,30 @@ pub(crate) struct BoardParts<A: Algebra> {
 }
 
 impl<A: Algebra> BoardParts<A> {
-    // An idle board, with these gates inside. It fails only where memory runs out.
+    // An idle board, with these gates and links inside. It fails only where memory runs out.
     pub(crate) fn new(
         alloc: Global,
         net: &Netlist,
         rules: &Rules,
         inside: Vec<bool>,
+        links: &[(LineId, LineId)],
     ) -> Result<BoardParts<A>, OutOfMemory>
         requires gates { length inside.items ≡ gate_count net.now }
         requires closed { IsClosedBack net.now (is_inside inside.items) }
+        requires of { AreLinksOf net.now links.now }
+        requires few { length inside.items + length links.now < 2 ^ 31 }
         ensures idle { IfOk result (λ parts. IsIdleBoard A.algebra net.now rules.now parts.idle parts.board) }
-        ensures inside { IfOk result (λ parts. parts.board.inside ≡ inside.items) }
+        ensures inside { IfOk result (λ parts. parts.board.inside ≡ inside.items ++ replicate (length links.now) true) }
+        ensures links { IfOk result (λ parts. parts.board.links ≡ links.now) }
         ensures conditions { IfOk result (λ parts. parts.conditions
             ≡ record { kind = Robust; gates = gate_count net.now; room = greatest_level net.now; steps = [] }) }
     {
         let conditions = Conditions::new(alloc, net, Kind::Robust)?;
         let mut scratch = NarrowScratch::new(alloc, net)?;
-        let mut board = Board::within(alloc, net, inside)?;
+        let mut board = Board::within(alloc, net, inside, &[])?;
         let idle = IdleLabels::new(alloc, net, rules, &mut board, &conditions, &mut scratch)?;
+        // the idle labels are computed before the links stand
+        let board = board.with_links(alloc, net, links)?;
         Ok(BoardParts {
             board,
             idle,

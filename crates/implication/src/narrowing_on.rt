@@ -33,6 +33,7 @@ pub(crate) fn narrow_on<A: Algebra>(
     ensures steps { conditions.new ≡ record conditions.old { steps = conditions.old.steps ++ entered_pins (entry ∷ []) } }
     ensures narrowed { IsNarrowedMore A.algebra net.now entry conditions.new.kind conditions.new.steps board.old board.new result }
     ensures inside { board.new.inside ≡ board.old.inside }
+    ensures links { board.new.links ≡ board.old.links }
     ensures follows { Follows board.old board.new }
     ensures at_rest { board.new.waiting ≡ [] }
 {
@@ -57,9 +58,10 @@ fn narrow_on_entered<A: Algebra>(
     requires step { CanEnter conditions.old pin }
     requires pin { IsPin net.now pin }
     ensures steps { conditions.new ≡ record conditions.old { steps = conditions.old.steps ++ pin ∷ [] } }
-    ensures settled { IsSettledFrom A.algebra net.now board.old.inside conditions.new.kind conditions.new.steps
+    ensures settled { IsSettledFrom A.algebra net.now board.old.inside board.old.links conditions.new.kind conditions.new.steps
         board.old.labels board.new.labels result }
     ensures inside { board.new.inside ≡ board.old.inside }
+    ensures links { board.new.links ≡ board.old.links }
     ensures follows { Follows board.old board.new }
     ensures at_rest { board.new.waiting ≡ [] }
 {
@@ -83,6 +85,7 @@ pub(crate) fn narrow_on_cut<A: Algebra>(
     ensures narrowed { IsNarrowedMore A.algebra net.now (Assumed source set) conditions.now.kind conditions.now.steps
         board.old board.new result }
     ensures inside { board.new.inside ≡ board.old.inside }
+    ensures links { board.new.links ≡ board.old.links }
     ensures follows { Follows board.old board.new }
     ensures at_rest { board.new.waiting ≡ [] }
 {

@@ -1,5 +1,5 @@
 // Which lines a transition at a source can reach: the source, and the line of each gate inside that reads one of them.
-ghost use Rattle.std.specs.Prelude.{◌≡◌, ◌<◌, [], length, true, All};
+ghost use Rattle.std.specs.Prelude.{◌≡◌, ◌≤◌, ◌<◌, [], length, true, All};
 ghost use Rattle.netlist.specs.Circuit.{source_count, gate_count, line_count, gate_line};
 ghost use Rattle.state_laws.specs.Cones.{IsLineIn};
 ghost use Rattle.state_laws.specs.Forward.{AreReached};
@@ -20,7 +20,7 @@ pub(crate) fn reach<A: Algebra>(
     reached: &mut ReachedLines,
 )
     requires source { source.0 < source_count net.now }
-    requires gates { length board.now.inside ≡ gate_count net.now }
+    requires gates { gate_count net.now ≤ length board.now.inside }
     requires none { reached.old.lines ≡ [] }
     requires count { reached.old.count ≡ line_count net.now }
     ensures reached { AreReached net.now (is_inside board.now.inside) source.0 reached.new.lines }
@@ -44,7 +44,7 @@ fn reach_readers<A: Algebra>(
     reached: &mut ReachedLines,
 )
     requires line { line.0 < line_count net.now }
-    requires gates { length board.now.inside ≡ gate_count net.now }
+    requires gates { gate_count net.now ≤ length board.now.inside }
     requires count { reached.old.count ≡ line_count net.now }
     ensures more { HasMore net.now board.now.inside reached.old reached.new }
     ensures readers { AreReadersIn net.now board.now.inside line reached.new.lines }

@@ -1,6 +1,7 @@
 // Scopes: what is assumed in one is taken back when it is closed or dropped. A scope borrows its engine, and a scope within it borrows
 // the engine in turn, by `scope.engine.scope()` at the caller. All calls take no memory.
-ghost use Rattle.std.specs.Prelude.{All, ◌≡◌, ◌<◌, ◌≤◌, ◌+◌, List, Some, None, Ok, Err, IfSome, IfNone, IfErr, OnOk, IsSome, length};
+ghost use Rattle.std.specs.Prelude.{All, [], ◌≡◌, ◌<◌, ◌≤◌, ◌+◌, List, Some, None, Ok, Err, IfSome, IfNone, IfErr, OnOk, IsSome, length};
+ghost use Rattle.pd_base.specs.Links.{links_of};
 ghost use Rattle.netlist.specs.Circuit.{source_count, line_count, gate_line};
 ghost use Rattle.netlist.specs.Pins.{IsPinOn};
 ghost use Rattle.state_sets.specs.States.{IsWithin, AreWithin};
@@ -58,6 +59,7 @@ impl<'e, A: Algebra, S: Setting> Scope<'e, A, S> {
     ) -> Scope<'e, A, S>
         requires idle { engine.old.beginning ≡ None }
         requires source { source.0 < source_count engine.old.net }
+        requires told { IsTold engine.old source.0 }
         ensures same_engine { result.engine.ghost_name ≡ engine.entry.ghost_name }
         ensures begun { HasBegun (record { source = source; direction = direction; kind = kind }) engine.old (standing result) }
         ensures idle { IsIdle engine.old }
@@ -66,7 +68,7 @@ impl<'e, A: Algebra, S: Setting> Scope<'e, A, S> {
         ensures emptied { IfSome (standing result).conflict (λ line. IsEmptiedIn A.algebra (standing result) line.0) }
 
         // with the four states none does
-        ensures four_states { A.algebra ≡ four_states → (standing result).conflict ≡ None }
+        ensures four_states { links_of engine.old.rules ≡ [] → A.algebra ≡ four_states → (standing result).conflict ≡ None }
     {
         engine.begin(Beginning {
             source,
@@ -83,7 +85,8 @@ impl<'e, A: Algebra, S: Setting> Scope<'e, A, S> {
     /// source, nor while a conflict stands, which is then the answer. A Conflict gives a line at which no state is left, and what was
     /// assumed stays.
     pub fn assume(&mut self, source: LineId, to: StateSet) -> Result<(), Conflict>
-        requires { source.0 < source_count (standing self.old).net }
+        requires source { source.0 < source_count (standing self.old).net }
+        requires told { IsTold (standing self.old) source.0 }
         ensures scope { IsSameScope self.old self.new }
 
         // while a conflict stands, the answer is that conflict

@@ -8,12 +8,13 @@ use Rattle.pd_base.specs.Target.{Target}
 use Rattle.pd_base.specs.declared.limits.TheConstants.{MOST_BUDGET}
 use Rattle.pd_base.specs.declared.rules.Rules.{Rules}
 use Rattle.netlist.specs.Circuit.{Circuit}
-use Rattle.runs.specs.declared.tree.Node.{Node}
-use Rattle.runs.specs.Trees.{IsTree, split_count}
-use Rattle.tree_laws.specs.Refutations.{IsRefutation}
-use Rattle.tree_laws.specs.Spent.{IsSpent}
-use Rattle.tree_laws.specs.Growing.{Grows}
-use Rattle.tree_laws.proofs.Ending.{grown_is_tree, grown_length, grown_refutes, grown_spent}
+use Rattle.state_sets.specs.StateAlgebra.{StateAlgebra}
+use Rattle.trees.specs.declared.tree.Node.{Node}
+use Rattle.trees.specs.Trees.{IsTree, split_count}
+use Rattle.trees.specs.Refutations.{IsRefutation}
+use Rattle.trees.specs.Spent.{IsSpent}
+use Rattle.trees.specs.Growing.{Grows}
+use Rattle.trees.proofs.Ending.{grown_is_tree, grown_length, grown_refutes, grown_spent}
 use Rattle.implication.specs.declared.assumption.Assumption.{Assumption}
 use Rattle.implication.specs.Moves.{risen}
 use Rattle.implication.specs.Standing.{Standing}
@@ -27,7 +28,7 @@ use Rattle.justify.specs.Growths.{DueTree, IsGrowing}
 use Rattle.justify.specs.Searches.{IsGrowthOf}
 use Rattle.justify.specs.Tasks.{task_target}
 use Rattle.justify.specs.Tests.{IsFitTest}
-use Rattle.tree_laws.proofs.ScopeLabels.{there_too}
+use Rattle.implication.proofs.ScopeLabels.{there_too}
 
 -- one conflict more was counted
 pub counted_more : (n : ℕ) (first middle last : Standing) → HasCounted n first middle → risen middle.closings ≤ last.closings
@@ -39,8 +40,8 @@ counted_more n first middle last counted later = ⊎_elim
     (λ (more : 2 ^ 64 - 1 ≤ middle.closings + 1). inr (omega arith))
     (cases_lt (middle.closings + 1) (2 ^ 64 - 1))
 
-module _ (c : Circuit) (rules : Rules) (target : Target) (budget : ℕ) (list : List Assumption) (nodes : List Node) (n : ℕ)
-    (growing : IsGrowing c rules target budget list [] nodes n) where
+module _ (a : StateAlgebra) (c : Circuit) (rules : Rules) (target : Target) (budget : ℕ) (list : List Assumption) (nodes : List Node) (n : ℕ)
+    (growing : IsGrowing a c rules target budget list [] nodes n) where
   no_place : Grows c rules target nodes []
   no_place = by growing.due growing.left growing.grows
     where
@@ -95,24 +96,24 @@ counts_same budget (Spent tree) old new last same counts = ⊎_elim
     (λ (all : 2 ^ 64 - 1 ≤ new.closings). inr (omega (arith, all, same))) counts
 
 -- the answer of a growth
-module _ (task : Task) (old new : Standing) (growth : Growth) where
+module _ (a : StateAlgebra) (task : Task) (old new : Standing) (growth : Growth) where
   module _ {E : Type 0} where
-    pub grown_whole : (grown : Result (Option Vectors) E) → IfOk grown (IsGrowthOf task old new growth)
+    pub grown_whole : (grown : Result (Option Vectors) E) → IfOk grown (IsGrowthOf a task old new growth)
         → IfOk grown (λ test. IfNone test (IsTree growth.nodes.items))
     grown_whole (Err error) is = tt
     grown_whole (Ok (Some pair)) is = tt
     grown_whole (Ok None) is =
-        end_is_tree new.net new.rules (task_target task) task.budget new.assumptions growth.nodes.items growth.splits is.1
+        end_is_tree a new.net new.rules (task_target task) task.budget new.assumptions growth.nodes.items growth.splits is.1
 
-    pub grown_few : task.budget ≤ MOST_BUDGET → (grown : Result (Option Vectors) E) → IfOk grown (IsGrowthOf task old new growth)
+    pub grown_few : task.budget ≤ MOST_BUDGET → (grown : Result (Option Vectors) E) → IfOk grown (IsGrowthOf a task old new growth)
         → IfOk grown (λ test. IfNone test (length growth.nodes.items < 2 ^ 31))
     grown_few most (Err error) is = tt
     grown_few most (Ok (Some pair)) is = tt
     grown_few most (Ok None) is =
-        end_few new.net new.rules (task_target task) task.budget new.assumptions growth.nodes.items growth.splits is.1 most
+        end_few a new.net new.rules (task_target task) task.budget new.assumptions growth.nodes.items growth.splits is.1 most
 
     pub grown_found : new.net ≡ old.net → new.rules ≡ old.rules → (grown : Result (Option Vectors) E) (found : Found)
-        → IfOk grown (IsGrowthOf task old new growth) → IsAnswerOf grown growth.nodes.items found
+        → IfOk grown (IsGrowthOf a task old new growth) → IsAnswerOf grown growth.nodes.items found
         → IsFound old.net old.rules (task_target task) task.budget found
     grown_found same_net same_rules (Err error) found is answers = absurd answers
     grown_found same_net same_rules (Ok (Some pair)) found is answers =
@@ -120,81 +121,81 @@ module _ (task : Task) (old new : Standing) (growth : Growth) where
     grown_found same_net same_rules (Ok None) found is answers =
         let Q : Circuit → Rules → Type 0 = λ n rules. IsFound n rules (task_target task) task.budget found in
         there_too Q new.net old.net new.rules old.rules same_net same_rules
-        (end_found new.net new.rules (task_target task) task.budget new.assumptions growth.nodes.items growth.splits is.1 found answers)
+        (end_found a new.net new.rules (task_target task) task.budget new.assumptions growth.nodes.items growth.splits is.1 found answers)
 
     pub grown_counts : (grown : Result (Option Vectors) E) (found : Found)
-        → IfOk grown (IsGrowthOf task old new growth) → IsAnswerOf grown growth.nodes.items found
+        → IfOk grown (IsGrowthOf a task old new growth) → IsAnswerOf grown growth.nodes.items found
         → CountsConflicts task.budget found old new
     grown_counts (Err error) found is answers = absurd answers
     grown_counts (Ok (Some pair)) found is answers =
         let P : Found → Type 0 = λ f. CountsConflicts task.budget f old new in subst P (sym answers) tt
     grown_counts (Ok None) found is answers =
-        end_counts new.net new.rules (task_target task) task.budget new.assumptions growth.nodes.items growth.splits is.1 found answers old new is.0
+        end_counts a new.net new.rules (task_target task) task.budget new.assumptions growth.nodes.items growth.splits is.1 found answers old new is.0
 
     pub answer_found : {F : Type 0} → new.net ≡ old.net → new.rules ≡ old.rules → (grown : Result (Option Vectors) E) (result : Result Found F)
-        → IfOk grown (IsGrowthOf task old new growth) → IfOk result (IsAnswerOf grown growth.nodes.items)
+        → IfOk grown (IsGrowthOf a task old new growth) → IfOk result (IsAnswerOf grown growth.nodes.items)
         → IfOk result (IsFound old.net old.rules (task_target task) task.budget)
     answer_found same_net same_rules grown (Err error) is answers = tt
     answer_found same_net same_rules grown (Ok found) is answers = grown_found same_net same_rules grown found is answers
 
     pub answer_counts : {F : Type 0} (grown : Result (Option Vectors) E) (result : Result Found F)
-        → IfOk grown (IsGrowthOf task old new growth) → IfOk result (IsAnswerOf grown growth.nodes.items)
+        → IfOk grown (IsGrowthOf a task old new growth) → IfOk result (IsAnswerOf grown growth.nodes.items)
         → IfOk result (λ found. CountsConflicts task.budget found old new)
     answer_counts grown (Err error) is answers = tt
     answer_counts grown (Ok found) is answers = grown_counts grown found is answers
 
 -- what was found, or a test in its place
 pub outcome_found : {E : Type 0} (c : Circuit) (rules : Rules) (target : Target) (budget : ℕ) (ended : Result Found E) (found : Found)
-    → IfOk ended (IsFound c rules target budget) → IsOutcomeOf c target ended found → IsFound c rules target budget found
+    → IfOk ended (IsFound c rules target budget) → IsOutcomeOf c rules target ended found → IsFound c rules target budget found
 outcome_found {E} c rules target budget ended found is outcome = ⊎_elim
     (λ (same : ended ≡ Ok found). let P : Result Found E → Type 0 = λ r. IfOk r (IsFound c rules target budget) in subst P same is)
     (by found) outcome
   where
-    by : (f : Found) → IsTestFor c target f → IsFound c rules target budget f
+    by : (f : Found) → IsTestFor c rules target f → IsFound c rules target budget f
     by (Test pair) fit = fit
     by (Refuted tree) fit = absurd fit
     by (Spent tree) fit = absurd fit
 
 -- and it is counted in the same way
-pub outcome_counts : {E : Type 0} (c : Circuit) (target : Target) (budget : ℕ) (ended : Result Found E) (found : Found)
+pub outcome_counts : {E : Type 0} (c : Circuit) (rules : Rules) (target : Target) (budget : ℕ) (ended : Result Found E) (found : Found)
     (old new last : Standing) → last.closings ≡ new.closings
-    → IfOk ended (λ f. CountsConflicts budget f old new) → IsOutcomeOf c target ended found → CountsConflicts budget found old last
-outcome_counts {E} c target budget ended found old new last same counts outcome = counts_same budget found old new last same (⊎_elim
+    → IfOk ended (λ f. CountsConflicts budget f old new) → IsOutcomeOf c rules target ended found → CountsConflicts budget found old last
+outcome_counts {E} c rules target budget ended found old new last same counts outcome = counts_same budget found old new last same (⊎_elim
     (λ (is : ended ≡ Ok found). let P : Result Found E → Type 0 = λ r. IfOk r (λ f. CountsConflicts budget f old new) in subst P is counts)
     (by found) outcome)
   where
-    by : (f : Found) → IsTestFor c target f → CountsConflicts budget f old new
+    by : (f : Found) → IsTestFor c rules target f → CountsConflicts budget f old new
     by (Test pair) fit = tt
     by (Refuted tree) fit = absurd fit
     by (Spent tree) fit = absurd fit
 
 -- the same of results, where another name stands for the circuit
-pub concluded_found : {E F : Type 0} (c : Circuit) (rules : Rules) (target : Target) (budget : ℕ) (n : Circuit) → n ≡ c
+pub concluded_found : {E F : Type 0} (c : Circuit) (rules : Rules) (target : Target) (budget : ℕ) (n : Circuit) (s : Rules) → n ≡ c → s ≡ rules
     → (ended : Result Found E) → IfOk ended (IsFound c rules target budget)
-    → (result : Result Found F) → IfOk result (IsOutcomeOf n target ended) → IfOk result (IsFound c rules target budget)
-concluded_found c rules target budget n same ended is (Err error) outcome = tt
-concluded_found c rules target budget n same ended is (Ok found) outcome =
-    let P : Circuit → Type 0 = λ m. IsOutcomeOf m target ended found in
-    outcome_found c rules target budget ended found is (subst P same outcome)
+    → (result : Result Found F) → IfOk result (IsOutcomeOf n s target ended) → IfOk result (IsFound c rules target budget)
+concluded_found c rules target budget n s same_net same_rules ended is (Err error) outcome = tt
+concluded_found c rules target budget n s same_net same_rules ended is (Ok found) outcome =
+    let P : Circuit → Rules → Type 0 = λ m r. IsOutcomeOf m r target ended found in
+    outcome_found c rules target budget ended found is (there_too P n c s rules same_net same_rules outcome)
 
-pub concluded_counts : {E F : Type 0} (c : Circuit) (target : Target) (budget : ℕ) (old new last : Standing) → last.closings ≡ new.closings
+pub concluded_counts : {E F : Type 0} (c : Circuit) (rules : Rules) (target : Target) (budget : ℕ) (old new last : Standing) → last.closings ≡ new.closings
     → (ended : Result Found E) → IfOk ended (λ f. CountsConflicts budget f old new)
-    → (result : Result Found F) → IfOk result (IsOutcomeOf c target ended) → IfOk result (λ f. CountsConflicts budget f old last)
-concluded_counts c target budget old new last same ended counts (Err error) outcome = tt
-concluded_counts c target budget old new last same ended counts (Ok found) outcome =
-    outcome_counts c target budget ended found old new last same counts outcome
+    → (result : Result Found F) → IfOk result (IsOutcomeOf c rules target ended) → IfOk result (λ f. CountsConflicts budget f old last)
+concluded_counts c rules target budget old new last same ended counts (Err error) outcome = tt
+concluded_counts c rules target budget old new last same ended counts (Ok found) outcome =
+    outcome_counts c rules target budget ended found old new last same counts outcome
 
 -- a test that was found later is an outcome, and what was found before is
-pub replaced_outcome : {E F : Type 0} (c : Circuit) (target : Target) (ended : Result Found E) (later : Result (Option Vectors) F) (before after : Found)
-    → ended ≡ Ok before → IfOk later (λ pair. IfSome pair (IsFitTest c target)) → IsReplacedBy later before after
-    → IsOutcomeOf c target ended after
-replaced_outcome c target ended (Err error) before after is fit replaced = absurd replaced
-replaced_outcome c target ended (Ok None) before after is fit replaced = inl (is ∙ ap (λ (f : Found). Ok f) (sym replaced))
-replaced_outcome c target ended (Ok (Some pair)) before after is fit replaced =
-    let P : Found → Type 0 = λ f. IsTestFor c target f in inr (subst P (sym replaced) fit)
+pub replaced_outcome : {E F : Type 0} (c : Circuit) (rules : Rules) (target : Target) (ended : Result Found E) (later : Result (Option Vectors) F) (before after : Found)
+    → ended ≡ Ok before → IfOk later (λ pair. IfSome pair (IsFitTest c rules target)) → IsReplacedBy later before after
+    → IsOutcomeOf c rules target ended after
+replaced_outcome c rules target ended (Err error) before after is fit replaced = absurd replaced
+replaced_outcome c rules target ended (Ok None) before after is fit replaced = inl (is ∙ ap (λ (f : Found). Ok f) (sym replaced))
+replaced_outcome c rules target ended (Ok (Some pair)) before after is fit replaced =
+    let P : Found → Type 0 = λ f. IsTestFor c rules target f in inr (subst P (sym replaced) fit)
 
-pub replaced_all : {E F G : Type 0} (c : Circuit) (target : Target) (ended : Result Found E) (later : Result (Option Vectors) F) (before : Found)
-    → ended ≡ Ok before → IfOk later (λ pair. IfSome pair (IsFitTest c target)) → (result : Result Found G) → IfOk result (IsReplacedBy later before)
-    → IfOk result (IsOutcomeOf c target ended)
-replaced_all c target ended later before is fit (Err error) replaced = tt
-replaced_all c target ended later before is fit (Ok after) replaced = replaced_outcome c target ended later before after is fit replaced
+pub replaced_all : {E F G : Type 0} (c : Circuit) (rules : Rules) (target : Target) (ended : Result Found E) (later : Result (Option Vectors) F) (before : Found)
+    → ended ≡ Ok before → IfOk later (λ pair. IfSome pair (IsFitTest c rules target)) → (result : Result Found G) → IfOk result (IsReplacedBy later before)
+    → IfOk result (IsOutcomeOf c rules target ended)
+replaced_all c rules target ended later before is fit (Err error) replaced = tt
+replaced_all c rules target ended later before is fit (Ok after) replaced = replaced_outcome c rules target ended later before after is fit replaced

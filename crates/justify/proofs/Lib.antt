@@ -1,6 +1,7 @@
 mod Orders
 mod Assumed
 mod Resting
+mod Suiting
 mod SameNodes
 mod Trials
 mod TriedSources

@@ -7,19 +7,19 @@ use Rattle.pd_base.specs.declared.rules.Rules.{Rules}
 use Rattle.netlist.specs.Circuit.{Circuit}
 use Rattle.state_sets.specs.declared.state.State.{State}
 use Rattle.state_sets.specs.declared.state.StateSet.{StateSet}
-use Rattle.state_sets.specs.FourStates.{four_states}
+use Rattle.state_sets.specs.StateAlgebra.{StateAlgebra}
 use Rattle.state_sets.specs.Labellings.{label_at}
 use Rattle.state_laws.specs.declared.half.Half.{Half}
-use Rattle.tree_laws.specs.Spent.{IsInSupport, IsOpen}
+use Rattle.trees.specs.Spent.{IsInSupport, IsOpen}
 use Rattle.implication.specs.declared.assumption.Beginning.{Beginning}
 use Rattle.implication.specs.declared.assumption.Assumption.{Assumption}
 use Rattle.implication.specs.Assumptions.{entered_pins}
 use Rattle.implication.specs.Clients.{IsRestored}
 use Rattle.implication.specs.Standing.{Standing, IsHullFrom, IsLabels, IsOpenFrom}
-use Rattle.tree_laws.specs.NodeScopes.{StandsAtNode, AllowAsNode}
+use Rattle.implication.specs.NodeScopes.{StandsAtNode, AllowAsNode}
 use Rattle.justify.specs.Tests.{IsFitTest}
 use Rattle.justify.specs.Trying.{HasFailed, IsTrialOf, HasLeast, IsSingle}
-use Rattle.tree_laws.proofs.ScopeLabels.{there_too}
+use Rattle.implication.proofs.ScopeLabels.{there_too}
 use Rattle.justify.proofs.Orders.{no_less}
 use Rattle.justify.proofs.Resting.{counted_before}
 
@@ -60,24 +60,24 @@ restored_trans first middle last one two = record {
   later = no_less first.closings middle.closings last.closings one.later two.later;
 }
 
-module _ (target : Target) (first last : Standing) (same : IsSameNode first last) where
+module _ (a : StateAlgebra) (target : Target) (first last : Standing) (same : IsSameNode first last) where
   -- the labels are the same
-  pub same_labels : (labels : List StateSet) → IsLabels four_states first labels → IsLabels four_states last labels
+  pub same_labels : (labels : List StateSet) → IsLabels a first labels → IsLabels a last labels
   same_labels labels is =
-      let P : Circuit → Rules → Type 0 = λ c rules. IsHullFrom four_states c rules first.beginning first.assumptions labels in
-      let Q : Option Beginning → Type 0 = λ o. IsHullFrom four_states last.net last.rules o first.assumptions labels in
-      let R : List Assumption → Type 0 = λ list. IsHullFrom four_states last.net last.rules last.beginning list labels in
+      let P : Circuit → Rules → Type 0 = λ c rules. IsHullFrom a c rules first.beginning first.assumptions labels in
+      let Q : Option Beginning → Type 0 = λ o. IsHullFrom a last.net last.rules o first.assumptions labels in
+      let R : List Assumption → Type 0 = λ list. IsHullFrom a last.net last.rules last.beginning list labels in
       subst R (sym same.assumptions) (subst Q (sym same.beginning)
       (there_too P first.net last.net first.rules last.rules (sym same.net) (sym same.rules) is))
 
-  same_node : (list : List Half) → AllowAsNode last.net last.rules target last.assumptions list → AllowAsNode first.net first.rules target first.assumptions list
+  same_node : (list : List Half) → AllowAsNode a last.net last.rules target last.assumptions list → AllowAsNode a first.net first.rules target first.assumptions list
   same_node list at =
-      let P : Circuit → Rules → Type 0 = λ c rules. AllowAsNode c rules target first.assumptions list in
-      let Q : List Assumption → Type 0 = λ xs. AllowAsNode last.net last.rules target xs list in
+      let P : Circuit → Rules → Type 0 = λ c rules. AllowAsNode a c rules target first.assumptions list in
+      let Q : List Assumption → Type 0 = λ xs. AllowAsNode a last.net last.rules target xs list in
       there_too P last.net first.net last.rules first.rules same.net same.rules (subst Q same.assumptions at)
 
   -- what failed has failed
-  pub failed_stays : HasFailed target first → HasFailed target last
+  pub failed_stays : HasFailed a target first → HasFailed a target last
   failed_stays failed = record {
     hull = failed.hull;
     labels = same_labels failed.hull failed.labels;
@@ -85,42 +85,44 @@ module _ (target : Target) (first last : Standing) (same : IsSameNode first last
         let P : Circuit → Rules → Type 0 = λ c rules. IsOpen c rules target halves failed.hull in
         there_too P first.net last.net first.rules last.rules (sym same.net) (sym same.rules) (failed.is_open halves (same_node halves at));
     two =
-        let P : Circuit → Type 0 = λ c. ¬ ((source : ℕ) → IsInSupport c target.path source → IsSingle (label_at failed.hull source)) in
-        subst P (sym same.net) failed.two;
+        let P : Circuit → Rules → Type 0 = λ c rules. ¬ ((source : ℕ) → IsInSupport c rules target.path source
+        → IsSingle a.count (label_at failed.hull source)) in
+        there_too P first.net last.net first.rules last.rules (sym same.net) (sym same.rules) failed.two;
   }
 
   -- and the scope stands at the node
-  pub stays_at_node : StandsAtNode target first → StandsAtNode target last
+  pub stays_at_node : StandsAtNode a target first → StandsAtNode a target last
   stays_at_node node = record {
     beginning = same.beginning ∙ node.beginning;
     entered = ap entered_pins same.assumptions ∙ node.entered;
     free = same.conflict ∙ node.free;
     left_open =
-        let P : Circuit → Rules → Type 0 = λ c rules. IsOpenFrom four_states c rules first.beginning first.assumptions in
-        let Q : Option Beginning → Type 0 = λ o. IsOpenFrom four_states last.net last.rules o first.assumptions in
-        let R : List Assumption → Type 0 = λ list. IsOpenFrom four_states last.net last.rules last.beginning list in
+        let P : Circuit → Rules → Type 0 = λ c rules. IsOpenFrom a c rules first.beginning first.assumptions in
+        let Q : Option Beginning → Type 0 = λ o. IsOpenFrom a last.net last.rules o first.assumptions in
+        let R : List Assumption → Type 0 = λ list. IsOpenFrom a last.net last.rules last.beginning list in
         subst R (sym same.assumptions) (subst Q (sym same.beginning)
         (there_too P first.net last.net first.rules last.rules (sym same.net) (sym same.rules) node.left_open));
   }
 
 -- least states stay the least ones
-pub least_stays : (target : Target) (first last : Standing) → IsSameNode first last → (states : List State) → HasLeast target first states
-    → HasLeast target last states
-least_stays target first last same states least source support labels is =
-    let P : Circuit → Type 0 = λ c. IsInSupport c target.path source in
-    least source (subst P same.net support) labels (same_labels target last first (same_back first last same) labels is)
+pub least_stays : (a : StateAlgebra) (target : Target) (first last : Standing) → IsSameNode first last → (states : List State) → HasLeast a target first states
+    → HasLeast a target last states
+least_stays a target first last same states least source support labels is =
+    let P : Circuit → Rules → Type 0 = λ c rules. IsInSupport c rules target.path source in
+    least source (there_too P last.net first.net last.rules first.rules same.net same.rules support) labels (same_labels a target last first (same_back first last same) labels is)
 
 -- what is found after a scope was restored is found of what stood before
-pub answer_before : (target : Target) (first middle last : Standing) → IsRestored first middle → (answer : Option Vectors)
-    → IsTrialOf target middle last answer → IsTrialOf target first last answer
-answer_before target first middle last restored (Some pair) fit =
-    let P : Circuit → Type 0 = λ c. IsFitTest c target pair in subst P restored.net fit
-answer_before target first middle last restored None fails = record {
-  failed = failed_stays target middle first (same_back first middle (same_restored first middle restored)) fails.failed;
+pub answer_before : (a : StateAlgebra) (target : Target) (first middle last : Standing) → IsRestored first middle → (answer : Option Vectors)
+    → IsTrialOf a target middle last answer → IsTrialOf a target first last answer
+answer_before a target first middle last restored (Some pair) fit =
+    let P : Circuit → Rules → Type 0 = λ c rules. IsFitTest c rules target pair in
+    there_too P middle.net first.net middle.rules first.rules restored.net restored.rules fit
+answer_before a target first middle last restored None fails = record {
+  failed = failed_stays a target middle first (same_back first middle (same_restored first middle restored)) fails.failed;
   counted = counted_before first.closings middle.closings last.closings restored.later fails.counted;
 }
 
-pub ok_answer : {E : Type 0} (target : Target) (first middle last : Standing) → IsRestored first middle → (answer : Result (Option Vectors) E)
-    → IfOk answer (IsTrialOf target middle last) → IfOk answer (IsTrialOf target first last)
-ok_answer target first middle last restored (Ok answer) is = answer_before target first middle last restored answer is
-ok_answer target first middle last restored (Err error) is = tt
+pub ok_answer : {E : Type 0} (a : StateAlgebra) (target : Target) (first middle last : Standing) → IsRestored first middle → (answer : Result (Option Vectors) E)
+    → IfOk answer (IsTrialOf a target middle last) → IfOk answer (IsTrialOf a target first last)
+ok_answer a target first middle last restored (Ok answer) is = answer_before a target first middle last restored answer is
+ok_answer a target first middle last restored (Err error) is = tt

@@ -4,22 +4,23 @@ use Rattle.std.specs.Prelude.{IfSome}
 use Rattle.pd_base.specs.Target.{Target}
 use Rattle.pd_base.specs.declared.ids.LineId.{LineId}
 use Rattle.state_sets.specs.Labellings.{label_at}
-use Rattle.tree_laws.specs.Spent.{IsInSupport, HasInHalf}
+use Rattle.state_sets.specs.StateAlgebra.{StateAlgebra}
+use Rattle.trees.specs.Spent.{IsInSupport, HasInHalf}
 use Rattle.implication.specs.Standing.{Standing}
 use Rattle.justify.specs.declared.choosing.Split.{Split}
 use Rattle.justify.specs.Choices.{SplitsAt, IsUsefulSplit}
 
-pub useful_at : (target : Target) (standing : Standing) (source : LineId) → IsInSupport standing.net target.path source.0
-    → (found : Option Split) → IfSome found (SplitsAt standing source) → IfSome found (IsUsefulSplit target standing)
-useful_at target standing source support None at = tt
-useful_at target standing source support (Some split) at =
-    let P : LineId → Type 0 = λ l. IsInSupport standing.net target.path l.0 in
+pub useful_at : (a : StateAlgebra) (target : Target) (standing : Standing) (source : LineId) → IsInSupport standing.net standing.rules target.path source.0
+    → (found : Option Split) → IfSome found (SplitsAt a standing source) → IfSome found (IsUsefulSplit a target standing)
+useful_at a target standing source support None at = tt
+useful_at a target standing source support (Some split) at =
+    let P : LineId → Type 0 = λ l. IsInSupport standing.net standing.rules target.path l.0 in
     record {
       in_support = subst P (sym at.at_source) support;
       splits = record {
         at_source = refl;
         in_half = λ labels is second.
-            let Q : LineId → Type 0 = λ l. HasInHalf (label_at labels l.0) split.steadiness second in
+            let Q : LineId → Type 0 = λ l. HasInHalf a (label_at labels l.0) split.steadiness second in
             subst Q (sym at.at_source) (at.in_half labels is second);
       };
     }

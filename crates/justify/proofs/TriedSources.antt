@@ -1,109 +1,140 @@
 -- Sources that are tried in the states of a desk: they are such as a trial assumes; and a pair that is read off these states is a test
 -- where it meets the conditions.
-use Rattle.std.proofs.Common.{◌≡◌, ℕ, ◌+◌, ◌<◌, ◌↔◌, ⊎_elim, Bool, Option, Some, None, List, [], ◌∷◌, ◌++◌, length, take, get_or, refl, sym}
+use Rattle.std.proofs.Common.{◌≡◌, ◌≢◌, ℕ, ◌+◌, ◌<◌, ◌≤◌, ◌^◌, ⊎_elim, Bool, Option, Some, None, List, [], ◌∷◌, ◌++◌, length, take, get_or, refl, sym}
 use Rattle.std.proofs.Common.{ap, ◌∙◌, subst, arith}
 use Rattle.std.specs.Prelude.{IfSome}
 use Rattle.std.specs.List.{All, Contains}
 use Rattle.std.proofs.lemmas.List.{take_more}
-use Rattle.std.proofs.lemmas.List.Elements.{All-push, Contains-get_or, Contains-push, Contains-push_cases, Contains-append_left}
+use Rattle.std.proofs.lemmas.Bool.{cases_lt}
+use Rattle.std.proofs.lemmas.List.Elements.{All-contains, All-push, Contains-get_or, Contains-push, Contains-push_cases, Contains-append_left}
+use Rattle.pd_base.specs.Links.{LinkList, links_of}
 use Rattle.pd_base.specs.Pair.{Vectors}
 use Rattle.pd_base.specs.Route.{Route}
 use Rattle.pd_base.specs.Target.{Target}
 use Rattle.pd_base.specs.declared.ids.LineId.{LineId}
+use Rattle.pd_base.specs.declared.rules.Rules.{Rules}
+use Rattle.pd_base.specs.declared.rules.Rules.TheVariants.{One, Two, Linked}
 use Rattle.netlist.specs.Circuit.{Circuit, source_count, line_count}
 use Rattle.netlist.specs.Conditions.{Meets}
 use Rattle.netlist.specs.Lawful.{IsCircuit}
 use Rattle.netlist.specs.Paths.{IsPrefix, end_of}
-use Rattle.netlist.specs.Pins.{IsInFanIn}
+use Rattle.netlist.specs.LinkedPairs.{AreLinksOf, FitRules, IsOfRules, IsSupported}
 use Rattle.path_laws.proofs.StepCounts.{line_after_in_circuit}
 use Rattle.state_sets.specs.declared.state.State.{State}
 use Rattle.state_sets.specs.declared.state.StateSet.{StateSet}
-use Rattle.state_sets.specs.FourStates.{four_states}
+use Rattle.state_sets.specs.StateAlgebra.{StateAlgebra}
+use Rattle.state_sets.specs.SixLaws.{six_laws}
+use Rattle.state_sets.specs.States.{Has, no_states}
+use Rattle.state_sets.proofs.SixFirst.{six_tells_first}
 use Rattle.state_sets.specs.Labellings.{label_at}
-use Rattle.state_laws.proofs.FanIns.{fan_in_in_circuit}
-use Rattle.tree_laws.specs.Spent.{IsInSupport}
+use Rattle.state_sets.specs.Hulls.{IsNarrowingOf}
+use Rattle.state_laws.proofs.Hulls.{emptied_if_empty}
+use Rattle.state_laws.proofs.Images.{has_some}
+use Rattle.state_laws.proofs.Linked.{none_linked}
+use Rattle.state_laws.proofs.Supports.{supported_in_circuit}
+use Rattle.trees.specs.Algebras.{algebra_of}
+use Rattle.trees.specs.Spent.{IsInSupport}
+use Rattle.implication.specs.Assumptions.{entered_pins, MayUnder}
+use Rattle.implication.proofs.ScopeLabels.{labels_under, open_under}
 use Rattle.implication.specs.Standing.{Standing, IsLabels, TellsLabels}
 use Rattle.justify.specs.declared.trial.Tried.{Tried}
 use Rattle.search_hints.specs.Blamed.{AreBlamed}
-use Rattle.test_judging.specs.ConeStates.{state_in, AreFourStates, HasSourceStates, HasConeStates, IsReadFrom}
+use Rattle.pair_judging.specs.ConeStates.{state_in, AreStates, AreSourceStates, HasSourceStates, HasSupportStates, HasLinkedStates, IsReadFrom}
 use Rattle.justify.specs.declared.desk.Desk.{Desk}
 use Rattle.justify.specs.Desks.{IsDesk, IsSameDesk, AreInSupport}
 use Rattle.search_hints.specs.Drafts.{Prepared, IsJustifierOf}
-use Rattle.test_judging.specs.FoundLines.{HasMark}
-use Rattle.test_judging.specs.KeptCones.{KeptCone, AreConeSources, IsConeFor, IsConeAt}
-use Rattle.test_judging.specs.LeastStates.{IsTakenOf}
-use Rattle.tree_laws.specs.NodeScopes.{beginning_of, StandsAtNode}
-use Rattle.test_judging.specs.Taken.{AreLeast}
+use Rattle.pair_judging.specs.FoundLines.{HasMark}
+use Rattle.pair_judging.specs.KeptCones.{KeptCone, IsConeFor, IsConeAt}
+use Rattle.pair_judging.proofs.LinkedStates.{read_keeps_links}
+use Rattle.pair_judging.specs.LeastStates.{IsTakenOf}
+use Rattle.implication.specs.NodeScopes.{beginning_of, StandsAtNode}
+use Rattle.pair_judging.specs.Taken.{AreLeast}
 use Rattle.justify.specs.Tests.{IsFitTest}
 use Rattle.justify.proofs.Resting.{label_is}
+use Rattle.justify.proofs.Suiting.{support_told}
+use Rattle.justify.specs.Scoping.{SuitsSearch}
 use Rattle.justify.specs.Trying.{CanTry, HasLeastLabel, AreTriedIn, HasLeast, GivesTest}
 
 -- the sources of the cone are those of the support
-pub cone_in_support : (c : Circuit) (path : Route) (sources : List LineId) → AreConeSources c (end_of c path) sources
-    → AreInSupport c path sources
-cone_in_support c path sources cone k d inside =
-    let found = (cone.exactly (get_or sources k d).0).0 (Contains-get_or sources k d inside) in
-    record { is_source = found.0; in_fan_in = found.1 }
+pub cone_in_support : (c : Circuit) (rules : Rules) (path : Route) (cone : KeptCone) → cone.links ≡ links_of rules
+    → IsConeAt c (end_of c path) cone → AreInSupport c rules path cone.sources
+cone_in_support c rules path cone linked at k d inside =
+    let source = (get_or cone.sources k d).0 in
+    let found = (at.sources.exactly source).0 (Contains-get_or cone.sources k d inside) in
+    let P : LinkList → Type 0 = λ links. IsSupported c links (end_of c path) source in
+    record { is_source = found.0; supported = subst P linked found.1 }
+
+-- and the other way round
+pub support_in_cone : (c : Circuit) (rules : Rules) (path : Route) (cone : KeptCone) → cone.links ≡ links_of rules
+    → IsConeAt c (end_of c path) cone → (source : ℕ) → IsInSupport c rules path source → Contains cone.sources (record { 0 = source })
+support_in_cone c rules path cone linked at source support =
+    let P : LinkList → Type 0 = λ links. IsSupported c links (end_of c path) source in
+    (at.sources.exactly source).1 (support.is_source, subst P (sym linked) support.supported)
 
 -- so are they as they are read
-pub read_in_support : (c : Circuit) (path : Route) (kept sources : List LineId) → AreConeSources c (end_of c path) kept → sources ≡ kept
-    → AreInSupport c path sources
-read_in_support c path kept sources cone same =
-    let P : List LineId → Type 0 = λ xs. AreInSupport c path xs in subst P (sym same) (cone_in_support c path kept cone)
+pub read_in_support : (a : StateAlgebra) (c : Circuit) (rules : Rules) (path : Route) (desk : Desk) → IsDesk a c rules path desk
+    → (sources : List LineId) → sources ≡ desk.cone.sources → AreInSupport c rules path sources
+read_in_support a c rules path desk is sources same =
+    let P : List LineId → Type 0 = λ xs. AreInSupport c rules path xs in
+    subst P (sym same) (cone_in_support c rules path desk.cone is.made.links is.cone)
 
 -- sources of the support are lines
-pub support_within : (c : Circuit) (path : Route) (sources : List LineId) (n : ℕ) → n ≡ line_count c → AreInSupport c path sources
-    → All (λ source. source.0 < n) sources
-support_within c path sources n is support k d inside = let within = (support k d inside).is_source in omega (arith, within, is)
+pub support_within : (c : Circuit) (rules : Rules) (path : Route) (sources : List LineId) (n : ℕ) → n ≡ line_count c
+    → AreInSupport c rules path sources → All (λ source. source.0 < n) sources
+support_within c rules path sources n is support k d inside = let within = (support k d inside).is_source in omega (arith, within, is)
 
 -- and so are those of the cone, as they are read
-pub read_within : (c : Circuit) (path : Route) (kept sources : List LineId) → AreConeSources c (end_of c path) kept → sources ≡ kept
-    → (n : ℕ) → n ≡ line_count c → All (λ source. source.0 < n) sources
-read_within c path kept sources cone same n is = support_within c path sources n is (read_in_support c path kept sources cone same)
+pub read_within : (a : StateAlgebra) (c : Circuit) (rules : Rules) (path : Route) (desk : Desk) → IsDesk a c rules path desk
+    → (sources : List LineId) → sources ≡ desk.cone.sources → (n : ℕ) → n ≡ line_count c → All (λ source. source.0 < n) sources
+read_within a c rules path desk is sources same n long =
+    support_within c rules path sources n long (read_in_support a c rules path desk is sources same)
 
--- the sources to blame are of the support, where the lines of the failure are in the fan-in of the path's end
-pub blamed_in_support : (c : Circuit) (path : Route) (line : LineId) (side : Option LineId) (sources : List LineId)
-    → AreBlamed c line side sources → IsInFanIn c (end_of c path) line.0 → IfSome side (λ other. IsInFanIn c (end_of c path) other.0)
-    → AreInSupport c path sources
-blamed_in_support c path line side sources blamed at_line at_side k d inside = record {
-  is_source = blamed.are_sources k d inside;
-  in_fan_in = blamed.in_fan_in (end_of c path) at_line at_side k d inside;
-}
+-- the sources to blame are of the support, where the lines of the failure are
+pub blamed_in_support : (c : Circuit) (rules : Rules) (path : Route) (links : LinkList) → links ≡ links_of rules
+    → (line : LineId) (side : Option LineId) (sources : List LineId)
+    → AreBlamed c line side sources → IsSupported c links (end_of c path) line.0
+    → IfSome side (λ other. IsSupported c links (end_of c path) other.0) → AreInSupport c rules path sources
+blamed_in_support c rules path links linked line side sources blamed at_line at_side k d inside =
+    let P : LinkList → Type 0 = λ ls. IsSupported c ls (end_of c path) (get_or sources k d).0 in
+    record {
+      is_source = blamed.are_sources k d inside;
+      supported = subst P linked (blamed.supported links (end_of c path) at_line at_side k d inside);
+    }
 
--- a line in the fan-in of the path's end is one of the circuit
-pub in_cone_within : (c : Circuit) → IsCircuit c → (path : Route) → IsPrefix c path → (line : ℕ) → IsInFanIn c (end_of c path) line
-    → line < line_count c
-in_cone_within c circuit path is line further =
+-- a line in the support of the path's end is one of the circuit
+pub in_cone_within : (c : Circuit) → IsCircuit c → (links : LinkList) → AreLinksOf c links → (path : Route) → IsPrefix c path
+    → (line : ℕ) → IsSupported c links (end_of c path) line → line < line_count c
+in_cone_within c circuit links fit path is line supported =
     let within = is.source in
-    fan_in_in_circuit c (end_of c path) circuit.reads_lines
-    (line_after_in_circuit c circuit path.source.0 path.steps (omega (arith, within)) is.connects) line further
+    supported_in_circuit c links (end_of c path) circuit.reads_lines fit
+    (line_after_in_circuit c circuit path.source.0 path.steps (omega (arith, within)) is.connects) line supported
 
 -- what was tried of sources of the support, in states that are the least of their labels
-pub all_tried : (target : Target) (standing : Standing) (sources : List LineId) (states : List State) (tried : List Tried)
-    → AreTriedIn sources states tried → AreInSupport standing.net target.path sources → HasLeast target standing states
-    → AreFourStates states → length states ≡ line_count standing.net → All (CanTry target standing) tried
-all_tried target standing sources states tried are support least four long k d inside =
+pub all_tried : (a : StateAlgebra) (target : Target) (standing : Standing) (sources : List LineId) (states : List State) (tried : List Tried)
+    → AreTriedIn sources states tried → AreInSupport standing.net standing.rules target.path sources → HasLeast a target standing states
+    → AreStates a.count states → length states ≡ line_count standing.net → All (CanTry a target standing) tried
+all_tried a target standing sources states tried are support least four long k d inside =
     let entry = get_or tried k d in
     let each = are.each k d inside in
-    let P : LineId → Type 0 = λ source. IsInSupport standing.net target.path source.0 in
+    let P : LineId → Type 0 = λ source. IsInSupport standing.net standing.rules target.path source.0 in
     let at = each.0 in
-    let here : IsInSupport standing.net target.path entry.source.0 = subst P at.2 (support at.0 entry.source at.1) in
+    let here : IsInSupport standing.net standing.rules target.path entry.source.0 = subst P at.2 (support at.0 entry.source at.1) in
     let within = here.is_source in
-    let Q : State → Type 0 = λ state. state.0 < 4 in
+    let Q : State → Type 0 = λ state. state.0 < a.count in
     record {
       in_support = here;
       in_range = subst Q (sym each.1) (four entry.source.0 (record { 0 = 0 }) (omega (arith, within, long)));
       least = λ labels is.
-          let T : State → Type 0 = λ state. IsTakenOf (label_at labels entry.source.0) state in
+          let T : State → Type 0 = λ state. IsTakenOf a.count (label_at labels entry.source.0) state in
           subst T (sym each.1) (least entry.source.0 here labels is);
     }
 
 -- so are sources that still have these as their least states
-pub tried_again : (target : Target) (standing : Standing) (marks : List Bool) (tried : Tried)
-    → ((line : ℕ) → HasMark marks line → IsInFanIn standing.net (end_of standing.net target.path) line)
-    → HasLeastLabel standing marks tried → CanTry target standing tried
-tried_again target standing marks tried marked has = record {
-  in_support = record { is_source = has.is_source; in_fan_in = marked tried.source.0 has.marked };
+pub tried_again : (a : StateAlgebra) (target : Target) (standing : Standing) (marks : List Bool) (tried : Tried)
+    → ((line : ℕ) → HasMark marks line → IsSupported standing.net (links_of standing.rules) (end_of standing.net target.path) line)
+    → HasLeastLabel a standing marks tried → CanTry a target standing tried
+tried_again a target standing marks tried marked has = record {
+  in_support = record { is_source = has.is_source; supported = marked tried.source.0 has.marked };
   in_range = has.in_range;
   least = has.least;
 }
@@ -135,83 +166,111 @@ module _ (sources : List LineId) (states : List State) where
             (Contains-push_cases front source other has);
       }))
 
--- a pair that is read off the states of the cone's sources and meets the conditions is a test
-pub read_fits : (c : Circuit) (target : Target) (states : List State) (pair : Vectors) → IsReadFrom c (end_of c target.path) states pair
-    → Meets c target pair → IsFitTest c target pair
-read_fits c target states pair read meets = record {
+-- a pair that is read off states is one of the rules, where the states along links of the support may be linked
+own_of_rules : (c : Circuit) → IsCircuit c → (rules : Rules) → FitRules c rules → (end : ℕ) (states : List State) (pair : Vectors)
+    → IsReadFrom (algebra_of rules) c (links_of rules) end states pair → HasLinkedStates (algebra_of rules) c (links_of rules) end pair
+    → IsOfRules c rules pair
+own_of_rules c circuit One fit end states pair read linked = λ source line link. absurd (none_linked source line link)
+own_of_rules c circuit Two fit end states pair read linked = λ source line link. absurd (none_linked source line link)
+own_of_rules c circuit (Linked links) fit end states pair read linked =
+    read_keeps_links (algebra_of (Linked links)) six_tells_first c circuit six_laws (links_of (Linked links)) fit end states pair read linked
+
+read_of_rules : (a : StateAlgebra) (c : Circuit) → IsCircuit c → (rules : Rules) → a ≡ algebra_of rules → FitRules c rules
+    → (end : ℕ) (states : List State) (pair : Vectors)
+    → IsReadFrom a c (links_of rules) end states pair → HasLinkedStates a c (links_of rules) end pair → IsOfRules c rules pair
+read_of_rules a c circuit rules same fit end states pair =
+    let P : StateAlgebra → Type 0 = λ x. IsReadFrom x c (links_of rules) end states pair → HasLinkedStates x c (links_of rules) end pair
+    → IsOfRules c rules pair in
+    subst P (sym same) (own_of_rules c circuit rules fit end states pair)
+
+-- a pair that is read off the states of the cone's sources, keeps the links there and meets the conditions is a test
+pub read_fits : (a : StateAlgebra) (c : Circuit) → IsCircuit c → (rules : Rules) → a ≡ algebra_of rules → FitRules c rules
+    → (target : Target) (states : List State) (pair : Vectors) → IsReadFrom a c (links_of rules) (end_of c target.path) states pair
+    → HasLinkedStates a c (links_of rules) (end_of c target.path) pair → Meets c target pair → IsFitTest c rules target pair
+read_fits a c circuit rules same fit target states pair read linked meets = record {
   first_fits = read.first_fits;
   second_fits = read.second_fits;
+  of_rules = read_of_rules a c circuit rules same fit (end_of c target.path) states pair read linked;
   meets = meets;
   zero_outside = λ source within outside. record {
-    first = read.first_zero source within (λ further. outside (record { is_source = within; in_fan_in = further }));
-    second = read.second_zero source within (λ further. outside (record { is_source = within; in_fan_in = further }));
+    first = read.first_zero source within (λ supported. outside (record { is_source = within; supported = supported }));
+    second = read.second_zero source within (λ supported. outside (record { is_source = within; supported = supported }));
   };
 }
 
 -- and where all sources of the cone were tried without a conflict, it is one
-pub tried_fits : (c : Circuit) (target : Target) (sources : List LineId) (states : List State) (tried : List Tried) (pair : Vectors)
-    → AreConeSources c (end_of c target.path) sources → AreTriedIn sources states tried → IsReadFrom c (end_of c target.path) states pair
-    → GivesTest c target tried → IsFitTest c target pair
-tried_fits c target sources states tried pair cone are read gives =
-    read_fits c target states pair read (gives pair (λ source support.
-    let there = (cone.exactly source).1 (support.is_source, support.in_fan_in) in
-    record {
+pub tried_fits : (a : StateAlgebra) (c : Circuit) (rules : Rules) (target : Target) (desk : Desk) → IsDesk a c rules target.path desk
+    → (sources : List LineId) → sources ≡ desk.cone.sources
+    → (states : List State) (tried : List Tried) (pair : Vectors) → AreTriedIn sources states tried
+    → IsReadFrom a c (links_of rules) (end_of c target.path) states pair → GivesTest a c rules target tried → IsFitTest c rules target pair
+tried_fits a c rules target desk is sources same states tried pair are read gives =
+    let P : List LineId → Type 0 = λ xs. AreTriedIn xs states tried in
+    let given = gives pair (λ source support. record {
       entry = record { source = record { 0 = source }; state = state_in states source };
-      among = are.whole (record { 0 = source }) there;
+      among = (subst P same are).whole (record { 0 = source })
+          (support_in_cone c rules target.path desk.cone is.made.links is.cone source support);
       here = refl;
-      same = sym (read.has source support.is_source support.in_fan_in);
-    }))
+      same = sym (read.has source support.is_source support.supported);
+    }) in
+    read_fits a c is.made.justifier.circuit rules is.made.of_rules is.made.fit target states pair read given.0 given.1
 
 -- likewise of the other line of a failure
-pub side_within : (c : Circuit) → IsCircuit c → (path : Route) → IsPrefix c path → (side : Option LineId)
-    → IfSome side (λ other. IsInFanIn c (end_of c path) other.0) → IfSome side (λ other. other.0 < line_count c)
-side_within c circuit path is None further = tt
-side_within c circuit path is (Some other) further = in_cone_within c circuit path is other.0 further
+pub side_within : (c : Circuit) → IsCircuit c → (links : LinkList) → AreLinksOf c links → (path : Route) → IsPrefix c path
+    → (side : Option LineId) → IfSome side (λ other. IsSupported c links (end_of c path) other.0) → IfSome side (λ other. other.0 < line_count c)
+side_within c circuit links fit path is None supported = tt
+side_within c circuit links fit path is (Some other) supported = in_cone_within c circuit links fit path is other.0 supported
 
 -- what is read at the sources of the cone
-pub read_at : (n c : Circuit) → n ≡ c → (target : Target) (sources kept : List LineId) → sources ≡ kept
-    → AreConeSources c (end_of c target.path) kept → (read states : List State) → read ≡ states → (pair : Vectors)
-    → ((end : ℕ) → ((source : ℕ) → Contains sources (record { 0 = source }) ↔ ((source < source_count n) × IsInFanIn n end source))
-    → IsReadFrom n end read pair)
-    → IsReadFrom c (end_of c target.path) states pair
-read_at n c same target sources kept same_sources cone read states same_states pair reads =
-    let P : Circuit → Type 0 = λ m. AreConeSources m (end_of m target.path) kept → IsReadFrom m (end_of m target.path) states pair in
-    let Q : List State → Type 0 = λ xs. IsReadFrom n (end_of n target.path) xs pair in
-    let R : List LineId → Type 0 = λ xs. AreConeSources n (end_of n target.path) xs in
-    subst P same (λ at. subst Q same_states (reads (end_of n target.path) (subst R (sym same_sources) at).exactly)) cone
+pub read_at : (a : StateAlgebra) (n c : Circuit) → n ≡ c → (rules : Rules) (path : Route) (desk : Desk) → IsDesk a c rules path desk
+    → (read states : List State) → read ≡ states → (pair : Vectors)
+    → ((end : ℕ) → IsConeAt n end desk.cone → IsReadFrom a n desk.cone.links end read pair)
+    → IsReadFrom a c (links_of rules) (end_of c path) states pair
+read_at a n c same rules path desk is read states same_states pair reads =
+    let P : Circuit → Type 0 = λ m. (end : ℕ) → IsConeAt m end desk.cone → IsReadFrom a m desk.cone.links end read pair in
+    let Q : List State → Type 0 = λ xs. IsReadFrom a c (links_of rules) (end_of c path) xs pair in
+    let R : LinkList → Type 0 = λ links. IsReadFrom a c links (end_of c path) read pair in
+    subst Q same_states (subst R is.made.links (subst P same reads (end_of c path) is.cone))
 
 -- the sources of the cone are sources
-pub sources_within : (n c : Circuit) → n ≡ c → (path : Route) (sources kept : List LineId) → sources ≡ kept
-    → AreConeSources c (end_of c path) kept → All (λ source. source.0 < source_count n) sources
-sources_within n c same path sources kept same_sources cone =
-    let P : Circuit → Type 0 = λ m. All (λ source. source.0 < source_count m) sources in
-    let Q : List LineId → Type 0 = λ xs. All (λ source. source.0 < source_count c) xs in
-    subst P (sym same) (subst Q (sym same_sources) (λ k d inside. (cone_in_support c path kept cone k d inside).is_source))
+pub sources_within : (a : StateAlgebra) (n c : Circuit) → n ≡ c → (rules : Rules) (path : Route) (desk : Desk) → IsDesk a c rules path desk
+    → All (λ source. source.0 < source_count n) desk.cone.sources
+sources_within a n c same rules path desk is =
+    let P : Circuit → Type 0 = λ m. All (λ source. source.0 < source_count m) desk.cone.sources in
+    subst P (sym same) (λ k d inside. (cone_in_support c rules path desk.cone is.made.links is.cone k d inside).is_source)
 
 -- a pair that is judged a test is one
-pub judged_fits : (n c : Circuit) → n ≡ c → (target : Target) (states : List State) (pair : Vectors)
-    → IsReadFrom c (end_of c target.path) states pair
-    → ((other : Vectors) → HasSourceStates n (end_of n target.path) states other
-    → HasConeStates n (end_of n target.path) states other × Meets n target other)
-    → IsFitTest c target pair
-judged_fits n c same target states pair read judged =
-    let P : Circuit → Type 0 = λ m. (other : Vectors) → HasSourceStates m (end_of m target.path) states other
-    → HasConeStates m (end_of m target.path) states other × Meets m target other in
-    read_fits c target states pair read (subst P same judged pair read.has).1
+pub judged_fits : (a : StateAlgebra) (n c : Circuit) → n ≡ c → (rules : Rules) (target : Target) (desk : Desk)
+    → IsDesk a c rules target.path desk → (states : List State) (pair : Vectors)
+    → IsReadFrom a c (links_of rules) (end_of c target.path) states pair
+    → ((other : Vectors) → HasSourceStates a n desk.cone.links (end_of n target.path) states other
+    → HasSupportStates a n desk.cone.links (end_of n target.path) states other
+    × HasLinkedStates a n desk.cone.links (end_of n target.path) other × Meets n target other)
+    → IsFitTest c rules target pair
+judged_fits a n c same rules target desk is states pair read judged =
+    let P : Circuit → LinkList → Type 0 = λ m links. (other : Vectors) → HasSourceStates a m links (end_of m target.path) states other
+    → HasSupportStates a m links (end_of m target.path) states other
+    × HasLinkedStates a m links (end_of m target.path) other × Meets m target other in
+    let Q : Circuit → Type 0 = λ m. P m desk.cone.links in
+    let given = subst (P c) is.made.links (subst Q same judged) pair read.has in
+    read_fits a c is.made.justifier.circuit rules is.made.of_rules is.made.fit target states pair read given.1 given.2
 
 -- a desk with other states
-pub desk_again : (c : Circuit) (path : Route) (desk after : Desk) (states : List State) → IsDesk c path desk → after.cone ≡ desk.cone
+pub desk_again : (a : StateAlgebra) (c : Circuit) (rules : Rules) (path : Route) (desk after : Desk) (states : List State)
+    → IsDesk a c rules path desk → after.cone ≡ desk.cone
     → after.blame.room ≡ desk.blame.room → length after.liked.items ≡ length desk.liked.items → after.states.items ≡ states
-    → AreFourStates states → length states ≡ length desk.states.items → IsJustifierOf c after.justifier → IsDesk c path after
-desk_again c path desk after states is cone room liked same four long justifier =
+    → AreStates a.count states → length states ≡ length desk.states.items → IsJustifierOf c after.justifier → IsDesk a c rules path after
+desk_again a c rules path desk after states is cone room liked same within long justifier =
     let P : KeptCone → Type 0 = λ k. IsConeFor c k in
     let Q : KeptCone → Type 0 = λ k. IsConeAt c (end_of c path) k in
-    let R : List State → Type 0 = λ xs. AreFourStates xs in
+    let R : List State → Type 0 = λ xs. AreStates a.count xs in
     record {
       made = record {
+        of_rules = is.made.of_rules;
+        fit = is.made.fit;
         cone = subst P (sym cone) is.made.cone;
+        links = ap (λ (k : KeptCone). k.links) cone ∙ is.made.links;
         states = ap length same ∙ long ∙ is.made.states;
-        four = subst R (sym same) four;
+        within = subst R (sym same) within;
         blame = room ∙ is.made.blame;
         liked = liked ∙ is.made.liked;
         justifier = justifier;
@@ -220,38 +279,91 @@ desk_again c path desk after states is cone room liked same four long justifier 
     }
 
 -- a desk whose justifier was asked for a proposal
-pub desk_asked : (n c : Circuit) → n ≡ c → (path : Route) (desk : Desk) → IsDesk c path desk → (justifier : Prepared)
-    → IsJustifierOf n justifier → IsDesk c path (record desk { justifier = justifier })
-desk_asked n c same path desk is justifier asked =
+pub desk_asked : (a : StateAlgebra) (n c : Circuit) → n ≡ c → (rules : Rules) (path : Route) (desk : Desk) → IsDesk a c rules path desk
+    → (justifier : Prepared) → IsJustifierOf n justifier → IsDesk a c rules path (record desk { justifier = justifier })
+desk_asked a n c same rules path desk is justifier asked =
     let P : Circuit → Type 0 = λ m. IsJustifierOf m justifier in
-    desk_again c path desk (record desk { justifier = justifier }) desk.states.items is refl refl refl refl is.made.four refl
+    desk_again a c rules path desk (record desk { justifier = justifier }) desk.states.items is refl refl refl refl is.made.within refl
     (subst P same asked)
 
 -- what was taken of the labels are the least states
-pub taken_least : (target : Target) (standing : Standing) → StandsAtNode target standing → (kept sources : List LineId)
-    → AreConeSources standing.net (end_of standing.net target.path) kept → sources ≡ kept → (answers : List StateSet)
-    → (labels : List StateSet) × IsLabels four_states standing labels × TellsLabels four_states.count standing labels answers
-    → (states : List State) → AreLeast sources answers states → HasLeast target standing states
-taken_least target standing node kept sources cone same answers tells states taken source support labels is =
+pub taken_least : (a : StateAlgebra) (target : Target) (standing : Standing) → SuitsSearch a target standing → StandsAtNode a target standing
+    → (desk : Desk) → IsDesk a standing.net standing.rules target.path desk → (sources : List LineId) → sources ≡ desk.cone.sources
+    → (answers : List StateSet)
+    → (labels : List StateSet) × IsLabels a standing labels × TellsLabels a.count standing labels answers
+    → (states : List State) → AreLeast a.count sources answers states → HasLeast a target standing states
+taken_least a target standing suits node desk is sources same answers tells states taken source support labels labelled =
     let P : List LineId → Type 0 = λ xs. Contains xs (record { 0 = source }) in
-    let there = subst P (sym same) ((cone.exactly source).1 (support.is_source, support.in_fan_in)) in
+    let there = subst P (sym same)
+    (support_in_cone standing.net standing.rules target.path desk.cone is.made.links is.cone source support) in
     let within = support.is_source in
     let line : source < line_count standing.net = omega (arith, within) in
-    let T : StateSet → Type 0 = λ set. IsTakenOf set (state_in states source) in
-    subst T (label_is standing (beginning_of target) node.beginning source (label_at answers source) within
-    (tells.0, tells.1, tells.2 source line) labels is) (taken source there)
+    let T : StateSet → Type 0 = λ set. IsTakenOf a.count set (state_in states source) in
+    subst T (label_is a standing (beginning_of target) node.beginning source (label_at answers source)
+    (support_told a target standing suits source support) (tells.0, tells.1, tells.2 source line) labels labelled) (taken source there)
+
+-- the state that is taken of a set with some states is in it
+taken_has : (count : ℕ) (set : StateSet) (state : State) → IsTakenOf count set state → set.0 < 2 ^ count → set ≢ no_states
+    → Has count set state
+taken_has count set state taken within some =
+    let found = has_some count set within some in
+    let few = taken.in_range in
+    ⊎_elim (λ (early : state.0 + 1 < count). taken.among early)
+    (λ (last : count ≤ state.0 + 1).
+    let inside = found.1.in_range in
+    ⊎_elim (λ (lower : found.0.0 < state.0). absurd (taken.none_below found.0 lower found.1))
+    (λ (upper : state.0 ≤ found.0.0).
+    let same : found.0.0 ≡ state.0 = omega (arith, few, last, inside, upper) in
+    let P : State → Type 0 = λ s. Has count set s in
+    subst P (ap (λ n. record { 0 = n }) same) found.1)
+    (cases_lt found.0.0 state.0))
+    (cases_lt (state.0 + 1) count)
+
+-- the least states of the sources of the support are such as sources may be in
+pub least_of_sources : (a : StateAlgebra) (target : Target) (standing : Standing) → StandsAtNode a target standing
+    → (desk : Desk) → IsDesk a standing.net standing.rules target.path desk
+    → (labels : List StateSet) → IsLabels a standing labels
+    → (states : List State) → HasLeast a target standing states → AreSourceStates a desk.cone.sources states
+least_of_sources a target standing node desk is labels labelled states least source among =
+    let begun = beginning_of target in
+    let P : LineId → Type 0 = λ l. IsInSupport standing.net standing.rules target.path l.0 in
+    let support = All-contains P desk.cone.sources (record { 0 = source })
+    (cone_in_support standing.net standing.rules target.path desk.cone is.made.links is.cone) among in
+    let within = support.is_source in
+    let under = labels_under a standing begun labels node.beginning labelled in
+    let none_empty : label_at labels source ≢ no_states = λ empty.
+    open_under a standing begun node.beginning node.left_open (record {
+      line = source;
+      in_circuit = omega (arith, within);
+      emptied = emptied_if_empty a standing.net (IsNarrowingOf standing.net (links_of standing.rules) begun.kind (entered_pins standing.assumptions))
+          (MayUnder a standing.net standing.rules begun standing.assumptions) labels under source empty;
+    }) in
+    let small = under.rest.labelling.within source no_states (omega (arith, within, under.rest.labelling.one_each)) in
+    let has = taken_has a.count (label_at labels source) (state_in states source) (least source support labels labelled) small none_empty in
+    (under.rest.among source (state_in states source) has).start.is_source within
 
 -- and they stay so where the states of sources are kept
-pub kept_least : (target : Target) (standing : Standing) (first later : List State)
+pub kept_least : (a : StateAlgebra) (target : Target) (standing : Standing) (first later : List State)
     → ((source : ℕ) → source < source_count standing.net → state_in later source ≡ state_in first source)
-    → HasLeast target standing first → HasLeast target standing later
-kept_least target standing first later kept least source support labels is =
-    let T : State → Type 0 = λ state. IsTakenOf (label_at labels source) state in
+    → HasLeast a target standing first → HasLeast a target standing later
+kept_least a target standing first later kept least source support labels is =
+    let T : State → Type 0 = λ state. IsTakenOf a.count (label_at labels source) state in
     subst T (sym (kept source support.is_source)) (least source support labels is)
 
+-- so do states that sources may be in
+pub kept_sources : (a : StateAlgebra) (c : Circuit) (rules : Rules) (path : Route) (desk : Desk) → IsDesk a c rules path desk
+    → (first later : List State) → ((source : ℕ) → source < source_count c → state_in later source ≡ state_in first source)
+    → AreSourceStates a desk.cone.sources first → AreSourceStates a desk.cone.sources later
+kept_sources a c rules path desk is first later kept are source among =
+    let P : LineId → Type 0 = λ l. l.0 < source_count c in
+    let within = All-contains P desk.cone.sources (record { 0 = source }) (sources_within a c c refl rules path desk is) among in
+    let T : State → Type 0 = λ state. Has a.count a.sources state in
+    subst T (sym (kept source within)) (are source among)
+
 -- a desk that is the same but for what is liked
-pub kept_desk : (c : Circuit) (path : Route) (old new : Desk) → IsSameDesk old new → IsDesk c path old → IsDesk c path new
-kept_desk c path old new same is =
+pub kept_desk : (a : StateAlgebra) (c : Circuit) (rules : Rules) (path : Route) (old new : Desk) → IsSameDesk old new
+    → IsDesk a c rules path old → IsDesk a c rules path new
+kept_desk a c rules path old new same is =
     let P : Prepared → Type 0 = λ j. IsJustifierOf c j in
-    desk_again c path old new old.states.items is same.cone same.blame same.liked same.states is.made.four refl
+    desk_again a c rules path old new old.states.items is same.cone same.blame same.liked same.states is.made.within refl
     (subst P (sym same.justifier) is.made.justifier)

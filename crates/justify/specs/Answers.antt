@@ -3,11 +3,11 @@ use Rattle.std.specs.Prelude.{◌≡◌, ⊤, ℕ, ◌+◌, ◌*◌, ◌-◌, �
 use Rattle.pd_base.specs.Target.{Target}
 use Rattle.pd_base.specs.declared.rules.Rules.{Rules}
 use Rattle.netlist.specs.Circuit.{Circuit}
-use Rattle.runs.specs.declared.tree.Node.{Node}
-use Rattle.runs.specs.declared.tree.Node.TheVariants.{Closed, Waiting, Value, Steadiness}
-use Rattle.runs.specs.Trees.{split_count}
-use Rattle.tree_laws.specs.Refutations.{IsRefutation}
-use Rattle.tree_laws.specs.Spent.{IsSpent}
+use Rattle.trees.specs.declared.tree.Node.{Node}
+use Rattle.trees.specs.declared.tree.Node.TheVariants.{Closed, Waiting, Value, Steadiness}
+use Rattle.trees.specs.Trees.{split_count}
+use Rattle.trees.specs.Refutations.{IsRefutation}
+use Rattle.trees.specs.Spent.{IsSpent}
 use Rattle.implication.specs.Standing.{Standing}
 use Rattle.justify.specs.Tests.{IsFitTest}
 use Rattle.justify.specs.declared.answer.Found.{Found}
@@ -15,7 +15,7 @@ use Rattle.justify.specs.declared.answer.Found.TheVariants.{Test, Refuted, Spent
 
 -- a test; a refutation of the conditions for the whole path, with at most so many splits; or a tree that spent exactly this budget
 abbrev pub IsFound : Circuit → Rules → Target → ℕ → Found → Type 0
-IsFound c rules target budget (Test pair) = IsFitTest c target pair
+IsFound c rules target budget (Test pair) = IsFitTest c rules target pair
 IsFound c rules target budget (Refuted tree) = IsRefutation c rules target tree × (split_count tree ≤ budget)
 IsFound c rules target budget (Spent tree) = IsSpent c rules target budget tree
 
@@ -37,11 +37,11 @@ CountsConflicts budget (Refuted tree) old new = HasCounted (count_by is_closed t
 CountsConflicts budget (Spent tree) old new = HasCounted (2 * budget + 1) old new
 
 -- it is a test for the target
-abbrev pub IsTestFor : Circuit → Target → Found → Type 0
-IsTestFor c target (Test pair) = IsFitTest c target pair
-IsTestFor c target (Refuted tree) = ⊥
-IsTestFor c target (Spent tree) = ⊥
+abbrev pub IsTestFor : Circuit → Rules → Target → Found → Type 0
+IsTestFor c rules target (Test pair) = IsFitTest c rules target pair
+IsTestFor c rules target (Refuted tree) = ⊥
+IsTestFor c rules target (Spent tree) = ⊥
 
 -- what a search has ended with, or a test in its place
-abbrev pub IsOutcomeOf : {E : Type 0} → Circuit → Target → Result Found E → Found → Type 0
-IsOutcomeOf c target ended found = (ended ≡ Ok found) ⊎ IsTestFor c target found
+abbrev pub IsOutcomeOf : {E : Type 0} → Circuit → Rules → Target → Result Found E → Found → Type 0
+IsOutcomeOf c rules target ended found = (ended ≡ Ok found) ⊎ IsTestFor c rules target found

@@ -2,8 +2,8 @@
 use Rattle.std.specs.Prelude.{◌≡◌, List, Option, Some, None, Result, Ok, Err}
 use Rattle.std.specs.List.{Contains}
 use Rattle.pd_base.specs.Pair.{Vectors}
-use Rattle.runs.specs.declared.tree.Node.{Node}
-use Rattle.runs.specs.declared.tree.Node.TheVariants.{Waiting}
+use Rattle.trees.specs.declared.tree.Node.{Node}
+use Rattle.trees.specs.declared.tree.Node.TheVariants.{Waiting}
 use Rattle.justify.specs.declared.answer.Found.{Found}
 use Rattle.justify.specs.declared.answer.Found.TheVariants.{Test, Refuted, Spent}
 

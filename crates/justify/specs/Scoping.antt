@@ -1,8 +1,12 @@
--- How a scope stands at the start of a search for a path (this project's own).
+-- How an engine has to be set for a search for a path, and how a scope stands at its start (this project's own).
 use Rattle.std.specs.Prelude.{◌≡◌, Some, None}
 use Rattle.pd_base.specs.Target.{Target}
-use Rattle.implication.specs.Standing.{Standing}
-use Rattle.tree_laws.specs.NodeScopes.{beginning_of}
+use Rattle.netlist.specs.LinkedPairs.{FitRules}
+use Rattle.netlist.specs.Paths.{IsPrefix, end_of}
+use Rattle.state_sets.specs.StateAlgebra.{StateAlgebra}
+use Rattle.trees.specs.Algebras.{algebra_of}
+use Rattle.implication.specs.Standing.{Standing, IsTold}
+use Rattle.implication.specs.NodeScopes.{beginning_of}
 use Rattle.justify.specs.UnderWay.{entered_steps}
 
 -- the path's pins are entered, nothing else is assumed, and no conflict stands
@@ -10,3 +14,10 @@ pub record IsStart (target : Target) (standing : Standing) : Type 0 where
   pub beginning : standing.beginning ≡ Some (beginning_of target)
   pub entered : standing.assumptions ≡ entered_steps target.path
   pub free : standing.conflict ≡ None
+
+-- The target's path is one of the circuit, and its end is told. The rules fit the circuit, and this kind of states is theirs.
+pub record SuitsSearch (a : StateAlgebra) (target : Target) (standing : Standing) : Type 0 where
+  pub of_rules : a ≡ algebra_of standing.rules
+  pub fit : FitRules standing.net standing.rules
+  pub prefix : IsPrefix standing.net target.path
+  pub told : IsTold standing (end_of standing.net target.path)

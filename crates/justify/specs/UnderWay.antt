@@ -5,7 +5,7 @@ use Rattle.pd_base.specs.Target.{Target}
 use Rattle.implication.specs.declared.assumption.Assumption.{Assumption}
 use Rattle.implication.specs.declared.assumption.Assumption.TheVariants.{Entered}
 use Rattle.implication.specs.Standing.{Standing}
-use Rattle.tree_laws.specs.NodeScopes.{beginning_of}
+use Rattle.implication.specs.NodeScopes.{beginning_of}
 
 -- the pins of a path as entered one after another
 abbrev pub entered_steps : Route → List Assumption

@@ -1,6 +1,6 @@
 // What a search ends with.
 use pd_base::Pair;
-use runs::Tree;
+use trees::Tree;
 
 /// What a search found for a path, a transition and a kind of test.
 #[derive(Drop)]

@@ -1,11 +1,12 @@
 // The choice of a split. Any source of the support will do whose label has a state of each half: the one that is led to, else
 // the first one that can be split, by its last value if it has both.
 ghost use Rattle.std.specs.Prelude.{◌≡◌, ◌<◌, IfSome, IfNone};
-ghost use Rattle.netlist.specs.Circuit.{source_count};
+ghost use Rattle.trees.specs.Spent.{IsInSupport};
 ghost use Rattle.implication.specs.Scopes.{standing};
 ghost use Rattle.justify.specs.Tasks.{task_target};
-ghost use Rattle.tree_laws.specs.NodeScopes.{StandsAtNode};
+ghost use Rattle.implication.specs.NodeScopes.{StandsAtNode};
 ghost use Rattle.justify.specs.Desks.{IsDesk};
+ghost use Rattle.justify.specs.Scoping.{SuitsSearch};
 ghost use Rattle.justify.specs.Choices.{IsUsefulSplit, AreSingle, SplitsAt, IsSingleAt};
 
 use crate::desk::Desk;
@@ -13,7 +14,7 @@ use crate::halves::way_to_split;
 use crate::task::Task;
 use implication::{Scope, Setting};
 use pd_base::LineId;
-use state_sets::FourStates;
+use state_sets::Algebra;
 
 // A split of the cases at a source, by steadiness or by the last value.
 #[derive(Clone, Copy)]
@@ -24,16 +25,17 @@ pub(crate) struct Split {
 
 // A split at a source of the support, of which each half has a state in the source's label: at the lead, if that can be split. There
 // is none where each source of the support has less than two states.
-pub(crate) fn choose<S: Setting>(
-    scope: &Scope<FourStates, S>,
+pub(crate) fn choose<A: Algebra, S: Setting>(
+    scope: &Scope<A, S>,
     task: &Task,
     desk: &Desk,
     lead: Option<LineId>,
 ) -> Option<Split>
-    requires node { StandsAtNode (task_target task.now) (standing scope.now) }
-    requires desk { IsDesk (standing scope.now).net task.now.path.now desk.now }
-    ensures some { IfSome result (IsUsefulSplit (task_target task.now) (standing scope.now)) }
-    ensures none { IfNone result (AreSingle (task_target task.now) (standing scope.now)) }
+    requires suits { SuitsSearch A.algebra (task_target task.now) (standing scope.now) }
+    requires node { StandsAtNode A.algebra (task_target task.now) (standing scope.now) }
+    requires desk { IsDesk A.algebra (standing scope.now).net (standing scope.now).rules task.now.path.now desk.now }
+    ensures some { IfSome result (IsUsefulSplit A.algebra (task_target task.now) (standing scope.now)) }
+    ensures none { IfNone result (AreSingle A.algebra (task_target task.now) (standing scope.now)) }
 {
     if let Some(source) = lead {
         let split = split_at_lead(scope, task, desk, source);
@@ -52,15 +54,16 @@ pub(crate) fn choose<S: Setting>(
 }
 
 // A split at the source that is led to, if it is one of the cone and can be split.
-fn split_at_lead<S: Setting>(
-    scope: &Scope<FourStates, S>,
+fn split_at_lead<A: Algebra, S: Setting>(
+    scope: &Scope<A, S>,
     task: &Task,
     desk: &Desk,
     source: LineId,
 ) -> Option<Split>
-    requires node { StandsAtNode (task_target task.now) (standing scope.now) }
-    requires desk { IsDesk (standing scope.now).net task.now.path.now desk.now }
-    ensures { IfSome result (IsUsefulSplit (task_target task.now) (standing scope.now)) }
+    requires suits { SuitsSearch A.algebra (task_target task.now) (standing scope.now) }
+    requires node { StandsAtNode A.algebra (task_target task.now) (standing scope.now) }
+    requires desk { IsDesk A.algebra (standing scope.now).net (standing scope.now).rules task.now.path.now desk.now }
+    ensures { IfSome result (IsUsefulSplit A.algebra (task_target task.now) (standing scope.now)) }
 {
     if source.0 < scope.net().sources() && desk.cone.marks()[source.0 as usize] {
         split_at(scope, task, source)
@@ -70,12 +73,17 @@ fn split_at_lead<S: Setting>(
 }
 
 // A split at a source, if its label has two states.
-fn split_at<S: Setting>(scope: &Scope<FourStates, S>, task: &Task, source: LineId) -> Option<Split>
-    requires node { StandsAtNode (task_target task.now) (standing scope.now) }
-    requires source { source.0 < source_count (standing scope.now).net }
-    ensures some { IfSome result (SplitsAt (standing scope.now) source) }
-    ensures none { IfNone result (IsSingleAt (standing scope.now) source.0) }
+fn split_at<A: Algebra, S: Setting>(
+    scope: &Scope<A, S>,
+    task: &Task,
+    source: LineId,
+) -> Option<Split>
+    requires suits { SuitsSearch A.algebra (task_target task.now) (standing scope.now) }
+    requires node { StandsAtNode A.algebra (task_target task.now) (standing scope.now) }
+    requires source { IsInSupport (standing scope.now).net (standing scope.now).rules task.now.path.now source.0 }
+    ensures some { IfSome result (SplitsAt A.algebra (standing scope.now) source) }
+    ensures none { IfNone result (IsSingleAt A.algebra (standing scope.now) source.0) }
 {
-    let steadiness = way_to_split(scope.label(source))?;
+    let steadiness = way_to_split::<A>(scope.label(source))?;
     Some(Split { source, steadiness })
 }

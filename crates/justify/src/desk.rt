@@ -3,16 +3,18 @@
 // after.
 ghost use Rattle.std.specs.Prelude.{◌≡◌, ◌<◌, IfOk};
 ghost use Rattle.netlist.specs.Circuit.{line_count};
-ghost use Rattle.test_judging.specs.ConeStates.{AreFourStates};
+ghost use Rattle.netlist.specs.LinkedPairs.{FitRules};
+ghost use Rattle.trees.specs.Algebras.{algebra_of};
+ghost use Rattle.pair_judging.specs.ConeStates.{AreStates};
 ghost use Rattle.justify.specs.Desks.{IsDeskFor, IsSameDesk};
 
 use crate::trial::Tried;
 use netlist::Netlist;
-use pd_base::OutOfMemory;
+use pair_judging::Cone;
+use pd_base::{OutOfMemory, Rules};
 use search_hints::{Blame, Justifier};
-use state_sets::{Algebra, FourStates, State, StateSet, every_state};
+use state_sets::{Algebra, State, StateSet, every_state};
 use std::alloc::Global;
-use test_judging::Cone;
 
 /// The buffers of searches on one netlist. One desk serves them all, one after another.
 #[derive(Drop)]
@@ -29,17 +31,20 @@ pub struct Desk {
 }
 
 impl Desk {
-    /// A desk for searches on this netlist. The one error is that memory ran out.
-    pub fn new(alloc: Global, net: &Netlist) -> Result<Desk, OutOfMemory>
-        ensures { IfOk result (IsDeskFor net.now) }
+    /// A desk for searches on this netlist under these rules, with the kind of states that is theirs. The one error is that memory ran
+    /// out.
+    pub fn new<A: Algebra>(alloc: Global, net: &Netlist, rules: &Rules) -> Result<Desk, OutOfMemory>
+        requires states { A.algebra ≡ algebra_of rules.now }
+        requires fit { FitRules net.now rules.now }
+        ensures { IfOk result (IsDeskFor A.algebra net.now rules.now) }
     {
         // What has most parts is made last, since each refusal drops what was made before.
         let lines = net.lines() as usize;
         let states = vec![in alloc; State(0); lines]?;
-        let liked = vec![in alloc; every_state::<FourStates>(); lines]?;
+        let liked = vec![in alloc; every_state::<A>(); lines]?;
         let blame = Blame::new(alloc, net)?;
-        let cone = Cone::new(alloc, net)?;
-        let justifier = Justifier::new(alloc, net)?;
+        let cone = Cone::new(alloc, net, rules.links())?;
+        let justifier = Justifier::new::<A>(alloc, net)?;
         Ok(Desk {
             cone,
             states,
@@ -51,8 +56,8 @@ impl Desk {
     }
 
     // From now on each line of the cone is liked to have the last value that it has now.
-    pub(crate) fn keep(&mut self)
-        requires { AreFourStates self.old.states.items }
+    pub(crate) fn keep<A: Algebra>(&mut self)
+        requires { AreStates A.algebra.count self.old.states.items }
         ensures { IsSameDesk self.old self.new }
     {
         let Desk {
@@ -64,7 +69,7 @@ impl Desk {
         for line in cone.lines() {
             let at = line.0 as usize;
             if at < liked.len() && at < states.len() {
-                liked[at] = FourStates::ending_at(FourStates::last(states[at]));
+                liked[at] = A::ending_at(A::last(states[at]));
             }
         }
     }

@@ -1,15 +1,15 @@
 // The end of a search: a test, or the tree that its nodes make, which refutes if no leaf waits.
 ghost use Rattle.std.specs.Prelude.{◌≡◌, ◌<◌, ◌^◌, ◌↔◌, IfOk, IfNone, IsTrue, length};
 ghost use Rattle.std.specs.List.{Contains};
-ghost use Rattle.runs.specs.declared.tree.Node.{Node};
-ghost use Rattle.runs.specs.declared.tree.Node.TheVariants.{Waiting};
-ghost use Rattle.runs.specs.Trees.{IsTree};
+ghost use Rattle.trees.specs.declared.tree.Node.{Node};
+ghost use Rattle.trees.specs.declared.tree.Node.TheVariants.{Waiting};
+ghost use Rattle.trees.specs.Trees.{IsTree};
 ghost use Rattle.justify.specs.Ends.{IsEnd, IsAnswerOf, IsReplacedBy};
 
 use crate::Found;
 use crate::growing::Growth;
 use pd_base::{OutOfMemory, Pair};
-use runs::{Node, Tree};
+use trees::{Node, Tree};
 
 // The answer of a search that grew a tree: the test that was found, or else the tree, which then is whole.
 pub(crate) fn answer(

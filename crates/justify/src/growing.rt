@@ -1,16 +1,16 @@
 // The tree that a search grows: its nodes in preorder, and the places behind them at which trees are still due.
 ghost use Rattle.std.specs.Prelude.{◌≡◌, ◌-◌, ◌<◌, ◌≤◌, ◌^◌, ◌∷◌, [], IfOk, length};
-ghost use Rattle.tree_laws.specs.Growing.{split_node};
+ghost use Rattle.trees.specs.Growing.{split_node};
 ghost use Rattle.justify.specs.Growths.{root_place, IsSplitAt, IsHalfPlace};
 
 use crate::choosing::Split;
 use hulls::half_states;
 use implication::ScopeMark;
 use pd_base::{LineId, OutOfMemory};
-use runs::Node;
 use search_hints::Frontier;
-use state_sets::{FourStates, StateSet, every_state};
+use state_sets::{Algebra, StateSet, every_state};
 use std::alloc::Global;
+use trees::Node;
 
 /// A place at which a tree is due: the scope goes back to the mark, and a set is assumed of a source.
 #[derive(Clone, Copy)]
@@ -39,17 +39,21 @@ pub(crate) struct Growth {
 impl Growth {
     /// At first there is the place of the root, at which nothing new is assumed: every state of a source. The one error is that memory
     /// ran out.
-    pub(crate) fn new(alloc: Global, mark: ScopeMark, source: LineId) -> Result<Growth, OutOfMemory>
+    pub(crate) fn new<A: Algebra>(
+        alloc: Global,
+        mark: ScopeMark,
+        source: LineId,
+    ) -> Result<Growth, OutOfMemory>
         ensures nodes { IfOk result (λ growth. growth.nodes.items ≡ []) }
         ensures places { IfOk result (λ growth. growth.places.items
-            ≡ root_place mark source ∷ []) }
+            ≡ root_place A.algebra.count mark source ∷ []) }
         ensures splits { IfOk result (λ growth. growth.splits ≡ 0) }
     {
         let mut places = Vec::new(alloc);
         places.push(Place {
             mark,
             source,
-            set: every_state::<FourStates>(),
+            set: every_state::<A>(),
             frontier: Frontier {
                 steps: 0,
                 begun_lines: 0,
@@ -64,18 +68,20 @@ impl Growth {
     }
 
     // Adds a split, and the places of its two halves, the first half next.
-    pub(crate) fn split(
+    pub(crate) fn split<A: Algebra>(
         &mut self,
         split: Split,
         mark: ScopeMark,
         frontier: Frontier,
     ) -> Result<(), OutOfMemory>
         requires { self.old.splits < 2 ^ 32 - 1 }
-        ensures { IfOk result (λ done. IsSplitAt split mark self.old self.new) }
+        ensures { IfOk result (λ done. IsSplitAt A.algebra split mark self.old self.new) }
     {
         self.nodes.push(node_of(split))?;
-        self.places.push(half_place(split, mark, frontier, true))?;
-        self.places.push(half_place(split, mark, frontier, false))?;
+        self.places
+            .push(half_place::<A>(split, mark, frontier, true))?;
+        self.places
+            .push(half_place::<A>(split, mark, frontier, false))?;
         self.splits += 1;
         Ok(())
     }
@@ -93,13 +99,13 @@ fn node_of(split: Split) -> Node
 }
 
 // The place of a half of a split.
-fn half_place(split: Split, mark: ScopeMark, frontier: Frontier, second: bool) -> Place
-    ensures { IsHalfPlace split mark second result }
+fn half_place<A: Algebra>(split: Split, mark: ScopeMark, frontier: Frontier, second: bool) -> Place
+    ensures { IsHalfPlace A.algebra split mark second result }
 {
     Place {
         mark,
         source: split.source,
-        set: half_states::<FourStates>(split.steadiness, second),
+        set: half_states::<A>(split.steadiness, second),
         frontier,
     }
 }

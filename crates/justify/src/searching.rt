@@ -1,19 +1,20 @@
 // The search itself: depth first, one node after another in preorder, each with its assumptions on the scope.
-ghost use Rattle.std.specs.Prelude.{◌≡◌, ◌≤◌, [], IfOk, IfSome, length, reverse};
+ghost use Rattle.std.specs.Prelude.{◌≡◌, ◌<◌, ◌≤◌, [], All, IfOk, IfSome, IsTrue, length, reverse};
 ghost use Rattle.pd_base.specs.Target.{target_of};
 ghost use Rattle.pd_base.specs.declared.limits.TheConstants.{MOST_BUDGET};
 ghost use Rattle.netlist.specs.Paths.{IsPrefix};
-ghost use Rattle.state_sets.specs.FourStates.{four_states};
+ghost use Rattle.pair_judging.specs.ConeStates.{AreStates, AreSourceStates};
 ghost use Rattle.implication.specs.Standing.{IsOpenIn};
 ghost use Rattle.implication.specs.Moves.{start_at};
 ghost use Rattle.implication.specs.Scopes.{IsSameScope, standing};
 ghost use Rattle.implication.specs.Clients.{IsRestored};
 ghost use Rattle.justify.specs.Answers.{IsFound, CountsConflicts, IsOutcomeOf};
 ghost use Rattle.justify.specs.Desks.{IsDeskFor, IsDesk};
-ghost use Rattle.justify.specs.Scoping.{IsStart};
+ghost use Rattle.justify.specs.Scoping.{IsStart, SuitsSearch};
 ghost use Rattle.justify.specs.Searches.{IsSearching, SearchGoesOn, IsGrowthOf};
 ghost use Rattle.justify.specs.Tasks.{task_target};
 ghost use Rattle.justify.specs.Tests.{IsFitTest};
+ghost use Rattle.trees.specs.Unlinked.{IsUnlinked};
 
 use crate::Found;
 use crate::desk::Desk;
@@ -23,11 +24,11 @@ use crate::task::Task;
 use crate::trying::judge_states;
 use crate::visiting::visit;
 use implication::{Scope, Setting};
-use pd_base::{Direction, Kind, OutOfMemory, Pair, Path};
+use pair_judging::{take_least, take_preferred};
+use pd_base::{Direction, Kind, LineId, OutOfMemory, Pair, Path};
 use search_hints::{Effort, Sight};
-use state_sets::FourStates;
+use state_sets::{Algebra, FourStates, State};
 use std::alloc::Global;
-use test_judging::{take_least, take_preferred};
 
 /// Searches for a test of a kind for a path and a transition, on a scope that has begun with these and has entered the path's pins.
 /// The answer is a test, a tree of cases that refutes the conditions with at most so many splits as the budget, or a tree that spent
@@ -36,7 +37,7 @@ use test_judging::{take_least, take_preferred};
 /// The scope is afterwards as before, also where memory runs out, which is the one error; but conflicts are counted, as long as the
 /// count is not at its end: at least one for each closed leaf of a refutation, and one for each node of a spent tree.
 ///
-/// Many searches on one netlist share a desk: `search_at`.
+/// The rules of the engine are not linked ones; under those, and where many searches share a desk: `search_at`.
 pub fn search<S: Setting>(
     alloc: Global,
     scope: &mut Scope<FourStates, S>,
@@ -49,20 +50,22 @@ pub fn search<S: Setting>(
     requires start { IsStart (target_of path.now dir kind) (standing scope.old) }
     requires some_budget { 1 ≤ budget }
     requires budget { budget ≤ MOST_BUDGET }
+    requires unlinked { IsUnlinked (standing scope.old).rules }
     ensures found { IfOk result (IsFound (standing scope.old).net (standing scope.old).rules (target_of path.now dir kind) budget) }
     ensures counted { IfOk result (λ found. CountsConflicts budget found (standing scope.old) (standing scope.new)) }
     ensures scope { IsSameScope scope.old scope.new }
     ensures restored { IsRestored (standing scope.old) (standing scope.new) }
 {
-    let mut desk = Desk::new(alloc, scope.net())?;
+    let mut desk = Desk::new::<FourStates>(alloc, scope.net(), scope.rules())?;
     search_at(alloc, scope, &mut desk, path, dir, kind, budget)
 }
 
-/// The same at a desk that was made for the scope's netlist: but for the vectors of a test it costs the cone of the path's end, and not
-/// the circuit. The desk serves afterwards as before, whatever the answer.
-pub fn search_at<S: Setting>(
+/// The same under any rules, at a desk that was made for the scope's netlist and rules, with the kind of states that is theirs: but for
+/// the vectors of a test it costs the cone of the path's end, and not the circuit. The desk serves afterwards as before, whatever the
+/// answer.
+pub fn search_at<A: Algebra, S: Setting>(
     alloc: Global,
-    scope: &mut Scope<FourStates, S>,
+    scope: &mut Scope<A, S>,
     desk: &mut Desk,
     path: &Path,
     dir: Direction,
@@ -73,8 +76,8 @@ pub fn search_at<S: Setting>(
     requires start { IsStart (target_of path.now dir kind) (standing scope.old) }
     requires some_budget { 1 ≤ budget }
     requires budget { budget ≤ MOST_BUDGET }
-    requires desk { IsDeskFor (standing scope.old).net desk.old }
-    ensures desk { IsDeskFor (standing scope.old).net desk.new }
+    requires desk { IsDeskFor A.algebra (standing scope.old).net (standing scope.old).rules desk.old }
+    ensures desk { IsDeskFor A.algebra (standing scope.old).net (standing scope.old).rules desk.new }
     ensures found { IfOk result (IsFound (standing scope.old).net (standing scope.old).rules (target_of path.now dir kind) budget) }
     ensures counted { IfOk result (λ found. CountsConflicts budget found (standing scope.old) (standing scope.new)) }
     ensures scope { IsSameScope scope.old scope.new }
@@ -97,19 +100,19 @@ pub fn search_at<S: Setting>(
 }
 
 // The same, and leaves what was assumed.
-fn find<S: Setting>(
+fn find<A: Algebra, S: Setting>(
     alloc: Global,
-    scope: &mut Scope<FourStates, S>,
+    scope: &mut Scope<A, S>,
     task: &Task,
     desk: &mut Desk,
 ) -> Result<Found, OutOfMemory>
     requires prefix { IsPrefix (standing scope.old).net task.now.path.now }
     requires start { IsStart (task_target task.now) (standing scope.old) }
-    requires left_open { IsOpenIn four_states (standing scope.old) }
+    requires left_open { IsOpenIn A.algebra (standing scope.old) }
     requires budget { task.now.budget ≤ MOST_BUDGET }
-    requires desk { IsDeskFor (standing scope.old).net desk.old }
+    requires desk { IsDeskFor A.algebra (standing scope.old).net (standing scope.old).rules desk.old }
     ensures scope { IsSameScope scope.old scope.new }
-    ensures goes_on { SearchGoesOn task.now (standing scope.old) (standing scope.new) desk.new }
+    ensures goes_on { SearchGoesOn A.algebra task.now (standing scope.old) (standing scope.new) desk.new }
     ensures found { IfOk result (IsFound (standing scope.old).net (standing scope.old).rules (task_target task.now) task.now.budget) }
     ensures counted { IfOk result (λ found. CountsConflicts task.now.budget found (standing scope.old) (standing scope.new)) }
 {
@@ -121,24 +124,24 @@ fn find<S: Setting>(
 }
 
 // A test that is found without a split: from the last test's states, as far as the labels let them, or by decisions on any lines.
-fn propose<S: Setting>(
+fn propose<A: Algebra, S: Setting>(
     alloc: Global,
-    scope: &Scope<FourStates, S>,
+    scope: &Scope<A, S>,
     task: &Task,
     desk: &mut Desk,
 ) -> Result<Option<Pair>, OutOfMemory>
     requires prefix { IsPrefix (standing scope.now).net task.now.path.now }
-    requires desk { IsDesk (standing scope.now).net task.now.path.now desk.old }
-    ensures desk { IsDesk (standing scope.now).net task.now.path.now desk.new }
-    ensures test { IfOk result (λ found. IfSome found (IsFitTest (standing scope.now).net (task_target task.now))) }
+    requires desk { IsDesk A.algebra (standing scope.now).net (standing scope.now).rules task.now.path.now desk.old }
+    ensures desk { IsDesk A.algebra (standing scope.now).net (standing scope.now).rules task.now.path.now desk.new }
+    ensures test { IfOk result (λ found. IfSome found (IsFitTest (standing scope.now).net (standing scope.now).rules (task_target task.now))) }
 {
-    take_preferred(
+    take_preferred::<A>(
         desk.cone.sources(),
         scope.labels(),
         desk.liked.as_slice(),
         desk.states.as_mut_slice(),
     );
-    match judge_states(alloc, scope, task, desk)? {
+    match judge_proposal(alloc, scope, task, desk)? {
         Some(pair) => Ok(Some(pair)),
         None => justify_lines(alloc, scope, task, desk, Effort::Little),
     }
@@ -147,17 +150,17 @@ fn propose<S: Setting>(
 // What comes of a search in the end: what it found, from which later ones learn, or a test that is found by more decisions where the
 // budget of a nonrobust search was spent. A robust one that is not found costs its fault the better verdict alone, and is not looked for
 // again.
-fn conclude<S: Setting>(
+fn conclude<A: Algebra, S: Setting>(
     alloc: Global,
-    scope: &Scope<FourStates, S>,
+    scope: &Scope<A, S>,
     task: &Task,
     desk: &mut Desk,
     ended: Result<Found, OutOfMemory>,
 ) -> Result<Found, OutOfMemory>
     requires prefix { IsPrefix (standing scope.now).net task.now.path.now }
-    requires desk { IsDesk (standing scope.now).net task.now.path.now desk.old }
-    ensures desk { IsDesk (standing scope.now).net task.now.path.now desk.new }
-    ensures found { IfOk result (IsOutcomeOf (standing scope.now).net (task_target task.now) ended) }
+    requires desk { IsDesk A.algebra (standing scope.now).net (standing scope.now).rules task.now.path.now desk.old }
+    ensures desk { IsDesk A.algebra (standing scope.now).net (standing scope.now).rules task.now.path.now desk.new }
+    ensures found { IfOk result (IsOutcomeOf (standing scope.now).net (standing scope.now).rules (task_target task.now) ended) }
 {
     let found = ended?;
     desk.justifier.learn(task.kind, found.is_refuted());
@@ -169,17 +172,17 @@ fn conclude<S: Setting>(
 }
 
 // A test with what decisions on lines of the cone come to, if they justify all of its lines.
-fn justify_lines<S: Setting>(
+fn justify_lines<A: Algebra, S: Setting>(
     alloc: Global,
-    scope: &Scope<FourStates, S>,
+    scope: &Scope<A, S>,
     task: &Task,
     desk: &mut Desk,
     effort: Effort,
 ) -> Result<Option<Pair>, OutOfMemory>
     requires prefix { IsPrefix (standing scope.now).net task.now.path.now }
-    requires desk { IsDesk (standing scope.now).net task.now.path.now desk.old }
-    ensures desk { IsDesk (standing scope.now).net task.now.path.now desk.new }
-    ensures test { IfOk result (λ found. IfSome found (IsFitTest (standing scope.now).net (task_target task.now))) }
+    requires desk { IsDesk A.algebra (standing scope.now).net (standing scope.now).rules task.now.path.now desk.old }
+    ensures desk { IsDesk A.algebra (standing scope.now).net (standing scope.now).rules task.now.path.now desk.new }
+    ensures test { IfOk result (λ found. IfSome found (IsFitTest (standing scope.now).net (standing scope.now).rules (task_target task.now))) }
 {
     let sight = Sight {
         net: scope.net(),
@@ -188,54 +191,88 @@ fn justify_lines<S: Setting>(
     };
     let is_justified = desk
         .justifier
-        .propose(&sight, &desk.cone, task.path, task.kind, effort)?;
+        .propose::<A>(&sight, &desk.cone, task.path, task.kind, effort)?;
     if !is_justified {
         return Ok(None);
     }
-    take_least(
+    take_least::<A>(
         desk.cone.sources(),
         desk.justifier.labels(),
         desk.states.as_mut_slice(),
     );
-    judge_states(alloc, scope, task, desk)
+    judge_proposal(alloc, scope, task, desk)
+}
+
+// Judges the pair that has the desk's states at the sources of the cone, if a source may be in them.
+fn judge_proposal<A: Algebra, S: Setting>(
+    alloc: Global,
+    scope: &Scope<A, S>,
+    task: &Task,
+    desk: &mut Desk,
+) -> Result<Option<Pair>, OutOfMemory>
+    requires prefix { IsPrefix (standing scope.now).net task.now.path.now }
+    requires desk { IsDesk A.algebra (standing scope.now).net (standing scope.now).rules task.now.path.now desk.old }
+    ensures desk { IsDesk A.algebra (standing scope.now).net (standing scope.now).rules task.now.path.now desk.new }
+    ensures test { IfOk result (λ found. IfSome found (IsFitTest (standing scope.now).net (standing scope.now).rules (task_target task.now))) }
+{
+    if are_source_states::<A>(desk.cone.sources(), desk.states.as_slice()) {
+        judge_states(alloc, scope, task, desk)
+    } else {
+        Ok(None)
+    }
+}
+
+// Whether each of these sources is in a state that a source may have.
+fn are_source_states<A: Algebra>(sources: &[LineId], states: &[State]) -> bool
+    requires places { All (λ source. source.0 < length states.now) sources.now }
+    requires states { AreStates A.algebra.count states.now }
+    ensures { IsTrue result → AreSourceStates A.algebra sources.now states.now }
+{
+    let allowed = A::source_states();
+    for source in sources {
+        if !allowed.holds(states[source.0 as usize]) {
+            return false;
+        }
+    }
+    true
 }
 
 // Grows a tree of cases from its root, until a test is found or the tree is whole.
-fn split_cases<S: Setting>(
+fn split_cases<A: Algebra, S: Setting>(
     alloc: Global,
-    scope: &mut Scope<FourStates, S>,
+    scope: &mut Scope<A, S>,
     task: &Task,
     desk: &mut Desk,
 ) -> Result<Found, OutOfMemory>
-    requires prefix { IsPrefix (standing scope.old).net task.now.path.now }
+    requires suits { SuitsSearch A.algebra (task_target task.now) (standing scope.old) }
     requires start { IsStart (task_target task.now) (standing scope.old) }
-    requires left_open { IsOpenIn four_states (standing scope.old) }
+    requires left_open { IsOpenIn A.algebra (standing scope.old) }
     requires budget { task.now.budget ≤ MOST_BUDGET }
-    requires desk { IsDesk (standing scope.old).net task.now.path.now desk.old }
+    requires desk { IsDesk A.algebra (standing scope.old).net (standing scope.old).rules task.now.path.now desk.old }
     ensures scope { IsSameScope scope.old scope.new }
-    ensures goes_on { SearchGoesOn task.now (standing scope.old) (standing scope.new) desk.new }
+    ensures goes_on { SearchGoesOn A.algebra task.now (standing scope.old) (standing scope.new) desk.new }
     ensures found { IfOk result (IsFound (standing scope.old).net (standing scope.old).rules (task_target task.now) task.now.budget) }
     ensures counted { IfOk result (λ found. CountsConflicts task.now.budget found (standing scope.old) (standing scope.new)) }
 {
-    let mut growth = Growth::new(alloc, scope.mark(), task.path.source())?;
+    let mut growth = Growth::new::<A>(alloc, scope.mark(), task.path.source())?;
     let grown = grow(alloc, scope, task, desk, &mut growth);
     answer(growth, grown)
 }
 
 // Visits place after place until a test is found, or no place is left.
-fn grow<S: Setting>(
+fn grow<A: Algebra, S: Setting>(
     alloc: Global,
-    scope: &mut Scope<FourStates, S>,
+    scope: &mut Scope<A, S>,
     task: &Task,
     desk: &mut Desk,
     growth: &mut Growth,
 ) -> Result<Option<Pair>, OutOfMemory>
-    requires searching { IsSearching task.now (standing scope.old) desk.old (reverse growth.old.places.items) growth.old }
+    requires searching { IsSearching A.algebra task.now (standing scope.old) desk.old (reverse growth.old.places.items) growth.old }
     requires origin { start_at scope.old.origin ≤ length task.now.path.now.steps }
     requires nodes { growth.old.nodes.items ≡ [] }
     ensures scope { IsSameScope scope.old scope.new }
-    ensures goes_on { SearchGoesOn task.now (standing scope.old) (standing scope.new) desk.new }
-    ensures answer { IfOk result (IsGrowthOf task.now (standing scope.old) (standing scope.new) growth.new) }
+    ensures goes_on { SearchGoesOn A.algebra task.now (standing scope.old) (standing scope.new) desk.new }
+    ensures answer { IfOk result (IsGrowthOf A.algebra task.now (standing scope.old) (standing scope.new) growth.new) }
 {
     while let Some(place) = growth.places.pop() {
         let test = visit(alloc, scope, task, desk, growth, place)?;

@@ -1,19 +1,18 @@
 // Trying the states of a pair through the scope: they are assumed of sources of the path's support, one after another. A conflict
 // shows that the trial of the node closes, and the scope counts it; where none comes of all sources, the pair is a test.
 ghost use Rattle.std.specs.Prelude.{◌≡◌, ◌<◌, true, false, IsTrue, All};
-ghost use Rattle.netlist.specs.Paths.{IsPrefix};
-ghost use Rattle.state_sets.specs.FourStates.{four_states};
+ghost use Rattle.justify.specs.Scoping.{SuitsSearch};
 ghost use Rattle.implication.specs.Standing.{IsFree, IsOpenIn};
 ghost use Rattle.implication.specs.Scopes.{IsSameScope, standing};
 ghost use Rattle.implication.specs.Clients.{IsRestored, ExtendsStanding};
 ghost use Rattle.justify.specs.Tasks.{task_target};
-ghost use Rattle.tree_laws.specs.NodeScopes.{StandsAtNode};
+ghost use Rattle.implication.specs.NodeScopes.{StandsAtNode};
 ghost use Rattle.justify.specs.Trying.{CanTry, IsWithinTrial, EndsTrial, EndsAtNode};
 
 use crate::task::Task;
 use implication::{Scope, Setting};
 use pd_base::LineId;
-use state_sets::{FourStates, State, StateSet};
+use state_sets::{Algebra, State, StateSet};
 
 /// A source of a path's support, and the state in which it is tried.
 #[derive(Clone, Copy)]
@@ -24,17 +23,17 @@ pub(crate) struct Tried {
 
 // Whether the trial of the node at which the scope stands closes by these sources. Then it has failed, and a conflict was counted.
 // Where it does not, a pair is a test that has the states tried at all sources of the support. The scope is afterwards as before.
-pub(crate) fn closes<S: Setting>(
-    scope: &mut Scope<FourStates, S>,
+pub(crate) fn closes<A: Algebra, S: Setting>(
+    scope: &mut Scope<A, S>,
     task: &Task,
     tried: &[Tried],
 ) -> bool
-    requires prefix { IsPrefix (standing scope.old).net task.now.path.now }
-    requires node { StandsAtNode (task_target task.now) (standing scope.old) }
-    requires tried { All (CanTry (task_target task.now) (standing scope.old)) tried.now }
+    requires suits { SuitsSearch A.algebra (task_target task.now) (standing scope.old) }
+    requires node { StandsAtNode A.algebra (task_target task.now) (standing scope.old) }
+    requires tried { All (CanTry A.algebra (task_target task.now) (standing scope.old)) tried.now }
     ensures scope { IsSameScope scope.old scope.new }
     ensures restored { IsRestored (standing scope.old) (standing scope.new) }
-    ensures ends { EndsAtNode (task_target task.now) (standing scope.old) (standing scope.new) tried.now result }
+    ensures ends { EndsAtNode A.algebra (task_target task.now) (standing scope.old) (standing scope.new) tried.now result }
 {
     // there are labels here, of a circuit; and where no conflict comes there are also then
     let at_source = task.path.source().0 < scope.net().sources();
@@ -51,13 +50,14 @@ pub(crate) fn closes<S: Setting>(
 }
 
 // Assumes of source after source that it is in the state tried, until a conflict comes. Whether one came.
-fn assume_all<S: Setting>(scope: &mut Scope<FourStates, S>, task: &Task, tried: &[Tried]) -> bool
-    requires node { StandsAtNode (task_target task.now) (standing scope.old) }
-    requires tried { All (CanTry (task_target task.now) (standing scope.old)) tried.now }
+fn assume_all<A: Algebra, S: Setting>(scope: &mut Scope<A, S>, task: &Task, tried: &[Tried]) -> bool
+    requires suits { SuitsSearch A.algebra (task_target task.now) (standing scope.old) }
+    requires node { StandsAtNode A.algebra (task_target task.now) (standing scope.old) }
+    requires tried { All (CanTry A.algebra (task_target task.now) (standing scope.old)) tried.now }
     ensures scope { IsSameScope scope.old scope.new }
     ensures extends { ExtendsStanding (standing scope.old) (standing scope.new) }
-    ensures trial { IsWithinTrial (task_target task.now) (standing scope.old) (standing scope.new) }
-    ensures ends { EndsTrial (task_target task.now) (standing scope.old) (standing scope.new) tried.now result }
+    ensures trial { IsWithinTrial A.algebra (task_target task.now) (standing scope.old) (standing scope.new) }
+    ensures ends { EndsTrial A.algebra (task_target task.now) (standing scope.old) (standing scope.new) tried.now result }
 {
     for entry in tried {
         match scope.assume(entry.source, StateSet::only(entry.state)) {

@@ -1,4 +1,5 @@
-// The steadiness of each line: one pass over the gates in rank order, each of which computes with Kleene's three values.
+// The steadiness of each line: one pass over the gates in rank order, each of which computes with Kleene's three values. Contracts see
+// steadiness as an optional bit: none where the value is unknown.
 ghost use Rattle.std.specs.Prelude.{◌≡◌, ◌≤◌, ◌<◌, ℕ, ℤ, Bool, false, Some, not, map, length, is_some, unwrap_or, if◌then◌else◌, EachIndex};
 ghost use Rattle.std.specs.List.{list_all, list_any};
 ghost use Rattle.netlist.specs.Circuit.{source_count, line_count};

@@ -1,4 +1,6 @@
-// A list of names in one text: a netlist has many short names, and a vector for each would take more room than its bytes.
+// A list of names in one text: a netlist has many short names, and a vector for each would take more room than its bytes. The end of each
+// name is kept in four bytes: names of 2^32 bytes together count as want of memory, and a text that is read, of at most 33,554,432 bytes,
+// is far from it.
 ghost use Rattle.std.specs.Prelude.{◌≡◌, ◌+◌, ◌<◌, List, ℕ, [], ◌∷◌, ◌++◌, length, map, slice_index_or, IfSome, OnOk, OnErr};
 ghost use Rattle.netlist.specs.NameTexts.{bytes_of};
 ghost use Rattle.net_builder.specs.NameLists.{HasMoreNames, parts, Reach};

@@ -6,6 +6,7 @@ pub mod Gates
 pub mod Greatest
 pub mod Lawful
 pub mod Levels
+pub mod LinkedPairs
 pub mod Meaning
 pub mod Names
 pub mod NameTexts

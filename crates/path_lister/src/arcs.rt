@@ -1,4 +1,5 @@
-// Where each arc leads and what its delay is, and at which nodes a walk may stop.
+// Where each arc leads and what its delay is, and at which nodes a walk may stop. Delays and the lengths of walks are kept in 32 bits: no
+// path of a circuit is longer than 4,096 times 1,000,000 (its levels times the greatest delay).
 ghost use Rattle.std.specs.Prelude.{◌≡◌, ◌+◌, ◌++◌, All, IfOk, length, map, replicate, take};
 ghost use Rattle.netlist.specs.Circuit.{gate_line, line_count, source_count};
 ghost use Rattle.netlist.specs.Pins.{IsPin};

@@ -1,4 +1,5 @@
 pub mod FlatLists
+pub mod Links
 pub mod Pair
 pub mod Route
 pub mod Target

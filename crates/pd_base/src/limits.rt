@@ -5,3 +5,6 @@ pub const MOST_PATHS: u32 = 10_000;
 
 /// How many splits of cases each search may make at most.
 pub const MOST_BUDGET: u32 = 1_000_000;
+
+/// How many stages a ladder may have at most.
+pub const MOST_STAGES: u32 = 1_000;

@@ -1,4 +1,5 @@
-// A path through a circuit: where it begins, and the pins that it goes through.
+// A path through a circuit: where it begins, and the pins that it goes through. The steps are a plain vector and no container of the kit:
+// this type is mentioned nearly everywhere, and each library that mentions such a container writes its statements again.
 ghost use Rattle.std.specs.Prelude.{◌≡◌, IfOk};
 
 use crate::{LineId, OutOfMemory, PinRef};

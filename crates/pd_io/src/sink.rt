@@ -1,4 +1,5 @@
-// A place that bytes go to, in order, as standard output; and all bytes of a text handed to it.
+// A place that bytes go to, in order, as standard output; and all bytes of a text handed to it. `write_all` makes no call for an empty
+// text, so only then nothing is said of the count's greatest value.
 ghost use Rattle.std.specs.Prelude.{◌≡◌, ℕ, ◌<◌, ◌≤◌, List, ◌++◌, length, Option, IfOk, OnOk, OnErr};
 ghost use Rattle.pd_io.specs.declared.fault.FileFault.TheVariants.{Failed};
 ghost use Rattle.pd_io.specs.Counts.{HasCause, greatest_count};

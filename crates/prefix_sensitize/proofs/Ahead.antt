@@ -11,8 +11,8 @@ use Rattle.netlist.specs.Circuit.{Circuit}
 use Rattle.netlist.specs.Paths.{IsPath, IsPrefixOf, prefix_of}
 use Rattle.path_laws.proofs.Prefixes.{prefix_of-is_prefix}
 use Rattle.runs.specs.declared.run.Proof.{Proof}
-use Rattle.runs.specs.declared.tree.Node.{Node}
-use Rattle.tree_laws.proofs.Refuting.{refutation_excludes_path}
+use Rattle.trees.specs.declared.tree.Node.{Node}
+use Rattle.trees.proofs.Refuting.{refutation_excludes_path}
 use Rattle.good_runs.specs.Faults.{NoneApplies}
 use Rattle.good_runs.specs.Truth.{HasSomeTest}
 use Rattle.prefix_sensitize.specs.declared.course.Course.{Course}
@@ -40,7 +40,7 @@ none_above course proofs prefix route of none number proof is applies =
       has_prefix = prefix_through (prefix_of proof.steps applies.listed) prefix route applies.has_prefix of;
     })
 
-module _ (c : Circuit) (rules : Rules) (ends : Option (List LineId)) (course : Course) (is_course : IsCourse c ends course) (begin place row : ℕ) (route : Route)
+module _ (c : Circuit) (rules : Rules) (ends : Option (List LineId)) (course : Course) (is_course : IsCourse c rules ends course) (begin place row : ℕ) (route : Route)
     (here : StandsInOrder course.paths.now course.order.now place row route) (outcomes : List Outcome) (proofs : List Proof) (steps : ℕ)
     (come : HasCome c rules course begin place outcomes proofs steps) (source : LineId) (pins : List PinRef)
     (on : StandsOn course place come.entered (record { source = source; steps = pins })) (shared : ℕ)
@@ -83,11 +83,11 @@ module _ (c : Circuit) (rules : Rules) (ends : Option (List LineId)) (course : C
 
     -- nor of one that has a test
     not_tested : (at other : ℕ) (another : Route) → StandsInOrder course.paths.now course.order.now at other another
-        → HasSomeTest c (target_for course.aim another) → ¬ IsPrefixOf (prefix_of count route) another
+        → HasSomeTest c rules (target_for course.aim another) → ¬ IsPrefixOf (prefix_of count route) another
     not_tested at other another there test begins =
         let path : IsPath c another = all_at (IsPath c) course.paths.now other another is_course.searchable.are_paths there.is_listed in
-        refutation_excludes_path c is_course.circuit rules course.aim.kind (prefix_of count route) another path.prefix begins course.aim.dir
-        tree refutes.refutes test.pair test.meets
+        refutation_excludes_path c is_course.circuit rules is_course.fit course.aim.kind (prefix_of count route) another path.prefix begins course.aim.dir
+        tree refutes.refutes test.pair test.of_rules test.meets
 
     -- so the paths that have it stand from here on
     pub none_earlier : (shared < count) ⊎ (count ≡ length route.steps) → (at other : ℕ) (another : Route)

@@ -39,11 +39,12 @@ its_steps c rules aim route (Spent tree) is = tt
 its_steps c rules aim route (Refuted steps tree) is = is.has_steps
 
 -- a course stays one, as the circuit and the told ends stay
-pub same_course : (old new : Standing) → IsSameBeginning old new → (course : Course) → IsCourse old.net old.ends course
-    → IsCourse new.net new.ends course
+pub same_course : (old new : Standing) → IsSameBeginning old new → (course : Course) → IsCourse old.net old.rules old.ends course
+    → IsCourse new.net new.rules new.ends course
 same_course old new same course is =
-    let P : Circuit → Option (List LineId) → Type 0 = λ c ends. IsCourse c ends course in
-    subst₂ P (sym same.net) (sym same.ends) is
+    let P : Circuit → Rules → Type 0 = λ c r. IsCourse c r old.ends course in
+    let Q : Option (List LineId) → Type 0 = λ ends. IsCourse new.net new.rules ends course in
+    subst Q (sym same.ends) (subst₂ P (sym same.net) (sym same.rules) is)
 
 -- the sources of one beginning are the same
 same_source : (beginning : Option Beginning) (first second : LineId) (direction : Direction) (kind : Kind)
@@ -54,7 +55,7 @@ same_source beginning first second direction kind one two =
     (same_Some (record { source = first; direction = direction; kind = kind })
     (record { source = second; direction = direction; kind = kind }) (sym one ∙ two))
 
-module _ (old : Standing) (course : Course) (is_course : IsCourse old.net old.ends course) (begin place row : ℕ) (route : Route)
+module _ (old : Standing) (course : Course) (is_course : IsCourse old.net old.rules old.ends course) (begin place row : ℕ) (route : Route)
     (here : StandsInOrder course.paths.now course.order.now place row route) (pins : List PinRef) (before : List Outcome)
     (proofs : List Proof) (steps : ℕ) (come : HasComeAlong old course begin place pins before proofs steps) where
   -- there is room to count the path's steps
@@ -143,7 +144,7 @@ begun_at old new same course source pins gone place at = record {
 }
 
 -- where no path begins at the source from here on, the walk is done with it
-pub come_behind : (old new : Standing) → IsSameBeginning old new → (course : Course) → IsCourse old.net old.ends course
+pub come_behind : (old new : Standing) → IsSameBeginning old new → (course : Course) → IsCourse old.net old.rules old.ends course
     → (source : LineId) (first : List PinRef) → HasGone old (record { source = source; steps = first }) course.aim first
     → (begin place : ℕ) (pins : List PinRef) (outcomes : List Outcome) (proofs : List Proof) (steps : ℕ)
     → HasComeAlong new course begin place pins outcomes proofs steps → ¬ BeginsAt course place source

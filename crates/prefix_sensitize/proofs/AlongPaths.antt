@@ -6,6 +6,8 @@ use Rattle.std.proofs.lemmas.Bool.{lt-ltb}
 use Rattle.std.proofs.lemmas.List.{length_push, map_push, take_more, get_or_default}
 use Rattle.std.proofs.Math.Seq.{take-append_seam}
 use Rattle.std.proofs.lemmas.List.Elements.{All-map}
+use Rattle.pd_base.specs.Links.{links_of}
+use Rattle.trees.specs.Algebras.{algebra_of}
 use Rattle.pd_base.specs.declared.ids.LineId.{LineId}
 use Rattle.pd_base.specs.declared.ids.PinRef.{PinRef}
 use Rattle.pd_base.specs.Route.{Route}
@@ -15,10 +17,10 @@ use Rattle.netlist.specs.Circuit.{Circuit, line_count, gate_line}
 use Rattle.netlist.specs.Pins.{IsPinOn}
 use Rattle.netlist.specs.Paths.{line_after, prefix_of}
 use Rattle.state_sets.specs.declared.state.State.{State}
-use Rattle.state_sets.specs.FourStates.{four_states}
+use Rattle.state_sets.specs.StateAlgebra.{StateAlgebra}
 use Rattle.state_sets.specs.Starts.{MayStart}
 use Rattle.state_sets.specs.Hulls.{IsNarrowingOf, IsEmptied, Closes}
-use Rattle.state_laws.specs.Nodes.{MayBe}
+use Rattle.state_laws.specs.Nodes.{ClosesAtNode, MayBe}
 use Rattle.state_laws.proofs.Hulls.{closes_if_wider, emptied_if_wider, prefix_closes, widens_by_states}
 use Rattle.implication.specs.declared.assumption.Assumption.{Assumption}
 use Rattle.implication.specs.declared.assumption.Assumption.TheVariants.{Entered}
@@ -31,8 +33,8 @@ use Rattle.prefix_sensitize.specs.AlongPaths.{ClosesFrom, IsAtPin, LeadsAlong}
 use Rattle.prefix_sensitize.specs.Entering.{IsSameBeginning}
 use Rattle.prefix_sensitize.specs.PathOrder.{ShareSteps}
 use Rattle.prefix_sensitize.proofs.RoutePrefixes.{shorter_prefix}
-use Rattle.tree_laws.proofs.Entered.{pins_of_entered, step_on}
-use Rattle.tree_laws.proofs.Told.{gate_told}
+use Rattle.implication.proofs.Entered.{pins_of_entered, step_on}
+use Rattle.implication.proofs.Told.{gate_told}
 
 first_entered : (count : ℕ) (steps : List PinRef) → take count (map Entered steps) ≡ map Entered (take count steps)
 first_entered zero steps = refl
@@ -43,7 +45,7 @@ none_either : (less : Bool) (line : Option LineId) → line ≡ None → (if les
 none_either true line none = refl
 none_either false line none = none
 
-module _ (c : Circuit) (rules : Rules) (begun : Beginning) (path : Route) (source : begun.source ≡ path.source) (count : ℕ) where
+module _ (a : StateAlgebra) (c : Circuit) (rules : Rules) (of_rules : a ≡ algebra_of rules) (begun : Beginning) (path : Route) (source : begun.source ≡ path.source) (count : ℕ) where
   -- the entries of the first pins, and the target of the prefix that they make
   abbrev entries : List Assumption
   entries = map Entered (take count path.steps)
@@ -52,83 +54,85 @@ module _ (c : Circuit) (rules : Rules) (begun : Beginning) (path : Route) (sourc
   first = target_of (prefix_of count path) begun.direction begun.kind
 
   abbrev Under : ℕ → State → Type 0
-  Under = MayUnder four_states c rules begun entries
+  Under = MayUnder a c rules begun entries
 
   abbrev At : ℕ → State → Type 0
-  At = MayBe four_states c rules first []
+  At = MayBe a c rules first []
 
   -- lines may be in the same states at the start of the prefix and under the entries
-  let_under : (line : ℕ) (state : State) → line < line_count c → state.0 < four_states.count → At line state → Under line state
+  let_under : (line : ℕ) (state : State) → line < line_count c → state.0 < a.count → At line state → Under line state
   let_under line state inside in_range may = record {
     start =
-        let P : LineId → Type 0 = λ s. MayStart four_states c rules s.0 begun.direction line state in
+        let P : LineId → Type 0 = λ s. MayStart a c rules s.0 begun.direction line state in
         subst P (sym source) may.start;
-    assumed = All-map (IsLetBy four_states.count line state) Entered (take count path.steps) (λ place d within. tt);
+    assumed = All-map (IsLetBy a.count line state) Entered (take count path.steps) (λ place d within. tt);
   }
 
-  let_at : (line : ℕ) (state : State) → line < line_count c → state.0 < four_states.count → Under line state → At line state
+  let_at : (line : ℕ) (state : State) → line < line_count c → state.0 < a.count → Under line state → At line state
   let_at line state inside in_range might = record {
     start =
-        let P : LineId → Type 0 = λ s. MayStart four_states c rules s.0 begun.direction line state in
+        let P : LineId → Type 0 = λ s. MayStart a c rules s.0 begun.direction line state in
         subst P source might.start;
     cut = λ place d within. absurd (omega arith);
   }
 
   -- where the entries empty a line, the start of the prefix closes
-  closes_at : (line : ℕ) → line < line_count c → IsEmptiedUnder four_states c rules begun entries line → ClosesAtStart c rules first
+  closes_at : (line : ℕ) → line < line_count c → IsEmptiedUnder a c rules begun entries line → ClosesAtStart c rules first
   closes_at line inside emptied =
       let Emptied : List PinRef → Type 0 =
-      λ steps. IsEmptied four_states c (IsNarrowingOf c begun.kind steps) Under line in
-      let Narrowings = IsNarrowingOf c begun.kind (take count path.steps) in
-      record {
+      λ steps. IsEmptied a c (IsNarrowingOf c (links_of rules) begun.kind steps) Under line in
+      let Narrowings = IsNarrowingOf c (links_of rules) begun.kind (take count path.steps) in
+      let P : StateAlgebra → Type 0 = λ b. ClosesAtNode b c rules first [] in
+      subst P of_rules (record {
         line = line;
         in_circuit = inside;
         emptied =
-            emptied_if_wider four_states c Narrowings Narrowings At Under (widens_by_states four_states c Narrowings At Under let_under)
+            emptied_if_wider a c Narrowings Narrowings At Under (widens_by_states a c Narrowings At Under let_under)
             line (subst Emptied (pins_of_entered (take count path.steps)) emptied);
-      }
+      })
 
   -- and the other way round
-  closes_under : ClosesAtStart c rules first → ClosesUnder four_states c rules begun entries
+  closes_under : ClosesAtStart c rules first → ClosesUnder a c rules begun entries
   closes_under closes =
-      let Closing : List PinRef → Type 0 = λ steps. Closes four_states c (IsNarrowingOf c begun.kind steps) Under in
-      let Narrowings = IsNarrowingOf c begun.kind (take count path.steps) in
+      let P : StateAlgebra → Type 0 = λ b. ClosesAtNode b c rules first [] in
+      let Closing : List PinRef → Type 0 = λ steps. Closes a c (IsNarrowingOf c (links_of rules) begun.kind steps) Under in
+      let Narrowings = IsNarrowingOf c (links_of rules) begun.kind (take count path.steps) in
       subst Closing (sym (pins_of_entered (take count path.steps)))
-      (closes_if_wider four_states c Narrowings Narrowings Under At (widens_by_states four_states c Narrowings Under At let_at) closes)
+      (closes_if_wider a c Narrowings Narrowings Under At (widens_by_states a c Narrowings Under At let_at) (subst P (sym of_rules) closes))
 
   -- so where the entries leave each line some state, the start of no prefix with as many steps or fewer closes
-  open_before : ¬ ClosesUnder four_states c rules begun entries → (fewer : ℕ) → fewer ≤ count
+  open_before : ¬ ClosesUnder a c rules begun entries → (fewer : ℕ) → fewer ≤ count
       → ¬ ClosesAtStart c rules (target_of (prefix_of fewer path) begun.direction begun.kind)
   open_before not fewer less closes =
       not (closes_under
-      (prefix_closes c rules (prefix_of fewer path) (prefix_of count path) (shorter_prefix fewer count path less) begun.direction
+      (prefix_closes (algebra_of rules) c rules (prefix_of fewer path) (prefix_of count path) (shorter_prefix fewer count path less) begun.direction
       begun.kind [] closes))
 
 -- where the first pins of a path empty a line, the start of their prefix closes
-closes_from : (old new : Standing) (path : Route) (count line : ℕ) → LeadsAlong old path → IsSameBeginning old new
-    → new.assumptions ≡ map Entered (take count path.steps) → IsEmptiedIn four_states new line → ClosesFrom old (prefix_of count path)
-closes_from old new path count line along same entered emptied =
+closes_from : (a : StateAlgebra) (old new : Standing) (path : Route) (count line : ℕ) → LeadsAlong a old path → IsSameBeginning old new
+    → new.assumptions ≡ map Entered (take count path.steps) → IsEmptiedIn a new line → ClosesFrom old (prefix_of count path)
+closes_from a old new path count line along same entered emptied =
     let began : new.beginning ≡ Some along.begun = same.beginning ∙ along.began in
-    let P : Circuit → Rules → Type 0 = λ c r. IsEmptiedFrom four_states c r new.beginning new.assumptions line in
-    let Q : Option Beginning → Type 0 = λ b. IsEmptiedFrom four_states old.net old.rules b new.assumptions line in
-    let R : List Assumption → Type 0 = λ list. IsEmptiedFrom four_states old.net old.rules (Some along.begun) list line in
-    let here : IsEmptiedFrom four_states old.net old.rules (Some along.begun) (map Entered (take count path.steps)) line =
+    let P : Circuit → Rules → Type 0 = λ c r. IsEmptiedFrom a c r new.beginning new.assumptions line in
+    let Q : Option Beginning → Type 0 = λ b. IsEmptiedFrom a old.net old.rules b new.assumptions line in
+    let R : List Assumption → Type 0 = λ list. IsEmptiedFrom a old.net old.rules (Some along.begun) list line in
+    let here : IsEmptiedFrom a old.net old.rules (Some along.begun) (map Entered (take count path.steps)) line =
     subst R entered (subst Q began (subst₂ P same.net same.rules emptied)) in
     record {
       begun = along.begun;
       began = along.began;
-      closes = closes_at old.net old.rules along.begun path along.source count line here.0 here.1;
+      closes = closes_at a old.net old.rules along.of_rules along.begun path along.source count line here.0 here.1;
     }
 
 -- a scope that stands at a pin of the path has closed at no prefix of it up to there
-pub open_at : (standing : Standing) (pins : List PinRef) (path : Route) (count fewer : ℕ) (begun : Beginning)
-    → standing.beginning ≡ Some begun → begun.source ≡ path.source → IsAtPin standing pins path count → fewer ≤ count
+pub open_at : (a : StateAlgebra) (standing : Standing) (pins : List PinRef) (path : Route) (count fewer : ℕ) (begun : Beginning)
+    → standing.beginning ≡ Some begun → begun.source ≡ path.source → a ≡ algebra_of standing.rules → IsAtPin a standing pins path count → fewer ≤ count
     → ¬ ClosesAtStart standing.net standing.rules (target_of (prefix_of fewer path) begun.direction begun.kind)
-open_at s pins path count fewer begun began source at less =
-    let Q : Option Beginning → Type 0 = λ b. IsOpenFrom four_states s.net s.rules b s.assumptions in
-    let R : List Assumption → Type 0 = λ list. IsOpenFrom four_states s.net s.rules (Some begun) list in
+open_at a s pins path count fewer begun began source of_rules at less =
+    let Q : Option Beginning → Type 0 = λ b. IsOpenFrom a s.net s.rules b s.assumptions in
+    let R : List Assumption → Type 0 = λ list. IsOpenFrom a s.net s.rules (Some begun) list in
     let entered : s.assumptions ≡ map Entered (take count path.steps) = at.entered ∙ ap (map Entered) at.first in
-    open_before s.net s.rules begun path source count (subst R entered (subst Q began at.left_open)) fewer less
+    open_before a s.net s.rules of_rules begun path source count (subst R entered (subst Q began at.left_open)) fewer less
 
 -- the first pins of a path, one more
 pub first_more : (pins steps : List PinRef) (count : ℕ) (pin : PinRef) → pins ≡ take count steps → count < length steps
@@ -139,15 +143,15 @@ first_more pins steps count pin first within is =
     ∙ sym (take_more steps count pin within)
 
 -- what leaves each line some state does where the circuit, the rules, the beginning and the entries are the same
-still_open : (old new : Standing) → IsSameBeginning old new → new.assumptions ≡ old.assumptions → IsOpenIn four_states old
-    → IsOpenIn four_states new
-still_open old new same entries left_open =
-    let P : Circuit → Rules → Type 0 = λ c r. IsOpenFrom four_states c r old.beginning old.assumptions in
-    let Q : Option Beginning → List Assumption → Type 0 = λ b list. IsOpenFrom four_states new.net new.rules b list in
+still_open : (a : StateAlgebra) (old new : Standing) → IsSameBeginning old new → new.assumptions ≡ old.assumptions → IsOpenIn a old
+    → IsOpenIn a new
+still_open a old new same entries left_open =
+    let P : Circuit → Rules → Type 0 = λ c r. IsOpenFrom a c r old.beginning old.assumptions in
+    let Q : Option Beginning → List Assumption → Type 0 = λ b list. IsOpenFrom a new.net new.rules b list in
     subst₂ Q (sym same.beginning) (sym entries) (subst₂ P (sym same.net) (sym same.rules) left_open)
 
-module _ (before : Standing) (pins : List PinRef) (path : Route) (count : ℕ) (pin : PinRef) (along : LeadsAlong before path)
-    (at : IsAtPin before pins path count) (within : count < length path.steps) (is : pin ≡ get_or path.steps count pin) where
+module _ (a : StateAlgebra) (before : Standing) (pins : List PinRef) (path : Route) (count : ℕ) (pin : PinRef) (along : LeadsAlong a before path)
+    (at : IsAtPin a before pins path count) (within : count < length path.steps) (is : pin ≡ get_or path.steps count pin) where
   -- the entries with one pin more
   entries_more : before.assumptions ++ Entered pin ∷ [] ≡ map Entered (take (count + 1) path.steps)
   entries_more =
@@ -170,13 +174,13 @@ module _ (before : Standing) (pins : List PinRef) (path : Route) (count : ℕ) (
   -- the line of its gate is told
   pub told_on : IsTold before (gate_line before.net pin.gate.0)
   told_on =
-      let P : PinRef → Type 0 = λ p. IsToldBy before.net before.ends (gate_line before.net p.gate.0) in
+      let P : PinRef → Type 0 = λ p. IsToldBy before.net (links_of before.rules) before.ends (gate_line before.net p.gate.0) in
       subst P (sym is)
-      (gate_told before.net before.ends path.source.0 path.steps count pin along.is_path.prefix.connects within along.is_told)
+      (gate_told before.net (links_of before.rules) before.ends path.source.0 path.steps count pin along.is_path.prefix.connects within along.is_told)
 
   -- one pin more is entered
   pub entered_more : (after : Standing) (more : List PinRef) → after ≡ grown before (with_entered before.assumptions pin)
-      → more ≡ pins ++ pin ∷ [] → IsOpenIn four_states after → IsAtPin after more path (count + 1)
+      → more ≡ pins ++ pin ∷ [] → IsOpenIn a after → IsAtPin a after more path (count + 1)
   entered_more after more grows pushed left_open = record {
     within = omega (arith, within);
     first = pushed ∙ first_more pins path.steps count pin at.first within is;
@@ -199,14 +203,14 @@ module _ (before : Standing) (pins : List PinRef) (path : Route) (count : ℕ) (
     }
 
     -- a conflict there closes the start of the path up to it
-    pub tried_closes : IsEmptiedIn four_states tried line.0 → ClosesFrom before (prefix_of (count + 1) path)
+    pub tried_closes : IsEmptiedIn a tried line.0 → ClosesFrom before (prefix_of (count + 1) path)
     tried_closes emptied =
-        closes_from before tried path (count + 1) line.0 along same_tried (ap (λ (s : Standing). s.assumptions) closes ∙ entries_more)
+        closes_from a before tried path (count + 1) line.0 along same_tried (ap (λ (s : Standing). s.assumptions) closes ∙ entries_more)
         emptied
 
     -- and where it is left again, the scope stands as before
     pub left_again : (after : Standing) (mark : ℕ) → mark ≡ length before.assumptions → after ≡ back_at tried mark
-        → IsAtPin after pins path count
+        → IsAtPin a after pins path count
     left_again after mark marked back =
         let grows = ap (λ (s : Standing). s.assumptions) closes in
         let longer : mark < length tried.assumptions =
@@ -227,7 +231,7 @@ module _ (before : Standing) (pins : List PinRef) (path : Route) (count : ℕ) (
           first = at.first;
           entered = entries ∙ at.entered;
           free = ap (λ (s : Standing). s.conflict) back ∙ none;
-          left_open = still_open before after same entries at.left_open;
+          left_open = still_open a before after same entries at.left_open;
         }
 
 -- where no conflict stood none stands after going back
@@ -235,10 +239,10 @@ pub free_back : (old back : Standing) (mark : ℕ) → old.conflict ≡ None →
 free_back old back mark free goes = ap (λ (s : Standing). s.conflict) goes ∙ none_either (nat_lt mark (length old.assumptions)) old.conflict free
 
 -- going back to what pins share with a path leads to a pin of the path
-pub at_shared : (old back : Standing) (pins left : List PinRef) (path : Route) (shared : ℕ) → ShareSteps pins path.steps shared
+pub at_shared : (a : StateAlgebra) (old back : Standing) (pins left : List PinRef) (path : Route) (shared : ℕ) → ShareSteps pins path.steps shared
     → old.assumptions ≡ map Entered pins → old.conflict ≡ None → left ≡ take shared pins → back ≡ back_at old shared
-    → IsOpenIn four_states back → IsAtPin back left path shared
-at_shared old back pins left path shared shares entered free stays goes left_open = record {
+    → IsOpenIn a back → IsAtPin a back left path shared
+at_shared a old back pins left path shared shares entered free stays goes left_open = record {
   within = shares.in_second;
   first = stays ∙ shares.same;
   entered =
@@ -257,7 +261,7 @@ pin_read items steps place d same within =
     ap (λ (list : List PinRef). get_or list place d) same ∙ get_or_default steps place d (get_or items place d) within
 
 -- where no conflict stands on a scope along a path, pins may be entered
-pub free_along : (standing : Standing) (path : Route) → LeadsAlong standing path → standing.conflict ≡ None → IsFree standing
-free_along standing path along free =
+pub free_along : (a : StateAlgebra) (standing : Standing) (path : Route) → LeadsAlong a standing path → standing.conflict ≡ None → IsFree standing
+free_along a standing path along free =
     let P : Option Beginning → Type 0 = λ b. IsSome b in
     record { begun = subst P (sym along.began) refl; free = free }

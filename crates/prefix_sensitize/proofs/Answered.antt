@@ -6,6 +6,7 @@ use Rattle.std.proofs.lemmas.Bool.{false≢true}
 use Rattle.std.proofs.lemmas.List.{length_push}
 use Rattle.std.proofs.lemmas.List.Elements.{All-push}
 use Rattle.std.proofs.lemmas.Option.{slice_get-get_or, slice_get_within}
+use Rattle.netlist.specs.LinkedPairs.{IsOfRules}
 use Rattle.pd_base.specs.Pair.{Vectors}
 use Rattle.pd_base.specs.Route.{Route}
 use Rattle.pd_base.specs.Target.{Target, target_of}
@@ -64,18 +65,19 @@ module _ (searches : Searches) (path_number : ℕ) (target : Target) (index : �
 
     -- where it is no spent one, no pair meets the conditions
     pub read_excludes : (c : Circuit) → IsCircuit c → AreSearches c searches → IsPath c target.path → read.spent ≡ false
-        → (pair : Vectors) → ¬ Meets c target pair
+        → (pair : Vectors) → IsOfRules c searches.rules pair → ¬ Meets c target pair
     read_excludes c circuit are is_path refutes = by has
       where
         numbered : IsNumber searches.proofs (index + 1) read
         numbered = number_of_place searches.proofs index read read_proof
 
-        by : HasProof searches.routes searches.proofs path_number target (index + 1) → (pair : Vectors) → ¬ Meets c target pair
+        by : HasProof searches.routes searches.proofs path_number target (index + 1) → (pair : Vectors) → IsOfRules c searches.rules pair
+            → ¬ Meets c target pair
         by (refuted cites) =
             applying_excludes c searches.rules searches.budget searches.routes target cites.proof
             ((all_at_number (IsFoundProof c searches.rules searches.budget searches.routes) searches.proofs (index + 1) cites.proof
             are.found.each cites.is_proof).refutes cites.applies.refutes).0
-            cites.applies circuit is_path.prefix
+            cites.applies circuit are.fit is_path.prefix
         by (spent none cites) =
             absurd (false≢true (sym refutes
             ∙ ap (λ (proof : Proof). proof.spent) (number_same searches.proofs (index + 1) read cites.proof numbered cites.is_proof)
@@ -89,25 +91,25 @@ module _ (c : Circuit) (searches : Searches) (are : AreSearches c searches) (pat
 
   -- the proof that an outcome of its row names is one of the fault
   pub outcome_proof : (kind : Kind) (outcome : Outcome) (index : ℕ) → outcome ≡ Proved index
-      → IsOutcome c searches.routes searches.proofs (path_number - 1) (target_of path direction kind) outcome
+      → IsOutcome c searches.rules searches.routes searches.proofs (path_number - 1) (target_of path direction kind) outcome
       → HasProof searches.routes searches.proofs path_number (target_of path direction kind) (index + 1)
   outcome_proof kind outcome index proves is =
       let target = target_of path direction kind in
       let P : ℕ → Type 0 = λ number. HasProof searches.routes searches.proofs number target (index + 1) in
       let some = listed.positive in
       subst P (let e : path_number - 1 + 1 ≡ path_number = omega arith in e)
-      (subst (IsOutcome c searches.routes searches.proofs (path_number - 1) target) proves is)
+      (subst (IsOutcome c searches.rules searches.routes searches.proofs (path_number - 1) target) proves is)
 
   -- a test that is added for the path is one of the fault
   record HasAdded (kind : Kind) (pair : Vectors) (old new : List Test) (number : ℕ) : Type 0 where
     pub has : HasTest c new path_number (target_of path direction kind) number
     pub of_pair : has.test.pair ≡ pair
-    pub tests : All (IsNumberedTest c) new
+    pub tests : All (IsNumberedTest c searches.rules) new
     pub keeps : (own : ℕ) (test : Test) → IsNumber old own test → IsNumber new own test
     pub grown : length new ≡ length old + 1
 
-  test_is_added : (kind : Kind) (pair : Vectors) (old new : List Test) (number : ℕ) → All (IsNumberedTest c) old
-      → IsTestPair c (target_of path direction kind) pair → AddsTest old new path_number direction kind pair number
+  test_is_added : (kind : Kind) (pair : Vectors) (old new : List Test) (number : ℕ) → All (IsNumberedTest c searches.rules) old
+      → IsTestPair c searches.rules (target_of path direction kind) pair → AddsTest old new path_number direction kind pair number
       → HasAdded kind pair old new number
   test_is_added kind pair old new number all for adds =
       let some = listed.positive in
@@ -132,10 +134,11 @@ module _ (c : Circuit) (searches : Searches) (are : AreSearches c searches) (pat
           };
         };
         of_pair = adds.of_pair;
-        tests = All-push (IsNumberedTest c) old test all (record {
+        tests = All-push (IsNumberedTest c searches.rules) old test all (record {
           path = record { positive = omega arith; within = omega arith };
           first = first;
           second = second;
+          of_rules = subst (IsOfRules c searches.rules) (sym adds.of_pair) for.of_rules;
           some_source = omega (arith, listed_path.prefix.source);
           some_observed = omega (arith, listed_path.observed.1);
         });
@@ -152,7 +155,7 @@ module _ (c : Circuit) (searches : Searches) (are : AreSearches c searches) (pat
 
   module _ (old : Written) (is : AreWritten c searches old) where
     -- by a robust test
-    pub robust_answers : (tests : List Test) (pair : Vectors) (number : ℕ) → IsTestPair c (target_of path direction kinds.Robust) pair
+    pub robust_answers : (tests : List Test) (pair : Vectors) (number : ℕ) → IsTestPair c searches.rules (target_of path direction kinds.Robust) pair
         → AddsTest old.tests tests path_number direction kinds.Robust pair number
         → IsAnswered c searches path_number direction path old (record { tests = tests; cited = old.cited }) (Robust number)
     robust_answers tests pair number for adds =
@@ -176,7 +179,7 @@ module _ (c : Circuit) (searches : Searches) (are : AreSearches c searches) (pat
     -- by a nonrobust test, and the proof that there is no robust one
     pub nonrobust_answers : (cited : List ℕ) (tests : List Test) (index proof : ℕ) (pair : Vectors) (number : ℕ)
         → HasProof searches.routes searches.proofs path_number (target_of path direction kinds.Robust) (index + 1)
-        → Cites old.cited cited index proof → IsTestPair c (target_of path direction kinds.Nonrobust) pair
+        → Cites old.cited cited index proof → IsTestPair c searches.rules (target_of path direction kinds.Nonrobust) pair
         → ¬ Meets c (target_of path direction kinds.Robust) pair
         → AddsTest old.tests tests path_number direction kinds.Nonrobust pair number
         → IsAnswered c searches path_number direction path old (record { tests = tests; cited = cited }) (Nonrobust number proof)

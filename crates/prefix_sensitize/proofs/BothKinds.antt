@@ -29,13 +29,13 @@ use Rattle.prefix_sensitize.specs.Searches.{AreBothOutcomesFrom, is_test}
 use Rattle.prefix_sensitize.specs.Walks.{AreExcused}
 
 -- an outcome stays as it is promised while proofs are added that do not apply
-outcome_kept : (c : Circuit) (routes : List Route) (old more new : List Proof) → new ≡ old ++ more → (row : ℕ) (target : Target)
-    → NoneApplies routes more target → (outcome : Outcome) → IsOutcome c routes old row target outcome
-    → IsOutcome c routes new row target outcome
-outcome_kept c routes old more new grown row target none Unsearched is = is
-outcome_kept c routes old more new grown row target none (Tested pair) is = is
-outcome_kept c routes old more new grown row target none (Proved index) is =
-    subst (λ (proofs : List Proof). IsOutcome c routes proofs row target (Proved index)) (sym grown)
+outcome_kept : (c : Circuit) (rules : Rules) (routes : List Route) (old more new : List Proof) → new ≡ old ++ more → (row : ℕ) (target : Target)
+    → NoneApplies routes more target → (outcome : Outcome) → IsOutcome c rules routes old row target outcome
+    → IsOutcome c rules routes new row target outcome
+outcome_kept c rules routes old more new grown row target none Unsearched is = is
+outcome_kept c rules routes old more new grown row target none (Tested pair) is = is
+outcome_kept c rules routes old more new grown row target none (Proved index) is =
+    subst (λ (proofs : List Proof). IsOutcome c rules routes proofs row target (Proved index)) (sym grown)
     (proof_kept routes old more target none (row + 1) (index + 1) is)
 
 -- the two kinds and the two transitions differ
@@ -64,7 +64,7 @@ fall_is_new old new none adds =
     let all : new ≡ adds.more = adds.adds ∙ ap (λ (list : List Proof). list ++ adds.more) none in
     subst (NoneIsFor Fall) (sym all) (λ place d within falls. ways_differ (sym (adds.aimed place d within) ∙ falls))
 
-module _ (c : Circuit) (routes : List Route) (direction : Direction) (budget : ℕ) where
+module _ (c : Circuit) (rules : Rules) (routes : List Route) (direction : Direction) (budget : ℕ) where
   -- what is searched for
   abbrev aim_for : Kind → Aim
   aim_for kind = record { kind = kind; dir = direction; budget = budget }
@@ -76,17 +76,17 @@ module _ (c : Circuit) (routes : List Route) (direction : Direction) (budget : �
         ap (λ (list : List Bool). slice_index_or list row false) all ∙ get_or-replicate (length routes) row true false within
 
     -- none is left out
-    pub all_excused : (kind : Kind) → AreExcused c (aim_for kind) routes needed
+    pub all_excused : (kind : Kind) → AreExcused c rules (aim_for kind) routes needed
     all_excused kind row route there not_needed = absurd (not_needed (is_needed row (slice_get_within routes row route there)))
 
     -- and each is told
     pub each_outcome : (kind : Kind) (proofs : List Proof) (outcomes : List Outcome)
-        → AreOutcomes c routes proofs needed (aim_for kind) outcomes → (row : ℕ) (route : Route) → slice_get routes row ≡ Some route
-        → IsOutcome c routes proofs row (target_of route direction kind) (outcome_at outcomes row)
+        → AreOutcomes c rules routes proofs needed (aim_for kind) outcomes → (row : ℕ) (route : Route) → slice_get routes row ≡ Some route
+        → IsOutcome c rules routes proofs row (target_of route direction kind) (outcome_at outcomes row)
     each_outcome kind proofs outcomes are row route there =
         are.each row route there (is_needed row (slice_get_within routes row route there))
 
-    module _ (middle : List Proof) (robust : List Outcome) (are : AreOutcomes c routes middle needed (aim_for Robust) robust)
+    module _ (middle : List Proof) (robust : List Outcome) (are : AreOutcomes c rules routes middle needed (aim_for Robust) robust)
         (some : List Bool) (untested : some ≡ map (λ outcome. not (is_test outcome)) robust) where
       -- whether the nonrobust outcome is needed
       need_of : (row : ℕ) → row < length routes → slice_index_or some row false ≡ not (is_test (outcome_at robust row))
@@ -96,18 +96,19 @@ module _ (c : Circuit) (routes : List Route) (direction : Direction) (budget : �
           ∙ get_or-map (λ (outcome : Outcome). not (is_test outcome)) robust row Unsearched false (omega arith)
 
       -- a path that has a robust test has a nonrobust one
-      pub untested_excused : AreExcused c (aim_for Nonrobust) routes some
+      pub untested_excused : AreExcused c rules (aim_for Nonrobust) routes some
       untested_excused row route there not_needed =
           by (outcome_at robust row) (each_outcome Robust middle robust are row route there)
           (λ clear. not_needed (need_of row (slice_get_within routes row route there) ∙ ap not clear))
         where
-          by : (outcome : Outcome) → IsOutcome c routes middle row (target_of route direction Robust) outcome
-              → (is_test outcome ≡ false → ⊥) → HasSomeTest c (target_of route direction Nonrobust)
+          by : (outcome : Outcome) → IsOutcome c rules routes middle row (target_of route direction Robust) outcome
+              → (is_test outcome ≡ false → ⊥) → HasSomeTest c rules (target_of route direction Nonrobust)
           by Unsearched is tested = absurd is
           by (Tested pair) is tested = record {
             pair = pair;
             first_fits = is.first_fits;
             second_fits = is.second_fits;
+            of_rules = is.of_rules;
             meets = robust_is_nonrobust c route direction pair is.meets;
           }
           by (Proved index) is tested = absurd (tested refl)
@@ -118,19 +119,19 @@ module _ (c : Circuit) (routes : List Route) (direction : Direction) (budget : �
 
       -- the outcomes of both searches are those of the faults
       pub both_are : (new : List Proof) (nonrobust : List Outcome) → AddsProofs (aim_for Nonrobust) middle new
-          → AreOutcomes c routes new some (aim_for Nonrobust) nonrobust → (both : BothOutcomes) → both.robust.items ≡ robust
-          → both.nonrobust.items ≡ nonrobust → AreBothOutcomesFrom c routes new direction 0 both
+          → AreOutcomes c rules routes new some (aim_for Nonrobust) nonrobust → (both : BothOutcomes) → both.robust.items ≡ robust
+          → both.nonrobust.items ≡ nonrobust → AreBothOutcomesFrom c rules routes new direction 0 both
       both_are new nonrobust adds are_too both is_robust is_nonrobust = record {
         robust = ap length is_robust ∙ are.one_each;
         nonrobust = ap length is_nonrobust ∙ are_too.one_each;
         each = λ row route from there.
             (let within = slice_get_within routes row route there in
-            let R : List Outcome → Type 0 = λ list. IsOutcome c routes new row (target_of route direction Robust) (outcome_at list row) in
+            let R : List Outcome → Type 0 = λ list. IsOutcome c rules routes new row (target_of route direction Robust) (outcome_at list row) in
             let N : List Outcome → Type 0 =
-            λ list. IsOutcome c routes new row (target_of route direction Nonrobust) (outcome_at list row) in
+            λ list. IsOutcome c rules routes new row (target_of route direction Nonrobust) (outcome_at list row) in
             record {
               robust = subst R (sym is_robust)
-                  (outcome_kept c routes middle adds.more new adds.adds row (target_of route direction Robust) (none_more route)
+                  (outcome_kept c rules routes middle adds.more new adds.adds row (target_of route direction Robust) (none_more route)
                   (outcome_at robust row) (each_outcome Robust middle robust are row route there));
               nonrobust = λ clear. subst N (sym is_nonrobust)
                   (are_too.each row route there
@@ -167,17 +168,17 @@ module _ (c : Circuit) (routes : List Route) (direction : Direction) (budget : �
   }
 
 -- what was found for the rising transition stays while the falling one is searched for
-pub rises_stay : (c : Circuit) (routes : List Route) (middle new : List Proof) (rises : BothOutcomes) → AddsProofsFor Fall middle new
-    → AreBothOutcomesFrom c routes middle Rise 0 rises → AreBothOutcomesFrom c routes new Rise 0 rises
-rises_stay c routes middle new rises adds are = record {
+pub rises_stay : (c : Circuit) (rules : Rules) (routes : List Route) (middle new : List Proof) (rises : BothOutcomes) → AddsProofsFor Fall middle new
+    → AreBothOutcomesFrom c rules routes middle Rise 0 rises → AreBothOutcomesFrom c rules routes new Rise 0 rises
+rises_stay c rules routes middle new rises adds are = record {
   robust = are.robust;
   nonrobust = are.nonrobust;
   each = λ row route from there.
       (let told = are.each row route from there in
       record {
-        robust = outcome_kept c routes middle adds.more new adds.adds row (target_of route Rise Robust) (none_more route Robust)
+        robust = outcome_kept c rules routes middle adds.more new adds.adds row (target_of route Rise Robust) (none_more route Robust)
             (outcome_at rises.robust.items row) told.robust;
-        nonrobust = λ clear. outcome_kept c routes middle adds.more new adds.adds row (target_of route Rise Nonrobust)
+        nonrobust = λ clear. outcome_kept c rules routes middle adds.more new adds.adds row (target_of route Rise Nonrobust)
             (none_more route Nonrobust) (outcome_at rises.nonrobust.items row) (told.nonrobust clear);
       });
 }

@@ -3,6 +3,9 @@
 use Rattle.std.proofs.Common.{◌≡◌, ℕ, ◌+◌, ◌-◌, ◌<◌, ◌≤◌, List, [], ◌∷◌, length, map, take, min, Option, refl, sym, ap, subst, subst₂, ◌∙◌, arith}
 use Rattle.std.proofs.lemmas.List.{take_all}
 use Rattle.std.proofs.lemmas.Option.{same_Some}
+use Rattle.pd_base.specs.Links.{links_of}
+use Rattle.trees.specs.Algebras.{algebra_of}
+use Rattle.state_sets.specs.StateAlgebra.{StateAlgebra}
 use Rattle.pd_base.specs.declared.ids.LineId.{LineId}
 use Rattle.pd_base.specs.declared.ids.PinRef.{PinRef}
 use Rattle.pd_base.specs.declared.rules.Rules.{Rules}
@@ -10,11 +13,11 @@ use Rattle.pd_base.specs.Route.{Route}
 use Rattle.pd_base.specs.Target.{target_of}
 use Rattle.netlist.specs.Circuit.{Circuit}
 use Rattle.netlist.specs.Paths.{IsPath, end_of, prefix_of}
-use Rattle.runs.specs.declared.tree.Node.{Node}
-use Rattle.runs.specs.declared.tree.Node.TheVariants.{Closed}
-use Rattle.runs.specs.Trees.{split_count}
-use Rattle.runs.specs.Trees.Cases.{closed}
-use Rattle.tree_laws.specs.Refutations.{IsRefutation}
+use Rattle.trees.specs.declared.tree.Node.{Node}
+use Rattle.trees.specs.declared.tree.Node.TheVariants.{Closed}
+use Rattle.trees.specs.Trees.{split_count}
+use Rattle.trees.specs.Trees.Cases.{closed}
+use Rattle.trees.specs.Refutations.{IsRefutation}
 use Rattle.implication.specs.declared.assumption.Assumption.TheVariants.{Entered}
 use Rattle.implication.specs.declared.assumption.Beginning.{Beginning}
 use Rattle.implication.specs.Clients.{IsRestored}
@@ -67,12 +70,14 @@ pub same_at_once : (standing : Standing) → IsSameBeginning standing standing
 same_at_once standing = record { net = refl; rules = refl; ends = refl; beginning = refl }
 
 -- a path that may be gone along may be with the same beginning
-pub still_along : (old new : Standing) (path : Route) → IsSameBeginning old new → LeadsAlong old path → LeadsAlong new path
-still_along old new path same along = record {
+pub still_along : (a : StateAlgebra) (old new : Standing) (path : Route) → IsSameBeginning old new → LeadsAlong a old path → LeadsAlong a new path
+still_along a old new path same along = record {
+  of_rules = along.of_rules ∙ ap algebra_of (sym same.rules);
   is_path = let P : Circuit → Type 0 = λ c. IsPath c path in subst P (sym same.net) along.is_path;
   is_told =
-      let P : Circuit → Option (List LineId) → Type 0 = λ c ends. IsToldBy c ends (end_of c path) in
-      subst₂ P (sym same.net) (sym same.ends) along.is_told;
+      let P : Circuit → Rules → Type 0 = λ c r. IsToldBy c (links_of r) old.ends (end_of c path) in
+      let Q : Option (List LineId) → Type 0 = λ ends. IsToldBy new.net (links_of new.rules) ends (end_of new.net path) in
+      subst Q (sym same.ends) (subst₂ P (sym same.net) (sym same.rules) along.is_told);
   begun = along.begun;
   began = same.beginning ∙ along.began;
   source = along.source;
@@ -88,14 +93,14 @@ still_closes old new path same closes = record {
       subst₂ P same.net same.rules closes.closes;
 }
 
-module _ (old : Standing) (path : Route) (aim : Aim) (pins : List PinRef) (gone : HasGone old path aim pins) where
+module _ (a : StateAlgebra) (old : Standing) (of_rules : a ≡ algebra_of old.rules) (path : Route) (aim : Aim) (pins : List PinRef) (gone : HasGone old path aim pins) where
   -- with what the scope began
   abbrev begun : Beginning
   begun = record { source = path.source; direction = aim.dir; kind = aim.kind }
 
-  pub leads_along : IsPath old.net path → IsTold old (end_of old.net path) → LeadsAlong old path
+  pub leads_along : IsPath old.net path → IsTold old (end_of old.net path) → LeadsAlong a old path
   leads_along is_path is_told =
-      record { is_path = is_path; is_told = is_told; begun = begun; began = gone.beginning; source = refl }
+      record { of_rules = of_rules; is_path = is_path; is_told = is_told; begun = begun; began = gone.beginning; source = refl }
 
   -- the start that closes is that for the aim
   closes_for_aim : (prefix : Route) → ClosesFrom old prefix → ClosesAtStart old.net old.rules (target_for aim prefix)
@@ -103,7 +108,7 @@ module _ (old : Standing) (path : Route) (aim : Aim) (pins : List PinRef) (gone 
       let P : Beginning → Type 0 = λ b. ClosesAtStart old.net old.rules (target_of prefix b.direction b.kind) in
       subst P (same_Some closes.begun begun (sym closes.began ∙ gone.beginning)) closes.closes
 
-  module _ (last : Standing) (same : IsSameBeginning old last) (left : List PinRef) (kept : ℕ) (at : IsAtPin last left path kept) where
+  module _ (last : Standing) (same : IsSameBeginning old last) (left : List PinRef) (kept : ℕ) (at : IsAtPin a last left path kept) where
     pub has_gone : HasGone last path aim left
     has_gone = record { beginning = same.beginning ∙ gone.beginning; entered = at.entered; free = at.free }
 
@@ -111,7 +116,7 @@ module _ (old : Standing) (path : Route) (aim : Aim) (pins : List PinRef) (gone 
     starts_open : (fewer : ℕ) → fewer ≤ kept → ¬ ClosesAtStart old.net old.rules (target_for aim (prefix_of fewer path))
     starts_open fewer less closes =
         let P : Circuit → Rules → Type 0 = λ c r. ClosesAtStart c r (target_for aim (prefix_of fewer path)) in
-        open_at last left path kept fewer begun (same.beginning ∙ gone.beginning) refl at less
+        open_at a last left path kept fewer begun (same.beginning ∙ gone.beginning) refl (of_rules ∙ ap algebra_of (sym same.rules)) at less
         (subst₂ P (sym same.net) (sym same.rules) closes)
 
     -- a conflict at the next pin refutes the prefix up to it by one closed leaf
@@ -142,7 +147,7 @@ module _ (old : Standing) (path : Route) (aim : Aim) (pins : List PinRef) (gone 
       ends_with : (answer : Found) → IsFound old.net old.rules (target_for aim path) aim.budget answer
           → IsEnded old.net old.rules aim path (ended_by answer kept)
       ends_with (found.Test pair) test =
-          record { first_fits = test.first_fits; second_fits = test.second_fits; meets = test.meets }
+          record { first_fits = test.first_fits; second_fits = test.second_fits; of_rules = test.of_rules; meets = test.meets }
       ends_with (found.Spent tree) spent = spent
       ends_with (found.Refuted tree) refutes = record {
         has_steps = at.within;

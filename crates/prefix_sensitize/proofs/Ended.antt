@@ -16,7 +16,7 @@ use Rattle.netlist.specs.Circuit.{Circuit}
 use Rattle.netlist.specs.Paths.{IsPrefixOf, prefix_of}
 use Rattle.path_laws.proofs.Prefixes.{prefix_of-is_prefix}
 use Rattle.runs.specs.declared.run.Proof.{Proof}
-use Rattle.runs.specs.declared.tree.Node.{Node}
+use Rattle.trees.specs.declared.tree.Node.{Node}
 use Rattle.good_runs.specs.Faults.{Applies, HasProof, IsAbout, IsNumber, NoneApplies}
 use Rattle.good_runs.specs.Faults.HasProof.{refuted, spent}
 use Rattle.good_runs.proofs.Numbers.{number_new, number_of_push}
@@ -41,7 +41,7 @@ use Rattle.prefix_sensitize.proofs.Reached.{HasReached, reached}
 use Rattle.prefix_sensitize.proofs.RoutePrefixes.{fewer_steps, prefix_through, shorter_of_two, steps_of_prefix}
 use Rattle.prefix_sensitize.proofs.Visits.{come_on, entered_of, stands_on}
 
-module _ (c : Circuit) (rules : Rules) (ends : Option (List LineId)) (course : Course) (is_course : IsCourse c ends course) (begin place row : ℕ)
+module _ (c : Circuit) (rules : Rules) (ends : Option (List LineId)) (course : Course) (is_course : IsCourse c rules ends course) (begin place row : ℕ)
     (route : Route) (here : StandsInOrder course.paths.now course.order.now place row route) (before : List Outcome) (old : List Proof)
     (steps : ℕ) (come : HasCome c rules course begin place before old steps) (source : LineId) (same : route.source ≡ source)
     (pins : List PinRef) (on : StandsOn course place come.entered (record { source = source; steps = pins })) (ended : Ended)
@@ -83,15 +83,15 @@ module _ (c : Circuit) (rules : Rules) (ends : Option (List LineId)) (course : C
 
   module _ (end : ℕ) (outcome : Outcome) (after : List Outcome) (new : List Proof) (rows : HaveOutcome course.order.now place end outcome before after)
       (still : (at other : ℕ) (another : Route) (was : Outcome) → StandsInOrder course.paths.now course.order.now at other another → at < place
-      → IsOutcome c course.paths.now old other (target_for course.aim another) was
-      → IsOutcome c course.paths.now new other (target_for course.aim another) was)
+      → IsOutcome c rules course.paths.now old other (target_for course.aim another) was
+      → IsOutcome c rules course.paths.now new other (target_for course.aim another) was)
       (now : (at other : ℕ) (another : Route) → StandsInOrder course.paths.now course.order.now at other another → place ≤ at → at < end
-      → IsOutcome c course.paths.now new other (target_for course.aim another) outcome) where
+      → IsOutcome c rules course.paths.now new other (target_for course.aim another) outcome) where
     settled_then : (at other : ℕ) (another : Route) → StandsInOrder course.paths.now course.order.now at other another → at < end
         → IsNeeded course.needed.now other
-        → IsOutcome c course.paths.now new other (target_for course.aim another) (outcome_at after other)
+        → IsOutcome c rules course.paths.now new other (target_for course.aim another) (outcome_at after other)
     settled_then at other another there less need =
-        let P : Outcome → Type 0 = λ o. IsOutcome c course.paths.now new other (target_for course.aim another) o in
+        let P : Outcome → Type 0 = λ o. IsOutcome c rules course.paths.now new other (target_for course.aim another) o in
         ⊎_elim
         (λ (first : at < place).
         subst P (sym (row_before end outcome after rows at other another there first))
@@ -104,11 +104,11 @@ module _ (c : Circuit) (rules : Rules) (ends : Option (List LineId)) (course : C
   module _ (none_refuted : (count : ℕ) (tree : List Node) → ¬ (ended ≡ Refuted count tree)) (outcome : Outcome) (after : List Outcome)
       (new : List Proof) (rows : HaveOutcome course.order.now place (place + 1) outcome before after)
       (found : AreFoundProofs c rules course.aim.budget course.paths.now new)
-      (still : (other : ℕ) (target : Target) (was : Outcome) → IsOutcome c course.paths.now old other target was
-      → IsOutcome c course.paths.now new other target was)
+      (still : (other : ℕ) (target : Target) (was : Outcome) → IsOutcome c rules course.paths.now old other target was
+      → IsOutcome c rules course.paths.now new other target was)
       (none : (target : Target) → NoneApplies course.paths.now old target → NoneApplies course.paths.now new target)
       (fewer : (target : Target) → NoneApplies course.paths.now new target → NoneApplies course.paths.now old target)
-      (is_outcome : IsOutcome c course.paths.now new row (target_for course.aim route) outcome) where
+      (is_outcome : IsOutcome c rules course.paths.now new row (target_for course.aim route) outcome) where
     on_one : HasComeOn c rules course begin (place + 1) (record { source = source; steps = take kept route.steps }) after new (steps + more)
     on_one =
         let further : place < place + 1 = omega arith in
@@ -121,7 +121,7 @@ module _ (c : Circuit) (rules : Rules) (ends : Option (List LineId)) (course : C
         (λ at other another there behind less.
         let P : ℕ → Type 0 = λ n. StandsInOrder course.paths.now course.order.now n other another in
         let its = subst P (equal_to at behind less) there in
-        let Q : ℕ → Route → Type 0 = λ n r. IsOutcome c course.paths.now new n (target_for course.aim r) outcome in
+        let Q : ℕ → Route → Type 0 = λ n r. IsOutcome c rules course.paths.now new n (target_for course.aim r) outcome in
         subst₂ Q (stands_once course.paths.now course.order.now place row other route another here its).0
         (stands_once course.paths.now course.order.now place row other route another here its).1 is_outcome))
         (λ at other another there behind.
@@ -239,7 +239,7 @@ module _ (c : Circuit) (rules : Rules) (ends : Option (List LineId)) (course : C
         stretch.some after all few rows.one_each found
         (settled_then end (Proved (length old)) after all rows
         (λ at other another was there less is_was.
-        outcome_still course.paths.now old added c other (target_for course.aim another) was
+        outcome_still course.paths.now old added c rules other (target_for course.aim another) was
         (λ applies.
         let behind = earlier_none at other another there (only_to (target_for course.aim another) applies) in
         omega (arith, behind, less))
@@ -269,7 +269,7 @@ pub record HasVisited (c : Circuit) (rules : Rules) (course : Course) (begin pla
   pub within : end ≤ length course.order.now
   pub adds : AddsProofs course.aim old new
 
-module _ (c : Circuit) (rules : Rules) (ends : Option (List LineId)) (course : Course) (is_course : IsCourse c ends course) (begin place row : ℕ)
+module _ (c : Circuit) (rules : Rules) (ends : Option (List LineId)) (course : Course) (is_course : IsCourse c rules ends course) (begin place row : ℕ)
     (route : Route) (here : StandsInOrder course.paths.now course.order.now place row route) (before : List Outcome) (old : List Proof)
     (steps : ℕ) (source : LineId) (same : route.source ≡ source) (pins : List PinRef)
     (come : HasComeOn c rules course begin place (record { source = source; steps = pins }) before old steps) where
@@ -321,7 +321,7 @@ module _ (c : Circuit) (rules : Rules) (ends : Option (List LineId)) (course : C
               (subst R settles.0 settles.1.rows)
               (found_still course.paths.now old added (λ target listed applies. absurd (not target applies)) c rules course.aim.budget
               (spent_found c rules course.paths.now course.aim row route here.is_listed tree is_ended) come.come.found)
-              (λ other target was is. outcome_still course.paths.now old added c other target was (not target) is)
+              (λ other target was is. outcome_still course.paths.now old added c rules other target was (not target) is)
               (λ target none. none_still course.paths.now old added target (not target) none)
               (λ target none. none_before course.paths.now old added target none)
               (spent

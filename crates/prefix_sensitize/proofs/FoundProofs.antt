@@ -40,11 +40,11 @@ module _ (routes : List Route) (old : List Proof) (added : Proof) where
   none_before target none number proof is applies = none number proof (number_kept old (added ∷ []) number proof is) applies
 
   -- an outcome is still what is promised
-  pub outcome_still : (c : Circuit) (row : ℕ) (target : Target) (outcome : Outcome) → ¬ Applies routes target added
-      → IsOutcome c routes old row target outcome → IsOutcome c routes all row target outcome
-  outcome_still c row target Unsearched apart is = is
-  outcome_still c row target (Tested pair) apart is = is
-  outcome_still c row target (Proved index) apart is =
+  pub outcome_still : (c : Circuit) (rules : Rules) (row : ℕ) (target : Target) (outcome : Outcome) → ¬ Applies routes target added
+      → IsOutcome c rules routes old row target outcome → IsOutcome c rules routes all row target outcome
+  outcome_still c rules row target Unsearched apart is = is
+  outcome_still c rules row target (Tested pair) apart is = is
+  outcome_still c rules row target (Proved index) apart is =
       proof_kept routes old (added ∷ []) target (none_of_one target apart) (row + 1) (index + 1) is
 
   module _ (alone : (target : Target) → Contains routes target.path → Applies routes target added → NoneApplies routes old target) where

@@ -5,6 +5,7 @@ use Rattle.std.specs.Prelude.{Contains}
 use Rattle.std.proofs.lemmas.List.{length-map}
 use Rattle.std.proofs.lemmas.List.Elements.{All-map}
 use Rattle.std.proofs.lemmas.Option.{slice_get-get_or}
+use Rattle.netlist.specs.LinkedPairs.{IsOfRules}
 use Rattle.pd_base.specs.Route.{Route}
 use Rattle.pd_base.specs.Target.{Target, target_of}
 use Rattle.pd_base.specs.declared.test.Test.{Test}
@@ -29,7 +30,7 @@ use Rattle.good_runs.specs.GoodRun.{HasNonrobustTest, HasTest, IsGoodRun, IsVerd
 use Rattle.good_runs.specs.Shortest.{IsShortestRun}
 use Rattle.good_runs.proofs.Numbers.{all_at_number, number_in_map, number_of_place}
 use Rattle.prefix_sensitize.specs.Answers.{HasCited, IsBackedVerdict, Written}
-use Rattle.test_judging.specs.Expected.{expecting}
+use Rattle.pair_judging.specs.Expected.{expecting}
 use Rattle.prefix_sensitize.specs.Listed.{ArePathsAnswered, IsRunWith}
 use Rattle.prefix_sensitize.specs.Outcomes.{IsFoundProof}
 use Rattle.prefix_sensitize.specs.Searches.{AreSearches, Searches}
@@ -176,6 +177,12 @@ module _ (c : Circuit) (delays : Delays) (searches : Searches) (are : AreSearche
             subst R (sym fault.is_verdict)
             (answer_is_verdict number direction entry.path (number_is_contained searches.routes number entry.path route)
             (verdict_for entry direction) answer));
+        of_rules =
+            let P : Rules → Type 0 = λ rules. All (λ (test : Test). IsOfRules c rules test.pair) run.tests in
+            subst P (sym is.rules)
+            (subst (All (λ (test : Test). IsOfRules c searches.rules test.pair)) (sym is.tests)
+            (All-map (λ (test : Test). IsOfRules c searches.rules test.pair) (expecting c) written.tests
+            (λ place d within. (all.are_written.tests place d within).of_rules)));
         expected = subst (All (λ (test : Test). test.expected ≡ observed_values c test.pair.second)) (sym is.tests)
             (All-map (λ (test : Test). test.expected ≡ observed_values c test.pair.second) (expecting c) written.tests
             (λ place d within. refl));

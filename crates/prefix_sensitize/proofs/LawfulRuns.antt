@@ -19,19 +19,19 @@ use Rattle.path_laws.proofs.StepCounts.{prefix_has_few_steps}
 use Rattle.runs.specs.declared.run.ListedPath.{ListedPath}
 use Rattle.runs.specs.declared.run.Proof.{Proof}
 use Rattle.runs.specs.declared.run.Run.{Run}
-use Rattle.runs.specs.declared.tree.Node.{Node}
-use Rattle.runs.specs.declared.tree.Node.TheVariants.{Closed, Waiting, Value, Steadiness}
+use Rattle.trees.specs.declared.tree.Node.{Node}
+use Rattle.trees.specs.declared.tree.Node.TheVariants.{Closed, Waiting, Value, Steadiness}
 use Rattle.runs.specs.Lawful.{AreNumbered, IsLawfulProof, IsLawfulRun, IsLawfulTest, IsOnSource, none_named}
-use Rattle.runs.specs.Trees.{Cases, preorder}
-use Rattle.runs.specs.Trees.Cases.{closed, waiting, by_value, by_steadiness}
+use Rattle.trees.specs.Trees.{Cases, preorder}
+use Rattle.trees.specs.Trees.Cases.{closed, waiting, by_value, by_steadiness}
 use Rattle.runs.specs.Verdicts.{verdicts_of}
 use Rattle.runs.proofs.Nameable.{path_is_nameable}
-use Rattle.tree_laws.specs.Refutations.{RefutesBelow, below}
-use Rattle.tree_laws.specs.Spent.{IsSpentBelow}
+use Rattle.trees.specs.Refutations.{RefutesBelow, below}
+use Rattle.trees.specs.Spent.{IsSpentBelow}
 use Rattle.good_runs.specs.Faults.{IsNumber, routes_of}
 use Rattle.good_runs.proofs.Numbers.{all_at_number, number_of_place, number_within}
 use Rattle.prefix_sensitize.specs.Answers.{IsNumberedTest, Written}
-use Rattle.test_judging.specs.Expected.{expecting}
+use Rattle.pair_judging.specs.Expected.{expecting}
 use Rattle.prefix_sensitize.specs.Listed.{ArePathsAnswered, IsRunWith}
 use Rattle.prefix_sensitize.specs.Outcomes.{IsFoundProof}
 use Rattle.prefix_sensitize.specs.Searches.{AreSearches, Searches}
@@ -107,8 +107,8 @@ module _ (c : Circuit) where
             )
 
   -- a test that was written is lawful with the bits that it expects
-  test_is_lawful : (test : Test) → IsNumberedTest c test → IsLawfulTest c (expecting c test)
-  test_is_lawful test is = record {
+  test_is_lawful : (rules : Rules) (test : Test) → IsNumberedTest c rules test → IsLawfulTest c (expecting c test)
+  test_is_lawful rules test is = record {
     path = is.path;
     first = is.first;
     second = is.second;
@@ -151,7 +151,7 @@ module _ (c : Circuit) (circuit : IsCircuit c) (delays : Delays) (searches : Sea
   run_is_lawful = record {
     tests = subst (All (IsLawfulTest c)) (sym is.tests)
         (All-map (IsLawfulTest c) (expecting c) written.tests
-        (λ place d within. test_is_lawful c (get_or written.tests place d) (all.are_written.tests place d within)));
+        (λ place d within. test_is_lawful c searches.rules (get_or written.tests place d) (all.are_written.tests place d within)));
     report = record {
       nameable = λ place d within.
           path_is_nameable c (get_or run.paths place d).path (All-from_map (IsPath c) run.paths route_is_path place d within);

@@ -10,9 +10,9 @@ use Rattle.netlist.specs.Circuit.{Circuit}
 use Rattle.netlist.specs.Paths.{IsPrefixOf, prefix_of}
 use Rattle.path_laws.proofs.Prefixes.{is_prefix_of}
 use Rattle.runs.specs.declared.run.Proof.{Proof}
-use Rattle.runs.specs.declared.tree.Node.{Node}
-use Rattle.tree_laws.specs.Refutations.{IsRefutation}
-use Rattle.tree_laws.specs.Spent.{IsSpent}
+use Rattle.trees.specs.declared.tree.Node.{Node}
+use Rattle.trees.specs.Refutations.{IsRefutation}
+use Rattle.trees.specs.Spent.{IsSpent}
 use Rattle.good_runs.specs.Faults.{Applies, IsNumber}
 use Rattle.good_runs.specs.GoodRun.{IsGoodRefutation}
 use Rattle.good_runs.specs.Shortest.{ClosesAtStart, IsShortest}

@@ -172,7 +172,7 @@ module _ (c : Circuit) (rules : Rules) (course : Course) (proofs : List Proof) (
 module _ (c : Circuit) (rules : Rules) (course : Course) (is_order : IsOrder course.paths.now course.order.now) (begin : ℕ)
     (outcomes : List Outcome) (proofs : List Proof) (steps : ℕ)
     (come : HasComeApart c rules course begin (length course.order.now) outcomes proofs steps) where
-  pub all_outcomes : AreOutcomes c course.paths.now proofs course.needed.now course.aim outcomes
+  pub all_outcomes : AreOutcomes c rules course.paths.now proofs course.needed.now course.aim outcomes
   all_outcomes = record {
     one_each = come.come.one_each;
     each =

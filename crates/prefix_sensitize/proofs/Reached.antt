@@ -3,7 +3,7 @@ use Rattle.std.proofs.Common.{◌≡◌, ◌⊎◌, inl, inr, ℕ, ◌+◌, ◌<
 use Rattle.pd_base.specs.declared.rules.Rules.{Rules}
 use Rattle.pd_base.specs.Route.{Route}
 use Rattle.netlist.specs.Circuit.{Circuit}
-use Rattle.runs.specs.declared.tree.Node.{Node}
+use Rattle.trees.specs.declared.tree.Node.{Node}
 use Rattle.prefix_sensitize.specs.declared.descent.Ended.{Ended}
 use Rattle.prefix_sensitize.specs.declared.descent.Ended.TheVariants.{Refuted}
 use Rattle.prefix_sensitize.specs.declared.outcome.Aim.{Aim}

@@ -1,5 +1,9 @@
 -- What a walk stands on stands again after it, for the next one.
 use Rattle.std.proofs.Common.{ℕ, List, All, Option, sym, subst, subst₂}
+use Rattle.pd_base.specs.declared.rules.Rules.{Rules}
+use Rattle.pd_base.specs.Links.{links_of}
+use Rattle.state_sets.specs.StateAlgebra.{StateAlgebra}
+use Rattle.trees.specs.Unlinked.{IsUnlinked}
 use Rattle.pd_base.specs.declared.ids.LineId.{LineId}
 use Rattle.pd_base.specs.Route.{Route}
 use Rattle.netlist.specs.Circuit.{Circuit}
@@ -13,18 +17,21 @@ use Rattle.prefix_sensitize.specs.Readiness.{IsReadyFor}
 use Rattle.prefix_sensitize.specs.Walks.{AreSearchablePaths}
 
 -- the paths can be searched again, once no scope is open any more
-pub ready_again : (routes : List Route) (ordered : OrderedPaths) (budget : ℕ) (old new : Standing) (before after : Desk)
-    → IsReadyFor routes ordered budget old before → IsIdleAgain old new → IsDeskFor old.net after
-    → IsReadyFor routes ordered budget new after
-ready_again routes ordered budget old new before after ready rest desk =
+pub ready_again : (a : StateAlgebra) (routes : List Route) (ordered : OrderedPaths) (budget : ℕ) (old new : Standing) (before after : Desk)
+    → IsReadyFor a routes ordered budget old before → IsIdleAgain old new → IsDeskFor a old.net old.rules after
+    → IsReadyFor a routes ordered budget new after
+ready_again a routes ordered budget old new before after ready rest desk =
     let S : Circuit → Type 0 = λ c. AreSearchablePaths c routes in
-    let T : Circuit → Option (List LineId) → Type 0 = λ c ends. All (λ (route : Route). IsToldBy c ends (end_of c route)) routes in
-    let D : Circuit → Type 0 = λ c. IsDeskFor c after in
+    let T : Circuit → Rules → Type 0 = λ c r. All (λ (route : Route). IsToldBy c (links_of r) old.ends (end_of c route)) routes in
+    let E : Option (List LineId) → Type 0 =
+    λ ends. All (λ (route : Route). IsToldBy new.net (links_of new.rules) ends (end_of new.net route)) routes in
+    let D : Circuit → Rules → Type 0 = λ c r. IsDeskFor a c r after in
     record {
+      unlinked = subst IsUnlinked (sym rest.rules) ready.unlinked;
       idle = rest.idle;
       listed = subst S (sym rest.net) ready.listed;
-      told = subst₂ T (sym rest.net) (sym rest.ends) ready.told;
-      desk = subst D (sym rest.net) desk;
+      told = subst E (sym rest.ends) (subst₂ T (sym rest.net) (sym rest.rules) ready.told);
+      desk = subst₂ D (sym rest.net) (sym rest.rules) desk;
       tree = ready.tree;
       within = ready.within;
     }

@@ -2,6 +2,7 @@
 use Rattle.std.proofs.Common.{◌≡◌, ◌≢◌, ℕ, ◌+◌, ◌-◌, ◌<◌, List, length, set, Some, sym, ap, subst, ◌∙◌, arith}
 use Rattle.std.specs.Prelude.{slice_get}
 use Rattle.std.proofs.lemmas.List.{length-set, get_or-set_other}
+use Rattle.pd_base.specs.declared.rules.Rules.{Rules}
 use Rattle.pd_base.specs.Route.{Route}
 use Rattle.pd_base.specs.declared.fault.Direction.{Direction}
 use Rattle.netlist.specs.Circuit.{Circuit}
@@ -14,8 +15,8 @@ use Rattle.prefix_sensitize.specs.declared.all_outcomes.FaultOutcomes.{FaultOutc
 use Rattle.prefix_sensitize.specs.Outcomes.{outcome_at}
 use Rattle.prefix_sensitize.specs.Searches.{AreFaultOutcomes, AreBothOutcomesFrom, fault_outcomes}
 
-module _ (c : Circuit) (routes : List Route) (proofs : List Proof) (direction : Direction) (row : ℕ) (old : BothOutcomes)
-    (are : AreBothOutcomesFrom c routes proofs direction row old) where
+module _ (c : Circuit) (rules : Rules) (routes : List Route) (proofs : List Proof) (direction : Direction) (row : ℕ) (old : BothOutcomes)
+    (are : AreBothOutcomesFrom c rules routes proofs direction row old) where
   -- there are outcomes in the row of a listed path
   pub robust_within : row < length routes → row < length old.robust.items
   robust_within within = let same = are.robust in omega arith
@@ -25,13 +26,13 @@ module _ (c : Circuit) (routes : List Route) (proofs : List Proof) (direction : 
 
   -- they are those of its faults
   pub taken_are : (number : ℕ) (path : Route) → IsNumber routes number path → number ≡ row + 1 → (taken : FaultOutcomes)
-      → taken ≡ fault_outcomes old row → AreFaultOutcomes c routes proofs (number - 1) direction path taken
+      → taken ≡ fault_outcomes old row → AreFaultOutcomes c rules routes proofs (number - 1) direction path taken
   taken_are number path is next taken same =
       let at : number - 1 ≡ row = omega arith in
       let P : ℕ → Type 0 = λ place. slice_get routes place ≡ Some path in
-      let Q : ℕ → Type 0 = λ place. AreFaultOutcomes c routes proofs place direction path taken in
+      let Q : ℕ → Type 0 = λ place. AreFaultOutcomes c rules routes proofs place direction path taken in
       subst Q (sym at)
-      (subst (AreFaultOutcomes c routes proofs row direction path) (sym same) (are.each row path (omega arith) (subst P at is.found)))
+      (subst (AreFaultOutcomes c rules routes proofs row direction path) (sym same) (are.each row path (omega arith) (subst P at is.found)))
 
   -- and the others are left
   module _ (new : BothOutcomes) (robust : new.robust.items ≡ set old.robust.items row Unsearched)
@@ -45,12 +46,12 @@ module _ (c : Circuit) (routes : List Route) (proofs : List Proof) (direction : 
       nonrobust = sym (ap (λ (list : List Outcome). outcome_at list other) nonrobust ∙ other_outcome old.nonrobust.items other differs) i;
     }
 
-    pub others_left : (next : ℕ) → next ≡ row + 1 → AreBothOutcomesFrom c routes proofs direction next new
+    pub others_left : (next : ℕ) → next ≡ row + 1 → AreBothOutcomesFrom c rules routes proofs direction next new
     others_left next behind = record {
       robust = ap length robust ∙ length-set old.robust.items row Unsearched ∙ are.robust;
       nonrobust = ap length nonrobust ∙ length-set old.nonrobust.items row Unsearched ∙ are.nonrobust;
       each = λ other path from there.
-          subst (AreFaultOutcomes c routes proofs other direction path)
+          subst (AreFaultOutcomes c rules routes proofs other direction path)
           (same_outcomes other (λ same. let e : other ≡ row = same in omega arith))
           (are.each other path (omega arith) there);
     }

@@ -72,7 +72,7 @@ module _ (c : Circuit) (rules : Rules) (course : Course) (is_order : IsOrder cou
       → AreFoundProofs c rules course.aim.budget course.paths.now new
       → ((at other : ℕ) (another : Route) → StandsInOrder course.paths.now course.order.now at other another → at < end
       → IsNeeded course.needed.now other
-      → IsOutcome c course.paths.now new other (target_for course.aim another) (outcome_at after other))
+      → IsOutcome c rules course.paths.now new other (target_for course.aim another) (outcome_at after other))
       → ((at other : ℕ) (another : Route) → StandsInOrder course.paths.now course.order.now at other another → end ≤ at
       → NoneApplies course.paths.now new (target_for course.aim another))
       → ((at other : ℕ) (another prefix : Route) → StandsInOrder course.paths.now course.order.now at other another → place ≤ at → at < end

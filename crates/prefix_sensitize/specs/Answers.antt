@@ -1,6 +1,8 @@
 -- What a verdict asks of what is written so far, and what stays of it as more is written, in words that are spoken inside this crate
 -- alone (this project's own).
 use Rattle.std.specs.Prelude.{◌≡◌, ℕ, ◌+◌, ◌<◌, ◌≤◌, ◌^◌, true, false, List, [], ◌∷◌, ◌++◌, length, slice_get, Some, All}
+use Rattle.pd_base.specs.declared.rules.Rules.{Rules}
+use Rattle.netlist.specs.LinkedPairs.{IsOfRules}
 use Rattle.pd_base.specs.Pair.{Vectors}
 use Rattle.pd_base.specs.Route.{Route}
 use Rattle.pd_base.specs.Target.{Target, target_of}
@@ -9,7 +11,7 @@ use Rattle.pd_base.specs.declared.fault.Direction.{Direction}
 use Rattle.pd_base.specs.declared.fault.Kind.{Kind}
 use Rattle.pd_base.specs.declared.fault.Kind.TheVariants as kinds
 use Rattle.netlist.specs.Circuit.{Circuit, source_count, observed_lines}
-use Rattle.test_judging.specs.Judges.{IsJudgeOf}
+use Rattle.pair_judging.specs.Judges.{IsJudgeOf}
 use Rattle.runs.specs.declared.run.Proof.{Proof}
 use Rattle.runs.specs.declared.run.Verdict.{Verdict}
 use Rattle.runs.specs.declared.run.Verdict.TheVariants.{Robust, Nonrobust, Untestable, Aborted}
@@ -25,12 +27,13 @@ pub record Written : Type 0 where
   pub tests : List Test
   pub cited : List ℕ
 
--- a test names a path, and has one bit per source in each vector, where there is a source and an observed line. Of the bits that it
+-- a test names a path, is a pair of the rules, and has one bit per source in each vector, where there is a source and an observed line. Of the bits that it
 -- expects nothing is said
-pub record IsNumberedTest (c : Circuit) (test : Test) : Type 0 where
+pub record IsNumberedTest (c : Circuit) (rules : Rules) (test : Test) : Type 0 where
   pub path : IsPathNumber test.path
   pub first : length test.pair.first ≡ source_count c
   pub second : length test.pair.second ≡ source_count c
+  pub of_rules : IsOfRules c rules test.pair
   pub some_source : 0 < source_count c
   pub some_observed : 0 < length (observed_lines c)
 
@@ -38,7 +41,7 @@ pub record IsNumberedTest (c : Circuit) (test : Test) : Type 0 where
 pub record AreWritten (c : Circuit) (searches : Searches) (written : Written) : Type 0 where
   pub found : All (λ index. index < length searches.proofs) written.cited
   pub once : HaveOneNumber written.cited
-  pub tests : All (IsNumberedTest c) written.tests
+  pub tests : All (IsNumberedTest c searches.rules) written.tests
 
 -- numbers stay, those of tests and those of proofs
 pub record KeepsNumbers (old new : Written) : Type 0 where
@@ -96,7 +99,7 @@ written_by writer = record { tests = writer.tests.items; cited = writer.numberin
 
 -- the writer judges pairs for the circuit, and gives numbers to the proofs of these searches
 pub record IsWriterFor (c : Circuit) (searches : Searches) (writer : Writer) : Type 0 where
-  pub judge : IsJudgeOf c writer.judge
+  pub judge : IsJudgeOf 4 c writer.judge
   pub found : writer.found.items ≡ searches.proofs
   pub numbers : writer.numbering.found ≡ length searches.proofs
 

@@ -34,7 +34,7 @@ pub record HasCome (c : Circuit) (rules : Rules) (course : Course) (begin place 
   pub one_each : length outcomes ≡ length course.paths.now
   pub found : AreFoundProofs c rules course.aim.budget course.paths.now proofs
   pub settled : (at row : ℕ) (route : Route) → StandsInOrder course.paths.now course.order.now at row route → at < place
-      → IsNeeded course.needed.now row → IsOutcome c course.paths.now proofs row (target_for course.aim route) (outcome_at outcomes row)
+      → IsNeeded course.needed.now row → IsOutcome c rules course.paths.now proofs row (target_for course.aim route) (outcome_at outcomes row)
   pub none_ahead : (at row : ℕ) (route : Route) → StandsInOrder course.paths.now course.order.now at row route → place ≤ at
       → NoneApplies course.paths.now proofs (target_for course.aim route)
   pub entered : List Route

@@ -1,18 +1,21 @@
 -- How far a scope has gone along paths from its source, and what a search in it ends with, in words that are spoken inside this crate
 -- alone (this project's own).
-use Rattle.std.specs.Prelude.{◌≡◌, ℕ, ◌+◌, ◌<◌, ◌≤◌, [], ◌∷◌, List, Some, None, length, map, take}
+use Rattle.std.specs.Prelude.{◌≡◌, ℕ, ◌+◌, ◌<◌, ◌≤◌, ◌^◌, [], ◌∷◌, List, Some, None, length, map, take}
 use Rattle.pd_base.specs.Route.{Route}
 use Rattle.pd_base.specs.declared.ids.PinRef.{PinRef}
 use Rattle.pd_base.specs.declared.rules.Rules.{Rules}
 use Rattle.netlist.specs.Circuit.{Circuit}
-use Rattle.netlist.specs.Paths.{prefix_of}
-use Rattle.runs.specs.declared.tree.Node.{Node}
-use Rattle.runs.specs.declared.tree.Node.TheVariants.{Closed}
-use Rattle.runs.specs.Trees.{split_count}
-use Rattle.tree_laws.specs.Refutations.{IsRefutation}
-use Rattle.tree_laws.specs.Spent.{IsSpent}
+use Rattle.netlist.specs.Paths.{IsPath, end_of, prefix_of}
+use Rattle.trees.specs.declared.tree.Node.{Node}
+use Rattle.trees.specs.declared.tree.Node.TheVariants.{Closed}
+use Rattle.trees.specs.Trees.{split_count}
+use Rattle.trees.specs.Refutations.{IsRefutation}
+use Rattle.trees.specs.Spent.{IsSpent}
 use Rattle.implication.specs.declared.assumption.Assumption.TheVariants.{Entered}
-use Rattle.implication.specs.Standing.{Standing}
+use Rattle.implication.specs.Standing.{IsTold, Standing}
+use Rattle.state_sets.specs.StateAlgebra.{StateAlgebra}
+use Rattle.justify.specs.declared.desk.Desk.{Desk}
+use Rattle.justify.specs.Desks.{IsDeskFor}
 use Rattle.justify.specs.declared.answer.Found.{Found}
 use Rattle.justify.specs.declared.answer.Found.TheVariants as found
 use Rattle.good_runs.specs.Shortest.{ClosesAtStart}
@@ -21,6 +24,7 @@ use Rattle.prefix_sensitize.specs.declared.descent.Ended.{Ended}
 use Rattle.prefix_sensitize.specs.declared.descent.Ended.TheVariants.{Test, Spent, Refuted}
 use Rattle.prefix_sensitize.specs.Outcomes.{IsTestPair, target_for}
 use Rattle.prefix_sensitize.specs.PathOrder.{ShareSteps}
+use Rattle.prefix_sensitize.specs.Walks.{IsBudget}
 
 -- the scope was begun for the aim at the source of the path, and these pins were entered since; no conflict stands
 pub record HasGone (standing : Standing) (path : Route) (aim : Aim) (pins : List PinRef) : Type 0 where
@@ -59,7 +63,7 @@ ended_by (found.Refuted tree) steps = Refuted steps tree
 
 -- what the end of a search for a test of a path tells
 abbrev pub IsEnded : Circuit → Rules → Aim → Route → Ended → Type 0
-IsEnded c rules aim path (Test pair) = IsTestPair c (target_for aim path) pair
+IsEnded c rules aim path (Test pair) = IsTestPair c rules (target_for aim path) pair
 IsEnded c rules aim path (Spent tree) = IsSpent c rules (target_for aim path) aim.budget tree
 IsEnded c rules aim path (Refuted steps tree) = RefutesPrefix c rules aim path steps tree
 
@@ -87,3 +91,19 @@ pub record HasMovedOn (old new : List PinRef) (path : Route) (ended : Ended) (mo
   pub stays : shared ≤ kept
   pub stand : new ≡ take kept path.steps
   pub reaches : ReachesPins path ended kept (shared + more)
+
+-- A search for a test of this path can go on from these pins: the path is one of the circuit and its end is told, there is a desk and a
+-- budget for it, and room to count its pins.
+pub record CanSearch (a : StateAlgebra) (standing : Standing) (path : Route) (aim : Aim) (pins : List PinRef) (desk : Desk) (steps : ℕ) : Type 0 where
+  pub is_path : IsPath standing.net path
+  pub is_told : IsTold standing (end_of standing.net path)
+  pub is_desk : IsDeskFor a standing.net standing.rules desk
+  pub is_budget : IsBudget aim.budget
+  pub gone : HasGone standing path aim pins
+  pub room : steps + length path.steps < 2 ^ 64
+
+-- what the search ended with, and how far it went and where it stands then
+pub record HasSearched (old new : Standing) (path : Route) (aim : Aim) (before after : List PinRef) (first last : ℕ) (ended : Ended) : Type 0 where
+  pub is_ended : IsEnded old.net old.rules aim path ended
+  pub gone : HasGone new path aim after
+  pub moved : (more : ℕ) × (last ≡ first + more) × HasMovedOn before after path ended more

@@ -13,3 +13,4 @@ pub mod Numbering
 pub mod Answers
 pub mod Listed
 pub mod Readiness
+pub mod Walking

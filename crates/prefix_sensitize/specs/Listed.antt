@@ -15,7 +15,7 @@ use Rattle.good_runs.specs.Faults.{IsNumber, verdict_for}
 use Rattle.prefix_sensitize.specs.declared.all_outcomes.AllOutcomes.{AllOutcomes}
 use Rattle.prefix_sensitize.specs.declared.verdicts.Writer.{Writer}
 use Rattle.prefix_sensitize.specs.Answers.{AreWritten, IsAnswered, IsBackedVerdict, IsWriterFor, Written, named_in, written_by}
-use Rattle.test_judging.specs.Expected.{expecting}
+use Rattle.pair_judging.specs.Expected.{expecting}
 use Rattle.prefix_sensitize.specs.Numbering.{AreCited}
 use Rattle.prefix_sensitize.specs.Searches.{AreBothOutcomesFrom, AreSearches, Searches}
 
@@ -24,8 +24,8 @@ pub record AreAllOutcomes (c : Circuit) (searches : Searches) (outcomes : AllOut
   pub are_searches : AreSearches c searches
   pub budget : outcomes.budget ≡ searches.budget
   pub proofs : outcomes.proofs.items ≡ searches.proofs
-  pub rises : AreBothOutcomesFrom c searches.routes searches.proofs Rise 0 outcomes.rises
-  pub falls : AreBothOutcomesFrom c searches.routes searches.proofs Fall 0 outcomes.falls
+  pub rises : AreBothOutcomesFrom c searches.rules searches.routes searches.proofs Rise 0 outcomes.rises
+  pub falls : AreBothOutcomesFrom c searches.rules searches.routes searches.proofs Fall 0 outcomes.falls
 
 -- this path is the next one to be listed, and numbers are far from the greatest that the program counts to
 pub record IsNextPath (c : Circuit) (searches : Searches) (path_number : ℕ) (path : Route) (writer : Writer) : Type 0 where

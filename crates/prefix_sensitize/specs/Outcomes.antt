@@ -7,6 +7,7 @@ use Rattle.pd_base.specs.Target.{Target, target_of}
 use Rattle.pd_base.specs.declared.rules.Rules.{Rules}
 use Rattle.netlist.specs.Circuit.{Circuit, source_count}
 use Rattle.netlist.specs.Conditions.{Meets}
+use Rattle.netlist.specs.LinkedPairs.{IsOfRules}
 use Rattle.runs.specs.declared.run.Proof.{Proof}
 use Rattle.good_runs.specs.Faults.{Applies, HasProof, IsAbout, IsNumber}
 use Rattle.good_runs.specs.GoodRun.{IsGoodRefutation, IsGoodSpent}
@@ -35,17 +36,18 @@ pub record AreFoundProofs (c : Circuit) (rules : Rules) (budget : ℕ) (routes :
   pub each : All (IsFoundProof c rules budget routes) proofs
   pub apart : AreApart routes proofs
 
--- the pair is a test for the target
-pub record IsTestPair (c : Circuit) (target : Target) (pair : Vectors) : Type 0 where
+-- the pair is one of the rules, and a test for the target
+pub record IsTestPair (c : Circuit) (rules : Rules) (target : Target) (pair : Vectors) : Type 0 where
   pub first_fits : length pair.first ≡ source_count c
   pub second_fits : length pair.second ≡ source_count c
+  pub of_rules : IsOfRules c rules pair
   pub meets : Meets c target pair
 
 -- what the outcome of a search for a target tells, whose path stands in this row of the list
-abbrev pub IsOutcome : Circuit → List Route → List Proof → ℕ → Target → Outcome → Type 0
-IsOutcome c routes proofs row target Unsearched = ⊥
-IsOutcome c routes proofs row target (Tested pair) = IsTestPair c target pair
-IsOutcome c routes proofs row target (Proved index) = HasProof routes proofs (row + 1) target (index + 1)
+abbrev pub IsOutcome : Circuit → Rules → List Route → List Proof → ℕ → Target → Outcome → Type 0
+IsOutcome c rules routes proofs row target Unsearched = ⊥
+IsOutcome c rules routes proofs row target (Tested pair) = IsTestPair c rules target pair
+IsOutcome c rules routes proofs row target (Proved index) = HasProof routes proofs (row + 1) target (index + 1)
 
 -- the outcome of this row
 abbrev pub outcome_at : List Outcome → ℕ → Outcome
@@ -56,10 +58,10 @@ abbrev pub IsNeeded : List Bool → ℕ → Type 0
 IsNeeded needed row = slice_index_or needed row false ≡ true
 
 -- for each path its outcome, as far as one is needed
-pub record AreOutcomes (c : Circuit) (routes : List Route) (proofs : List Proof) (needed : List Bool) (aim : Aim) (outcomes : List Outcome) : Type 0 where
+pub record AreOutcomes (c : Circuit) (rules : Rules) (routes : List Route) (proofs : List Proof) (needed : List Bool) (aim : Aim) (outcomes : List Outcome) : Type 0 where
   pub one_each : length outcomes ≡ length routes
   pub each : (row : ℕ) (route : Route) → slice_get routes row ≡ Some route → IsNeeded needed row
-      → IsOutcome c routes proofs row (target_for aim route) (outcome_at outcomes row)
+      → IsOutcome c rules routes proofs row (target_for aim route) (outcome_at outcomes row)
 
 -- no proof is about this aim
 abbrev pub NoneIsAbout : Aim → List Proof → Type 0

@@ -1,5 +1,9 @@
 -- What stands between the searches for one aim and those for the next (this project's own).
 use Rattle.std.specs.Prelude.{◌≡◌, ℕ, ◌+◌, ◌*◌, ◌≤◌, List, ◌++◌, length, None, All}
+use Rattle.state_sets.specs.StateAlgebra.{StateAlgebra}
+use Rattle.trees.specs.Unlinked.{IsUnlinked}
+use Rattle.netlist.specs.LinkedPairs.{FitRules}
+use Rattle.trees.specs.Algebras.{algebra_of}
 use Rattle.netlist.specs.declared.limits.TheConstants.{MOST_LEVELS}
 use Rattle.pd_base.specs.Route.{Route}
 use Rattle.pd_base.specs.declared.fault.Direction.{Direction}
@@ -17,12 +21,20 @@ pub record IsTreeFor (routes : List Route) (tree : OrderedPaths) : Type 0 where
   pub prefixes : HasPrefixes routes tree.prefixes
   pub few : tree.prefixes ≤ length routes * MOST_LEVELS
 
--- the paths can be searched with this engine and this desk: no scope is open on it, and it tells the end of each path
-pub record IsReadyFor (routes : List Route) (ordered : OrderedPaths) (budget : ℕ) (standing : Standing) (on : Desk) : Type 0 where
+-- an engine with this kind of states, which is that of its rules; these are not linked and fit the circuit, and no scope is open
+pub record IsSet (a : StateAlgebra) (standing : Standing) : Type 0 where
+  pub of_rules : a ≡ algebra_of standing.rules
+  pub fit : FitRules standing.net standing.rules
+  pub unlinked : IsUnlinked standing.rules
+  pub idle : standing.beginning ≡ None
+
+-- the paths can be searched with this engine and this desk: the rules, whose kind of states this is, are not linked; no scope is open on it, and it tells the end of each path
+pub record IsReadyFor (a : StateAlgebra) (routes : List Route) (ordered : OrderedPaths) (budget : ℕ) (standing : Standing) (on : Desk) : Type 0 where
+  pub unlinked : IsUnlinked standing.rules
   pub idle : standing.beginning ≡ None
   pub listed : AreSearchablePaths standing.net routes
   pub told : AreToldPaths standing routes
-  pub desk : IsDeskFor standing.net on
+  pub desk : IsDeskFor a standing.net standing.rules on
   pub tree : IsTreeFor routes ordered
   pub within : IsBudget budget
 

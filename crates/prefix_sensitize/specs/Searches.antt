@@ -1,5 +1,6 @@
 -- What all searches for tests of listed paths found, in words that are spoken inside this crate alone (this project's own).
 use Rattle.std.specs.Prelude.{◌≡◌, ℕ, ◌≤◌, Bool, true, false, List, length, slice_get, Some, All}
+use Rattle.netlist.specs.LinkedPairs.{FitRules}
 use Rattle.pd_base.specs.declared.limits.TheConstants.{MOST_PATHS}
 use Rattle.pd_base.specs.Route.{Route}
 use Rattle.pd_base.specs.Target.{target_of}
@@ -28,8 +29,9 @@ abbrev pub searches_of : Rules → ℕ → List Route → AllOutcomes → Search
 searches_of rules budget routes outcomes =
     record { rules = rules; budget = budget; routes = routes; proofs = outcomes.proofs.items }
 
--- the listed paths are some of the circuit, few enough for the files, and the proofs are what searches promise
+-- the rules fit the circuit; the listed paths are some of it, few enough for the files, and the proofs are what searches promise
 pub record AreSearches (c : Circuit) (searches : Searches) : Type 0 where
+  pub fit : FitRules c searches.rules
   pub are_paths : All (IsPath c) searches.routes
   pub few : length searches.routes ≤ MOST_PATHS
   pub found : AreFoundProofs c searches.rules searches.budget searches.routes searches.proofs
@@ -41,11 +43,11 @@ is_test (Tested pair) = true
 is_test (Proved index) = false
 
 -- the outcomes of a fault whose path stands in this row: the nonrobust one tells where the robust one is no test
-pub record AreFaultOutcomes (c : Circuit) (routes : List Route) (proofs : List Proof) (row : ℕ) (direction : Direction) (path : Route)
+pub record AreFaultOutcomes (c : Circuit) (rules : Rules) (routes : List Route) (proofs : List Proof) (row : ℕ) (direction : Direction) (path : Route)
     (outcomes : FaultOutcomes) : Type 0 where
-  pub robust : IsOutcome c routes proofs row (target_of path direction kinds.Robust) outcomes.robust
+  pub robust : IsOutcome c rules routes proofs row (target_of path direction kinds.Robust) outcomes.robust
   pub nonrobust : is_test outcomes.robust ≡ false
-      → IsOutcome c routes proofs row (target_of path direction kinds.Nonrobust) outcomes.nonrobust
+      → IsOutcome c rules routes proofs row (target_of path direction kinds.Nonrobust) outcomes.nonrobust
 
 -- the outcomes of the fault in a row
 abbrev pub fault_outcomes : BothOutcomes → ℕ → FaultOutcomes
@@ -55,9 +57,9 @@ fault_outcomes outcomes row = record {
 }
 
 -- there are outcomes for each path, and those from this row on are of their faults
-pub record AreBothOutcomesFrom (c : Circuit) (routes : List Route) (proofs : List Proof) (direction : Direction) (from : ℕ)
+pub record AreBothOutcomesFrom (c : Circuit) (rules : Rules) (routes : List Route) (proofs : List Proof) (direction : Direction) (from : ℕ)
     (outcomes : BothOutcomes) : Type 0 where
   pub robust : length outcomes.robust.items ≡ length routes
   pub nonrobust : length outcomes.nonrobust.items ≡ length routes
   pub each : (row : ℕ) (route : Route) → from ≤ row → slice_get routes row ≡ Some route
-      → AreFaultOutcomes c routes proofs row direction route (fault_outcomes outcomes row)
+      → AreFaultOutcomes c rules routes proofs row direction route (fault_outcomes outcomes row)

@@ -3,7 +3,7 @@ use Rattle.std.specs.Prelude.{◌≡◌, ⊤, ℕ, ◌+◌, ◌<◌, ◌≤◌, 
 use Rattle.pd_base.specs.Route.{Route}
 use Rattle.netlist.specs.Paths.{prefix_of}
 use Rattle.runs.specs.declared.run.Proof.{Proof}
-use Rattle.runs.specs.declared.tree.Node.{Node}
+use Rattle.trees.specs.declared.tree.Node.{Node}
 use Rattle.prefix_sensitize.specs.declared.course.Course.{Course}
 use Rattle.prefix_sensitize.specs.declared.descent.Ended.{Ended}
 use Rattle.prefix_sensitize.specs.declared.descent.Ended.TheVariants.{Test, Spent, Refuted}

@@ -1,5 +1,6 @@
 -- What the searches for one aim stand on (this project's own).
 use Rattle.std.specs.Prelude.{◌≡◌, ◌≢◌, ℕ, ◌+◌, ◌≤◌, Bool, List, length, slice_get, Some, All, AllPairs}
+use Rattle.pd_base.specs.declared.rules.Rules.{Rules}
 use Rattle.pd_base.specs.declared.limits.TheConstants.{MOST_BUDGET, MOST_PATHS}
 use Rattle.netlist.specs.declared.limits.TheConstants.{MOST_LEVELS}
 use Rattle.pd_base.specs.Route.{Route}
@@ -28,9 +29,9 @@ pub record IsBudget (budget : ℕ) : Type 0 where
   pub within : budget ≤ MOST_BUDGET
 
 -- where no outcome is needed there is a test anyway
-abbrev pub AreExcused : Circuit → Aim → List Route → List Bool → Type 0
-AreExcused c aim routes needed =
-    (row : ℕ) (route : Route) → slice_get routes row ≡ Some route → ¬ IsNeeded needed row → HasSomeTest c (target_for aim route)
+abbrev pub AreExcused : Circuit → Rules → Aim → List Route → List Bool → Type 0
+AreExcused c rules aim routes needed =
+    (row : ℕ) (route : Route) → slice_get routes row ≡ Some route → ¬ IsNeeded needed row → HasSomeTest c rules (target_for aim route)
 
 -- as many steps were counted as prefixes were entered, each of a listed path, and none twice
 pub record CountsPrefixes (routes : List Route) (old new : ℕ) : Type 0 where

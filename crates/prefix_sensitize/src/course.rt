@@ -4,10 +4,13 @@ ghost use Rattle.prefix_sensitize.specs.Courses.{BeginsAt};
 
 use crate::outcome::Aim;
 use pd_base::{LineId, Path};
+use std::alloc::Global;
 
 /// The listed paths in the order of a walk, those of them for which an outcome is asked, and what is searched for.
 #[derive(Clone, Copy)]
 pub(crate) struct Course<'a> {
+    /// What memory is taken from.
+    pub(crate) alloc: Global,
     /// The listed paths.
     pub(crate) paths: &'a [Path],
     /// Their rows, in the order of the walk.

@@ -8,8 +8,8 @@ ghost use Rattle.implication.specs.Moves.{back_at};
 ghost use Rattle.implication.specs.Scopes.{IsSameScope, standing};
 ghost use Rattle.implication.specs.Standing.{IsTold};
 ghost use Rattle.justify.specs.Desks.{IsDeskFor};
-ghost use Rattle.prefix_sensitize.specs.AlongPaths.{ClosesFrom, IsAtPin, LeadsAlong, TriesPin};
-ghost use Rattle.prefix_sensitize.specs.Entering.{CountsPins, HasGone, HasMovedOn, IsEnded, IsSameBeginning, ended_by};
+ghost use Rattle.prefix_sensitize.specs.AlongPaths.{HasGoneOn, IsAtPin, LeadsAlong, TriesPin};
+ghost use Rattle.prefix_sensitize.specs.Entering.{CanSearch, CountsPins, HasSearched, IsSameBeginning, ended_by};
 ghost use Rattle.prefix_sensitize.specs.PathOrder.{ShareSteps};
 ghost use Rattle.prefix_sensitize.specs.Walks.{IsBudget};
 
@@ -18,10 +18,10 @@ use crate::sharing::shared_steps;
 use implication::{Scope, ScopeMark, Setting};
 use justify::{Desk, Found, search_at};
 use pd_base::{OutOfMemory, Pair, Path, PinRef, Steps};
-use runs::{Node, Tree};
-use state_sets::FourStates;
+use state_sets::Algebra;
 use std::alloc::Global;
 use std::marker::Model;
+use trees::{Node, Tree};
 
 /// What a search for a test of a path ends with.
 #[derive(Drop)]
@@ -70,29 +70,22 @@ impl Descent {
     ///
     /// Afterwards the scope stands at the last pin that was entered and not left. The one error is that memory ran out; where
     /// the scope stands is not promised then, but that no more steps were counted.
-    pub(crate) fn search<S: Setting, L>(
+    pub(crate) fn search<A: Algebra, S: Setting, L>(
         &mut self,
         alloc: Global,
-        scope: &mut Scope<FourStates, S>,
+        scope: &mut Scope<A, S>,
         desk: &mut Desk,
         path: &Path,
         aim: Aim,
         steps: &mut Steps<L>,
     ) -> Result<Ended, OutOfMemory>
         requires begun { scope.old.origin ≡ Begun }
-        requires path { IsPath (standing scope.old).net path.now }
-        requires told { IsTold (standing scope.old) (end_of (standing scope.old).net path.now) }
-        requires desk { IsDeskFor (standing scope.old).net desk.old }
-        requires budget { IsBudget aim.budget }
-        requires gone { HasGone (standing scope.old) path.now aim self.old }
-        requires room { steps.old + length path.now.steps < 2 ^ 64 }
-        ensures desk { IsDeskFor (standing scope.old).net desk.new }
+        requires can { CanSearch A.algebra (standing scope.old) path.now aim self.old desk.old steps.old }
+        ensures desk { IsDeskFor A.algebra (standing scope.old).net (standing scope.old).rules desk.new }
         ensures scope { IsSameScope scope.old scope.new }
         ensures same { IsSameBeginning (standing scope.old) (standing scope.new) }
-        ensures ended { IfOk result (IsEnded (standing scope.old).net (standing scope.old).rules aim path.now) }
-        ensures gone { IfOk result (λ _. HasGone (standing scope.new) path.now aim self.new) }
         ensures counted { CountsPins self.old path.now steps.old steps.new }
-        ensures moved { IfOk result (λ ended. (more : ℕ) × (steps.new ≡ steps.old + more) × HasMovedOn self.old self.new path.now ended more) }
+        ensures searched { IfOk result (HasSearched (standing scope.old) (standing scope.new) path.now aim self.old self.new steps.old steps.new) }
     {
         let shared = self.go_back(scope, path);
         let kept = self.go_on(scope, path, shared, steps)?;
@@ -108,14 +101,14 @@ impl Descent {
     }
 
     // Goes back to where the entered pins are the first ones of a path, and tells how many these are.
-    fn go_back<S: Setting>(&mut self, scope: &mut Scope<FourStates, S>, path: &Path) -> usize
+    fn go_back<A: Algebra, S: Setting>(&mut self, scope: &mut Scope<A, S>, path: &Path) -> usize
         requires begun { scope.old.origin ≡ Begun }
         requires entered { (standing scope.old).assumptions ≡ map Entered self.old }
         requires free { (standing scope.old).conflict ≡ None }
         ensures scope { IsSameScope scope.old scope.new }
         ensures same { IsSameBeginning (standing scope.old) (standing scope.new) }
         ensures shared { ShareSteps self.old path.now.steps result }
-        ensures at { IsAtPin (standing scope.new) self.new path.now result }
+        ensures at { IsAtPin A.algebra (standing scope.new) self.new path.now result }
     {
         let shared = shared_steps(self.pins(), path.steps());
         self.back_to(scope, shared);
@@ -127,7 +120,7 @@ impl Descent {
     }
 
     // Goes back to where only the first pins, so many, were entered. Where no more are, nothing changes.
-    fn back_to<S: Setting>(&mut self, scope: &mut Scope<FourStates, S>, count: usize)
+    fn back_to<A: Algebra, S: Setting>(&mut self, scope: &mut Scope<A, S>, count: usize)
         requires begun { scope.old.origin ≡ Begun }
         requires entered { (standing scope.old).assumptions ≡ map Entered self.old }
         ensures scope { IsSameScope scope.old scope.new }
@@ -143,22 +136,19 @@ impl Descent {
 
     // Enters the pins of a path behind the first ones, so many, which are entered. Tells how many are entered then: where these are not
     // all, a conflict came up at the next one, which was left again.
-    fn go_on<S: Setting, L>(
+    fn go_on<A: Algebra, S: Setting, L>(
         &mut self,
-        scope: &mut Scope<FourStates, S>,
+        scope: &mut Scope<A, S>,
         path: &Path,
         from: usize,
         steps: &mut Steps<L>,
     ) -> Result<usize, OutOfMemory>
-        requires along { LeadsAlong (standing scope.old) path.now }
-        requires at { IsAtPin (standing scope.old) self.old path.now from }
+        requires along { LeadsAlong A.algebra (standing scope.old) path.now }
+        requires at { IsAtPin A.algebra (standing scope.old) self.old path.now from }
         requires room { steps.old + length path.now.steps < 2 ^ 64 }
         ensures scope { IsSameScope scope.old scope.new }
         ensures same { IsSameBeginning (standing scope.old) (standing scope.new) }
-        ensures farther { IfOk result (λ kept. from ≤ kept) }
-        ensures at { IfOk result (IsAtPin (standing scope.new) self.new path.now) }
-        ensures closes { IfOk result (λ kept. kept < length path.now.steps → ClosesFrom (standing scope.old) (prefix_of (kept + 1) path.now)) }
-        ensures counted { IfOk result (λ kept. from + steps.new ≡ steps.old + min (kept + 1) (length path.now.steps)) }
+        ensures on { IfOk result (HasGoneOn A.algebra (standing scope.old) (standing scope.new) path.now from self.new steps.old steps.new) }
         ensures more { steps.old ≤ steps.new }
         ensures few { from + steps.new ≤ steps.old + length path.now.steps }
     {
@@ -172,20 +162,20 @@ impl Descent {
 
     // Enters the pin of a path that is behind the first ones, so many, which are entered. Where a conflict comes up at it, it is left
     // again, and the answer is false.
-    fn enter<S: Setting, L>(
+    fn enter<A: Algebra, S: Setting, L>(
         &mut self,
-        scope: &mut Scope<FourStates, S>,
+        scope: &mut Scope<A, S>,
         path: &Path,
         count: usize,
         steps: &mut Steps<L>,
     ) -> Result<bool, OutOfMemory>
-        requires along { LeadsAlong (standing scope.old) path.now }
-        requires at { IsAtPin (standing scope.old) self.old path.now count }
+        requires along { LeadsAlong A.algebra (standing scope.old) path.now }
+        requires at { IsAtPin A.algebra (standing scope.old) self.old path.now count }
         requires more { count < length path.now.steps }
         requires room { steps.old < u64.MAX }
         ensures scope { IsSameScope scope.old scope.new }
         ensures same { IsSameBeginning (standing scope.old) (standing scope.new) }
-        ensures tried { IfOk result (TriesPin (standing scope.old) (standing scope.new) path.now count self.new) }
+        ensures tried { IfOk result (TriesPin A.algebra (standing scope.old) (standing scope.new) path.now count self.new) }
         ensures counted { steps.new ≡ steps.old + 1 }
     {
         let pin = path.steps()[count];

@@ -13,11 +13,11 @@ use crate::all_outcomes::{AllOutcomes, BothOutcomes, FaultOutcomes};
 use crate::verdicts::Writer;
 use delay_annotation::Delays;
 use netlist::Netlist;
+use pair_judging::with_expected_bits;
 use path_model::length;
 use pd_base::{Direction, Items, OutOfMemory, Path, Rules};
 use runs::{ListedPath, Run};
 use std::alloc::Global;
-use test_judging::with_expected_bits;
 
 /// The run that these searches make: each listed path with its length and a verdict for each direction. A proof gets its number where
 /// it is first cited, and one that nobody cites is left out.
@@ -73,8 +73,8 @@ fn list_paths(
     requires fits { Fits net.now delays.now }
     requires paths { paths.items ≡ searches.routes }
     requires searches { AreSearches net.now searches }
-    requires rises { AreBothOutcomesFrom net.now searches.routes searches.proofs Direction.Rise 0 rises.old }
-    requires falls { AreBothOutcomesFrom net.now searches.routes searches.proofs Direction.Fall 0 falls.old }
+    requires rises { AreBothOutcomesFrom net.now searches.rules searches.routes searches.proofs Direction.Rise 0 rises.old }
+    requires falls { AreBothOutcomesFrom net.now searches.rules searches.routes searches.proofs Direction.Fall 0 falls.old }
     requires writer { IsWriterFor net.now searches writer.old }
     requires nothing { written_by writer.old ≡ record { tests = []; cited = [] } }
     ensures listed { IfOk result (λ listed. ArePathsAnswered net.now (delays_of net.now delays.now) searches searches.routes listed.items (written_by writer.new)) }
@@ -104,8 +104,8 @@ fn list_path(
     ghost searches: { Searches }
     requires fits { Fits net.now delays.now }
     requires next { IsNextPath net.now searches number path writer.old }
-    requires rise { AreFaultOutcomes net.now searches.routes searches.proofs (number - 1) Direction.Rise path rise }
-    requires fall { AreFaultOutcomes net.now searches.routes searches.proofs (number - 1) Direction.Fall path fall }
+    requires rise { AreFaultOutcomes net.now searches.rules searches.routes searches.proofs (number - 1) Direction.Rise path rise }
+    requires fall { AreFaultOutcomes net.now searches.rules searches.routes searches.proofs (number - 1) Direction.Fall path fall }
     ensures listed { IfOk result (λ listed. IsPathAnswered net.now (delays_of net.now delays.now) searches number path (written_by writer.old) (written_by writer.new) listed) }
     ensures writer { IfOk result (λ _. IsWriterFor net.now searches writer.new) }
 {

@@ -1,4 +1,5 @@
-// All searches for the first paths of a circuit, and the run that they make.
+// All searches for the first paths of a circuit, and the run that they make. How many paths were asked for is handed in beside the paths:
+// there may be fewer, and a good run is one for the number that was asked for.
 ghost use Rattle.std.specs.Prelude.{◌≡◌, ◌+◌, ◌*◌, ◌<◌, ◌≤◌, ◌^◌, None, length, map, not, IfOk, OnOk};
 ghost use Rattle.pd_base.specs.declared.limits.TheConstants.{MOST_PATHS};
 ghost use Rattle.netlist.specs.declared.limits.TheConstants.{MOST_LEVELS};
@@ -7,11 +8,12 @@ ghost use Rattle.netlist.specs.Order.{AreFirst};
 ghost use Rattle.good_runs.specs.GoodRun.{IsGoodRun};
 ghost use Rattle.good_runs.specs.Shortest.{IsShortestRun};
 ghost use Rattle.runs.specs.Lawful.{IsLawfulRun};
+ghost use Rattle.trees.specs.Unlinked.{IsUnlinked};
 ghost use Rattle.justify.specs.Desks.{IsDeskFor};
 ghost use Rattle.prefix_sensitize.specs.Entering.{IsIdleAgain};
 ghost use Rattle.prefix_sensitize.specs.Listed.{AreAllOutcomes};
 ghost use Rattle.prefix_sensitize.specs.Outcomes.{AreFoundProofs};
-ghost use Rattle.prefix_sensitize.specs.Readiness.{AddsProofsFor, CountsAtMost, IsReadyFor, NoneIsFor};
+ghost use Rattle.prefix_sensitize.specs.Readiness.{AddsProofsFor, CountsAtMost, IsReadyFor, IsSet, NoneIsFor};
 ghost use Rattle.prefix_sensitize.specs.Searches.{AreBothOutcomesFrom, is_test, searches_of};
 ghost use Rattle.prefix_sensitize.specs.Walks.{AreSearchablePaths, AreToldPaths, IsBudget};
 
@@ -24,11 +26,11 @@ use delay_annotation::Delays;
 use implication::{Engine, RuledNetlist, Setting};
 use justify::Desk;
 use netlist::Netlist;
+use pair_judging::ends_of;
 use pd_base::{Direction, Kind, OutOfMemory, Path, Rules, Steps};
 use runs::{Proof, Run};
-use state_sets::FourStates;
+use state_sets::{Algebra, FourStates};
 use std::alloc::Global;
-use test_judging::ends_of;
 
 /// A good run for the first `count` paths of a circuit, which are given, at most `MOST_PATHS` of them, and a budget of splits for each
 /// search, 1 to `MOST_BUDGET`: each verdict has the test or the proofs that it asks for, and each test and each proof is what it says,
@@ -52,6 +54,7 @@ pub fn sensitize_all<L>(
     requires first { AreFirst net.now (delays_of net.now delays.now) count paths.items }
     requires count { count ≤ MOST_PATHS }
     requires budget { IsBudget budget }
+    requires unlinked { IsUnlinked rules }
     requires steps { steps.old ≤ 2 ^ 63 }
     ensures good { IfOk result (λ run. IsGoodRun net.now (delays_of net.now delays.now) count budget run) }
     ensures lawful { IfOk result (λ run. IsLawfulRun net.now run) }
@@ -76,6 +79,7 @@ fn search_paths<L>(
 ) -> Result<AllOutcomes, OutOfMemory>
     requires listed { AreSearchablePaths net.now paths.now }
     requires budget { IsBudget budget }
+    requires unlinked { IsUnlinked rules.now }
     requires steps { steps.old ≤ 2 ^ 63 }
     ensures outcomes { IfOk result (λ outcomes. AreAllOutcomes net.now (searches_of rules.now budget paths.now outcomes) outcomes) }
     ensures steps { CountsAtMost paths.now 4 steps.old steps.new }
@@ -84,24 +88,26 @@ fn search_paths<L>(
     let _ = net.sources();
     let ends = ends_of(alloc, net, paths)?;
     let setting = RuledNetlist { net, rules };
-    let mut engine = Engine::within(alloc, setting, ends.as_slice())?;
-    let outcomes = search_on(alloc, net, &mut engine, paths, budget, steps);
+    let mut engine: Engine<FourStates, RuledNetlist> = Engine::within(
+        alloc,
+        setting,
+        ends.as_slice(),
+    )?;
+    let outcomes = search_on(alloc, &mut engine, paths, budget, steps);
     // a call ends it, so that its many parts needn't be ended in this function's proof
     drop(engine);
     outcomes
 }
 
 // Does so with this engine, on which no scope is open.
-fn search_on<S: Setting, L>(
+fn search_on<A: Algebra, S: Setting, L>(
     alloc: Global,
-    net: &Netlist,
-    engine: &mut Engine<FourStates, S>,
+    engine: &mut Engine<A, S>,
     paths: &[Path],
     budget: u32,
     steps: &mut Steps<L>,
 ) -> Result<AllOutcomes, OutOfMemory>
-    requires net { engine.old.net ≡ net.now }
-    requires idle { engine.old.beginning ≡ None }
+    requires set { IsSet A.algebra engine.old }
     requires listed { AreSearchablePaths engine.old.net paths.now }
     requires told { AreToldPaths engine.old paths.now }
     requires budget { IsBudget budget }
@@ -109,7 +115,7 @@ fn search_on<S: Setting, L>(
     ensures outcomes { IfOk result (λ outcomes. AreAllOutcomes engine.old.net (searches_of engine.old.rules budget paths.now outcomes) outcomes) }
     ensures steps { CountsAtMost paths.now 4 steps.old steps.new }
 {
-    let mut desk = Desk::new(alloc, net)?;
+    let mut desk = Desk::new::<A>(alloc, engine.net(), engine.rules())?;
     let outcomes = search_in_order(alloc, engine, &mut desk, paths, budget, steps);
     // as the engine above
     drop(desk);
@@ -117,18 +123,18 @@ fn search_on<S: Setting, L>(
 }
 
 // Does so at this desk, in an order in which each prefix is entered once.
-fn search_in_order<S: Setting, L>(
+fn search_in_order<A: Algebra, S: Setting, L>(
     alloc: Global,
-    engine: &mut Engine<FourStates, S>,
+    engine: &mut Engine<A, S>,
     desk: &mut Desk,
     paths: &[Path],
     budget: u32,
     steps: &mut Steps<L>,
 ) -> Result<AllOutcomes, OutOfMemory>
-    requires idle { engine.old.beginning ≡ None }
+    requires set { IsSet A.algebra engine.old }
     requires listed { AreSearchablePaths engine.old.net paths.now }
     requires told { AreToldPaths engine.old paths.now }
-    requires desk { IsDeskFor engine.old.net desk.old }
+    requires desk { IsDeskFor A.algebra engine.old.net engine.old.rules desk.old }
     requires budget { IsBudget budget }
     requires steps { steps.old ≤ 2 ^ 63 }
     ensures outcomes { IfOk result (λ outcomes. AreAllOutcomes engine.old.net (searches_of engine.old.rules budget paths.now outcomes) outcomes) }
@@ -139,16 +145,16 @@ fn search_in_order<S: Setting, L>(
 }
 
 // Searches for the tests of both transitions.
-fn search_all<S: Setting, L>(
+fn search_all<A: Algebra, S: Setting, L>(
     alloc: Global,
-    engine: &mut Engine<FourStates, S>,
+    engine: &mut Engine<A, S>,
     desk: &mut Desk,
     paths: &[Path],
     tree: &PathTree,
     budget: u32,
     steps: &mut Steps<L>,
 ) -> Result<AllOutcomes, OutOfMemory>
-    requires ready { IsReadyFor paths.now tree.now budget engine.old desk.old }
+    requires ready { IsReadyFor A.algebra paths.now tree.now budget engine.old desk.old }
     requires steps { steps.old ≤ 2 ^ 63 }
     ensures outcomes { IfOk result (λ outcomes. AreAllOutcomes engine.old.net (searches_of engine.old.rules budget paths.now outcomes) outcomes) }
     ensures steps { steps.new ≤ steps.old + 4 * tree.now.prefixes }
@@ -185,9 +191,9 @@ fn search_all<S: Setting, L>(
 }
 
 // Searches for the robust tests of a transition, and then for nonrobust ones where there is none.
-fn search_way<S: Setting, L>(
+fn search_way<A: Algebra, S: Setting, L>(
     alloc: Global,
-    engine: &mut Engine<FourStates, S>,
+    engine: &mut Engine<A, S>,
     desk: &mut Desk,
     paths: &[Path],
     tree: &PathTree,
@@ -196,13 +202,13 @@ fn search_way<S: Setting, L>(
     proofs: &mut Vec<Proof>,
     steps: &mut Steps<L>,
 ) -> Result<BothOutcomes, OutOfMemory>
-    requires ready { IsReadyFor paths.now tree.now budget engine.old desk.old }
+    requires ready { IsReadyFor A.algebra paths.now tree.now budget engine.old desk.old }
     requires found { AreFoundProofs engine.old.net engine.old.rules budget paths.now proofs.old.items }
     requires fresh { NoneIsFor dir proofs.old.items }
     requires room { steps.old + 2 * (length paths.now * MOST_LEVELS) < 2 ^ 64 }
-    ensures ready { OnOk result (IsReadyFor paths.now tree.now budget engine.new desk.new) }
+    ensures ready { OnOk result (IsReadyFor A.algebra paths.now tree.now budget engine.new desk.new) }
     ensures rest { OnOk result (IsIdleAgain engine.old engine.new) }
-    ensures outcomes { IfOk result (λ outcomes. AreBothOutcomesFrom engine.old.net paths.now proofs.new.items dir 0 outcomes) }
+    ensures outcomes { IfOk result (λ outcomes. AreBothOutcomesFrom engine.old.net engine.old.rules paths.now proofs.new.items dir 0 outcomes) }
     ensures found { OnOk result (AreFoundProofs engine.old.net engine.old.rules budget paths.now proofs.new.items) }
     ensures adds { OnOk result (AddsProofsFor dir proofs.old.items proofs.new.items) }
     ensures steps { steps.new ≤ steps.old + 2 * tree.now.prefixes }

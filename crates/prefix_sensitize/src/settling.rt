@@ -10,7 +10,8 @@ use crate::descent::Ended;
 use crate::outcome::{Aim, Outcome};
 use crate::stretch::stretch_from;
 use pd_base::OutOfMemory;
-use runs::{Proof, Tree};
+use runs::Proof;
+use trees::Tree;
 
 // Takes down the end of a search for the path at this place. The answer is the place up to which paths are settled then.
 pub(crate) fn settle(

@@ -5,7 +5,7 @@ ghost use Rattle.netlist.specs.Circuit.{source_count};
 ghost use Rattle.netlist.specs.Conditions.{Meets};
 ghost use Rattle.netlist.specs.Lawful.{IsCircuit};
 ghost use Rattle.netlist.specs.Paths.{IsPrefix};
-ghost use Rattle.test_judging.specs.Judges.{IsJudgeOf};
+ghost use Rattle.pair_judging.specs.Judges.{IsJudgeOf};
 ghost use Rattle.good_runs.specs.Faults.{HasProof};
 ghost use Rattle.prefix_sensitize.specs.Outcomes.{IsOutcome, IsTestPair};
 ghost use Rattle.prefix_sensitize.specs.Searches.{AreFaultOutcomes, AreSearches, Searches};
@@ -16,10 +16,10 @@ use crate::all_outcomes::FaultOutcomes;
 use crate::numbering::{Numbering, cited_proofs};
 use crate::outcome::Outcome;
 use netlist::Netlist;
+use pair_judging::ConeJudge;
 use pd_base::{Direction, Items, Kind, OutOfMemory, Pair, Path, Test};
 use runs::{Proof, Verdict};
 use std::alloc::Global;
-use test_judging::ConeJudge;
 
 /// What is written of a run so far, and the proofs that were found.
 #[derive(Drop)]
@@ -42,7 +42,7 @@ impl Writer {
         found: Vec<Proof>,
     ) -> Result<Writer, OutOfMemory>
         ensures nothing { IfOk result (λ writer. written_by writer ≡ record { tests = []; cited = [] }) }
-        ensures judge { IfOk result (λ writer. IsJudgeOf net.now writer.judge) }
+        ensures judge { IfOk result (λ writer. IsJudgeOf 4 net.now writer.judge) }
         ensures found { IfOk result (λ writer. writer.found ≡ found) }
         ensures numbers { IfOk result (λ writer. writer.numbering.found ≡ length found.items) }
         ensures circuit { IfOk result (λ _. IsCircuit net.now) }
@@ -73,7 +73,7 @@ impl Writer {
     ) -> Result<Verdict, OutOfMemory>
         ghost searches: { Searches }
         requires asked { IsAsked net.now searches number path.now self.old }
-        requires outcomes { AreFaultOutcomes net.now searches.routes searches.proofs (number - 1) dir path.now outcomes }
+        requires outcomes { AreFaultOutcomes net.now searches.rules searches.routes searches.proofs (number - 1) dir path.now outcomes }
         ensures answered { IfOk result (λ verdict. IsAnswered net.now searches number dir path.now (written_by self.old) (written_by self.new) verdict) }
         ensures writer { IfOk result (λ _. IsWriterFor net.now searches self.new) }
     {
@@ -101,7 +101,7 @@ impl Writer {
         ghost searches: { Searches }
         requires asked { IsAsked net.now searches number path.now self.old }
         requires robust { HasProof searches.routes searches.proofs number (target_of path.now dir Kind.Robust) (proof + 1) }
-        requires nonrobust { IsOutcome net.now searches.routes searches.proofs (number - 1) (target_of path.now dir Kind.Nonrobust) nonrobust }
+        requires nonrobust { IsOutcome net.now searches.rules searches.routes searches.proofs (number - 1) (target_of path.now dir Kind.Nonrobust) nonrobust }
         ensures answered { IfOk result (λ verdict. IsAnswered net.now searches number dir path.now (written_by self.old) (written_by self.new) verdict) }
         ensures writer { IfOk result (λ _. IsWriterFor net.now searches self.new) }
     {
@@ -134,7 +134,7 @@ impl Writer {
         ghost searches: { Searches }
         requires asked { IsAsked net.now searches number path.now self.old }
         requires robust { HasProof searches.routes searches.proofs number (target_of path.now dir Kind.Robust) (proof + 1) }
-        requires nonrobust { IsTestPair net.now (target_of path.now dir Kind.Nonrobust) pair }
+        requires nonrobust { IsTestPair net.now searches.rules (target_of path.now dir Kind.Nonrobust) pair }
         ensures answered { IfOk result (λ verdict. IsAnswered net.now searches number dir path.now (written_by self.old) (written_by self.new) verdict) }
         ensures writer { IfOk result (λ _. IsWriterFor net.now searches self.new) }
     {
@@ -189,9 +189,9 @@ fn is_robust(
     requires prefix { IsPrefix net.now path.now }
     requires refuted { IsTrue refuted → ¬ Meets net.now (target_of path.now dir Kind.Robust) pair.now }
     requires bits { length pair.now.first ≡ source_count net.now }
-    requires judge { IsJudgeOf net.now judge.old }
+    requires judge { IsJudgeOf 4 net.now judge.old }
     ensures robust { IsTrue result ↔ Meets net.now (target_of path.now dir Kind.Robust) pair.now }
-    ensures judge { IsJudgeOf net.now judge.new }
+    ensures judge { IsJudgeOf 4 net.now judge.new }
 {
     if refuted {
         return false;

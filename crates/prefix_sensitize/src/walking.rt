@@ -9,6 +9,7 @@ ghost use Rattle.prefix_sensitize.specs.Courses.{BeginsAt, IsBegunAt, IsCourse};
 ghost use Rattle.prefix_sensitize.specs.Entering.{HasGone, IsIdleAgain, IsSameBeginning};
 ghost use Rattle.prefix_sensitize.specs.Outcomes.{AddsProofs, AreFoundProofs, AreOutcomes, NoneIsAbout};
 ghost use Rattle.prefix_sensitize.specs.Readiness.{IsReadyFor};
+ghost use Rattle.prefix_sensitize.specs.Walking.{AreAsked, AreBeforeAim, AreBehindAim, CanWalk, ComesOn, HasWalked};
 ghost use Rattle.prefix_sensitize.specs.Walks.{AreExcused, CountsPrefixes};
 
 use crate::course::{Course, begins_at};
@@ -20,7 +21,7 @@ use implication::{Engine, Scope, Setting};
 use justify::Desk;
 use pd_base::{LineId, OutOfMemory, Path, Steps};
 use runs::Proof;
-use state_sets::FourStates;
+use state_sets::Algebra;
 use std::alloc::Global;
 
 /// Searches for tests of the listed paths, as far as outcomes are needed, and gives for each path its outcome. Each prefix is entered at
@@ -30,9 +31,9 @@ use std::alloc::Global;
 ///
 /// Afterwards no scope is open, the desk serves as before, and each proof is one that was found for these paths. The one error is that
 /// memory ran out; promised is then only how far the count of steps rose: no prefix was counted twice.
-pub(crate) fn walk<S: Setting, L>(
+pub(crate) fn walk<A: Algebra, S: Setting, L>(
     alloc: Global,
-    engine: &mut Engine<FourStates, S>,
+    engine: &mut Engine<A, S>,
     desk: &mut Desk,
     paths: &[Path],
     tree: &PathTree,
@@ -41,30 +42,27 @@ pub(crate) fn walk<S: Setting, L>(
     proofs: &mut Vec<Proof>,
     steps: &mut Steps<L>,
 ) -> Result<Vec<Outcome>, OutOfMemory>
-    requires ready { IsReadyFor paths.now tree.now aim.budget engine.old desk.old }
-    requires needed { length needed.items ≡ length paths.now }
-    requires excused { AreExcused engine.old.net aim paths.now needed.items }
-    requires found { AreFoundProofs engine.old.net engine.old.rules aim.budget paths.now proofs.old.items }
-    requires fresh { NoneIsAbout aim proofs.old.items }
+    requires ready { IsReadyFor A.algebra paths.now tree.now aim.budget engine.old desk.old }
+    requires asked { AreAsked engine.old.net engine.old.rules aim paths.now needed.items }
+    requires before { AreBeforeAim engine.old.net engine.old.rules aim paths.now proofs.old.items }
     requires room { steps.old + length paths.now * MOST_LEVELS < 2 ^ 64 }
-    ensures ready { OnOk result (IsReadyFor paths.now tree.now aim.budget engine.new desk.new) }
+    ensures ready { OnOk result (IsReadyFor A.algebra paths.now tree.now aim.budget engine.new desk.new) }
     ensures rest { OnOk result (IsIdleAgain engine.old engine.new) }
-    ensures outcomes { IfOk result (λ outcomes. AreOutcomes engine.old.net paths.now proofs.new.items needed.items aim outcomes.items) }
-    ensures found { OnOk result (AreFoundProofs engine.old.net engine.old.rules aim.budget paths.now proofs.new.items) }
-    ensures adds { OnOk result (AddsProofs aim proofs.old.items proofs.new.items) }
+    ensures outcomes { IfOk result (λ outcomes. AreOutcomes engine.old.net engine.old.rules paths.now proofs.new.items needed.items aim outcomes.items) }
+    ensures behind { OnOk result (AreBehindAim engine.old.net engine.old.rules aim paths.now proofs.old.items proofs.new.items) }
     ensures counted { CountsPrefixes paths.now steps.old steps.new }
 {
     // the netlist knows itself as a circuit
     let _ = engine.net().lines();
     let mut outcomes = unsearched(alloc, paths.len())?;
     let course = Course {
+        alloc,
         paths,
         order: tree.order(),
         needed: needed.as_slice(),
         aim,
     };
     walk_course(
-        alloc,
         engine,
         desk,
         &course,
@@ -87,9 +85,8 @@ fn unsearched(alloc: Global, count: usize) -> Result<Vec<Outcome>, OutOfMemory>
 }
 
 // Goes from source to source. The count of steps stood at `begin` when the walk began.
-fn walk_course<S: Setting, L>(
-    alloc: Global,
-    engine: &mut Engine<FourStates, S>,
+fn walk_course<A: Algebra, S: Setting, L>(
+    engine: &mut Engine<A, S>,
     desk: &mut Desk,
     course: &Course,
     outcomes: &mut [Outcome],
@@ -98,11 +95,9 @@ fn walk_course<S: Setting, L>(
 ) -> Result<(), OutOfMemory>
     ghost begin: { ℕ }
     requires idle { engine.old.beginning ≡ None }
-    requires course { IsCourse engine.old.net engine.old.ends course.now }
-    requires desk { IsDeskFor engine.old.net desk.old }
-    requires room { begin + length course.now.paths.now * MOST_LEVELS < 2 ^ 64 }
+    requires walking { CanWalk A.algebra engine.old.net engine.old.rules engine.old.ends course.now begin desk.old }
     requires come { HasComeApart engine.old.net engine.old.rules course.now begin 0 outcomes.old proofs.old.items steps.old }
-    ensures desk { OnOk result (IsDeskFor engine.old.net desk.new) }
+    ensures desk { OnOk result (IsDeskFor A.algebra engine.old.net engine.old.rules desk.new) }
     ensures rest { OnOk result (IsIdleAgain engine.old engine.new) }
     ensures come { OnOk result (HasComeApart engine.old.net engine.old.rules course.now begin (length course.now.order.now) outcomes.new proofs.new.items steps.new) }
     ensures adds { OnOk result (AddsProofs course.now.aim proofs.old.items proofs.new.items) }
@@ -110,16 +105,15 @@ fn walk_course<S: Setting, L>(
 {
     let mut place = 0;
     while place < course.order.len() {
-        place = walk_source(alloc, engine, desk, course, place, outcomes, proofs, steps)?;
+        place = walk_source(engine, desk, course, place, outcomes, proofs, steps)?;
     }
     Ok(())
 }
 
 // Opens a scope at the source of the path at this place, if the path needs an outcome, and goes along the paths from it. The answer is the
 // place that is come to.
-fn walk_source<S: Setting, L>(
-    alloc: Global,
-    engine: &mut Engine<FourStates, S>,
+fn walk_source<A: Algebra, S: Setting, L>(
+    engine: &mut Engine<A, S>,
     desk: &mut Desk,
     course: &Course,
     place: usize,
@@ -129,17 +123,13 @@ fn walk_source<S: Setting, L>(
 ) -> Result<usize, OutOfMemory>
     ghost begin: { ℕ }
     requires idle { engine.old.beginning ≡ None }
-    requires course { IsCourse engine.old.net engine.old.ends course.now }
-    requires desk { IsDeskFor engine.old.net desk.old }
+    requires walking { CanWalk A.algebra engine.old.net engine.old.rules engine.old.ends course.now begin desk.old }
     requires place { place < length course.now.order.now }
-    requires room { begin + length course.now.paths.now * MOST_LEVELS < 2 ^ 64 }
     requires come { HasComeApart engine.old.net engine.old.rules course.now begin place outcomes.old proofs.old.items steps.old }
-    ensures desk { IsDeskFor engine.old.net desk.new }
+    ensures desk { IsDeskFor A.algebra engine.old.net engine.old.rules desk.new }
     ensures rest { IsIdleAgain engine.old engine.new }
     ensures come { IfOk result (λ end. HasComeApart engine.old.net engine.old.rules course.now begin end outcomes.new proofs.new.items steps.new) }
-    ensures on { IfOk result (λ end. place < end) }
-    ensures within { IfOk result (λ end. end ≤ length course.now.order.now) }
-    ensures adds { OnOk result (AddsProofs course.now.aim proofs.old.items proofs.new.items) }
+    ensures on { IfOk result (λ end. ComesOn course.now place end proofs.old.items proofs.new.items) }
     ensures counted { CountsPrefixes course.now.paths.now begin steps.new }
 {
     let row = course.order[place];
@@ -149,14 +139,13 @@ fn walk_source<S: Setting, L>(
     let source = course.paths[row].source();
     let mut scope = Scope::begin(engine, source, course.aim.dir, course.aim.kind);
     walk_from(
-        alloc, &mut scope, desk, course, source, place, outcomes, proofs, steps,
+        &mut scope, desk, course, source, place, outcomes, proofs, steps,
     )
 }
 
 // Goes along the paths from a source, at which a scope has begun. The answer is the place behind the last of them.
-fn walk_from<S: Setting, L>(
-    alloc: Global,
-    scope: &mut Scope<FourStates, S>,
+fn walk_from<A: Algebra, S: Setting, L>(
+    scope: &mut Scope<A, S>,
     desk: &mut Desk,
     course: &Course,
     source: LineId,
@@ -168,25 +157,18 @@ fn walk_from<S: Setting, L>(
     ghost begin: { ℕ }
     requires begun { scope.old.origin ≡ Begun }
     requires gone { HasGone (standing scope.old) (record { source = source; steps = [] }) course.now.aim [] }
-    requires course { IsCourse (standing scope.old).net (standing scope.old).ends course.now }
-    requires desk { IsDeskFor (standing scope.old).net desk.old }
+    requires walking { CanWalk A.algebra (standing scope.old).net (standing scope.old).rules (standing scope.old).ends course.now begin desk.old }
     requires place { BeginsAt course.now place source }
-    requires room { begin + length course.now.paths.now * MOST_LEVELS < 2 ^ 64 }
     requires come { HasComeApart (standing scope.old).net (standing scope.old).rules course.now begin place outcomes.old proofs.old.items steps.old }
-    ensures desk { IsDeskFor (standing scope.old).net desk.new }
+    ensures walked { HasWalked A.algebra course.now begin (standing scope.old) (standing scope.new) desk.new steps.new }
     ensures scope { IsSameScope scope.old scope.new }
-    ensures same { IsSameBeginning (standing scope.old) (standing scope.new) }
     ensures come { IfOk result (λ end. HasComeApart (standing scope.old).net (standing scope.old).rules course.now begin end outcomes.new proofs.new.items steps.new) }
-    ensures on { IfOk result (λ end. place < end) }
-    ensures within { IfOk result (λ end. end ≤ length course.now.order.now) }
-    ensures adds { OnOk result (AddsProofs course.now.aim proofs.old.items proofs.new.items) }
-    ensures counted { CountsPrefixes course.now.paths.now begin steps.new }
+    ensures on { IfOk result (λ end. ComesOn course.now place end proofs.old.items proofs.new.items) }
 {
-    let mut descent = Descent::new(alloc);
+    let mut descent = Descent::new(course.alloc);
     let mut at = place;
     'paths: while begins_at(course, at, source) {
         at = visit(
-            alloc,
             scope,
             desk,
             &mut descent,
@@ -201,9 +183,8 @@ fn walk_from<S: Setting, L>(
 }
 
 // Searches for a test of the path at this place, if it needs an outcome. The answer is the place up to which paths are settled then.
-fn visit<S: Setting, L>(
-    alloc: Global,
-    scope: &mut Scope<FourStates, S>,
+fn visit<A: Algebra, S: Setting, L>(
+    scope: &mut Scope<A, S>,
     desk: &mut Desk,
     descent: &mut Descent,
     course: &Course,
@@ -214,24 +195,25 @@ fn visit<S: Setting, L>(
 ) -> Result<usize, OutOfMemory>
     ghost begin: { ℕ }
     requires begun { scope.old.origin ≡ Begun }
-    requires course { IsCourse (standing scope.old).net (standing scope.old).ends course.now }
-    requires desk { IsDeskFor (standing scope.old).net desk.old }
-    requires room { begin + length course.now.paths.now * MOST_LEVELS < 2 ^ 64 }
+    requires walking { CanWalk A.algebra (standing scope.old).net (standing scope.old).rules (standing scope.old).ends course.now begin desk.old }
     requires come { HasComeAlong (standing scope.old) course.now begin place descent.old outcomes.old proofs.old.items steps.old }
     requires place { IsBegunAt (standing scope.old) course.now place }
-    ensures desk { IsDeskFor (standing scope.old).net desk.new }
+    ensures walked { HasWalked A.algebra course.now begin (standing scope.old) (standing scope.new) desk.new steps.new }
     ensures scope { IsSameScope scope.old scope.new }
-    ensures same { IsSameBeginning (standing scope.old) (standing scope.new) }
     ensures come { IfOk result (λ end. HasComeAlong (standing scope.new) course.now begin end descent.new outcomes.new proofs.new.items steps.new) }
-    ensures on { IfOk result (λ end. place < end) }
-    ensures within { IfOk result (λ end. end ≤ length course.now.order.now) }
-    ensures adds { OnOk result (AddsProofs course.now.aim proofs.old.items proofs.new.items) }
-    ensures counted { CountsPrefixes course.now.paths.now begin steps.new }
+    ensures on { IfOk result (λ end. ComesOn course.now place end proofs.old.items proofs.new.items) }
 {
     let row = course.order[place];
     if !course.needed[row] {
         return Ok(place + 1);
     }
-    let ended = descent.search(alloc, scope, desk, &course.paths[row], course.aim, steps)?;
+    let ended = descent.search(
+        course.alloc,
+        scope,
+        desk,
+        &course.paths[row],
+        course.aim,
+        steps,
+    )?;
     settle(course, place, ended, outcomes, proofs)
 }

@@ -1,158 +1,244 @@
--- How far a check has come: a walk over the nodes of a tree, each of which was right. And what its answer tells.
-use Rattle.std.proofs.Common.{◌≡◌, ℕ, suc, ◌+◌, ◌<◌, ◌≤◌, ◌↔◌, Bool, true, false, List, [], ◌∷◌, length, drop, get_or, reverse, inr, Some, refl, sym, ap, ◌∙◌, subst, subst₂, arith, add-one}
+-- How far a check has come: a walk over the nodes of a tree, each of which was right, below halves of sources such as are asked for. And
+-- what its answer tells.
+use Rattle.std.proofs.Common.{◌≡◌, ⊎_elim, inl, inr, ℕ, suc, ◌+◌, ◌<◌, ◌≤◌, ◌↔◌, Bool, true, false, cond, List, [], ◌∷◌, length, drop, get_or, reverse, Some, refl, sym, ap, ◌∙◌, subst, subst₂, arith, add-one}
 use Rattle.std.specs.Prelude.{IsTrue}
-use Rattle.std.specs.List.{Contains}
-use Rattle.std.proofs.lemmas.List.Elements.{Contains-get_or}
+use Rattle.std.specs.List.{All, Contains}
+use Rattle.std.proofs.lemmas.List.Elements.{All-nil, All-cons, All-push, All-head, All-tail, Contains-get_or}
 use Rattle.std.proofs.Math.Seq.{drop-cons}
 use Rattle.std.proofs.Math.ListN.{drop_of_length-le}
+use Rattle.pd_base.specs.Links.{links_of}
 use Rattle.pd_base.specs.Target.{Target}
 use Rattle.pd_base.specs.Route.{Route}
 use Rattle.pd_base.specs.declared.ids.LineId.{LineId}
 use Rattle.pd_base.specs.declared.rules.Rules.{Rules}
-use Rattle.netlist.specs.Circuit.{Circuit, source_count}
+use Rattle.netlist.specs.Circuit.{Circuit}
 use Rattle.netlist.specs.Paths.{end_of}
-use Rattle.netlist.specs.Pins.{IsInFanIn}
-use Rattle.netlist.specs.Pins.IsInFanIn.{end_itself}
+use Rattle.state_sets.specs.StateAlgebra.{StateAlgebra}
 use Rattle.state_laws.specs.declared.half.Half.{Half}
-use Rattle.runs.specs.declared.tree.Node.{Node}
-use Rattle.runs.specs.declared.tree.Node.TheVariants.{Closed, Waiting, Value, Steadiness}
-use Rattle.runs.specs.Trees.{Cases, preorder, IsTree, split_count}
-use Rattle.implication.specs.Standing.{Standing, IsToldBy}
-use Rattle.tree_laws.specs.Halves.{halves_of}
-use Rattle.tree_laws.specs.Faults.{IsRightInRefutation, IsRightInSpent, IsFirstFaultOf}
-use Rattle.tree_laws.specs.Faults.IsFaultOfSpent.{at_node}
-use Rattle.tree_laws.specs.Refutations.{IsRefutation}
-use Rattle.tree_laws.specs.Spent.{IsSpent}
-use Rattle.tree_laws.proofs.Faults.{right_refutes, right_spent, fault_refutes_not, fault_spent_not}
-use Rattle.tree_laws.proofs.Walks.{HasCome, come_none, come_stands, stands_fault, come_all, come_leaf, come_split}
-use Rattle.tree_laws.proofs.Walks.IsSplitNode.{value_node, steadiness_node}
-use Rattle.tree_laws.specs.Settings.{IsSameSetting}
+use Rattle.trees.specs.declared.tree.Node.{Node}
+use Rattle.trees.specs.declared.tree.Node.TheVariants.{Closed, Waiting, Value, Steadiness}
+use Rattle.trees.specs.Trees.{Cases, preorder, IsTree, split_count}
+use Rattle.trees.specs.Halves.{halves_of, turned, turns, GoesOn}
+use Rattle.trees.specs.Faults.{IsRightInRefutation, IsRightInSpent, RefutesAtNode, IsFirstFaultOf}
+use Rattle.trees.specs.Faults.IsFaultOfSpent.{at_node}
+use Rattle.trees.specs.Refutations.{IsRefutation}
+use Rattle.trees.specs.Spent.{IsInSupport, IsSpent}
+use Rattle.trees.proofs.Faults.{right_refutes, right_spent, fault_refutes_not, fault_spent_not}
+use Rattle.trees.proofs.Walks.{HasCome, come_none, come_stands, stands_fault, come_all, come_leaf, come_split}
+use Rattle.trees.proofs.Walks.IsSplitNode.{value_node, steadiness_node}
+use Rattle.implication.specs.Settings.{IsSameSetting}
+use Rattle.implication.specs.Standing.{Standing, IsTold, IsToldBy}
+use Rattle.implication.proofs.Told.{end_told, told_support}
 use Rattle.refutation_check.specs.declared.answer.TreeCheck.{TreeCheck}
 use Rattle.refutation_check.specs.declared.answer.TreeCheck.TheVariants.{Yes, No}
 use Rattle.refutation_check.specs.declared.walk.Pending.{Pending}
 use Rattle.refutation_check.specs.Answers.{TellsOfNodes, TellsOfRefutation, TellsOfSpent}
 use Rattle.refutation_check.specs.Judges.{MadeFor}
-use Rattle.refutation_check.specs.Walks.{IsScopeAt, ArePending, WalksAt, IsWalk, IsOn, PassesOn}
+use Rattle.refutation_check.specs.Trials.{IsScopeInSupport}
+use Rattle.refutation_check.specs.Walks.{IsScopeAt, ArePending, WalksAt, IsWalk, IsOnTold, IsToldAt, GoesOnTo, PassesOn}
+use Rattle.refutation_check.proofs.SameSettings.{source_there, told_there}
 
--- a walk stands at this place of the nodes, and each node before was right
-pub record HasChecked (IsRight : List Half → Node → Type 0) (target : Target) (nodes : List Node) (place : ℕ) (standing : Standing)
-    (pending : List Pending) : Type 0 where
-  pub above : List Half
-  pub walks : WalksAt target above standing pending
-  pub come : (whole : Cases) → nodes ≡ preorder whole → HasCome IsRight whole nodes place above
+-- the halves from the root down are of the same sources as from the deepest up
+on_halves : (On : ℕ → Type 0) (above : List Half) → All (λ half. On half.source) above → All (λ half. On half.source) (halves_of above)
+on_halves On [] on = All-nil (λ (half : Half). On half.source)
+on_halves On (half ∷ above) on =
+    let P : Half → Type 0 = λ h. On h.source in
+    All-push P (halves_of above) half (on_halves On above (All-tail P half above on)) (All-head P half above on)
 
-module _ (IsRight : List Half → Node → Type 0) (target : Target) (nodes : List Node) where
-  -- at the root
-  pub checked_none : (standing : Standing) (pending : List Pending) → IsScopeAt target [] standing → pending ≡ []
-      → HasChecked IsRight target nodes 0 standing pending
-  checked_none standing pending at none = record {
-    above = [];
-    walks = record {
-      at = at;
-      due = let P : List Pending → Type 0 = λ list. ArePending target standing (reverse list) [] in subst P (sym none) refl;
-    };
-    come = λ whole tree.
-        let Q : List Node → Type 0 = λ n. HasCome IsRight whole n 0 [] in
-        subst Q (sym tree) (come_none IsRight whole);
-  }
+-- so are those of each place at which trees are due
+on_more : (On : ℕ → Type 0) (half : Half) (above : List Half) (second : Bool) → All (λ h. On h.source) (half ∷ above)
+    → All (λ halves. All (λ h. On h.source) halves) (turns above)
+    → All (λ halves. All (λ h. On h.source) halves) (cond second (turns above) ((turned half ∷ above) ∷ turns above))
+on_more On half above true on higher = higher
+on_more On half above false on higher =
+    let P : Half → Type 0 = λ h. On h.source in
+    All-cons (λ (halves : List Half). All P halves) (turned half ∷ above) (turns above)
+    (All-cons P (turned half) above (All-head P half above on) (All-tail P half above on)) higher
 
-  module _ (place : ℕ) (standing : Standing) (pending : List Pending) (checked : HasChecked IsRight target nodes place standing pending) where
-    -- it is a walk for the target
-    pub checked_walk : IsWalk standing pending
-    checked_walk = record { target = target; above = checked.above; walks = checked.walks }
+on_turns : (On : ℕ → Type 0) (above : List Half) → All (λ half. On half.source) above
+    → All (λ halves. All (λ half. On half.source) halves) (turns above)
+on_turns On [] on = All-nil (λ (halves : List Half). All (λ (half : Half). On half.source) halves)
+on_turns On (half ∷ above) on =
+    let P : Half → Type 0 = λ h. On h.source in
+    on_more On half above half.second on (on_turns On above (All-tail P half above on))
 
-    -- the rest of the nodes begins with the one here
-    rest_here : (node d : Node) → place < length nodes → node ≡ get_or nodes place d → drop place nodes ≡ node ∷ drop (place + 1) nodes
-    rest_here node d inside is =
-        drop-cons nodes place d inside ∙ ap (λ (n : Node). n ∷ drop (suc place) nodes) (sym is)
-        ∙ ap (λ k. node ∷ drop k nodes) (sym (add-one place))
+-- and those of the place to which a walk goes on
+on_behind : (On : ℕ → Type 0) (above next : List Half) → GoesOnTo above next → All (λ half. On half.source) above
+    → All (λ half. On half.source) next
+on_behind On above next goes on =
+    let P : List Half → Type 0 = λ halves. All (λ (half : Half). On half.source) halves in
+    ⊎_elim (λ last. subst P (sym last.1) on)
+    (λ more. All-head P next (turns next) (subst (λ (places : List (List Half)). All P places) more (on_turns On above on))) goes
 
-    -- what is told of any node at which the scope stands is told of the one here
-    pub checked_right : (node : Node) (r : Bool) → ((halves : List Half) → IsScopeAt target halves standing → IsTrue r ↔ IsRight halves node)
-        → IsTrue r ↔ IsRight (halves_of checked.above) node
-    checked_right node r tells = tells (halves_of checked.above) checked.walks.at
+-- where a walk goes on to
+goes_on : (above next : List Half) → GoesOnTo above next → GoesOn above next
+goes_on above next goes = ⊎_elim (λ last. inl last.0) (λ more. inr more) goes
 
-    -- a node that is not right is the first one
-    pub checked_fault : (node d : Node) → place < length nodes → node ≡ get_or nodes place d
-        → (IsRight (halves_of checked.above) node → ⊥) → IsTree nodes → IsFirstFaultOf IsRight nodes place
-    checked_fault node d inside is wrong tree = record {
-      cases = tree.0;
-      tree = tree.1;
-      first = stands_fault IsRight tree.0 nodes place checked.above node
-          (come_stands IsRight tree.0 nodes place checked.above node (drop (place + 1) nodes) (rest_here node d inside is)
-          (checked.come tree.0 tree.1)) wrong;
+-- where the node is a split, it is on such a source
+abbrev pub SplitsOn : (ℕ → Type 0) → Node → Type 0
+SplitsOn On Closed = Unit {0}
+SplitsOn On Waiting = Unit {0}
+SplitsOn On (Value source) = On source
+SplitsOn On (Steadiness source) = On source
+
+module _ (a : StateAlgebra) where
+  -- a walk stands at this place of the nodes, each node before was right, and the halves above are of such sources
+  pub record HasChecked (IsRight : List Half → Node → Type 0) (On : ℕ → Type 0) (target : Target) (nodes : List Node) (place : ℕ)
+      (standing : Standing) (pending : List Pending) : Type 0 where
+    pub above : List Half
+    pub walks : WalksAt a target above standing pending
+    pub come : (whole : Cases) → nodes ≡ preorder whole → HasCome IsRight whole nodes place above
+    pub on : All (λ half. On half.source) above
+
+  module _ (IsRight : List Half → Node → Type 0) (On : ℕ → Type 0) (target : Target) (nodes : List Node) where
+    -- at the root
+    pub checked_none : (standing : Standing) (pending : List Pending) → IsScopeAt a target [] standing → pending ≡ []
+        → HasChecked IsRight On target nodes 0 standing pending
+    checked_none standing pending at none = record {
+      above = [];
+      walks = record {
+        at = at;
+        due = let P : List Pending → Type 0 = λ list. ArePending a target standing (reverse list) [] in subst P (sym none) refl;
+      };
+      come = λ whole tree.
+          let Q : List Node → Type 0 = λ n. HasCome IsRight whole n 0 [] in
+          subst Q (sym tree) (come_none IsRight whole);
+      on = All-nil (λ (half : Half). On half.source);
     }
 
-    -- with one that is, the walk goes on
-    pub checked_more : (node d : Node) (new : Standing) (after : List Pending) → place < length nodes → node ≡ get_or nodes place d
-        → IsRight (halves_of checked.above) node → PassesOn node standing pending new after
-        → HasChecked IsRight target nodes (place + 1) new after
-    checked_more Closed d new after inside is right passes =
-        let next = passes target checked.above checked.walks in
-        record {
-          above = next.0;
-          walks = next.2;
-          come = λ whole tree. come_leaf IsRight whole nodes place checked.above next.0 Closed
-              (rest_here Closed d inside is) refl right next.1 (checked.come whole tree);
-        }
-    checked_more Waiting d new after inside is right passes =
-        let next = passes target checked.above checked.walks in
-        record {
-          above = next.0;
-          walks = next.2;
-          come = λ whole tree. come_leaf IsRight whole nodes place checked.above next.0 Waiting
-              (rest_here Waiting d inside is) refl right next.1 (checked.come whole tree);
-        }
-    checked_more (Value source) d new after inside is right passes = record {
-      above = record { source = source; steadiness = false; second = false } ∷ checked.above;
-      walks = passes target checked.above checked.walks;
-      come = λ whole tree. come_split IsRight whole nodes place checked.above (Value source) false source
-          (rest_here (Value source) d inside is) (value_node source) right (checked.come whole tree);
-    }
-    checked_more (Steadiness source) d new after inside is right passes = record {
-      above = record { source = source; steadiness = true; second = false } ∷ checked.above;
-      walks = passes target checked.above checked.walks;
-      come = λ whole tree. come_split IsRight whole nodes place checked.above (Steadiness source) true source
-          (rest_here (Steadiness source) d inside is) (steadiness_node source) right (checked.come whole tree);
-    }
+    module _ (place : ℕ) (standing : Standing) (pending : List Pending) (checked : HasChecked IsRight On target nodes place standing pending) where
+      -- it is a walk for the target
+      pub checked_walk : IsWalk a standing pending
+      checked_walk = record { target = target; above = checked.above; walks = checked.walks }
 
-    -- at the end each node is right
-    pub checked_all : length nodes ≤ place → IsTree nodes → TellsOfNodes IsRight nodes Yes
-    checked_all past tree = (
-      tree.0,
-      tree.1,
-      come_all IsRight tree.0 nodes place checked.above (drop_of_length-le nodes past) (checked.come tree.0 tree.1),
-    )
+      -- the rest of the nodes begins with the one here
+      rest_here : (node d : Node) → place < length nodes → node ≡ get_or nodes place d → drop place nodes ≡ node ∷ drop (place + 1) nodes
+      rest_here node d inside is =
+          drop-cons nodes place d inside ∙ ap (λ (n : Node). n ∷ drop (suc place) nodes) (sym is)
+          ∙ ap (λ k. node ∷ drop k nodes) (sym (add-one place))
 
--- what is told under the present setting is told under the one before, which is the same
-pub refutes_there : (before now : Standing) → IsSameSetting before now → (node : Node) (r : Bool)
-    → ((target : Target) (halves : List Half) → IsScopeAt target halves now → IsTrue r ↔ IsRightInRefutation now.net now.rules target halves node)
-    → (target : Target) (halves : List Half) → IsScopeAt target halves now → IsTrue r ↔ IsRightInRefutation before.net before.rules target halves node
-refutes_there before now setting node r tells target halves at =
-    let P : Circuit → Rules → Type 0 = λ c rules. IsTrue r ↔ IsRightInRefutation c rules target halves node in
-    subst₂ P setting.net setting.rules (tells target halves at)
+      -- the halves above it are of such sources
+      pub checked_on : All (λ half. On half.source) (halves_of checked.above)
+      checked_on = on_halves On checked.above checked.on
 
-pub spends_there : (before now : Standing) → IsSameSetting before now → (node : Node) (r : Bool) (target : Target)
-    → ((halves : List Half) → IsScopeAt target halves now → IsTrue r ↔ IsRightInSpent now.net now.rules target halves node)
-    → (halves : List Half) → IsScopeAt target halves now → IsTrue r ↔ IsRightInSpent before.net before.rules target halves node
-spends_there before now setting node r target tells halves at =
-    let P : Circuit → Rules → Type 0 = λ c rules. IsTrue r ↔ IsRightInSpent c rules target halves node in
-    subst₂ P setting.net setting.rules (tells halves at)
+      -- what is told of any node at which the scope stands is told of the one here
+      pub checked_right : (node : Node) (r : Bool) → ((halves : List Half) → IsScopeAt a target halves standing → IsTrue r ↔ IsRight halves node)
+          → IsTrue r ↔ IsRight (halves_of checked.above) node
+      checked_right node r tells = tells (halves_of checked.above) checked.walks.at
 
--- a split that is right in a refutation, or in a spent tree, is on a source
-pub refutation_on : (c : Circuit) (rules : Rules) (target : Target) (halves : List Half) (node : Node)
-    → IsRightInRefutation c rules target halves node → IsOn (source_count c) node
-refutation_on c rules target halves Closed right = tt
-refutation_on c rules target halves Waiting right = tt
-refutation_on c rules target halves (Value source) right = right
-refutation_on c rules target halves (Steadiness source) right = right
+      -- a node that is not right is the first one
+      pub checked_fault : (node d : Node) → place < length nodes → node ≡ get_or nodes place d
+          → (IsRight (halves_of checked.above) node → ⊥) → IsTree nodes → IsFirstFaultOf IsRight nodes place
+      checked_fault node d inside is wrong tree = record {
+        cases = tree.0;
+        tree = tree.1;
+        first = stands_fault IsRight tree.0 nodes place checked.above node
+            (come_stands IsRight tree.0 nodes place checked.above node (drop (place + 1) nodes) (rest_here node d inside is)
+            (checked.come tree.0 tree.1)) wrong;
+      }
 
-pub spent_on : (c : Circuit) (rules : Rules) (target : Target) (halves : List Half) (node : Node)
-    → IsRightInSpent c rules target halves node → IsOn (source_count c) node
-spent_on c rules target halves Closed right = tt
-spent_on c rules target halves Waiting right = tt
-spent_on c rules target halves (Value source) right = right.in_support.is_source
-spent_on c rules target halves (Steadiness source) right = right.in_support.is_source
+      -- with one that is, the walk goes on
+      pub checked_more : (node d : Node) (new : Standing) (after : List Pending) → place < length nodes → node ≡ get_or nodes place d
+          → IsRight (halves_of checked.above) node → SplitsOn On node → PassesOn a node standing pending new after
+          → HasChecked IsRight On target nodes (place + 1) new after
+      checked_more Closed d new after inside is right on passes =
+          let next = passes target checked.above checked.walks in
+          record {
+            above = next.0;
+            walks = next.2;
+            come = λ whole tree. come_leaf IsRight whole nodes place checked.above next.0 Closed
+                (rest_here Closed d inside is) refl right (goes_on checked.above next.0 next.1) (checked.come whole tree);
+            on = on_behind On checked.above next.0 next.1 checked.on;
+          }
+      checked_more Waiting d new after inside is right on passes =
+          let next = passes target checked.above checked.walks in
+          record {
+            above = next.0;
+            walks = next.2;
+            come = λ whole tree. come_leaf IsRight whole nodes place checked.above next.0 Waiting
+                (rest_here Waiting d inside is) refl right (goes_on checked.above next.0 next.1) (checked.come whole tree);
+            on = on_behind On checked.above next.0 next.1 checked.on;
+          }
+      checked_more (Value source) d new after inside is right on passes = record {
+        above = record { source = source; steadiness = false; second = false } ∷ checked.above;
+        walks = passes target checked.above checked.walks;
+        come = λ whole tree. come_split IsRight whole nodes place checked.above (Value source) false source
+            (rest_here (Value source) d inside is) (value_node source) right (checked.come whole tree);
+        on = All-cons (λ (half : Half). On half.source) (record { source = source; steadiness = false; second = false }) checked.above on checked.on;
+      }
+      checked_more (Steadiness source) d new after inside is right on passes = record {
+        above = record { source = source; steadiness = true; second = false } ∷ checked.above;
+        walks = passes target checked.above checked.walks;
+        come = λ whole tree. come_split IsRight whole nodes place checked.above (Steadiness source) true source
+            (rest_here (Steadiness source) d inside is) (steadiness_node source) right (checked.come whole tree);
+        on = All-cons (λ (half : Half). On half.source) (record { source = source; steadiness = true; second = false }) checked.above on checked.on;
+      }
+
+      -- at the end each node is right
+      pub checked_all : length nodes ≤ place → IsTree nodes → TellsOfNodes IsRight nodes Yes
+      checked_all past tree = (
+        tree.0,
+        tree.1,
+        come_all IsRight tree.0 nodes place checked.above (drop_of_length-le nodes past) (checked.come tree.0 tree.1),
+      )
+
+  -- what is told under the present setting is told under the one before, which is the same
+  pub refutes_there : (before now : Standing) → IsSameSetting before now → (node : Node) (r : Bool)
+      → ((target : Target) (halves : List Half) → IsScopeAt a target halves now → IsTrue r ↔ RefutesAtNode a now.net now.rules target halves node)
+      → (target : Target) (halves : List Half) → IsScopeAt a target halves now → IsTrue r ↔ RefutesAtNode a before.net before.rules target halves node
+  refutes_there before now setting node r tells target halves at =
+      let P : Circuit → Rules → Type 0 = λ c rules. IsTrue r ↔ RefutesAtNode a c rules target halves node in
+      subst₂ P setting.net setting.rules (tells target halves at)
+
+  pub spends_there : (before now : Standing) → IsSameSetting before now → (node : Node) (r : Bool) (target : Target) (halves : List Half)
+      → All (λ half. IsInSupport before.net before.rules target.path half.source) halves
+      → ((some : List Half) → IsScopeInSupport a target some now → IsTrue r ↔ IsRightInSpent now.net now.rules target some node)
+      → IsScopeAt a target halves now → IsTrue r ↔ IsRightInSpent before.net before.rules target halves node
+  spends_there before now setting node r target halves on tells at =
+      let P : Circuit → Rules → Type 0 = λ c rules. IsTrue r ↔ IsRightInSpent c rules target halves node in
+      let Q : Circuit → Rules → Type 0 = λ c rules. All (λ half. IsInSupport c rules target.path half.source) halves in
+      subst₂ P setting.net setting.rules
+      (tells halves (record { at = at; in_support = subst₂ Q (sym setting.net) (sym setting.rules) on }))
+
+  -- a split that is right in a refutation is on a source, and told where each such split is
+  pub refutation_on : (standing : Standing) (target : Target) (halves : List Half) (node : Node)
+      → RefutesAtNode a standing.net standing.rules target halves node → IsToldAt standing node → IsOnTold standing node
+  refutation_on standing target halves Closed right told = tt
+  refutation_on standing target halves Waiting right told = tt
+  refutation_on standing target halves (Value source) right told = (right, told right)
+  refutation_on standing target halves (Steadiness source) right told = (right, told right)
+
+-- of which sources it is does not matter there
+pub splits_on_any : (node : Node) → SplitsOn (λ source. Unit {0}) node
+splits_on_any Closed = tt
+splits_on_any Waiting = tt
+splits_on_any (Value source) = tt
+splits_on_any (Steadiness source) = tt
+
+-- a split that is right in a spent tree is on a source of the support
+pub spent_splits_on : (c : Circuit) (rules : Rules) (target : Target) (halves : List Half) (node : Node)
+    → IsRightInSpent c rules target halves node → SplitsOn (IsInSupport c rules target.path) node
+spent_splits_on c rules target halves Closed right = tt
+spent_splits_on c rules target halves Waiting right = tt
+spent_splits_on c rules target halves (Value source) right = right.in_support
+spent_splits_on c rules target halves (Steadiness source) right = right.in_support
+
+-- which is told where the end of the path is
+pub supported_on : (standing : Standing) (target : Target) → IsTold standing (end_of standing.net target.path) → (node : Node)
+    → SplitsOn (IsInSupport standing.net standing.rules target.path) node → IsOnTold standing node
+supported_on standing target told Closed on = tt
+supported_on standing target told Waiting on = tt
+supported_on standing target told (Value source) on =
+    (on.is_source, told_support standing.net (links_of standing.rules) standing.ends (end_of standing.net target.path) source told on.supported)
+supported_on standing target told (Steadiness source) on =
+    (on.is_source, told_support standing.net (links_of standing.rules) standing.ends (end_of standing.net target.path) source told on.supported)
+
+-- a split on a told source is one under the same setting
+pub on_there : (before now : Standing) → IsSameSetting before now → (node : Node) → IsOnTold before node → IsOnTold now node
+on_there before now setting Closed on = tt
+on_there before now setting Waiting on = tt
+on_there before now setting (Value source) on = (source_there before now setting source on.0, told_there before now setting source on.1)
+on_there before now setting (Steadiness source) on = (source_there before now setting source on.0, told_there before now setting source on.1)
 
 -- what is told of the nodes tells whether the tree refutes
 pub refutation_of_nodes : (c : Circuit) (rules : Rules) (target : Target) (nodes : List Node) (check : TreeCheck)
@@ -188,8 +274,8 @@ spent_exactly c rules target budget nodes (No place) fault =
 -- a judge that is made for the end of a path can judge it
 pub told_at_end : (made : MadeFor) (c : Circuit) (rules : Rules) (end : LineId) (path : Route)
     → made ≡ record { net = c; rules = rules; ends = Some (end ∷ []) } → end ≡ record { 0 = end_of c path }
-    → IsToldBy made.net made.ends (end_of made.net path)
+    → IsToldBy made.net (links_of made.rules) made.ends (end_of made.net path)
 told_at_end made c rules end path is at_end =
-    let P : MadeFor → Type 0 = λ m. IsToldBy m.net m.ends (end_of m.net path) in
-    let Q : LineId → Type 0 = λ line. IsInFanIn c line.0 (end_of c path) in
-    subst P (sym is) (inr (end, Contains-get_or (end ∷ []) 0 end (omega arith), subst Q (sym at_end) end_itself))
+    let P : MadeFor → Type 0 = λ m. IsToldBy m.net (links_of m.rules) m.ends (end_of m.net path) in
+    let Q : LineId → Type 0 = λ line. IsToldBy c (links_of rules) (Some (end ∷ [])) line.0 in
+    subst P (sym is) (subst Q at_end (end_told c (links_of rules) (end ∷ []) end (Contains-get_or (end ∷ []) 0 end (omega arith))))

@@ -1,7 +1,10 @@
 mod Checking
 mod Closing
+mod Judging
 mod NodeLabels
 mod Roots
+mod SameSettings
+mod SplitEnds
 mod Spending
 mod Telling
 mod TrialStates

@@ -1,28 +1,32 @@
 -- What a spent tree asks of a node, told by whether a conflict stands, by the labels and by the trial.
-use Rattle.std.proofs.Common.{◌≡◌, ℕ, ◌<◌, ◌↔◌, inl, Bool, true, false, List, Option, Some, None, sym, ap, ◌∙◌, subst}
+use Rattle.std.proofs.Common.{◌≡◌, ℕ, ◌<◌, ◌↔◌, Bool, true, false, List, Option, Some, None, sym, ap, ◌∙◌, subst}
 use Rattle.std.specs.List.{Contains}
 use Rattle.std.specs.Prelude.{IsTrue, IfNone, IfSome, is_some, slice_index_or}
 use Rattle.std.proofs.lemmas.Bool.{false≢true}
+use Rattle.pd_base.specs.Links.{LinkList, links_of}
 use Rattle.pd_base.specs.Target.{Target}
 use Rattle.pd_base.specs.declared.ids.LineId.{LineId}
+use Rattle.pd_base.specs.declared.rules.Rules.{Rules}
 use Rattle.pd_base.specs.Route.{Route}
 use Rattle.netlist.specs.Circuit.{Circuit, source_count}
 use Rattle.netlist.specs.Paths.{end_of}
-use Rattle.netlist.specs.Pins.{IsInFanIn}
+use Rattle.netlist.specs.LinkedPairs.{IsSupported}
 use Rattle.state_sets.specs.declared.state.StateSet.{StateSet}
-use Rattle.state_sets.specs.FourStates.{four_states}
+use Rattle.state_sets.specs.StateAlgebra.{StateAlgebra}
 use Rattle.state_sets.specs.Labellings.{label_at}
 use Rattle.state_sets.specs.Hulls.{IsNarrowingOf}
 use Rattle.state_laws.specs.declared.half.Half.{Half}
 use Rattle.state_laws.specs.Nodes.{MayBe, ClosesAtNode}
 use Rattle.state_laws.proofs.Hulls.{hull_once, not_closing}
-use Rattle.tree_laws.specs.Spent.{IsInSupport, IsOpen, IsDue, HasInHalf}
+use Rattle.trees.specs.Algebras.{algebra_of}
+use Rattle.trees.specs.Spent.{IsInSupport, IsOpen, IsDue, HasInHalf}
 use Rattle.implication.specs.declared.assumption.Conflict.{Conflict}
-use Rattle.implication.specs.Standing.{Standing, IsLabels, IsToldBy}
-use Rattle.test_judging.specs.FoundLines.{HasMark}
+use Rattle.implication.specs.Standing.{Standing, IsLabels}
+use Rattle.pair_judging.specs.FoundLines.{HasMark}
+use Rattle.pair_judging.specs.KeptCones.{KeptCone, IsConeAt}
 use Rattle.refutation_check.specs.Walks.{IsScopeAt, IsNodeBy}
 use Rattle.refutation_check.proofs.Closing.{closes_at_some}
-use Rattle.refutation_check.proofs.Trying.{node_of, node_open, hull_of}
+use Rattle.refutation_check.proofs.NodeLabels.{node_of, hull_of}
 
 -- the conflict that stands, or that none does, as the scope tells it
 pub conflict_stands : (conflict : Option LineId) (answer : Option Conflict) → IfSome answer (λ found. conflict ≡ Some found.0) → (r : Bool)
@@ -35,101 +39,116 @@ pub none_stands : (conflict : Option LineId) (answer : Option Conflict) → IfNo
 none_stands conflict (Some found) none r is is_false = absurd (false≢true (sym is_false ∙ is))
 none_stands conflict None none r is is_false = none
 
--- each source is told
-pub source_told : (c : Circuit) (ends : Option (List LineId)) (line : ℕ) → line < source_count c → IsToldBy c ends line
-source_told c None line within = tt
-source_told c (Some ends) line within = inl within
-
 -- a source whose line has a mark is in the support
-pub marked_in_support : (c : Circuit) (path : Route) (lines : List LineId) (marks : List Bool) (source : ℕ)
+pub marked_in_support : (c : Circuit) (rules : Rules) (path : Route) (lines : List LineId) (marks : List Bool) (source : ℕ)
     → ((line : ℕ) → HasMark marks line ↔ Contains lines (record { 0 = line }))
-    → ((line : ℕ) → Contains lines (record { 0 = line }) ↔ IsInFanIn c (end_of c path) line)
-    → source < source_count c → slice_index_or marks source false ≡ true → IsInSupport c path source
-marked_in_support c path lines marks source marked cone within mark = record {
+    → ((line : ℕ) → Contains lines (record { 0 = line }) ↔ IsSupported c (links_of rules) (end_of c path) line)
+    → source < source_count c → slice_index_or marks source false ≡ true → IsInSupport c rules path source
+marked_in_support c rules path lines marks source marked cone within mark = record {
   is_source = within;
-  in_fan_in = (cone source).0 ((marked source).0 mark);
+  supported = (cone source).0 ((marked source).0 mark);
 }
 
-pub unmarked_outside : (c : Circuit) (path : Route) (lines : List LineId) (marks : List Bool) (source : ℕ)
+pub unmarked_outside : (c : Circuit) (rules : Rules) (path : Route) (lines : List LineId) (marks : List Bool) (source : ℕ)
     → ((line : ℕ) → HasMark marks line ↔ Contains lines (record { 0 = line }))
-    → ((line : ℕ) → Contains lines (record { 0 = line }) ↔ IsInFanIn c (end_of c path) line)
-    → slice_index_or marks source false ≡ false → IsInSupport c path source → ⊥
-unmarked_outside c path lines marks source marked cone none support =
-    false≢true (sym none ∙ (marked source).1 ((cone source).1 support.in_fan_in))
+    → ((line : ℕ) → Contains lines (record { 0 = line }) ↔ IsSupported c (links_of rules) (end_of c path) line)
+    → slice_index_or marks source false ≡ false → IsInSupport c rules path source → ⊥
+unmarked_outside c rules path lines marks source marked cone none support =
+    false≢true (sym none ∙ (marked source).1 ((cone source).1 support.supported))
 
-module _ (target : Target) (halves : List Half) (standing : Standing) (at : IsScopeAt target halves standing) where
-  -- the node closes where a conflict stands
-  closes_by : (line : LineId) → standing.conflict ≡ Some line → ClosesAtNode standing.net standing.rules target halves
-  closes_by line stands =
-      closes_at_some standing.net standing.rules target halves line (subst (IsNodeBy target halves standing) stands at.is_node)
+-- what a cone has is supported under the links of the rules
+pub cone_under : (c : Circuit) (rules : Rules) (end : ℕ) (cone : KeptCone) → cone.links ≡ links_of rules → IsConeAt c end cone → (line : ℕ)
+    → Contains cone.found.lines (record { 0 = line }) ↔ IsSupported c (links_of rules) end line
+cone_under c rules end cone linked at line =
+    let P : LinkList → Type 0 = λ ls. Contains cone.found.lines (record { 0 = line }) ↔ IsSupported c ls end line in
+    subst P linked (at.lines line)
 
-  -- whether the node closes, as the scope tells its conflict
-  pub closes_told : (answer : Option Conflict) → IfNone answer (standing.conflict ≡ None)
-      → IfSome answer (λ found. standing.conflict ≡ Some found.0) → (r : Bool) → r ≡ is_some answer
-      → IsTrue r ↔ ClosesAtNode standing.net standing.rules target halves
-  closes_told (Some conflict) none some r is = (λ yes. closes_by conflict.0 some, λ closes. is)
-  closes_told None none some r is = (
-    λ yes. absurd (false≢true (sym is ∙ yes)),
-    λ closes. absurd (node_open target halves standing (node_of target halves standing at none) closes),
-  )
+module _ (target : Target) (halves : List Half) (standing : Standing) (steadiness : Bool) (source : ℕ) where
+  abbrev a : StateAlgebra
+  a = algebra_of standing.rules
 
-  -- a node that closes is not open
-  not_open : (line : LineId) → standing.conflict ≡ Some line → (hull : List StateSet)
+  -- a split is not due at a node that closes
+  closing_not_open : (line : LineId) → standing.conflict ≡ Some line → IsScopeAt a target halves standing → (hull : List StateSet)
       → IsOpen standing.net standing.rules target halves hull → ⊥
-  not_open line stands hull open_here =
-      not_closing four_states standing.net (IsNarrowingOf standing.net target.kind target.path.steps)
-      (MayBe four_states standing.net standing.rules target halves) hull open_here.is_hull open_here.none_empty
-      (closes_by line stands)
+  closing_not_open line stands at hull open_here =
+      not_closing a standing.net (IsNarrowingOf standing.net (links_of standing.rules) target.kind target.path.steps)
+      (MayBe a standing.net standing.rules target halves) hull open_here.is_hull open_here.none_empty
+      (closes_at_some a standing.net standing.rules target halves line (subst (IsNodeBy a target halves standing) stands at.is_node))
 
-  module _ (steadiness : Bool) (source : ℕ) where
-    -- nor is a split there due, nor one that is not on a source of the support
-    pub closing_not_due : (line : LineId) → standing.conflict ≡ Some line
-        → IsTrue false ↔ IsDue standing.net standing.rules target halves steadiness source
-    closing_not_due line stands = (λ never. absurd (false≢true never), λ due. absurd (not_open line stands due.hull due.is_open))
-
-    pub outside_not_due : (IsInSupport standing.net target.path source → ⊥)
-        → IsTrue false ↔ IsDue standing.net standing.rules target halves steadiness source
-    outside_not_due outside = (λ never. absurd (false≢true never), λ due. absurd (outside due.in_support))
-
-    module _ (free : standing.conflict ≡ None) (labels : List StateSet) (is_labels : IsLabels four_states standing labels) (set : StateSet)
-        (seen : set ≡ label_at labels source) where
-      -- the set of the source in the hull of an open node
-      same_set : (hull : List StateSet) → IsOpen standing.net standing.rules target halves hull → label_at hull source ≡ set
-      same_set hull open_here =
-          let own = hull_of target halves standing at (node_of target halves standing at free) labels is_labels in
-          ap (λ (h : List StateSet). label_at h source)
-          (hull_once four_states standing.net (IsNarrowingOf standing.net target.kind target.path.steps)
-          (MayBe four_states standing.net standing.rules target halves) hull open_here.is_hull labels own)
-          ∙ sym seen
-
-      -- one whose source lacks a half in the hull is not due
-      pub lacking_not_due : (both : Bool) → IsTrue both ↔ (HasInHalf set steadiness false × HasInHalf set steadiness true) → both ≡ false
-          → IsTrue false ↔ IsDue standing.net standing.rules target halves steadiness source
-      lacking_not_due both tells lacks = (
+  pub closing_not_due : (line : LineId) → standing.conflict ≡ Some line → (b : StateAlgebra) → b ≡ a → IsScopeAt b target halves standing
+      → IsTrue false ↔ IsDue standing.net standing.rules target halves steadiness source
+  closing_not_due line stands b chosen at =
+      let P : StateAlgebra → Type 0 = λ k. IsScopeAt k target halves standing in (
         λ never. absurd (false≢true never),
-        λ due.
-            let same = same_set due.hull due.is_open in
-            let first = subst (λ (s : StateSet). HasInHalf s steadiness false) same due.in_first in
-            let second = subst (λ (s : StateSet). HasInHalf s steadiness true) same due.in_second in
-            absurd (false≢true (sym lacks ∙ tells.1 (first, second))),
+        λ due. absurd (closing_not_open line stands (subst P chosen at) due.hull due.is_open),
       )
 
-      -- with both it is due, on a source of the support, just where the node is open
-      pub open_due : IsInSupport standing.net target.path source → (both tried : Bool)
-          → IsTrue both ↔ (HasInHalf set steadiness false × HasInHalf set steadiness true) → both ≡ true
-          → IsTrue tried ↔ ((hull : List StateSet) × IsOpen standing.net standing.rules target halves hull)
-          → IsTrue tried ↔ IsDue standing.net standing.rules target halves steadiness source
-      open_due support both tried tells has open_tells = (
-        λ yes.
-            let parts = tells.0 has in
-            let here = open_tells.0 yes in
-            let same = same_set here.0 here.1 in
-            record {
-              hull = here.0;
-              is_open = here.1;
-              in_support = support;
-              in_first = subst (λ (s : StateSet). HasInHalf s steadiness false) (sym same) parts.0;
-              in_second = subst (λ (s : StateSet). HasInHalf s steadiness true) (sym same) parts.1;
-            },
-        λ due. open_tells.1 (due.hull, due.is_open),
-      )
+  -- nor is one that is not on a source of the support
+  pub outside_not_due : (IsInSupport standing.net standing.rules target.path source → ⊥)
+      → IsTrue false ↔ IsDue standing.net standing.rules target halves steadiness source
+  outside_not_due outside = (λ never. absurd (false≢true never), λ due. absurd (outside due.in_support))
+
+  -- what is known where the scope has labels: of the set of the source, whether it has a state of each half
+  pub record IsSeenAt (b : StateAlgebra) (labels : List StateSet) (set : StateSet) (both : Bool) : Type 0 where
+    pub at : IsScopeAt b target halves standing
+    pub labelled : IsLabels b standing labels
+    pub seen : set ≡ label_at labels source
+    pub tells : IsTrue both ↔ (HasInHalf b set steadiness false × HasInHalf b set steadiness true)
+
+  module _ (free : standing.conflict ≡ None) (labels : List StateSet) (set : StateSet) (both : Bool) where
+    -- the set of the source in the hull of an open node
+    same_set : IsSeenAt a labels set both → (hull : List StateSet) → IsOpen standing.net standing.rules target halves hull
+        → label_at hull source ≡ set
+    same_set is hull open_here =
+        let own = hull_of a target halves standing is.at (node_of a target halves standing is.at free) labels is.labelled in
+        ap (λ (h : List StateSet). label_at h source)
+        (hull_once a standing.net (IsNarrowingOf standing.net (links_of standing.rules) target.kind target.path.steps)
+        (MayBe a standing.net standing.rules target halves) hull open_here.is_hull labels own)
+        ∙ sym is.seen
+
+    lacking : IsSeenAt a labels set both → both ≡ false → IsTrue false ↔ IsDue standing.net standing.rules target halves steadiness source
+    lacking is lacks = (
+      λ never. absurd (false≢true never),
+      λ due.
+          let same = same_set is due.hull due.is_open in
+          let first = subst (λ (s : StateSet). HasInHalf a s steadiness false) same due.in_first in
+          let second = subst (λ (s : StateSet). HasInHalf a s steadiness true) same due.in_second in
+          absurd (false≢true (sym lacks ∙ is.tells.1 (first, second))),
+    )
+
+    having : IsSeenAt a labels set both → both ≡ true → IsInSupport standing.net standing.rules target.path source → (tried : Bool)
+        → IsTrue tried ↔ ((hull : List StateSet) × IsOpen standing.net standing.rules target halves hull)
+        → IsTrue tried ↔ IsDue standing.net standing.rules target halves steadiness source
+    having is has support tried open_tells = (
+      λ yes.
+          let parts = is.tells.0 has in
+          let here = open_tells.0 yes in
+          let same = same_set is here.0 here.1 in
+          record {
+            hull = here.0;
+            is_open = here.1;
+            in_support = support;
+            in_first = subst (λ (s : StateSet). HasInHalf a s steadiness false) (sym same) parts.0;
+            in_second = subst (λ (s : StateSet). HasInHalf a s steadiness true) (sym same) parts.1;
+          },
+      λ due. open_tells.1 (due.hull, due.is_open),
+    )
+
+    -- one whose source lacks a half in the hull is not due
+    pub lacking_not_due : (b : StateAlgebra) → b ≡ a → IsSeenAt b labels set both → both ≡ false
+        → IsTrue false ↔ IsDue standing.net standing.rules target halves steadiness source
+    lacking_not_due b chosen is = let P : StateAlgebra → Type 0 = λ k. IsSeenAt k labels set both in lacking (subst P chosen is)
+
+    -- with both it is due, on a source of the support, just where the node is open
+    pub open_due : (b : StateAlgebra) → b ≡ a → IsSeenAt b labels set both → both ≡ true
+        → IsInSupport standing.net standing.rules target.path source → (tried : Bool)
+        → IsTrue tried ↔ ((hull : List StateSet) × IsOpen standing.net standing.rules target halves hull)
+        → IsTrue tried ↔ IsDue standing.net standing.rules target halves steadiness source
+    open_due b chosen is = let P : StateAlgebra → Type 0 = λ k. IsSeenAt k labels set both in having (subst P chosen is)
+
+-- whether the node closes, with the kind of states of the rules
+pub closes_by_rules : (standing : Standing) (target : Target) (halves : List Half) (b : StateAlgebra) → b ≡ algebra_of standing.rules
+    → (r : Bool) → IsTrue r ↔ ClosesAtNode b standing.net standing.rules target halves
+    → IsTrue r ↔ ClosesAtNode (algebra_of standing.rules) standing.net standing.rules target halves
+closes_by_rules standing target halves b chosen r tells =
+    let P : StateAlgebra → Type 0 = λ k. IsTrue r ↔ ClosesAtNode k standing.net standing.rules target halves in subst P chosen tells

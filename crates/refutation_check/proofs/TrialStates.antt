@@ -6,29 +6,31 @@ use Rattle.std.proofs.lemmas.Bool.{cases_eq, cases_lt, false≢true}
 use Rattle.std.proofs.lemmas.List.{length-set}
 use Rattle.std.proofs.lemmas.List.Elements.{All-contains, All-more, Contains-get_or}
 use Rattle.std.proofs.lemmas.Option.{slice_get-get_or}
-use Rattle.pd_base.specs.Pair.{Vectors}
+use Rattle.pd_base.specs.Links.{LinkList}
 use Rattle.pd_base.specs.declared.ids.GateId.{GateId}
 use Rattle.pd_base.specs.declared.ids.LineId.{LineId}
 use Rattle.pd_base.specs.declared.ids.PinRef.{PinRef}
-use Rattle.netlist.specs.Circuit.{Circuit, source_count, gate_count, gate_line, line_count, kind_at, pins_at}
+use Rattle.netlist.specs.Circuit.{Circuit, source_count, gate_count, gate_line, kind_at, pins_at}
 use Rattle.netlist.specs.Lawful.{IsCircuit}
 use Rattle.netlist.specs.Levels.{level}
-use Rattle.netlist.specs.Pins.{IsInFanIn, IsFanout}
+use Rattle.netlist.specs.LinkedPairs.{IsSupported}
+use Rattle.netlist.specs.Pins.{IsFanout}
 use Rattle.netlist.proofs.Evaluation.{map_agree, line_induction, all_at_place}
 use Rattle.path_laws.proofs.StepCounts.{step_raises}
 use Rattle.state_sets.specs.declared.state.State.{State}
 use Rattle.state_sets.specs.declared.state.StateSet.{StateSet}
-use Rattle.state_sets.specs.FourStates.{four_states}
+use Rattle.state_sets.specs.StateAlgebra.{StateAlgebra, HasLaws}
 use Rattle.state_sets.specs.Labellings.{label_at}
 use Rattle.state_sets.specs.LineStates.{state_under}
 use Rattle.state_sets.specs.Narrowing.{gate_state}
 use Rattle.state_laws.proofs.PairStates.{gate_state_under}
-use Rattle.state_laws.proofs.FanIns.{pin_in_fan_in, fan_in_in_circuit}
-use Rattle.test_judging.specs.ConeStates.{state_in, HasSourceStates, HasConeStates}
-use Rattle.test_judging.specs.KeptCones.{AreConeGates}
-use Rattle.test_judging.specs.LeastStates.{IsTakenOf}
-use Rattle.test_judging.proofs.RankedCones.{never_after}
-use Rattle.test_judging.proofs.Spreading.{no_line}
+use Rattle.state_laws.proofs.Supports.{pin_supported}
+use Rattle.pair_judging.specs.ConeStates.{state_in}
+use Rattle.pair_judging.specs.Judged.{AreComputed}
+use Rattle.pair_judging.specs.KeptCones.{AreConeGates}
+use Rattle.pair_judging.specs.LeastStates.{IsTakenOf}
+use Rattle.pair_judging.proofs.RankedCones.{never_after}
+use Rattle.pair_judging.proofs.Spreading.{no_line}
 use Rattle.refutation_check.specs.declared.trial_states.TrialStates.{TrialStates}
 use Rattle.refutation_check.specs.TrialStates.{is_stale, AreTrialStates, IsPutAt}
 
@@ -44,15 +46,13 @@ abbrev pub no_gate : GateId
 no_gate = record { 0 = 0 }
 
 -- where no gate of a cone is stale, its lines are in their states under each pair that has them at its sources
-pub has_cone_states : (c : Circuit) → IsCircuit c → (end : ℕ) → end < line_count c → (gates : List GateId) → AreConeGates c end gates
-    → (kept : TrialStates) → AreTrialStates c kept → All (λ gate. is_stale kept gate.0 ≡ false) gates
-    → (pair : Vectors) → HasSourceStates c end kept.states.items pair → HasConeStates c end kept.states.items pair
-has_cone_states c circuit end within gates are kept is none pair has line further =
-    line_induction c circuit.reads_lines Same sources at_gate circuit.loop_free line
-    (fan_in_in_circuit c end circuit.reads_lines within line further) further
+pub are_computed : (a : StateAlgebra) → HasLaws a → (c : Circuit) → IsCircuit c → (gates : List GateId) (kept : TrialStates)
+    → AreTrialStates a c kept → All (λ gate. is_stale kept gate.0 ≡ false) gates → AreComputed a c gates kept.states.items kept.states.items
+are_computed a laws c circuit gates kept is none links end are pair has line within further =
+    line_induction c circuit.reads_lines Same sources at_gate circuit.loop_free line within further
   where
     Same : ℕ → Type 0
-    Same line = IsInFanIn c end line → state_under c pair line ≡ state_in kept.states.items line
+    Same line = IsSupported c links end line → state_under a c pair line ≡ state_in kept.states.items line
 
     sources : (source : ℕ) → source < source_count c → Same source
     sources source inside behind = has source inside behind
@@ -60,17 +60,17 @@ has_cone_states c circuit end within gates are kept is none pair has line furthe
     at_gate : (gate : ℕ) → gate < gate_count c → All (λ pin. Same pin.0) (pins_at c gate) → Same (gate_line c gate)
     at_gate gate inside pins behind =
         let among : Contains gates (record { 0 = gate }) = (are.exactly gate).1 (inside, behind) in
-        gate_state_under c circuit pair gate inside
-        ∙ ap (gate_state four_states (kind_at c gate))
-        (map_agree (λ (pin : LineId). state_under c pair pin.0) (λ (pin : LineId). state_in kept.states.items pin.0) (pins_at c gate)
-        (λ pin d at. pins pin d at (pin_in_fan_in c end gate inside behind pin d at)))
+        gate_state_under a laws c circuit pair gate inside
+        ∙ ap (gate_state a (kind_at c gate))
+        (map_agree (λ (pin : LineId). state_under a c pair pin.0) (λ (pin : LineId). state_in kept.states.items pin.0) (pins_at c gate)
+        (λ pin d at. pins pin d at (pin_supported c links end gate inside behind pin d at)))
         ∙ sym (is.made gate inside (All-contains (λ (g : GateId). is_stale kept g.0 ≡ false) gates (record { 0 = gate }) none among))
 
 -- a gate of a cone reads neither its own line nor that of a gate behind it
-pub reads_no_later : (c : Circuit) → IsCircuit c → (end : ℕ) (gates : List GateId) → AreConeGates c end gates
+pub reads_no_later : (c : Circuit) → IsCircuit c → (links : LinkList) (end : ℕ) (gates : List GateId) → AreConeGates c links end gates
     → (place later : ℕ) → place ≤ later → later < length gates
     → All (λ pin. pin.0 ≢ gate_line c (get_or gates later no_gate).0) (pins_at c (get_or gates place no_gate).0)
-reads_no_later c circuit end gates are place later before within pin d inside same =
+reads_no_later c circuit links end gates are place later before within pin d inside same =
     let first = get_or gates place no_gate in let last = get_or gates later no_gate in
     let own = (are.exactly first.0).0 (Contains-get_or gates place no_gate (omega (arith, before, within))) in
     let raises : level c (get_or (pins_at c first.0) pin d).0 < level c (gate_line c first.0) =
@@ -87,26 +87,26 @@ reads_no_later c circuit end gates are place later before within pin d inside sa
     (cases_lt place later)
 
 -- a gate that does not read its own line makes its state still once it was written
-pub made_own : (c : Circuit) (gate : ℕ) (old new : List State) (state : State) → IsPutAt (gate_line c gate) state old new
-    → state ≡ gate_state four_states (kind_at c gate) (map (λ pin. state_in old pin.0) (pins_at c gate))
+pub made_own : (a : StateAlgebra) (c : Circuit) (gate : ℕ) (old new : List State) (state : State) → IsPutAt (gate_line c gate) state old new
+    → state ≡ gate_state a (kind_at c gate) (map (λ pin. state_in old pin.0) (pins_at c gate))
     → All (λ pin. pin.0 ≢ gate_line c gate) (pins_at c gate)
-    → state_in new (gate_line c gate) ≡ gate_state four_states (kind_at c gate) (map (λ pin. state_in new pin.0) (pins_at c gate))
-made_own c gate old new state written made reads =
+    → state_in new (gate_line c gate) ≡ gate_state a (kind_at c gate) (map (λ pin. state_in new pin.0) (pins_at c gate))
+made_own a c gate old new state written made reads =
     written.here ∙ made
-    ∙ ap (gate_state four_states (kind_at c gate))
+    ∙ ap (gate_state a (kind_at c gate))
     (map_agree (λ (pin : LineId). state_in old pin.0) (λ (pin : LineId). state_in new pin.0) (pins_at c gate)
     (λ pin d inside. sym (written.elsewhere (get_or (pins_at c gate) pin d).0 (reads pin d inside))))
 
 -- where a gate neither reads a line nor drives it, its own line is after a write in the state that the gate makes, as before
-pub made_stays : (c : Circuit) (line : ℕ) (state : State) (old new : List State) → IsPutAt line state old new
+pub made_stays : (a : StateAlgebra) (c : Circuit) (line : ℕ) (state : State) (old new : List State) → IsPutAt line state old new
     → (gate : ℕ) → gate_line c gate ≢ line → All (λ pin. pin.0 ≢ line) (pins_at c gate)
     → state_in old (gate_line c gate)
-    ≡ gate_state four_states (kind_at c gate) (map (λ pin. state_in old pin.0) (pins_at c gate))
+    ≡ gate_state a (kind_at c gate) (map (λ pin. state_in old pin.0) (pins_at c gate))
     → state_in new (gate_line c gate)
-    ≡ gate_state four_states (kind_at c gate) (map (λ pin. state_in new pin.0) (pins_at c gate))
-made_stays c line state old new written gate apart reads made =
+    ≡ gate_state a (kind_at c gate) (map (λ pin. state_in new pin.0) (pins_at c gate))
+made_stays a c line state old new written gate apart reads made =
     written.elsewhere (gate_line c gate) apart ∙ made
-    ∙ ap (gate_state four_states (kind_at c gate))
+    ∙ ap (gate_state a (kind_at c gate))
     (map_agree (λ (pin : LineId). state_in old pin.0) (λ (pin : LineId). state_in new pin.0) (pins_at c gate)
     (λ pin d inside. sym (written.elsewhere (get_or (pins_at c gate) pin d).0 (reads pin d inside))))
 
@@ -161,18 +161,18 @@ written_here states line state within = record {
 }
 
 -- one source more is in the state that is taken of its label
-pub taken_more : (sources : List LineId) (place : ℕ) (labels : List StateSet) (old new : List State) → place < length sources
-    → (state : State) → IsPutAt (get_or sources place no_line).0 state old new → IsTakenOf (label_at labels (get_or sources place no_line).0) state
-    → All (λ source. IsTakenOf (label_at labels source.0) (state_in old source.0)) (take place sources)
-    → All (λ source. IsTakenOf (label_at labels source.0) (state_in new source.0)) (take (place + 1) sources)
-taken_more sources place labels old new inside state written taken before =
+pub taken_more : (count : ℕ) (sources : List LineId) (place : ℕ) (labels : List StateSet) (old new : List State) → place < length sources
+    → (state : State) → IsPutAt (get_or sources place no_line).0 state old new → IsTakenOf count (label_at labels (get_or sources place no_line).0) state
+    → All (λ source. IsTakenOf count (label_at labels source.0) (state_in old source.0)) (take place sources)
+    → All (λ source. IsTakenOf count (label_at labels source.0) (state_in new source.0)) (take (place + 1) sources)
+taken_more count sources place labels old new inside state written taken before =
     let next = get_or sources place no_line in
-    let P : LineId → Type 0 = λ source. IsTakenOf (label_at labels source.0) (state_in new source.0) in
-    let here : P next = subst (IsTakenOf (label_at labels next.0)) (sym written.here) taken in
+    let P : LineId → Type 0 = λ source. IsTakenOf count (label_at labels source.0) (state_in new source.0) in
+    let here : P next = subst (IsTakenOf count (label_at labels next.0)) (sym written.here) taken in
     All-more P sources place no_line inside
     (λ k d front.
     let source = get_or (take place sources) k d in
-    ⊎_elim (λ (same : source.0 ≡ next.0). subst (λ n. IsTakenOf (label_at labels n) (state_in new n)) (sym same) here)
-    (λ (away : source.0 ≢ next.0). subst (IsTakenOf (label_at labels source.0)) (sym (written.elsewhere source.0 away)) (before k d front))
+    ⊎_elim (λ (same : source.0 ≡ next.0). subst (λ n. IsTakenOf count (label_at labels n) (state_in new n)) (sym same) here)
+    (λ (away : source.0 ≢ next.0). subst (IsTakenOf count (label_at labels source.0)) (sym (written.elsewhere source.0 away)) (before k d front))
     (cases_eq source.0 next.0))
     here

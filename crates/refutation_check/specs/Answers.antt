@@ -4,13 +4,13 @@ use Rattle.pd_base.specs.Target.{Target}
 use Rattle.pd_base.specs.declared.rules.Rules.{Rules}
 use Rattle.netlist.specs.Circuit.{Circuit}
 use Rattle.state_laws.specs.declared.half.Half.{Half}
-use Rattle.runs.specs.declared.tree.Node.{Node}
-use Rattle.runs.specs.Trees.{Cases, preorder}
-use Rattle.tree_laws.specs.Refutations.{IsRefutation}
-use Rattle.tree_laws.specs.Spent.{IsSpent}
-use Rattle.tree_laws.specs.Faults.{AreRight, IsFirstFaultOf, IsFaultOfRefutation, IsFaultOfSpent}
+use Rattle.trees.specs.declared.tree.Node.{Node}
+use Rattle.trees.specs.Trees.{Cases, preorder}
+use Rattle.trees.specs.Refutations.{IsRefutation}
+use Rattle.trees.specs.Spent.{IsSpent}
+use Rattle.trees.specs.Faults.{AreRight, IsFirstFaultOf, IsFaultOfRefutation, IsFaultOfSpent}
 use Rattle.implication.specs.Standing.{Standing}
-use Rattle.tree_laws.specs.Settings.{IsSameSetting}
+use Rattle.implication.specs.Settings.{IsSameSetting}
 use Rattle.refutation_check.specs.declared.answer.TreeCheck.{TreeCheck}
 use Rattle.refutation_check.specs.declared.answer.TreeCheck.TheVariants.{Yes, No}
 

@@ -1,19 +1,23 @@
 -- What contracts see of a judge of trees: for what it is made (this project's own).
-use Rattle.std.specs.Prelude.{◌≡◌, List, Option, None}
+use Rattle.std.specs.Prelude.{◌≡◌, ◌<◌, ◌^◌, List, length, Option, None}
+use Rattle.pd_base.specs.Links.{links_of}
 use Rattle.pd_base.specs.declared.ids.LineId.{LineId}
 use Rattle.pd_base.specs.declared.rules.Rules.{Rules}
 use Rattle.netlist.specs.Circuit.{Circuit}
+use Rattle.state_sets.specs.StateAlgebra.{StateAlgebra}
 use Rattle.implication.specs.Standing.{Standing}
 use Rattle.refutation_check.specs.declared.trial.TrialRoom.{TrialRoom}
 use Rattle.refutation_check.specs.Trials.{IsTrialRoomFor}
 
--- a circuit, the rules of its trees, and the lines in whose fan-in the paths end that it can judge
+-- a circuit, the rules of its trees, and the lines in whose support the paths end that it can judge
 pub record MadeFor : Type 0 where
   pub net : Circuit
   pub rules : Rules
   pub ends : Option (List LineId)
 
--- no scope is open on its engine, and there is room for trials
-pub record IsJudgeReady (engine : Standing) (trials : TrialRoom) : Type 0 where
+-- No scope is open on its engine, and there is room for trials, with states of the kind that the rules choose. There are few enough links
+-- for engines.
+pub record IsJudgeReady (a : StateAlgebra) (engine : Standing) (trials : TrialRoom) : Type 0 where
+  pub few : length (links_of engine.rules) < 2 ^ 30
   pub idle : engine.beginning ≡ None
-  pub room : IsTrialRoomFor engine.net trials
+  pub room : IsTrialRoomFor a engine.net engine.rules trials

@@ -5,3 +5,4 @@ pub mod Trials
 pub mod Judges
 pub mod Answers
 pub mod NodeHulls
+pub mod SplitEnds

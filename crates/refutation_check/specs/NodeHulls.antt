@@ -1,11 +1,14 @@
--- What a call for the hull at a node answers, and what the answer tells of pairs of vectors (this project's own).
-use Rattle.std.specs.Prelude.{⊤, ◌<◌, List, All}
+-- What a call for the hull at a node answers, under any rules, and what the answer tells of pairs of vectors (this project's own).
+use Rattle.std.specs.Prelude.{⊤, ◌<◌, List, All, Result, Ok, Err}
 use Rattle.pd_base.specs.Target.{Target}
-use Rattle.pd_base.specs.declared.rules.Rules.{Rules}
 use Rattle.pd_base.specs.Pair.{Vectors}
+use Rattle.pd_base.specs.declared.ids.LineId.{LineId}
+use Rattle.pd_base.specs.declared.rules.Rules.{Rules}
 use Rattle.netlist.specs.Circuit.{Circuit, line_count}
 use Rattle.netlist.specs.Conditions.{Meets}
-use Rattle.state_sets.specs.FourStates.{four_states}
+use Rattle.netlist.specs.LinkedPairs.{IsOfRules}
+use Rattle.state_sets.specs.declared.state.StateSet.{StateSet}
+use Rattle.state_sets.specs.StateAlgebra.{StateAlgebra}
 use Rattle.state_sets.specs.Hulls.{HasNoEmptySet}
 use Rattle.state_sets.specs.LineStates.{state_under}
 use Rattle.state_sets.specs.Starts.{IsInHalf}
@@ -13,33 +16,56 @@ use Rattle.state_laws.specs.declared.half.Half.{Half}
 use Rattle.state_laws.specs.Nodes.{IsNodeHull, IsEmptiedAtNode}
 use Rattle.state_laws.specs.Pairs.{HasPair, IsGiven}
 use Rattle.state_laws.specs.Steadied.{KeepsRules}
+use Rattle.trees.specs.Algebras.{algebra_of}
+use Rattle.trees.specs.Unlinked.{IsUnlinked}
 use Rattle.refutation_check.specs.declared.answer.Hull.{Hull}
-use Rattle.refutation_check.specs.declared.answer.Hull.TheVariants.{Rest, Empty}
+use Rattle.refutation_check.specs.declared.answer.Hull.TheVariants.{Rest, RestLinked, Empty}
 
--- the answer is the hull at the node, in which each line has some state; or it is a line that is emptied there
-abbrev pub IsAtNode : Circuit → Rules → Target → List Half → Hull → Type 0
-IsAtNode c rules target halves (Rest labels) =
-    IsNodeHull c rules target halves labels × HasNoEmptySet c labels
-IsAtNode c rules target halves (Empty line) =
-    (line.0 < line_count c) × IsEmptiedAtNode c rules target halves line.0
+-- what is found at a node with one kind of states: the hull, in which each line has some state, or a line that is emptied there
+abbrev pub IsFoundAt : StateAlgebra → Circuit → Rules → Target → List Half → Result (List StateSet) LineId → Type 0
+IsFoundAt a c rules target halves (Ok labels) = IsNodeHull a c rules target halves labels × HasNoEmptySet c labels
+IsFoundAt a c rules target halves (Err line) = (line.0 < line_count c) × IsEmptiedAtNode a c rules target halves line.0
 
--- the pair is a test for the target, the other sources start under it as the rules leave them, and the state of the source of each half
--- is in the half
+-- the answer as it was found: labels, or a line
+abbrev pub found_of : Hull → Result (List StateSet) LineId
+found_of (Rest labels) = Ok labels
+found_of (RestLinked labels) = Ok labels
+found_of (Empty line) = Err line
+
+-- labels are of six states exactly under linked rules
+abbrev pub IsKindOf : Rules → Hull → Type 0
+IsKindOf rules (Rest labels) = IsUnlinked rules
+IsKindOf rules (RestLinked labels) = ¬ IsUnlinked rules
+IsKindOf rules (Empty line) = ⊤
+
+-- The answer is the hull at the node by the kind of states of the rules, in which each line has some state; or it is a line that is emptied
+-- there. Under linked rules and no others the hull is one of six states.
+pub record IsAtNode (c : Circuit) (rules : Rules) (target : Target) (halves : List Half) (hull : Hull) : Type 0 where
+  pub kind : IsKindOf rules hull
+  pub found : IsFoundAt (algebra_of rules) c rules target halves (found_of hull)
+
+-- the pair is one of the rules and a test for the target, the other sources start under it as the rules leave them, and the state of the
+-- source of each half is in the half
 pub record IsPairBelow (c : Circuit) (rules : Rules) (target : Target) (halves : List Half) (pair : Vectors) : Type 0 where
+  pub of_rules : IsOfRules c rules pair
   pub meets : Meets c target pair
-  pub keeps : KeepsRules c rules target.path.source.0 pair
-  pub lies : All (λ half. IsInHalf four_states half.steadiness half.second (state_under c pair half.source)) halves
+  pub keeps : KeepsRules (algebra_of rules) c rules target.path.source.0 pair
+  pub lies : All (λ half. IsInHalf (algebra_of rules) half.steadiness half.second (state_under (algebra_of rules) c pair half.source)) halves
 
 -- no such pair is lost: the hull has the states of each; and where a line is emptied there is none
+abbrev pub LosesNone : Circuit → Rules → Target → List Half → Result (List StateSet) LineId → Type 0
+LosesNone c rules target halves (Ok labels) =
+    (pair : Vectors) → IsPairBelow c rules target halves pair → HasPair (algebra_of rules) c labels pair
+LosesNone c rules target halves (Err line) = (pair : Vectors) → ¬ IsPairBelow c rules target halves pair
+
 abbrev pub LosesNoPair : Circuit → Rules → Target → List Half → Hull → Type 0
-LosesNoPair c rules target halves (Rest labels) =
-    (pair : Vectors) → IsPairBelow c rules target halves pair → HasPair c labels pair
-LosesNoPair c rules target halves (Empty line) =
-    (pair : Vectors) → ¬ IsPairBelow c rules target halves pair
+LosesNoPair c rules target halves hull = LosesNone c rules target halves (found_of hull)
 
 -- singletons decide: where the hull leaves to each source in the fan-in of the path's end no state but the one under a pair, the
 -- pair is a test
-abbrev pub DecidesSingletons : Circuit → Target → Hull → Type 0
-DecidesSingletons c target (Rest labels) =
-    (pair : Vectors) → IsGiven c pair target.path labels → Meets c target pair
-DecidesSingletons c target (Empty line) = ⊤
+abbrev pub SinglesDecide : Circuit → Rules → Target → Result (List StateSet) LineId → Type 0
+SinglesDecide c rules target (Ok labels) = (pair : Vectors) → IsGiven (algebra_of rules) c pair target.path labels → Meets c target pair
+SinglesDecide c rules target (Err line) = ⊤
+
+abbrev pub DecidesSingletons : Circuit → Rules → Target → Hull → Type 0
+DecidesSingletons c rules target hull = SinglesDecide c rules target (found_of hull)

@@ -1,44 +1,63 @@
 -- The room for the trials of nodes, spoken of inside this crate alone (this project's own).
-use Rattle.std.specs.Prelude.{ℕ, ◌<◌, List, IsTrue}
+use Rattle.std.specs.Prelude.{◌≡◌, ℕ, ◌<◌, List, All, IsTrue}
+use Rattle.pd_base.specs.Links.{LinkList, links_of}
 use Rattle.pd_base.specs.Pair.{Vectors}
 use Rattle.pd_base.specs.Target.{Target, target_of}
+use Rattle.pd_base.specs.declared.rules.Rules.{Rules}
 use Rattle.netlist.specs.Circuit.{Circuit, source_count}
 use Rattle.netlist.specs.Conditions.{Meets}
+use Rattle.netlist.specs.LinkedPairs.{IsSupported}
 use Rattle.netlist.specs.Paths.{end_of}
-use Rattle.netlist.specs.Pins.{IsInFanIn}
 use Rattle.state_sets.specs.declared.state.State.{State}
 use Rattle.state_sets.specs.declared.state.StateSet.{StateSet}
 use Rattle.state_sets.specs.Labellings.{label_at}
-use Rattle.test_judging.specs.ConeStates.{state_in, HasSourceStates}
-use Rattle.test_judging.specs.KeptCones.{IsConeFor, IsConeAt}
-use Rattle.test_judging.specs.LeastStates.{IsTakenOf}
+use Rattle.state_sets.specs.StateAlgebra.{StateAlgebra}
+use Rattle.state_laws.specs.declared.half.Half.{Half}
+use Rattle.state_laws.specs.FailedTrials.{FailsTrial}
+use Rattle.trees.specs.Algebras.{algebra_of}
+use Rattle.trees.specs.Spent.{IsInSupport}
+use Rattle.implication.specs.Standing.{Standing}
+use Rattle.pair_judging.specs.ConeStates.{state_in, HasSourceStates, HasLinkedStates}
+use Rattle.pair_judging.specs.KeptCones.{IsConeFor, IsConeAt}
+use Rattle.pair_judging.specs.LeastStates.{IsTakenOf}
 use Rattle.refutation_check.specs.declared.asked.Asked.{Asked}
 use Rattle.refutation_check.specs.declared.trial.TrialRoom.{TrialRoom}
 use Rattle.refutation_check.specs.TrialStates.{AreTrialStates}
+use Rattle.refutation_check.specs.Walks.{IsScopeAt}
 
 -- the target that is asked for
 abbrev pub asked_target : Asked → Target
 asked_target asked = target_of asked.path.now asked.dir asked.kind
 
--- the room is made for this circuit
-pub record IsTrialRoomFor (c : Circuit) (room : TrialRoom) : Type 0 where
+-- the room is made for this circuit and these rules, with the kind of states that the rules choose
+pub record IsTrialRoomFor (a : StateAlgebra) (c : Circuit) (rules : Rules) (room : TrialRoom) : Type 0 where
+  pub chosen : a ≡ algebra_of rules
   pub cone : IsConeFor c room.cone
-  pub kept : AreTrialStates c room.kept
+  pub linked : room.cone.links ≡ links_of rules
+  pub kept : AreTrialStates a c room.kept
 
--- each pair that has these states at the sources in the fan-in of the end of the target's path is a test, or none is
-abbrev pub EachIsTest : Circuit → Target → List State → Type 0
-EachIsTest c target states = (pair : Vectors) → HasSourceStates c (end_of c target.path) states pair → Meets c target pair
+-- under each pair that has these states at the sources of the support, the states along its links may be linked, and the pair is a test
+abbrev pub EachIsTest : StateAlgebra → Circuit → LinkList → Target → List State → Type 0
+EachIsTest a c links target states = (pair : Vectors) → HasSourceStates a c links (end_of c target.path) states pair
+    → HasLinkedStates a c links (end_of c target.path) pair × Meets c target pair
 
-abbrev pub NoneIsTest : Circuit → Target → List State → Type 0
-NoneIsTest c target states = (pair : Vectors) → HasSourceStates c (end_of c target.path) states pair → ¬ Meets c target pair
+-- each such pair fails, whatever the labels are
+abbrev pub EachFails : StateAlgebra → Circuit → LinkList → Target → List State → Type 0
+EachFails a c links target states = (labels : List StateSet) (pair : Vectors)
+    → HasSourceStates a c links (end_of c target.path) states pair → FailsTrial a c links target labels pair
 
 -- and its cone is that of the end of the target's path; where it says that the last pair failed, that is so of the states that it has
-pub record IsTrialRoomAt (c : Circuit) (target : Target) (room : TrialRoom) : Type 0 where
-  pub made : IsTrialRoomFor c room
+pub record IsTrialRoomAt (a : StateAlgebra) (c : Circuit) (rules : Rules) (target : Target) (room : TrialRoom) : Type 0 where
+  pub made : IsTrialRoomFor a c rules room
   pub cone : IsConeAt c (end_of c target.path) room.cone
-  pub failed : IsTrue room.failed → NoneIsTest c target room.kept.states.items
+  pub failed : IsTrue room.failed → EachFails a c (links_of rules) target room.kept.states.items
 
--- each source in the fan-in of the end is in the state that is taken of its label
-abbrev pub AreLeastOf : Circuit → ℕ → List StateSet → List State → Type 0
-AreLeastOf c end labels states = (source : ℕ) → source < source_count c → IsInFanIn c end source
-    → IsTakenOf (label_at labels source) (state_in states source)
+-- each source in the support of the end is in the state that is taken of its label
+abbrev pub AreLeastOf : ℕ → Circuit → LinkList → ℕ → List StateSet → List State → Type 0
+AreLeastOf count c links end labels states = (source : ℕ) → source < source_count c → IsSupported c links end source
+    → IsTakenOf count (label_at labels source) (state_in states source)
+
+-- the scope is at the node of a tree for this target below these halves, which are of sources of the support
+pub record IsScopeInSupport (a : StateAlgebra) (target : Target) (halves : List Half) (standing : Standing) : Type 0 where
+  pub at : IsScopeAt a target halves standing
+  pub in_support : All (λ half. IsInSupport standing.net standing.rules target.path half.source) halves

@@ -1,6 +1,6 @@
 // The answers of a check of a tree, and of a call for the hull at a node.
 use pd_base::LineId;
-use state_sets::{FourStates, Labels};
+use state_sets::{FourStates, Labels, SixStates};
 
 /// What a check tells of a tree.
 #[derive(Clone, Copy, Debug, PartialEq, Eq)]
@@ -16,6 +16,8 @@ pub enum TreeCheck {
 pub enum Hull {
     /// The hull, in which each line has some state.
     Rest(Labels<FourStates>),
+    /// The same under linked rules, whose states tell first values too.
+    RestLinked(Labels<SixStates>),
     /// The node closes: no labels at rest have a state at this line. Which such line it is, is not said.
     Empty(LineId),
 }

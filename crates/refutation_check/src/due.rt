@@ -1,19 +1,18 @@
 // What a spent tree asks of a split: that it is due.
-ghost use Rattle.std.specs.Prelude.{◌≡◌, ◌↔◌, List, IsTrue};
+ghost use Rattle.std.specs.Prelude.{◌↔◌, List, IsTrue};
 ghost use Rattle.netlist.specs.Paths.{IsPrefix, end_of};
 ghost use Rattle.state_laws.specs.declared.half.Half.{Half};
 ghost use Rattle.implication.specs.Scopes.{standing};
 ghost use Rattle.implication.specs.Standing.{IsTold};
-ghost use Rattle.tree_laws.specs.Spent.{IsDue};
-ghost use Rattle.refutation_check.specs.Trials.{asked_target, IsTrialRoomAt};
-ghost use Rattle.refutation_check.specs.Walks.{IsScopeAt};
+ghost use Rattle.trees.specs.Spent.{IsDue};
+ghost use Rattle.refutation_check.specs.Trials.{asked_target, IsTrialRoomAt, IsScopeInSupport};
 
 use crate::asked::Asked;
 use crate::halves::has_both_halves;
 use crate::trial::{TrialRoom, is_open};
 use implication::{Scope, Setting};
 use pd_base::LineId;
-use state_sets::FourStates;
+use state_sets::Algebra;
 
 // A split of the cases at a source: by steadiness, or by the last value.
 #[derive(Clone, Copy)]
@@ -23,17 +22,17 @@ pub(crate) struct Split {
 }
 
 // Whether a split is due at the node at which the scope stands. Its number is tried before a label is looked up.
-pub(crate) fn is_due<S: Setting>(
-    scope: &Scope<FourStates, S>,
+pub(crate) fn is_due<A: Algebra, S: Setting>(
+    scope: &Scope<A, S>,
     asked: &Asked,
     room: &mut TrialRoom,
     split: Split,
 ) -> bool
     requires prefix { IsPrefix (standing scope.now).net asked.now.path.now }
     requires told { IsTold (standing scope.now) (end_of (standing scope.now).net asked.now.path.now) }
-    requires room { IsTrialRoomAt (standing scope.now).net (asked_target asked.now) room.old }
-    ensures room { IsTrialRoomAt (standing scope.now).net (asked_target asked.now) room.new }
-    ensures due { (halves : List Half) → IsScopeAt (asked_target asked.now) halves (standing scope.now)
+    requires room { IsTrialRoomAt A.algebra (standing scope.now).net (standing scope.now).rules (asked_target asked.now) room.old }
+    ensures room { IsTrialRoomAt A.algebra (standing scope.now).net (standing scope.now).rules (asked_target asked.now) room.new }
+    ensures due { (halves : List Half) → IsScopeInSupport A.algebra (asked_target asked.now) halves (standing scope.now)
         → IsTrue result ↔ IsDue (standing scope.now).net (standing scope.now).rules (asked_target asked.now) halves split.steadiness split.source }
 {
     let Split { source, steadiness } = split;
@@ -43,7 +42,7 @@ pub(crate) fn is_due<S: Setting>(
     if scope.conflict().is_some() {
         return false;
     }
-    if !has_both_halves(scope.label(LineId(source)), steadiness) {
+    if !has_both_halves::<A>(scope.label(LineId(source)), steadiness) {
         return false;
     }
     is_open(scope, asked, room)

@@ -1,74 +1,86 @@
 // The judge of trees: one engine within the ends that it is made for, which judges one tree after another. What is asked of the nodes
 // stands in refutation.rt and spent.rt.
-ghost use Rattle.std.specs.Prelude.{◌≡◌, ◌<◌, ◌↔◌, All, Some, Ok, IfOk, Contains, IsTrue};
+ghost use Rattle.std.specs.Prelude.{◌≡◌, ◌<◌, ◌^◌, ◌↔◌, All, Some, Ok, IfOk, Contains, IsTrue, length};
+ghost use Rattle.pd_base.specs.Links.{links_of};
 ghost use Rattle.pd_base.specs.Target.{target_of};
 ghost use Rattle.pd_base.specs.Pair.{Vectors};
 ghost use Rattle.pd_base.specs.Route.{Route};
 ghost use Rattle.netlist.specs.Circuit.{line_count};
 ghost use Rattle.netlist.specs.Conditions.{Meets};
+ghost use Rattle.netlist.specs.LinkedPairs.{FitRules, IsOfRules};
 ghost use Rattle.netlist.specs.Paths.{IsPrefix, IsPrefixOf, end_of};
 ghost use Rattle.state_laws.specs.Steadied.{steadied};
 ghost use Rattle.implication.specs.Standing.{IsToldBy};
-ghost use Rattle.runs.specs.declared.tree.Node.{Node};
-ghost use Rattle.tree_laws.specs.Refutations.{IsRefutation};
-ghost use Rattle.tree_laws.specs.Spent.{IsSpent};
-ghost use Rattle.tree_laws.specs.Bounds.{IsBelowBound};
-ghost use Rattle.refutation_check.specs.Answers.{TellsOfRefutation, TellsOfSpent};
+ghost use Rattle.trees.specs.declared.tree.Node.{Node};
+ghost use Rattle.trees.specs.Algebras.{algebra_of};
+ghost use Rattle.trees.specs.Faults.{IsRightInRefutation};
+ghost use Rattle.trees.specs.Refutations.{IsRefutation};
+ghost use Rattle.trees.specs.Spent.{IsSpent};
+ghost use Rattle.trees.specs.Bounds.{IsBelowBound};
+ghost use Rattle.refutation_check.specs.Answers.{TellsOfNodes, TellsOfRefutation, TellsOfSpent};
+ghost use Rattle.refutation_check.specs.Trials.{asked_target};
 
 use crate::TreeCheck;
 use crate::asked::Asked;
 use crate::dropping::drop_engine;
 use crate::refutation::refutes;
 use crate::spent::spends;
+use crate::split_ends::{refutes_apart, tells_splits};
 use crate::trial::TrialRoom;
 use crate::walk::Pending;
 use implication::{Engine, RuledNetlist};
 use netlist::Netlist;
 use pd_base::{Direction, Kind, LineId, OutOfMemory, Path, Rules};
-use runs::{Node, Tree};
-use state_sets::FourStates;
+use state_sets::Algebra;
 use std::alloc::Global;
 use std::marker::Model;
+use trees::{Node, Tree};
 
-/// A judge of trees of cases for prefixes of paths in one netlist. One serves for any number of trees, one after another: each costs what
-/// the walk over it changes in the cone of its prefix's end, and not the circuit.
+/// A judge of trees of cases for prefixes of paths in one netlist, with the kind of states that its rules choose. One serves for any number
+/// of trees, one after another: each costs what the walk over it changes in the cone of its prefix's end, and not the circuit. Only a tree
+/// that splits a linked source outside that cone may cost the circuit.
 ///
-/// Contracts see for what it is made: the circuit, the rules under which the trees were grown, and the lines in whose fan-in the
+/// Contracts see for what it is made: the circuit, the rules under which the trees were grown, and the lines in whose support the
 /// prefixes end that it can judge.
 // No Debug: it would print the labels of all lines, and all private types within would need it.
 #[derive(Drop)]
-pub struct TreeJudge<'n> {
-    engine: Engine<FourStates, RuledNetlist<'n>>,
+pub struct TreeJudge<'n, A: Algebra> {
+    alloc: Global,
+    engine: Engine<A, RuledNetlist<'n>>,
     // the second halves that the walk over a tree has put off
     pending: Vec<Pending>,
     room: TrialRoom,
 }
 
-impl<'n> Model for TreeJudge<'n> {
+impl<'n, A: Algebra> Model for TreeJudge<'n, A> {
     ghost use Rattle.refutation_check.specs.Judges.{MadeFor, IsJudgeReady};
 
     ghost Value = { MadeFor };
 
     ghost view = { λ j. record { net = j.engine.net; rules = j.engine.rules; ends = j.engine.ends } };
 
-    ghost invariant = { λ j. IsJudgeReady j.engine j.room };
+    ghost invariant = { λ j. IsJudgeReady A.algebra j.engine j.room };
 }
 
-impl<'n> TreeJudge<'n> {
-    /// A judge for trees under these rules, for the prefixes that end in the fan-in of one of these lines. It costs the circuit once, and
-    /// fails only where memory runs out.
+impl<'n, A: Algebra> TreeJudge<'n, A> {
+    /// A judge for trees under these rules, for the prefixes that end in the support of one of these lines, with the kind of states that
+    /// the rules choose. It costs the circuit once, and fails only where memory runs out.
     pub fn new(
         alloc: Global,
         net: &'n Netlist,
         rules: &'n Rules,
         ends: &[LineId],
-    ) -> Result<TreeJudge<'n>, OutOfMemory>
-        requires { All (λ end. end.0 < line_count net.now) ends.now }
+    ) -> Result<TreeJudge<'n, A>, OutOfMemory>
+        requires chosen { A.algebra ≡ algebra_of rules.now }
+        requires fit { FitRules net.now rules.now }
+        requires few { length (links_of rules.now) < 2 ^ 30 }
+        requires ends { All (λ end. end.0 < line_count net.now) ends.now }
         ensures { IfOk result (λ judge. judge ≡ record { net = net.now; rules = rules.now; ends = Some ends.now }) }
     {
-        let room = TrialRoom::new(alloc, net)?;
+        let room = TrialRoom::new::<A>(alloc, net, rules)?;
         let engine = Engine::within(alloc, RuledNetlist { net, rules }, ends)?;
         Ok(TreeJudge {
+            alloc,
             engine,
             pending: Vec::new(alloc),
             room,
@@ -86,22 +98,48 @@ impl<'n> TreeJudge<'n> {
         tree: &Tree,
     ) -> Result<TreeCheck, OutOfMemory>
         requires prefix { IsPrefix self.old.net prefix.now }
-        requires told { IsToldBy self.old.net self.old.ends (end_of self.old.net prefix.now) }
+        requires told { IsToldBy self.old.net (links_of self.old.rules) self.old.ends (end_of self.old.net prefix.now) }
         ensures same { self.new ≡ self.old }
         ensures tells { IfOk result (TellsOfRefutation self.old.net self.old.rules (target_of prefix.now dir kind) tree.now) }
         ensures exactly { IfOk result (λ check.
             (check ≡ TreeCheck.Yes) ↔ IsRefutation self.old.net self.old.rules (target_of prefix.now dir kind) tree.now) }
 
-        // whatever the rules, no pair meets the conditions of a refuted prefix, nor those of a path with this prefix
+        // no pair of the rules meets the conditions of a refuted prefix, nor those of a path with this prefix
         ensures excludes { result ≡ Ok TreeCheck.Yes → (path : Route) → IsPrefix self.old.net path → IsPrefixOf prefix.now path
-            → (pair : Vectors) → ¬ Meets self.old.net (target_of path dir kind) pair }
+            → (pair : Vectors) → IsOfRules self.old.net self.old.rules pair → ¬ Meets self.old.net (target_of path dir kind) pair }
         // steadying a pair at the other sources, as rules Two ask, loses no test
         ensures steadied { (pair : Vectors) → Meets self.old.net (target_of prefix.now dir kind) pair
             → Meets self.old.net (target_of prefix.now dir kind) (steadied self.old.net prefix.now.source.0 pair) }
     {
         // a netlist knows itself as a circuit
         let _ = self.engine.net().sources();
-        refutes(&mut self.engine, &mut self.pending, prefix, dir, kind, tree)
+        let asked = Asked {
+            path: prefix,
+            dir,
+            kind,
+        };
+        self.refutes_on(&asked, tree)
+    }
+
+    // What the nodes of a tree tell, on the judge's engine, or where that does not tell the sources that the tree splits, on one that does.
+    fn refutes_on(&mut self, asked: &Asked, tree: &Tree) -> Result<TreeCheck, OutOfMemory>
+        requires prefix { IsPrefix self.old.net asked.now.path.now }
+        requires told { IsToldBy self.old.net (links_of self.old.rules) self.old.ends (end_of self.old.net asked.now.path.now) }
+        ensures same { self.new ≡ self.old }
+        ensures fit { FitRules self.old.net self.old.rules }
+        ensures tells { IfOk result (TellsOfNodes (IsRightInRefutation self.old.net self.old.rules (asked_target asked.now)) tree.now) }
+    {
+        if tells_splits(&self.engine, tree.nodes()) {
+            return refutes(&mut self.engine, &mut self.pending, asked, tree);
+        }
+        refutes_apart::<A>(
+            self.alloc,
+            self.engine.net(),
+            self.engine.rules(),
+            &mut self.pending,
+            asked,
+            tree,
+        )
     }
 
     /// Whether a tree shows that a budget was spent on a path and a transition under the conditions of a kind of test. No(0) where it has
@@ -119,7 +157,7 @@ impl<'n> TreeJudge<'n> {
         tree: &Tree,
     ) -> Result<TreeCheck, OutOfMemory>
         requires prefix { IsPrefix self.old.net path.now }
-        requires told { IsToldBy self.old.net self.old.ends (end_of self.old.net path.now) }
+        requires told { IsToldBy self.old.net (links_of self.old.rules) self.old.ends (end_of self.old.net path.now) }
         ensures same { self.new ≡ self.old }
         ensures tells { IfOk result (TellsOfSpent self.old.net self.old.rules (target_of path.now dir kind) budget tree.now) }
         ensures exactly { IfOk result (λ check.

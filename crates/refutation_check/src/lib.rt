@@ -1,6 +1,6 @@
 //! Whether a tree of cases refutes, and whether it shows that a budget was spent; if not, which node is first at fault. And the hull at
 //! a node of a tree.
-//! Stands on implication, tree_laws and test_judging.
+//! Under any rules, with the kind of states that they choose. Stands on implication, trees and pair_judging.
 //! The layers above use the contracts of `TreeJudge`, `check_tree`, `check_spent` and `hull`.
 #![tactic(auto)]
 
@@ -15,6 +15,7 @@ mod node_hull;
 mod refutation;
 mod single;
 mod spent;
+mod split_ends;
 mod trial;
 mod trial_states;
 mod walk;

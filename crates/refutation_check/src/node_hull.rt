@@ -1,29 +1,35 @@
 // The hull at a node of a tree of cases: a scope of an engine that tells all lines enters the pins of a prefix, assumes the halves above
-// the node, and gives its labels. How a scope comes to the root of a tree stands in entering.rt, and how it goes down in walk.rt.
-ghost use Rattle.std.specs.Prelude.{◌≡◌, ◌<◌, [], List, None, All, IfOk, length};
+// the node, and gives its labels. How a scope comes to the root of a tree stands in entering.rt, and how it goes down in walk.rt. No
+// command asks for this hull. It is a scope, so that there is one start and one way to settle.
+ghost use Rattle.std.specs.Prelude.{◌≡◌, ◌<◌, ◌^◌, [], List, None, All, IfOk, length};
+ghost use Rattle.pd_base.specs.Links.{links_of};
 ghost use Rattle.pd_base.specs.Target.{Target, target_of};
 ghost use Rattle.netlist.specs.Circuit.{source_count, line_count};
+ghost use Rattle.netlist.specs.LinkedPairs.{FitRules};
 ghost use Rattle.netlist.specs.Paths.{IsPrefix};
 ghost use Rattle.state_laws.specs.declared.half.Half.{Half};
 ghost use Rattle.implication.specs.Scopes.{standing};
-ghost use Rattle.tree_laws.specs.Settings.{IsSameSetting};
-ghost use Rattle.refutation_check.specs.NodeHulls.{IsAtNode, LosesNoPair, DecidesSingletons};
+ghost use Rattle.implication.specs.Settings.{IsSameSetting};
+ghost use Rattle.refutation_check.specs.NodeHulls.{IsAtNode, IsFoundAt, LosesNoPair, DecidesSingletons};
+ghost use Rattle.refutation_check.specs.Trials.{asked_target};
 ghost use Rattle.refutation_check.specs.Walks.{IsScopeAt};
 
 use crate::Hull;
+use crate::asked::Asked;
 use crate::dropping::drop_engine;
-use crate::entering::enter_all;
+use crate::entering::enter_root;
 use crate::walk::assume_half;
 use implication::{Engine, RuledNetlist, Scope, Setting};
 use netlist::Netlist;
-use pd_base::{Direction, Kind, OutOfMemory, Path, Rules};
+use pd_base::{Direction, Kind, LineId, OutOfMemory, Path, Rules};
 use state_laws::Half;
-use state_sets::{FourStates, Labels, StateSet};
+use state_sets::{Algebra, FourStates, Labels, SixStates, StateSet};
 use std::alloc::Global;
 
 /// The hull at a node: the greatest labels that no narrowing changes, under the conditions of the kind at the gates of the prefix,
-/// where the prefix's source launches the transition, the other sources start as the rules leave them, and each source of a half has
-/// only states of the half. It fails only where memory runs out, of which it takes some bytes for each line and each gate.
+/// where the prefix's source launches the transition, the other sources start as the rules leave them, each source of a half has only
+/// states of the half, and the links of the rules stand. Under linked rules states are of the six, and else of the four. It fails only
+/// where memory runs out, of which it takes some bytes for each line and each gate.
 pub fn hull(
     alloc: Global,
     net: &Netlist,
@@ -33,48 +39,98 @@ pub fn hull(
     kind: Kind,
     halves: &[Half],
 ) -> Result<Hull, OutOfMemory>
+    requires fit { FitRules net.now rules.now }
+    requires few { length (links_of rules.now) < 2 ^ 30 }
     requires prefix { IsPrefix net.now prefix.now }
     requires sources { All (λ half. half.source < source_count net.now) halves.now }
     ensures hull { IfOk result (IsAtNode net.now rules.now (target_of prefix.now dir kind) halves.now) }
 
-    // no pair of vectors is lost that the rules admit, and singletons decide
+    // no pair of the rules is lost, and singletons decide
     ensures pairs { IfOk result (LosesNoPair net.now rules.now (target_of prefix.now dir kind) halves.now) }
-    ensures singletons { IfOk result (DecidesSingletons net.now (target_of prefix.now dir kind)) }
+    ensures singletons { IfOk result (DecidesSingletons net.now rules.now (target_of prefix.now dir kind)) }
 {
     // a netlist knows itself as a circuit
     let _ = net.sources();
-    let mut engine = Engine::new(alloc, RuledNetlist { net, rules })?;
-    let found = hull_on(alloc, &mut engine, prefix, dir, kind, halves);
+    let asked = Asked {
+        path: prefix,
+        dir,
+        kind,
+    };
+    hull_by_rules(alloc, net, rules, &asked, halves)
+}
+
+// The same with the kind of states that the rules choose, without what it tells of pairs.
+fn hull_by_rules(
+    alloc: Global,
+    net: &Netlist,
+    rules: &Rules,
+    asked: &Asked,
+    halves: &[Half],
+) -> Result<Hull, OutOfMemory>
+    requires fit { FitRules net.now rules.now }
+    requires few { length (links_of rules.now) < 2 ^ 30 }
+    requires prefix { IsPrefix net.now asked.now.path.now }
+    requires sources { All (λ half. half.source < source_count net.now) halves.now }
+    ensures { IfOk result (IsAtNode net.now rules.now (asked_target asked.now) halves.now) }
+{
+    match rules {
+        Rules::One | Rules::Two => {
+            let found = hull_at::<FourStates>(alloc, net, rules, asked, halves)?;
+            Ok(found.map_or_else(Hull::Empty, Hull::Rest))
+        }
+        Rules::Linked(_) => {
+            let found = hull_at::<SixStates>(alloc, net, rules, asked, halves)?;
+            Ok(found.map_or_else(Hull::Empty, Hull::RestLinked))
+        }
+    }
+}
+
+// What is found at a node with one kind of states.
+fn hull_at<A: Algebra>(
+    alloc: Global,
+    net: &Netlist,
+    rules: &Rules,
+    asked: &Asked,
+    halves: &[Half],
+) -> Result<Result<Labels<A>, LineId>, OutOfMemory>
+    requires fit { FitRules net.now rules.now }
+    requires few { length (links_of rules.now) < 2 ^ 30 }
+    requires prefix { IsPrefix net.now asked.now.path.now }
+    requires sources { All (λ half. half.source < source_count net.now) halves.now }
+    ensures { IfOk result (IsFoundAt A.algebra net.now rules.now (asked_target asked.now) halves.now) }
+{
+    let mut engine = Engine::<A, RuledNetlist>::new(alloc, RuledNetlist { net, rules })?;
+    let found = hull_on(alloc, &mut engine, asked, halves);
     drop_engine(engine);
     found
 }
 
-// The same on an engine that tells all lines and on which no scope is open, without what it tells of pairs.
-fn hull_on<S: Setting>(
+// The same on an engine that tells all lines and on which no scope is open.
+fn hull_on<A: Algebra, S: Setting>(
     alloc: Global,
-    engine: &mut Engine<FourStates, S>,
-    prefix: &Path,
-    dir: Direction,
-    kind: Kind,
+    engine: &mut Engine<A, S>,
+    asked: &Asked,
     halves: &[Half],
-) -> Result<Hull, OutOfMemory>
+) -> Result<Result<Labels<A>, LineId>, OutOfMemory>
     requires idle { engine.old.beginning ≡ None }
     requires all_told { engine.old.ends ≡ None }
-    requires prefix { IsPrefix engine.old.net prefix.now }
+    requires prefix { IsPrefix engine.old.net asked.now.path.now }
     requires sources { All (λ half. half.source < source_count engine.old.net) halves.now }
-    ensures { IfOk result (IsAtNode engine.old.net engine.old.rules (target_of prefix.now dir kind) halves.now) }
+    ensures { IfOk result (IsFoundAt A.algebra engine.old.net engine.old.rules (asked_target asked.now) halves.now) }
 {
-    let mut scope = Scope::begin(engine, prefix.source(), dir, kind);
-    enter_all(&mut scope, prefix);
+    let prefix = asked.path;
+    let mut scope = Scope::begin(engine, prefix.source(), asked.dir, asked.kind);
+    enter_root(&mut scope, prefix);
     assume_halves(&mut scope, halves);
     hull_of(alloc, &scope)
 }
 
 // Assumes halves one after another, down from the root of a tree.
-fn assume_halves<S: Setting>(scope: &mut Scope<FourStates, S>, halves: &[Half])
+fn assume_halves<A: Algebra, S: Setting>(scope: &mut Scope<A, S>, halves: &[Half])
+    requires all_told { (standing scope.old).ends ≡ None }
     requires sources { All (λ half. half.source < source_count (standing scope.old).net) halves.now }
     ensures setting { IsSameSetting (standing scope.old) (standing scope.new) }
-    ensures below { (target : Target) → IsScopeAt target [] (standing scope.old) → IsScopeAt target halves.now (standing scope.new) }
+    ensures below { (target : Target) → IsScopeAt A.algebra target [] (standing scope.old) → IsScopeAt A.algebra target halves.now (standing scope.new) }
 {
     for half in halves {
         assume_half(scope, *half);
@@ -82,24 +138,27 @@ fn assume_halves<S: Setting>(scope: &mut Scope<FourStates, S>, halves: &[Half])
 }
 
 // The hull at the node at which a scope stands.
-fn hull_of<S: Setting>(alloc: Global, scope: &Scope<FourStates, S>) -> Result<Hull, OutOfMemory>
+fn hull_of<A: Algebra, S: Setting>(
+    alloc: Global,
+    scope: &Scope<A, S>,
+) -> Result<Result<Labels<A>, LineId>, OutOfMemory>
     requires all_told { (standing scope.now).ends ≡ None }
-    ensures { (target : Target) (halves : List Half) → IsScopeAt target halves (standing scope.now)
-        → IfOk result (IsAtNode (standing scope.now).net (standing scope.now).rules target halves) }
+    ensures { (target : Target) (halves : List Half) → IsScopeAt A.algebra target halves (standing scope.now)
+        → IfOk result (IsFoundAt A.algebra (standing scope.now).net (standing scope.now).rules target halves) }
 {
     if let Some(conflict) = scope.conflict() {
-        return Ok(Hull::Empty(conflict.0));
+        return Ok(Err(conflict.0));
     }
     let labels = labels_of(alloc, scope.net(), scope.labels())?;
-    Ok(Hull::Rest(labels))
+    Ok(Ok(labels))
 }
 
 // Labels with these sets.
-fn labels_of(
+fn labels_of<A: Algebra>(
     alloc: Global,
     net: &Netlist,
     sets: &[StateSet],
-) -> Result<Labels<FourStates>, OutOfMemory>
+) -> Result<Labels<A>, OutOfMemory>
     requires { length sets.now ≡ line_count net.now }
     ensures { IfOk result (λ labels. labels ≡ sets.now) }
 {

@@ -1,56 +1,60 @@
 // Whether a tree refutes: what is asked of each node, on a scope that walks over it.
-ghost use Rattle.std.specs.Prelude.{◌≡◌, ◌↔◌, [], List, None, IfOk, IsTrue};
-ghost use Rattle.pd_base.specs.Target.{Target, target_of};
+ghost use Rattle.std.specs.Prelude.{◌≡◌, ◌↔◌, [], List, None, All, IfOk, IsTrue};
+ghost use Rattle.pd_base.specs.Target.{Target};
 ghost use Rattle.netlist.specs.Paths.{IsPrefix, end_of};
 ghost use Rattle.state_laws.specs.declared.half.Half.{Half};
 ghost use Rattle.implication.specs.Scopes.{IsSameScope, standing};
 ghost use Rattle.implication.specs.Standing.{IsTold};
 ghost use Rattle.implication.specs.declared.assumption.Origin.TheVariants.{Begun};
-ghost use Rattle.tree_laws.specs.Faults.{IsRightInRefutation};
-ghost use Rattle.tree_laws.specs.Settings.{IsSameSetting};
-ghost use Rattle.refutation_check.specs.Walks.{IsScopeAt, IsRoot};
+ghost use Rattle.trees.specs.Faults.{RefutesAtNode};
+ghost use Rattle.implication.specs.Settings.{IsSameSetting};
+ghost use Rattle.refutation_check.specs.Trials.{asked_target};
+ghost use Rattle.refutation_check.specs.Walks.{IsScopeAt, IsRoot, IsToldAt};
 ghost use Rattle.refutation_check.specs.Answers.{TellsOfNodes, IsIdleOn};
 
 use crate::TreeCheck;
-use crate::entering::enter_all;
+use crate::asked::Asked;
+use crate::entering::enter_root;
 use crate::walk::{Pending, pass};
 use implication::{Engine, Scope, Setting};
-use pd_base::{Direction, Kind, OutOfMemory, Path};
-use runs::{Node, Tree};
-use state_sets::FourStates;
+use pd_base::OutOfMemory;
+use state_sets::Algebra;
+use trees::{Node, Tree};
 
-// Whether each node of a tree is as a refutation asks for a prefix, a transition and a kind of test, on an engine on which no scope is open.
-pub(crate) fn refutes<S: Setting>(
-    engine: &mut Engine<FourStates, S>,
+// Whether each node of a tree is as a refutation asks for a prefix, a transition and a kind of test, on an engine on which no scope is open
+// and which tells the sources that the tree splits.
+pub(crate) fn refutes<A: Algebra, S: Setting>(
+    engine: &mut Engine<A, S>,
     pending: &mut Vec<Pending>,
-    prefix: &Path,
-    dir: Direction,
-    kind: Kind,
+    asked: &Asked,
     tree: &Tree,
 ) -> Result<TreeCheck, OutOfMemory>
     requires idle { engine.old.beginning ≡ None }
-    requires prefix { IsPrefix engine.old.net prefix.now }
-    requires told { IsTold engine.old (end_of engine.old.net prefix.now) }
+    requires prefix { IsPrefix engine.old.net asked.now.path.now }
+    requires told { IsTold engine.old (end_of engine.old.net asked.now.path.now) }
+    requires splits { All (IsToldAt engine.old) tree.now }
     ensures idle { IsIdleOn engine.old engine.new }
-    ensures tells { IfOk result (TellsOfNodes (IsRightInRefutation engine.old.net engine.old.rules (target_of prefix.now dir kind)) tree.now) }
+    ensures tells { IfOk result (TellsOfNodes (RefutesAtNode A.algebra engine.old.net engine.old.rules (asked_target asked.now)) tree.now) }
 {
-    let mut scope = Scope::begin(engine, prefix.source(), dir, kind);
-    enter_all(&mut scope, prefix);
+    let prefix = asked.path;
+    let mut scope = Scope::begin(engine, prefix.source(), asked.dir, asked.kind);
+    enter_root(&mut scope, prefix);
     walk_refutation(&mut scope, pending, tree)
 }
 
 // The same on a scope that stands at the root.
-fn walk_refutation<S: Setting>(
-    scope: &mut Scope<FourStates, S>,
+fn walk_refutation<A: Algebra, S: Setting>(
+    scope: &mut Scope<A, S>,
     pending: &mut Vec<Pending>,
     tree: &Tree,
 ) -> Result<TreeCheck, OutOfMemory>
     requires begun { scope.old.origin ≡ Begun }
-    requires root { IsRoot (standing scope.old) }
+    requires root { IsRoot A.algebra (standing scope.old) }
+    requires splits { All (IsToldAt (standing scope.old)) tree.now }
     ensures scope { IsSameScope scope.old scope.new }
     ensures setting { IsSameSetting (standing scope.old) (standing scope.new) }
-    ensures tells { (target : Target) → IsScopeAt target [] (standing scope.old)
-        → IfOk result (TellsOfNodes (IsRightInRefutation (standing scope.old).net (standing scope.old).rules target) tree.now) }
+    ensures tells { (target : Target) → IsScopeAt A.algebra target [] (standing scope.old)
+        → IfOk result (TellsOfNodes (RefutesAtNode A.algebra (standing scope.old).net (standing scope.old).rules target) tree.now) }
 {
     pending.clear();
     for (place, node) in tree.nodes().iter().enumerate() {
@@ -63,9 +67,9 @@ fn walk_refutation<S: Setting>(
 }
 
 // Whether a node is as a refutation asks.
-fn refutes_at<S: Setting>(scope: &Scope<FourStates, S>, node: Node) -> bool
-    ensures { (target : Target) (halves : List Half) → IsScopeAt target halves (standing scope.now)
-        → IsTrue result ↔ IsRightInRefutation (standing scope.now).net (standing scope.now).rules target halves node }
+fn refutes_at<A: Algebra, S: Setting>(scope: &Scope<A, S>, node: Node) -> bool
+    ensures { (target : Target) (halves : List Half) → IsScopeAt A.algebra target halves (standing scope.now)
+        → IsTrue result ↔ RefutesAtNode A.algebra (standing scope.now).net (standing scope.now).rules target halves node }
 {
     match node {
         Node::Closed => scope.conflict().is_some(),

@@ -1,22 +1,30 @@
-// Single trees, each judged by a judge of its own.
-ghost use Rattle.std.specs.Prelude.{◌≡◌, ◌↔◌, Ok, IfOk};
+// Single trees, each judged on its own, with the kind of states that the rules choose.
+ghost use Rattle.std.specs.Prelude.{◌≡◌, ◌<◌, ◌^◌, ◌↔◌, Ok, IfOk, length};
+ghost use Rattle.pd_base.specs.Links.{links_of};
 ghost use Rattle.pd_base.specs.Target.{target_of};
 ghost use Rattle.pd_base.specs.Pair.{Vectors};
 ghost use Rattle.pd_base.specs.Route.{Route};
 ghost use Rattle.netlist.specs.Conditions.{Meets};
+ghost use Rattle.netlist.specs.LinkedPairs.{FitRules, IsOfRules};
 ghost use Rattle.netlist.specs.Paths.{IsPrefix, IsPrefixOf};
 ghost use Rattle.state_laws.specs.Steadied.{steadied};
-ghost use Rattle.tree_laws.specs.Refutations.{IsRefutation};
-ghost use Rattle.tree_laws.specs.Spent.{IsSpent};
-ghost use Rattle.tree_laws.specs.Bounds.{IsBelowBound};
-ghost use Rattle.refutation_check.specs.Answers.{TellsOfRefutation, TellsOfSpent};
+ghost use Rattle.trees.specs.Algebras.{algebra_of};
+ghost use Rattle.trees.specs.Faults.{IsRightInRefutation};
+ghost use Rattle.trees.specs.Refutations.{IsRefutation};
+ghost use Rattle.trees.specs.Spent.{IsSpent};
+ghost use Rattle.trees.specs.Bounds.{IsBelowBound};
+ghost use Rattle.refutation_check.specs.Answers.{TellsOfNodes, TellsOfRefutation, TellsOfSpent};
+ghost use Rattle.refutation_check.specs.Trials.{asked_target};
 
+use crate::asked::Asked;
+use crate::split_ends::refutes_apart;
 use crate::{TreeCheck, TreeJudge};
 use netlist::Netlist;
+use pair_judging::end_of;
 use pd_base::{Direction, Kind, OutOfMemory, Path, Rules};
-use runs::Tree;
+use state_sets::{Algebra, FourStates, SixStates};
 use std::alloc::Global;
-use test_judging::end_of;
+use trees::Tree;
 
 /// Whether a tree refutes the conditions of a kind of test for a prefix and a transition, under these rules. No names the first node
 /// in preorder that is at fault: an open leaf, a closed leaf whose node does not close, or a split on a number that is no source. It
@@ -31,25 +39,52 @@ pub fn check_tree(
     kind: Kind,
     tree: &Tree,
 ) -> Result<TreeCheck, OutOfMemory>
-    requires { IsPrefix net.now prefix.now }
+    requires fit { FitRules net.now rules.now }
+    requires few { length (links_of rules.now) < 2 ^ 30 }
+    requires prefix { IsPrefix net.now prefix.now }
     ensures tells { IfOk result (TellsOfRefutation net.now rules.now (target_of prefix.now dir kind) tree.now) }
     ensures exactly { IfOk result (λ check.
         (check ≡ TreeCheck.Yes) ↔ IsRefutation net.now rules.now (target_of prefix.now dir kind) tree.now) }
 
-    // whatever the rules, no pair meets the conditions of a refuted prefix, nor those of a path with this prefix
+    // no pair of the rules meets the conditions of a refuted prefix, nor those of a path with this prefix
     ensures excludes { result ≡ Ok TreeCheck.Yes → (path : Route) → IsPrefix net.now path → IsPrefixOf prefix.now path
-        → (pair : Vectors) → ¬ Meets net.now (target_of path dir kind) pair }
+        → (pair : Vectors) → IsOfRules net.now rules.now pair → ¬ Meets net.now (target_of path dir kind) pair }
     // steadying a pair at the other sources, as rules Two ask, loses no test
     ensures steadied { (pair : Vectors) → Meets net.now (target_of prefix.now dir kind) pair
         → Meets net.now (target_of prefix.now dir kind) (steadied net.now prefix.now.source.0 pair) }
 {
     // a netlist knows itself as a circuit
     let _ = net.lines();
-    let ends = [end_of(net, prefix)];
-    let mut judge = TreeJudge::new(alloc, net, rules, &ends)?;
-    let told = judge.check_tree(prefix, dir, kind, tree);
-    judge.drop_judge();
-    told
+    let asked = Asked {
+        path: prefix,
+        dir,
+        kind,
+    };
+    refutes_by_rules(alloc, net, rules, &asked, tree)
+}
+
+// What the nodes tell, with the kind of states that the rules choose.
+fn refutes_by_rules(
+    alloc: Global,
+    net: &Netlist,
+    rules: &Rules,
+    asked: &Asked,
+    tree: &Tree,
+) -> Result<TreeCheck, OutOfMemory>
+    requires fit { FitRules net.now rules.now }
+    requires few { length (links_of rules.now) < 2 ^ 30 }
+    requires prefix { IsPrefix net.now asked.now.path.now }
+    ensures { IfOk result (TellsOfNodes (IsRightInRefutation net.now rules.now (asked_target asked.now)) tree.now) }
+{
+    let mut pending = Vec::new(alloc);
+    match rules {
+        Rules::One | Rules::Two => {
+            refutes_apart::<FourStates>(alloc, net, rules, &mut pending, asked, tree)
+        }
+        Rules::Linked(_) => {
+            refutes_apart::<SixStates>(alloc, net, rules, &mut pending, asked, tree)
+        }
+    }
 }
 
 /// Whether a tree shows that a budget was spent on a path and a transition under the conditions of a kind of test, under these rules.
@@ -69,15 +104,58 @@ pub fn check_spent(
     budget: u32,
     tree: &Tree,
 ) -> Result<TreeCheck, OutOfMemory>
-    requires { IsPrefix net.now path.now }
+    requires fit { FitRules net.now rules.now }
+    requires few { length (links_of rules.now) < 2 ^ 30 }
+    requires prefix { IsPrefix net.now path.now }
     ensures tells { IfOk result (TellsOfSpent net.now rules.now (target_of path.now dir kind) budget tree.now) }
     ensures exactly { IfOk result (λ check.
         (check ≡ TreeCheck.Yes) ↔ IsSpent net.now rules.now (target_of path.now dir kind) budget tree.now) }
     ensures bound { result ≡ Ok TreeCheck.Yes → IsBelowBound net.now rules.now path.now budget }
 {
-    let ends = [end_of(net, path)];
-    let mut judge = TreeJudge::new(alloc, net, rules, &ends)?;
-    let told = judge.check_spent(path, dir, kind, budget, tree);
+    let asked = Asked { path, dir, kind };
+    spends_by_rules(alloc, net, rules, &asked, budget, tree)
+}
+
+// What the tree tells, with the kind of states that the rules choose.
+fn spends_by_rules(
+    alloc: Global,
+    net: &Netlist,
+    rules: &Rules,
+    asked: &Asked,
+    budget: u32,
+    tree: &Tree,
+) -> Result<TreeCheck, OutOfMemory>
+    requires fit { FitRules net.now rules.now }
+    requires few { length (links_of rules.now) < 2 ^ 30 }
+    requires prefix { IsPrefix net.now asked.now.path.now }
+    ensures { IfOk result (TellsOfSpent net.now rules.now (asked_target asked.now) budget tree.now) }
+{
+    match rules {
+        Rules::One | Rules::Two => {
+            spends_with::<FourStates>(alloc, net, rules, asked, budget, tree)
+        }
+        Rules::Linked(_) => spends_with::<SixStates>(alloc, net, rules, asked, budget, tree),
+    }
+}
+
+// The same with one kind of states.
+fn spends_with<A: Algebra>(
+    alloc: Global,
+    net: &Netlist,
+    rules: &Rules,
+    asked: &Asked,
+    budget: u32,
+    tree: &Tree,
+) -> Result<TreeCheck, OutOfMemory>
+    requires chosen { A.algebra ≡ algebra_of rules.now }
+    requires fit { FitRules net.now rules.now }
+    requires few { length (links_of rules.now) < 2 ^ 30 }
+    requires prefix { IsPrefix net.now asked.now.path.now }
+    ensures { IfOk result (TellsOfSpent net.now rules.now (asked_target asked.now) budget tree.now) }
+{
+    let ends = [end_of(net, asked.path)];
+    let mut judge = TreeJudge::<A>::new(alloc, net, rules, &ends)?;
+    let told = judge.check_spent(asked.path, asked.dir, asked.kind, budget, tree);
     judge.drop_judge();
     told
 }

@@ -6,27 +6,27 @@ ghost use Rattle.state_laws.specs.declared.half.Half.{Half};
 ghost use Rattle.implication.specs.Scopes.{IsSameScope, standing};
 ghost use Rattle.implication.specs.Standing.{IsTold};
 ghost use Rattle.implication.specs.declared.assumption.Origin.TheVariants.{Begun};
-ghost use Rattle.tree_laws.specs.Faults.{IsRightInSpent};
-ghost use Rattle.tree_laws.specs.Settings.{IsSameSetting};
+ghost use Rattle.trees.specs.Faults.{IsRightInSpent};
+ghost use Rattle.implication.specs.Settings.{IsSameSetting};
 ghost use Rattle.refutation_check.specs.Answers.{TellsOfNodes, IsIdleOn};
-ghost use Rattle.refutation_check.specs.Trials.{asked_target, IsTrialRoomFor, IsTrialRoomAt};
+ghost use Rattle.refutation_check.specs.Trials.{asked_target, IsTrialRoomFor, IsTrialRoomAt, IsScopeInSupport};
 ghost use Rattle.refutation_check.specs.Walks.{IsScopeAt};
 
 use crate::TreeCheck;
 use crate::asked::Asked;
 use crate::due::{Split, is_due};
-use crate::entering::enter_all;
+use crate::entering::enter_root;
 use crate::trial::{TrialRoom, is_open};
 use crate::walk::{Pending, pass};
 use implication::{Engine, Scope, Setting};
+use pair_judging::end_of;
 use pd_base::OutOfMemory;
-use runs::{Node, Tree};
-use state_sets::FourStates;
-use test_judging::end_of;
+use state_sets::Algebra;
+use trees::{Node, Tree};
 
 // Whether each node of a tree is as a tree asks that spent its budget, on an engine on which no scope is open.
-pub(crate) fn spends<S: Setting>(
-    engine: &mut Engine<FourStates, S>,
+pub(crate) fn spends<A: Algebra, S: Setting>(
+    engine: &mut Engine<A, S>,
     pending: &mut Vec<Pending>,
     room: &mut TrialRoom,
     asked: &Asked,
@@ -35,14 +35,14 @@ pub(crate) fn spends<S: Setting>(
     requires idle { engine.old.beginning ≡ None }
     requires prefix { IsPrefix engine.old.net asked.now.path.now }
     requires told { IsTold engine.old (end_of engine.old.net asked.now.path.now) }
-    requires room { IsTrialRoomFor engine.old.net room.old }
+    requires room { IsTrialRoomFor A.algebra engine.old.net engine.old.rules room.old }
     ensures idle { IsIdleOn engine.old engine.new }
-    ensures room { IsTrialRoomFor engine.old.net room.new }
+    ensures room { IsTrialRoomFor A.algebra engine.old.net engine.old.rules room.new }
     ensures tells { IfOk result (TellsOfNodes (IsRightInSpent engine.old.net engine.old.rules (asked_target asked.now)) tree.now) }
 {
     let path = asked.path;
     let mut scope = Scope::begin(engine, path.source(), asked.dir, asked.kind);
-    enter_all(&mut scope, path);
+    enter_root(&mut scope, path);
     let net = scope.net();
     room.cone.set_end(net, end_of(net, path));
     room.failed = false;
@@ -50,8 +50,8 @@ pub(crate) fn spends<S: Setting>(
 }
 
 // The same on a scope that stands at the root.
-fn walk_spent<S: Setting>(
-    scope: &mut Scope<FourStates, S>,
+fn walk_spent<A: Algebra, S: Setting>(
+    scope: &mut Scope<A, S>,
     pending: &mut Vec<Pending>,
     room: &mut TrialRoom,
     asked: &Asked,
@@ -60,11 +60,11 @@ fn walk_spent<S: Setting>(
     requires begun { scope.old.origin ≡ Begun }
     requires prefix { IsPrefix (standing scope.old).net asked.now.path.now }
     requires told { IsTold (standing scope.old) (end_of (standing scope.old).net asked.now.path.now) }
-    requires root { IsScopeAt (asked_target asked.now) [] (standing scope.old) }
-    requires room { IsTrialRoomAt (standing scope.old).net (asked_target asked.now) room.old }
+    requires root { IsScopeAt A.algebra (asked_target asked.now) [] (standing scope.old) }
+    requires room { IsTrialRoomAt A.algebra (standing scope.old).net (standing scope.old).rules (asked_target asked.now) room.old }
     ensures scope { IsSameScope scope.old scope.new }
     ensures setting { IsSameSetting (standing scope.old) (standing scope.new) }
-    ensures room { IsTrialRoomAt (standing scope.old).net (asked_target asked.now) room.new }
+    ensures room { IsTrialRoomAt A.algebra (standing scope.old).net (standing scope.old).rules (asked_target asked.now) room.new }
     ensures tells { IfOk result (TellsOfNodes (IsRightInSpent (standing scope.old).net (standing scope.old).rules (asked_target asked.now)) tree.now) }
 {
     pending.clear();
@@ -78,17 +78,17 @@ fn walk_spent<S: Setting>(
 }
 
 // Whether a node is as a spent tree asks.
-fn is_right_at<S: Setting>(
-    scope: &Scope<FourStates, S>,
+fn is_right_at<A: Algebra, S: Setting>(
+    scope: &Scope<A, S>,
     asked: &Asked,
     room: &mut TrialRoom,
     node: Node,
 ) -> bool
     requires prefix { IsPrefix (standing scope.now).net asked.now.path.now }
     requires told { IsTold (standing scope.now) (end_of (standing scope.now).net asked.now.path.now) }
-    requires room { IsTrialRoomAt (standing scope.now).net (asked_target asked.now) room.old }
-    ensures room { IsTrialRoomAt (standing scope.now).net (asked_target asked.now) room.new }
-    ensures right { (halves : List Half) → IsScopeAt (asked_target asked.now) halves (standing scope.now)
+    requires room { IsTrialRoomAt A.algebra (standing scope.now).net (standing scope.now).rules (asked_target asked.now) room.old }
+    ensures room { IsTrialRoomAt A.algebra (standing scope.now).net (standing scope.now).rules (asked_target asked.now) room.new }
+    ensures right { (halves : List Half) → IsScopeInSupport A.algebra (asked_target asked.now) halves (standing scope.now)
         → IsTrue result ↔ IsRightInSpent (standing scope.now).net (standing scope.now).rules (asked_target asked.now) halves node }
 {
     match node {

@@ -1,28 +1,29 @@
 // The trial of a node: the pair of vectors that has at each source of the path's support the least state that the labels leave there is
-// judged within the cone of the path's end. The trial closes exactly where this pair does not meet the conditions, so nothing has to be
-// narrowed for it; and no line is evaluated that has the state that it had under the pair judged last.
+// judged within the cone of the path's end. The trial closes exactly where this pair is no pair of the rules or does not meet the
+// conditions, so nothing has to be narrowed for it; and no line is evaluated that has the state that it had under the pair judged last.
 ghost use Rattle.std.specs.Prelude.{◌≡◌, ◌<◌, ◌↔◌, false, List, None, length, All, IfOk, IsTrue};
 ghost use Rattle.netlist.specs.Circuit.{line_count};
+ghost use Rattle.netlist.specs.LinkedPairs.{FitRules};
 ghost use Rattle.netlist.specs.Paths.{IsPrefix, end_of};
 ghost use Rattle.state_sets.specs.declared.state.StateSet.{StateSet};
 ghost use Rattle.state_laws.specs.declared.half.Half.{Half};
 ghost use Rattle.implication.specs.Scopes.{standing};
 ghost use Rattle.implication.specs.Standing.{IsTold};
-ghost use Rattle.tree_laws.specs.Spent.{IsOpen};
-ghost use Rattle.test_judging.specs.KeptCones.{IsConeAt};
-ghost use Rattle.test_judging.specs.Taken.{AreLeast};
+ghost use Rattle.trees.specs.Algebras.{algebra_of};
+ghost use Rattle.trees.specs.Spent.{IsOpen};
+ghost use Rattle.pair_judging.specs.KeptCones.{IsConeFor, IsConeAt};
+ghost use Rattle.pair_judging.specs.Taken.{AreLeast};
 ghost use Rattle.refutation_check.specs.TrialStates.{AreTrialStates};
-ghost use Rattle.refutation_check.specs.Trials.{asked_target, IsTrialRoomFor, IsTrialRoomAt, AreLeastOf, EachIsTest, NoneIsTest};
-ghost use Rattle.refutation_check.specs.Walks.{IsScopeAt};
+ghost use Rattle.refutation_check.specs.Trials.{asked_target, IsTrialRoomFor, IsTrialRoomAt, AreLeastOf, EachIsTest, EachFails, IsScopeInSupport};
 
 use crate::asked::Asked;
 use crate::trial_states::TrialStates;
 use implication::{Scope, Setting};
 use netlist::Netlist;
-use pd_base::{LineId, OutOfMemory};
-use state_sets::{FourStates, State, StateSet};
+use pair_judging::{Cone, Judgement, failing_link, judge_steps, least};
+use pd_base::{LineId, OutOfMemory, Rules};
+use state_sets::{Algebra, State, StateSet};
 use std::alloc::Global;
-use test_judging::{Cone, Judgement, judge_steps, least};
 
 // Room for trials: the cone of one path's end at a time, the states of all lines, and whether the pair failed that was judged last, whose
 // states stand at the sources of the cone.
@@ -34,12 +35,18 @@ pub(crate) struct TrialRoom {
 }
 
 impl TrialRoom {
-    // Room for trials on this netlist. It fails only where memory runs out.
-    pub(crate) fn new(alloc: Global, net: &Netlist) -> Result<TrialRoom, OutOfMemory>
-        ensures { IfOk result (IsTrialRoomFor net.now) }
+    // Room for trials on this netlist under these rules. It fails only where memory runs out.
+    pub(crate) fn new<A: Algebra>(
+        alloc: Global,
+        net: &Netlist,
+        rules: &Rules,
+    ) -> Result<TrialRoom, OutOfMemory>
+        requires chosen { A.algebra ≡ algebra_of rules.now }
+        requires fit { FitRules net.now rules.now }
+        ensures { IfOk result (IsTrialRoomFor A.algebra net.now rules.now) }
     {
-        let kept = TrialStates::new(alloc, net)?;
-        let cone = Cone::new(alloc, net)?;
+        let kept = TrialStates::new::<A>(alloc, net)?;
+        let cone = Cone::new(alloc, net, rules.links())?;
         Ok(TrialRoom {
             cone,
             kept,
@@ -49,17 +56,17 @@ impl TrialRoom {
 }
 
 // Whether the trial closes of the node at which a scope stands that has no conflict.
-pub(crate) fn is_open<S: Setting>(
-    scope: &Scope<FourStates, S>,
+pub(crate) fn is_open<A: Algebra, S: Setting>(
+    scope: &Scope<A, S>,
     asked: &Asked,
     room: &mut TrialRoom,
 ) -> bool
     requires prefix { IsPrefix (standing scope.now).net asked.now.path.now }
     requires told { IsTold (standing scope.now) (end_of (standing scope.now).net asked.now.path.now) }
     requires free { (standing scope.now).conflict ≡ None }
-    requires room { IsTrialRoomAt (standing scope.now).net (asked_target asked.now) room.old }
-    ensures room { IsTrialRoomAt (standing scope.now).net (asked_target asked.now) room.new }
-    ensures open { (halves : List Half) → IsScopeAt (asked_target asked.now) halves (standing scope.now)
+    requires room { IsTrialRoomAt A.algebra (standing scope.now).net (standing scope.now).rules (asked_target asked.now) room.old }
+    ensures room { IsTrialRoomAt A.algebra (standing scope.now).net (standing scope.now).rules (asked_target asked.now) room.new }
+    ensures open { (halves : List Half) → IsScopeInSupport A.algebra (asked_target asked.now) halves (standing scope.now)
         → IsTrue result ↔ ((hull : List StateSet) × IsOpen (standing scope.now).net (standing scope.now).rules (asked_target asked.now) halves hull) }
 {
     // a netlist knows itself as a circuit
@@ -67,10 +74,10 @@ pub(crate) fn is_open<S: Setting>(
     let at_source = asked.path.source().0 < net.sources();
     prove!(at_source);
     let labels = scope.labels();
-    if fails_again(room, labels) {
+    if fails_again::<A>(room, labels) {
         return true;
     }
-    if are_tests(net, labels, asked, &room.cone, &mut room.kept) {
+    if are_tests::<A>(net, labels, asked, &room.cone, &mut room.kept) {
         room.failed = false;
         return false;
     }
@@ -79,32 +86,32 @@ pub(crate) fn is_open<S: Setting>(
 }
 
 // Whether the pair that was judged last failed and has the least states of these labels too.
-fn fails_again(room: &TrialRoom, labels: &[StateSet]) -> bool
+fn fails_again<A: Algebra>(room: &TrialRoom, labels: &[StateSet]) -> bool
     requires labels { All (λ source. source.0 < length labels.now) room.now.cone.sources }
     requires states { All (λ source. source.0 < length room.now.kept.states.items) room.now.cone.sources }
     ensures failed { IsTrue result → IsTrue room.now.failed }
-    ensures least { IsTrue result → AreLeast room.now.cone.sources labels.now room.now.kept.states.items }
+    ensures least { IsTrue result → AreLeast A.algebra.count room.now.cone.sources labels.now room.now.kept.states.items }
 {
-    room.failed && are_least(room.cone.sources(), labels, room.kept.states.as_slice())
+    room.failed && are_least::<A>(room.cone.sources(), labels, room.kept.states.as_slice())
 }
 
 // Whether each of these sources is in the least state of its label.
-fn are_least(sources: &[LineId], labels: &[StateSet], states: &[State]) -> bool
+fn are_least<A: Algebra>(sources: &[LineId], labels: &[StateSet], states: &[State]) -> bool
     requires labels { All (λ source. source.0 < length labels.now) sources.now }
     requires states { All (λ source. source.0 < length states.now) sources.now }
-    ensures { IsTrue result → AreLeast sources.now labels.now states.now }
+    ensures { IsTrue result → AreLeast A.algebra.count sources.now labels.now states.now }
 {
     for source in sources {
         let at = source.0 as usize;
-        if least(labels[at]) != states[at] {
+        if least::<A>(labels[at]) != states[at] {
             return false;
         }
     }
     true
 }
 
-// Whether the pairs are tests that have at each source of a cone the least state of its label.
-fn are_tests(
+// Whether the pairs are tests of the rules that have at each source of a cone the least state of its label.
+fn are_tests<A: Algebra>(
     net: &Netlist,
     labels: &[StateSet],
     asked: &Asked,
@@ -113,25 +120,23 @@ fn are_tests(
 ) -> bool
     requires prefix { IsPrefix net.now asked.now.path.now }
     requires labels { length labels.now ≡ line_count net.now }
+    requires made { IsConeFor net.now cone.now }
     requires cone { IsConeAt net.now (end_of net.now asked.now.path.now) cone.now }
-    requires kept { AreTrialStates net.now kept.old }
-    ensures kept { AreTrialStates net.now kept.new }
-    ensures least { AreLeastOf net.now (end_of net.now asked.now.path.now) labels.now kept.new.states.items }
-    ensures each { IsTrue result → EachIsTest net.now (asked_target asked.now) kept.new.states.items }
-    ensures none { result ≡ false → NoneIsTest net.now (asked_target asked.now) kept.new.states.items }
+    requires kept { AreTrialStates A.algebra net.now kept.old }
+    ensures kept { AreTrialStates A.algebra net.now kept.new }
+    ensures least { AreLeastOf A.algebra.count net.now cone.now.links (end_of net.now asked.now.path.now) labels.now kept.new.states.items }
+    ensures each { IsTrue result → EachIsTest A.algebra net.now cone.now.links (asked_target asked.now) kept.new.states.items }
+    ensures fails { result ≡ false → EachFails A.algebra net.now cone.now.links (asked_target asked.now) kept.new.states.items }
 {
     // a netlist knows itself as a circuit
     let _ = net.lines();
-    kept.take_least(net, cone.sources(), labels);
-    kept.refresh(net, cone.gates());
-    let judgement = judge_steps(
-        net,
-        asked.path,
-        asked.dir,
-        asked.kind,
-        kept.states.as_slice(),
-    );
-    match judgement {
+    kept.take_least::<A>(net, cone.sources(), labels);
+    kept.refresh::<A>(net, cone.gates());
+    let states = kept.states.as_slice();
+    if let Some(_link) = failing_link::<A>(cone.links(), cone.sources(), states) {
+        return false;
+    }
+    match judge_steps::<A>(net, asked.path, asked.dir, asked.kind, states) {
         Judgement::IsTest => true,
         Judgement::FailsAt(_, _) => false,
     }

@@ -1,20 +1,18 @@
 // States of all lines that are kept from trial to trial: where the states of some sources change, only the gates behind these are
 // evaluated anew, each once, in rank order. What the states tell of a node stands in trial.rt.
-ghost use Rattle.std.specs.Prelude.{◌≡◌, ◌≢◌, ◌<◌, ◌≤◌, ℕ, true, false, length, All, IfOk, IsTrue};
+ghost use Rattle.std.specs.Prelude.{◌≡◌, ◌≢◌, ◌<◌, ℕ, true, false, length, All, IfOk};
+ghost use Rattle.pd_base.specs.Links.{LinkList};
 ghost use Rattle.pd_base.specs.declared.ids.PinRef.{PinRef};
 ghost use Rattle.netlist.specs.Circuit.{source_count, gate_count, line_count, gate_line, pins_at};
-ghost use Rattle.netlist.specs.Levels.{IsDriven};
-ghost use Rattle.state_sets.specs.FourStates.{four_states};
-ghost use Rattle.test_judging.specs.ConeStates.{state_in};
-ghost use Rattle.test_judging.specs.KeptCones.{AreConeGates};
-ghost use Rattle.test_judging.specs.Taken.{AreLeast};
+ghost use Rattle.pair_judging.specs.KeptCones.{AreConeGates};
+ghost use Rattle.pair_judging.specs.Taken.{AreLeast};
 ghost use Rattle.refutation_check.specs.TrialStates.{is_stale, AreTrialStates, AreRoomFor, IsPutAt, IsStaleOrMade, AreStaleAsRead, KeepsSources};
 
 use netlist::Netlist;
+use pair_judging::{gate_state, least};
 use pd_base::{GateId, LineId, OutOfMemory, PinRef};
-use state_sets::{State, StateSet};
+use state_sets::{Algebra, State, StateSet};
 use std::alloc::Global;
-use test_judging::{gate_state, least};
 
 // A state for each line, and for each gate whether its line is stale: its state may be another one than the gate makes of those of its
 // pins.
@@ -26,8 +24,8 @@ pub(crate) struct TrialStates {
 
 impl TrialStates {
     // The lines of all gates are stale. It fails only where memory runs out.
-    pub(crate) fn new(alloc: Global, net: &Netlist) -> Result<TrialStates, OutOfMemory>
-        ensures { IfOk result (AreTrialStates net.now) }
+    pub(crate) fn new<A: Algebra>(alloc: Global, net: &Netlist) -> Result<TrialStates, OutOfMemory>
+        ensures { IfOk result (AreTrialStates A.algebra net.now) }
     {
         let states = vec![in alloc; State(0); net.lines() as usize]?;
         let stale = vec![in alloc; true; net.gates() as usize]?;
@@ -35,42 +33,47 @@ impl TrialStates {
     }
 
     // Puts each of these sources into the least state of its label.
-    pub(crate) fn take_least(&mut self, net: &Netlist, sources: &[LineId], labels: &[StateSet])
-        requires kept { AreTrialStates net.now self.old }
+    pub(crate) fn take_least<A: Algebra>(
+        &mut self,
+        net: &Netlist,
+        sources: &[LineId],
+        labels: &[StateSet],
+    )
+        requires kept { AreTrialStates A.algebra net.now self.old }
         requires sources { All (λ source. source.0 < source_count net.now) sources.now }
         requires labels { length labels.now ≡ line_count net.now }
-        ensures kept { AreTrialStates net.now self.new }
-        ensures least { AreLeast sources.now labels.now self.new.states.items }
+        ensures kept { AreTrialStates A.algebra net.now self.new }
+        ensures least { AreLeast A.algebra.count sources.now labels.now self.new.states.items }
     {
         // a netlist knows itself as a circuit
         let _ = net.lines();
         for source in sources {
-            let state = least(labels[source.0 as usize]);
-            self.put(net, *source, state);
+            let state = least::<A>(labels[source.0 as usize]);
+            self.put::<A>(net, *source, state);
         }
     }
 
     // Evaluates the gates of a cone, in rank order, whose lines are stale.
-    pub(crate) fn refresh(&mut self, net: &Netlist, gates: &[GateId])
-        requires kept { AreTrialStates net.now self.old }
-        requires gates { (end : ℕ) × AreConeGates net.now end gates.now }
-        ensures kept { AreTrialStates net.now self.new }
+    pub(crate) fn refresh<A: Algebra>(&mut self, net: &Netlist, gates: &[GateId])
+        requires kept { AreTrialStates A.algebra net.now self.old }
+        requires gates { (links : LinkList) × (end : ℕ) × AreConeGates net.now links end gates.now }
+        ensures kept { AreTrialStates A.algebra net.now self.new }
         ensures fresh { All (λ gate. is_stale self.new gate.0 ≡ false) gates.now }
         ensures sources { KeepsSources net.now self.old self.new }
     {
         // a netlist knows itself as a circuit
         let _ = net.lines();
         for gate in gates {
-            self.refresh_gate(net, *gate);
+            self.refresh_gate::<A>(net, *gate);
         }
     }
 
     // Evaluates a gate, if its line is stale.
-    fn refresh_gate(&mut self, net: &Netlist, gate: GateId)
-        requires kept { AreTrialStates net.now self.old }
+    fn refresh_gate<A: Algebra>(&mut self, net: &Netlist, gate: GateId)
+        requires kept { AreTrialStates A.algebra net.now self.old }
         requires gate { gate.0 < gate_count net.now }
         requires others { All (λ pin. pin.0 ≢ gate_line net.now gate.0) (pins_at net.now gate.0) }
-        ensures kept { AreTrialStates net.now self.new }
+        ensures kept { AreTrialStates A.algebra net.now self.new }
         ensures fresh { is_stale self.new gate.0 ≡ false }
         ensures stay { (other : ℕ) → is_stale self.old other ≡ false
             → All (λ pin. pin.0 ≢ gate_line net.now gate.0) (pins_at net.now other) → is_stale self.new other ≡ false }
@@ -79,20 +82,20 @@ impl TrialStates {
         if !self.stale[gate.0 as usize] {
             return;
         }
-        let state = gate_state(net.kind(gate), net.pins(gate), self.states.as_slice());
+        let state = gate_state::<A>(net.kind(gate), net.pins(gate), self.states.as_slice());
         self.stale[gate.0 as usize] = false;
-        self.put(net, net.line_of(gate), state);
+        self.put::<A>(net, net.line_of(gate), state);
     }
 
     // Puts a line into a state. Where it was in another one, the lines of the gates that read it are stale.
-    fn put(&mut self, net: &Netlist, line: LineId, state: State)
-        requires room { AreRoomFor net.now self.old }
+    fn put<A: Algebra>(&mut self, net: &Netlist, line: LineId, state: State)
+        requires room { AreRoomFor A.algebra.count net.now self.old }
         requires line { line.0 < line_count net.now }
-        requires state { state.0 < four_states.count }
-        ensures room { AreRoomFor net.now self.new }
+        requires state { state.0 < A.algebra.count }
+        ensures room { AreRoomFor A.algebra.count net.now self.new }
         ensures written { IsPutAt line.0 state self.old.states.items self.new.states.items }
         ensures made { (gate : ℕ) → gate < gate_count net.now → gate_line net.now gate ≢ line.0
-            → IsStaleOrMade net.now self.old gate → IsStaleOrMade net.now self.new gate }
+            → IsStaleOrMade A.algebra net.now self.old gate → IsStaleOrMade A.algebra net.now self.new gate }
         ensures fresh { (gate : ℕ) → is_stale self.old gate ≡ false → All (λ pin. pin.0 ≢ line.0) (pins_at net.now gate)
             → is_stale self.new gate ≡ false }
     {

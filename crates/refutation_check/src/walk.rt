@@ -7,17 +7,18 @@ ghost use Rattle.pd_base.specs.Target.{Target};
 ghost use Rattle.netlist.specs.Circuit.{source_count};
 ghost use Rattle.state_laws.specs.declared.half.Half.{Half};
 ghost use Rattle.implication.specs.Clients.{ExtendsStanding};
+ghost use Rattle.implication.specs.Standing.{IsTold};
 ghost use Rattle.implication.specs.Scopes.{IsSameScope, standing};
 ghost use Rattle.implication.specs.declared.assumption.Origin.TheVariants.{Begun};
-ghost use Rattle.tree_laws.specs.Settings.{IsSameSetting};
-ghost use Rattle.refutation_check.specs.Walks.{IsScopeAt, IsWalk, IsOn, GoesRound, GoesDown, PassesOn};
+ghost use Rattle.implication.specs.Settings.{IsSameSetting};
+ghost use Rattle.refutation_check.specs.Walks.{IsScopeAt, IsWalk, IsOnTold, GoesRound, GoesDown, PassesOn};
 
 use hulls::half_states;
 use implication::{Scope, ScopeMark, Setting};
 use pd_base::{LineId, OutOfMemory};
-use runs::Node;
 use state_laws::Half;
-use state_sets::FourStates;
+use state_sets::Algebra;
+use trees::Node;
 
 // A second half that the walk has put off, and the mark of the node above it.
 #[derive(Clone, Copy)]
@@ -27,17 +28,17 @@ pub(crate) struct Pending {
 }
 
 // Goes on behind a node: down into the first half of a split, or round behind a leaf.
-pub(crate) fn pass<S: Setting>(
-    scope: &mut Scope<FourStates, S>,
+pub(crate) fn pass<A: Algebra, S: Setting>(
+    scope: &mut Scope<A, S>,
     pending: &mut Vec<Pending>,
     node: Node,
 ) -> Result<(), OutOfMemory>
     requires begun { scope.old.origin ≡ Begun }
-    requires walk { IsWalk (standing scope.old) pending.old.items }
-    requires split { IsOn (source_count (standing scope.old).net) node }
+    requires walk { IsWalk A.algebra (standing scope.old) pending.old.items }
+    requires split { IsOnTold (standing scope.old) node }
     ensures scope { IsSameScope scope.old scope.new }
     ensures setting { IsSameSetting (standing scope.old) (standing scope.new) }
-    ensures passes { OnOk result (PassesOn node (standing scope.old) pending.old.items (standing scope.new) pending.new.items) }
+    ensures passes { OnOk result (PassesOn A.algebra node (standing scope.old) pending.old.items (standing scope.new) pending.new.items) }
 {
     match node {
         Node::Closed | Node::Waiting => {
@@ -51,12 +52,12 @@ pub(crate) fn pass<S: Setting>(
 
 // Goes on behind a leaf: back to the node of the split whose second half was put off last, and down into that half. Where there is none,
 // the tree is at its end.
-fn turn<S: Setting>(scope: &mut Scope<FourStates, S>, pending: &mut Vec<Pending>)
+fn turn<A: Algebra, S: Setting>(scope: &mut Scope<A, S>, pending: &mut Vec<Pending>)
     requires begun { scope.old.origin ≡ Begun }
-    requires walk { IsWalk (standing scope.old) pending.old.items }
+    requires walk { IsWalk A.algebra (standing scope.old) pending.old.items }
     ensures scope { IsSameScope scope.old scope.new }
     ensures setting { IsSameSetting (standing scope.old) (standing scope.new) }
-    ensures goes { GoesRound (standing scope.old) pending.old.items (standing scope.new) pending.new.items }
+    ensures goes { GoesRound A.algebra (standing scope.old) pending.old.items (standing scope.new) pending.new.items }
 {
     if let Some(next) = pending.pop() {
         scope.back_to(next.mark);
@@ -65,16 +66,17 @@ fn turn<S: Setting>(scope: &mut Scope<FourStates, S>, pending: &mut Vec<Pending>
 }
 
 // Goes down into the first half of a split, and puts the second one off.
-fn split<S: Setting>(
-    scope: &mut Scope<FourStates, S>,
+fn split<A: Algebra, S: Setting>(
+    scope: &mut Scope<A, S>,
     pending: &mut Vec<Pending>,
     source: u32,
     steadiness: bool,
 ) -> Result<(), OutOfMemory>
     requires source { source < source_count (standing scope.old).net }
+    requires told { IsTold (standing scope.old) source }
     ensures scope { IsSameScope scope.old scope.new }
     ensures setting { IsSameSetting (standing scope.old) (standing scope.new) }
-    ensures goes { OnOk result (GoesDown (record { source = source; steadiness = steadiness; second = false })
+    ensures goes { OnOk result (GoesDown A.algebra (record { source = source; steadiness = steadiness; second = false })
         (standing scope.old) pending.old.items (standing scope.new) pending.new.items) }
 {
     let mark = scope.mark();
@@ -96,13 +98,14 @@ fn split<S: Setting>(
 }
 
 // Assumes of the source of a half that it is in a state of that half. Where a conflict comes, the scope keeps it.
-pub(crate) fn assume_half<S: Setting>(scope: &mut Scope<FourStates, S>, half: Half)
+pub(crate) fn assume_half<A: Algebra, S: Setting>(scope: &mut Scope<A, S>, half: Half)
     requires source { half.source < source_count (standing scope.old).net }
+    requires told { IsTold (standing scope.old) half.source }
     ensures scope { IsSameScope scope.old scope.new }
     ensures extends { ExtendsStanding (standing scope.old) (standing scope.new) }
-    ensures below { (target : Target) (halves : List Half) → IsScopeAt target halves (standing scope.old)
-        → IsScopeAt target (halves ++ half ∷ []) (standing scope.new) }
+    ensures below { (target : Target) (halves : List Half) → IsScopeAt A.algebra target halves (standing scope.old)
+        → IsScopeAt A.algebra target (halves ++ half ∷ []) (standing scope.new) }
 {
-    let states = half_states::<FourStates>(half.steadiness, half.second);
+    let states = half_states::<A>(half.steadiness, half.second);
     let _ = scope.assume(LineId(half.source), states);
 }

@@ -1,4 +1,4 @@
-// Rules, transitions and kinds of tests by their names.
+// Transitions and kinds of tests by their names. The rules that stand before them are read in rules.rt.
 use crate::texts::{number_of, parted};
 use crate::trouble::Trouble;
 use pd_base::{Direction, Kind, Rules};
@@ -14,40 +14,19 @@ pub struct Fault {
 
 /// The same under rules for pairs.
 #[derive(Clone, Copy)]
-pub struct RuledFault {
+pub struct RuledFault<'r> {
     /// The rules.
-    pub rules: &'static Rules,
+    pub rules: &'r Rules,
     /// The transition and the kind of test.
     pub fault: Fault,
 }
 
-// Rules of rows, which nothing has to drop.
-const ONE: &Rules = &Rules::One;
-
-const TWO: &Rules = &Rules::Two;
-
-/// The rules, transition and kind that a row begins with, and what stands behind them.
-pub fn ruled_fault_of(row: &str) -> Result<(RuledFault, &str), Trouble> {
-    let (rules, row) = rules_of(row);
-    let (fault, rest) = fault_of(row)?;
-    Ok((RuledFault { rules, fault }, rest))
-}
-
-/// The same with a number between the rules and the transition, which comes first here.
-pub fn numbered_fault_of(row: &str) -> Result<(u32, RuledFault, &str), Trouble> {
-    let (rules, row) = rules_of(row);
+/// The number, transition and kind that a row begins with, and what stands behind them.
+pub fn numbered_fault_of(row: &str) -> Result<(u32, Fault, &str), Trouble> {
     let (number, row) = parted(row)?;
     let number = number_of(number)?;
     let (fault, rest) = fault_of(row)?;
-    Ok((number, RuledFault { rules, fault }, rest))
-}
-
-// The rules that a row begins with, and what stands behind them: rules Two if it begins with this word, and else rules One.
-fn rules_of(row: &str) -> (&'static Rules, &str) {
-    match row.strip_prefix("two ") {
-        Some(rest) => (TWO, rest),
-        None => (ONE, row),
-    }
+    Ok((number, fault, rest))
 }
 
 /// The transition and the kind that a row begins with, and what stands behind them.

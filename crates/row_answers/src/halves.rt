@@ -1,22 +1,25 @@
 // What is said of the hull below halves of splits.
-ghost use Rattle.std.specs.Prelude.{◌<◌, All, IfOk};
+ghost use Rattle.std.specs.Prelude.{◌<◌, ◌^◌, length, All, IfOk};
+ghost use Rattle.pd_base.specs.Links.{links_of};
 ghost use Rattle.netlist.specs.Circuit.{source_count};
+ghost use Rattle.netlist.specs.LinkedPairs.{FitRules};
 ghost use Rattle.netlist.specs.Paths.{IsPath};
 
-use crate::faults::{Fault, RuledFault, ruled_fault_of};
+use crate::faults::{Fault, RuledFault, fault_of};
 use crate::nodes::node_of;
 use crate::paths::path;
+use crate::rules::rules_of;
 use crate::text::Text;
 use crate::trouble::Trouble;
 use netlist::Netlist;
 use pd_base::{LineId, OutOfMemory, Path};
 use refutation_check::{Hull, hull};
-use runs::Node;
 use state_laws::Half;
 use state_sets::{State, StateSet};
 use std::alloc::Global;
+use trees::Node;
 
-/// Adds the hull below these halves: the rules, if they are not rules One, transition, kind, and for each half a split, as in a tree, and
+/// Adds the hull below these halves: the rules (rules.rt), transition, kind, and for each half a split, as in a tree, and
 /// behind a dot 1 or 2. A line for each line of the circuit: its name, and the numbers of its states. Or that some line has none.
 pub fn hull_at(
     alloc: Global,
@@ -25,8 +28,11 @@ pub fn hull_at(
     row: &str,
     answer: &mut Text,
 ) -> Result<(), Trouble> {
-    let (fault, halves) = ruled_fault_of(row)?;
+    let (rules, row) = rules_of(alloc, net, row)?;
+    let (fault, halves) = fault_of(row)?;
     let halves = halves_of(alloc, net, halves)?;
+    let rules = &rules;
+    let fault = RuledFault { rules, fault };
     add_hull_below(alloc, net, prefix, fault, halves.as_slice(), answer)
 }
 
@@ -39,11 +45,14 @@ fn add_hull_below(
     halves: &[Half],
     answer: &mut Text,
 ) -> Result<(), Trouble>
-    requires { All (λ half. half.source < source_count net.now) halves.now }
+    requires halves { All (λ half. half.source < source_count net.now) halves.now }
+    requires fit { FitRules net.now fault.rules.now }
+    requires few { length (links_of fault.rules.now) < 2 ^ 30 }
 {
     let prefix = path(alloc, net, prefix)?;
     match hull_of(alloc, net, &prefix, fault, halves)? {
         Hull::Rest(labels) => add_labels(net, labels.as_slice(), answer),
+        Hull::RestLinked(labels) => add_labels(net, labels.as_slice(), answer),
         Hull::Empty(_) => answer.add("  empty\n"),
     }
     Ok(())
@@ -59,6 +68,8 @@ fn hull_of(
 ) -> Result<Hull, OutOfMemory>
     requires path { IsPath net.now prefix.now }
     requires halves { All (λ half. half.source < source_count net.now) halves.now }
+    requires fit { FitRules net.now fault.rules.now }
+    requires few { length (links_of fault.rules.now) < 2 ^ 30 }
 {
     let Fault { direction, kind } = fault.fault;
     hull(alloc, net, fault.rules, prefix, direction, kind, halves)
@@ -81,7 +92,7 @@ pub fn add_labels(net: &Netlist, labels: &[StateSet], answer: &mut Text) {
 // The numbers of the states of a set.
 fn add_states(set: StateSet, answer: &mut Text) {
     answer.add(" ");
-    for number in 0..4u8 {
+    for number in 0..8u8 {
         if set.holds(State(number)) {
             answer.add_number("", number as u64);
         }

@@ -1,8 +1,8 @@
 // Nodes of trees by their words.
 use crate::texts::number_of;
 use crate::trouble::Trouble;
-use runs::{Node, Tree};
 use std::alloc::Global;
+use trees::{Node, Tree};
 
 /// The tree of the nodes of a row.
 pub fn tree_of(alloc: Global, row: &str) -> Result<Tree, Trouble> {

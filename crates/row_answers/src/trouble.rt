@@ -1,4 +1,5 @@
-// Why the rows can't be played to their end.
+// Why the rows can't be played to their end. It is a value that nothing has to drop, and a function of these libraries holds one or two
+// values that have to be dropped, since each `?` drops all that stand.
 use pd_base::OutOfMemory;
 use std::alloc::{AllocError, AllocFailed};
 use std::io;

@@ -1,12 +1,13 @@
 -- The limits as numbers (this project's own; docs/formats.md lists them).
-use Rattle.std.proofs.Common.{◌≡◌, pos, refl}
-use Rattle.pd_base.specs.declared.limits.TheConstants.{MOST_BUDGET, MOST_PATHS}
+use Rattle.std.proofs.Common.{◌≡◌, Some, codes, pos, refl}
+use Rattle.pd_base.specs.declared.limits.TheConstants.{MOST_BUDGET, MOST_PATHS, MOST_STAGES}
 use Rattle.command_line.specs.declared.number.TheConstants.{MOST_DIGITS}
-use Rattle.command_line.specs.declared.reading.TheConstants.{DEFAULT_BUDGET, DEFAULT_PATHS, MOST_PRODUCT}
-use Rattle.command_line.specs.declared.stages.TheConstants.{MOST_STAGES as MOST_STAGES_ASKED, MOST_STAGES_DIGITS}
+use Rattle.command_line.specs.Options.{option_entry}
+use Rattle.command_line.specs.declared.forms.make.TheConstants.{MOST_STAGES_DIGITS}
+use Rattle.command_line.specs.declared.forms.run.TheConstants.{MOST_PRODUCT}
+use Rattle.command_line.specs.declared.option_name.OptionName.TheVariants.{Budget, Paths}
 use Rattle.command_line.specs.declared.time.TheConstants.{MOST_TIME, MOST_TIME_DIGITS}
 use Rattle.text_pieces.specs.declared.limits.TheConstants.{MOST_BYTES as MOST_CLAIM_BYTES}
-use Rattle.commands.specs.declared.ladder.building.TheConstants.{MOST_STAGES as MOST_STAGES_BUILT}
 use Rattle.pd_io.specs.declared.named.TheConstants.{MOST_AT_ONCE}
 use Rattle.netlist.specs.declared.limits.TheConstants.{MOST_LINES, MOST_PINS, MOST_FAN_IN, MOST_LEVELS, MOST_NAME_BYTES, MOST_STATEMENTS}
 use Rattle.bench_reader.specs.declared.statements.TheConstants.{MOST_BYTES as MOST_NETLIST_BYTES}
@@ -16,7 +17,7 @@ use Rattle.delay_annotation.specs.declared.reading.TheConstants.{MOST_BYTES as M
 use Rattle.delay_replay.specs.declared.gate.TheConstants.{MOST_CHANGES}
 use Rattle.delay_replay.specs.declared.line_waves.TheConstants.{MOST_CHANGES_OF_ALL}
 use Rattle.delay_replay.specs.declared.wave.TheConstants.{LATEST_CHANGE}
-use Rattle.commands.specs.declared.inputs.judging.TheConstants.{INPUT_LIMIT}
+use Rattle.commands.specs.declared.inputs.reading.TheConstants.{INPUT_LIMIT}
 use Rattle.commands.specs.declared.making.TheConstants.{LADDER_BUDGET, LADDER_PATHS}
 use Rattle.commands.specs.declared.inputs.sizes.TheConstants.{MOST_PATH_TEXT, MOST_TEST_TEXT, STEP_BYTES}
 
@@ -85,10 +86,10 @@ most_product = refl
 most_digits : MOST_DIGITS ≡ 7
 most_digits = refl
 
-default_paths : DEFAULT_PATHS ≡ 100
+default_paths : (option_entry Paths).default ≡ Some (codes "100")
 default_paths = refl
 
-default_budget : DEFAULT_BUDGET ≡ 1000
+default_budget : (option_entry Budget).default ≡ Some (codes "1000")
 default_budget = refl
 
 most_time : MOST_TIME ≡ 9999999999
@@ -114,14 +115,11 @@ most_claim_bytes : MOST_CLAIM_BYTES ≡ 268435456
 most_claim_bytes = refl
 
 -- of ladders
-most_stages_asked : MOST_STAGES_ASKED ≡ 1000
-most_stages_asked = refl
+most_stages : MOST_STAGES ≡ 1000
+most_stages = refl
 
 most_stages_digits : MOST_STAGES_DIGITS ≡ 4
 most_stages_digits = refl
-
-most_stages_built : MOST_STAGES_BUILT ≡ 1000
-most_stages_built = refl
 
 ladder_paths : LADDER_PATHS ≡ 100
 ladder_paths = refl

@@ -9,6 +9,34 @@ pub fn add_came(status: u8, err: &[u8], out: &[u8], answer: &mut Text) {
     add_taken("out", out, answer);
 }
 
+/// The same, but of the lines that out took only how many there are, by the word at their end.
+pub fn add_counted(status: u8, err: &[u8], out: &[u8], answer: &mut Text) {
+    add_came(status, err, &[], answer);
+    match str::from_utf8(out) {
+        Ok(out) => add_counts(out, answer),
+        Err(_) => add_line("out", "is no text", answer),
+    }
+}
+
+// How many lines end with same, how many with differs, and how many otherwise.
+fn add_counts(out: &str, answer: &mut Text) {
+    let (mut same, mut differs, mut others) = (0u64, 0u64, 0u64);
+    for line in out.lines() {
+        let count = if line.ends_with(" same") {
+            &mut same
+        } else if line.ends_with(" differs") {
+            &mut differs
+        } else {
+            &mut others
+        };
+        *count = count.saturating_add(1);
+    }
+    answer.add_number("  out has lines same ", same);
+    answer.add_number(", differs ", differs);
+    answer.add_number(", others ", others);
+    answer.add("\n");
+}
+
 // A line with what was taken, if it is anything.
 fn add_taken(name: &str, bytes: &[u8], answer: &mut Text) {
     if !bytes.is_empty() {

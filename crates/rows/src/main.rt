@@ -1,12 +1,16 @@
 //! Plays rows and prints what came of each: what a netlist's text says, values, delays, paths and tests, waves, hulls and trees of cases,
-//! searches; what is read of the files of a run; and whole calls over files and streams in memory, alone and in series. The rows are this
-//! crate's stdin; what they have to print, its stdout, was worked out by hand. In the end it is the program `pdfgen` once more, for words
-//! that are refused (the file `args`): it ends with their status (the file `status`), and writes nothing more on out. Stands on
-//! row_answers, search_answers, pattern_writer, verdict_report and commands, and is no part of the product.
+//! searches; what is read of the files of a run; and whole calls over files and streams in memory, alone and in series, on small netlists
+//! and on large ones that it makes. The rows are this crate's stdin; what they have to print, its stdout, was worked out by hand. In the end
+//! it is the program `pdfgen` once more, for the words that it was called with (the file `args`), which ask for tests of c17 (the folder
+//! `data`): so the last line is the summary, and the status is 0. pd_tool is run with words that are refused. Stands on row_answers,
+//! search_answers, pattern_writer, verdict_report, ladder and commands, and is no part of the product.
 #![tactic(auto)]
 
 mod answer_lines;
 mod claims;
+mod full_files;
+mod large_texts;
+mod long_files;
 mod outside;
 mod questions;
 mod row;
@@ -18,6 +22,8 @@ mod subject;
 mod table;
 
 use commands::serve;
+use full_files::FullFiles;
+use outside::call_unfailing;
 use row::{Manner, Row};
 use row_answers::{Text, Trouble};
 use shape::Shape;
@@ -70,7 +76,7 @@ fn play(
 // From now on each call finds a netlist of this shape and size.
 fn build(alloc: Global, table: &mut Table, shape: Shape, size: u32) -> Result<(), Trouble> {
     let mut text = Text::new(alloc);
-    shape.add(size, &mut text);
+    shape.add(alloc, size, &mut text)?;
     table.put_as_is("net", text.read()?)?;
     Ok(())
 }
@@ -105,6 +111,7 @@ fn add_answer(
 ) -> Result<(), Trouble> {
     match row {
         Row::BareCall => Ok(table.call(&[], answer)?),
+        Row::Wordless(kind) => Ok(table.call_without_words(kind, answer)?),
         Row::Call(manner, words) => called(alloc, table, manner, words, answer),
         Row::Ask(word, rest) => subject.answer(alloc, word, rest, answer),
         // a heading
@@ -134,7 +141,14 @@ fn called_with(
 ) -> Result<(), Trouble> {
     match manner {
         Manner::Planned => Ok(table.call(words, answer)?),
+        Manner::Kept => table.keep(words, answer),
+        Manner::Counted => Ok(table.count(words, answer)?),
         Manner::Unfailing => Ok(table.call_unfailing(words, answer)?),
+        Manner::Full => {
+            call_unfailing(alloc, words, &mut FullFiles::new(alloc), answer);
+            Ok(())
+        }
+        Manner::Long(name, length) => Ok(table.call_long(name, length, words, answer)?),
         Manner::Cuts(name) => series::cuts(alloc, table, name, words, answer),
         Manner::Repeats(name) => series::repeats(alloc, table, name, words, answer),
         Manner::Failing(object) => series::failing(alloc, table, object, words, answer),

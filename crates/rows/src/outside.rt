@@ -1,11 +1,14 @@
 // What a call finds and leaves: files, out and err, all in memory; and the call itself.
-use crate::answer_lines::add_came;
+use crate::answer_lines::{add_came, add_counted};
 use crate::row::Object;
-use commands::run;
+use commands::exit_code;
 use pd_base::OutOfMemory;
-use pd_io::{Files, MemoryFiles, MemorySink, Sink, SteadyFiles, SteadySink};
+use pd_io::{Files, MemoryFiles, MemorySink, Sink, SteadySink};
 use row_answers::Text;
 use std::alloc::Global;
+use std::io;
+use std::io::{Error, ErrorKind};
+use std::process::ExitCode;
 
 /// Files and streams of one call.
 #[derive(Drop)]
@@ -46,34 +49,77 @@ impl Outside {
         }
     }
 
-    /// A call with these words: adds its status, and what err and out took, line by line.
+    /// A call with these words: adds the number with which it ends, and what err and out took, line by line.
     pub fn call(&mut self, words: &[&str], answer: &mut Text) {
-        let status = status_of(
+        let status = self.status(words);
+        add_came(status, self.err.bytes(), self.out.bytes(), answer);
+    }
+
+    /// A call with these words: adds the number with which it ends, what err took, and how many lines out took, by the word at their end.
+    pub fn count(&mut self, words: &[&str], answer: &mut Text) {
+        let status = self.status(words);
+        add_counted(status, self.err.bytes(), self.out.bytes(), answer);
+    }
+
+    /// A call whose words can't be had, with an error of this kind: adds the number with which it ends, and what err and out took.
+    pub fn call_without_words(&mut self, kind: ErrorKind, answer: &mut Text) {
+        let status = self.end(Err(Error::from(kind)));
+        add_came(status, self.err.bytes(), self.out.bytes(), answer);
+    }
+
+    // The number with which a call with these words ends.
+    fn status(&mut self, words: &[&str]) -> u8 {
+        self.end(arguments_of(self.alloc, words))
+    }
+
+    // The number with which a call with these arguments ends.
+    fn end(&mut self, arguments: io::Result<Vec<String>>) -> u8 {
+        exit_of(
             self.alloc,
-            words,
+            arguments,
             &mut self.files,
             &mut self.out,
             &mut self.err,
-        );
-        add_came(status, self.err.bytes(), self.out.bytes(), answer);
+        )
     }
 }
 
 /// The same over these files, and over streams, whose calls never fail.
-pub fn call_unfailing(alloc: Global, words: &[&str], files: &mut SteadyFiles, answer: &mut Text) {
+pub fn call_unfailing<F: Files>(alloc: Global, words: &[&str], files: &mut F, answer: &mut Text) {
     let mut out = SteadySink::new(alloc);
     let mut err = SteadySink::new(alloc);
-    let status = status_of(alloc, words, files, &mut out, &mut err);
+    let arguments = arguments_of(alloc, words);
+    let status = exit_of(alloc, arguments, files, &mut out, &mut err);
     add_came(status, err.bytes(), out.bytes(), answer);
 }
 
-// The status of a call. It promises nothing, so that what is printed is not proved over again under the contract of `run`.
-fn status_of<F: Files, O: Sink, E: Sink>(
+// These words, as the system gives them.
+fn arguments_of(alloc: Global, words: &[&str]) -> io::Result<Vec<String>> {
+    let mut arguments = Vec::new(alloc);
+    for word in words {
+        arguments.push(String::from_str(alloc, word)?)?;
+    }
+    Ok(arguments)
+}
+
+// The number with which a call ends. It promises nothing, so that what is printed is not proved over again under the contract of
+// `exit_code`.
+fn exit_of<F: Files, O: Sink, E: Sink>(
     alloc: Global,
-    words: &[&str],
+    arguments: io::Result<Vec<String>>,
     files: &mut F,
     out: &mut O,
     err: &mut E,
 ) -> u8 {
-    run(alloc, words, files, out, err).number()
+    number_of(exit_code(alloc, arguments, files, out, err))
+}
+
+// The number of an exit code, which tells it only to who compares.
+fn number_of(code: ExitCode) -> u8 {
+    for number in 0..u8::MAX {
+        if ExitCode::from(number) == code {
+            return number;
+        }
+    }
+    u8::MAX
 }

@@ -4,7 +4,8 @@ use crate::subject::Subject;
 use row_answers::{Text, Trouble};
 use std::alloc::Global;
 
-/// Adds what came of a question, or of one about searches. In those about hulls and trees the word two may stand first, for rules Two.
+/// Adds what came of a question, or of one about searches. In those about hulls and trees the word two may stand first, for rules Two, or the
+/// word linked and the links, for rules with these.
 pub fn asked(
     alloc: Global,
     subject: &Subject,

@@ -2,6 +2,7 @@
 use crate::shape::Shape;
 use pd_io::FileCall;
 use row_answers::{Trouble, number_of};
+use std::io::ErrorKind;
 
 /// What fails: a call of the files, or a write on out or err.
 #[derive(Clone, Copy)]
@@ -35,8 +36,17 @@ impl Object {
 pub enum Manner<'a> {
     /// One call, in which fails what is planned.
     Planned,
+    /// One call whose files are not told: what it leaves in them is what later calls find.
+    Kept,
+    /// One call of which is told how many lines out has by the word at their end, same or differs.
+    Counted,
     /// One over files and streams whose calls never fail.
     Unfailing,
+    /// One over files for which there is no memory, and streams whose calls never fail.
+    Full,
+    /// One over files and streams whose calls never fail, but the file of this name has so many bytes, each of them `#`, which are made
+    /// as they are read.
+    Long(&'a str, usize),
     /// Calls in which the file of this name is cut to nothing, then behind each of its bytes but the last.
     Cuts(&'a str),
     /// Calls in which one line after another of the file of this name stands twice.
@@ -62,6 +72,8 @@ pub enum Row<'a> {
     Fail(Object, u64),
     /// A call without words.
     BareCall,
+    /// A call whose words can't be had, with an error of this kind.
+    Wordless(ErrorKind),
     /// Calls in a manner with these words, single spaces between.
     Call(Manner<'a>, &'a str),
     /// A word of the rows about netlists, and what stands behind it.
@@ -81,14 +93,27 @@ impl<'a> Row<'a> {
         match word {
             "remove" => Ok(Row::Remove(rest)),
             "show" => Ok(Row::Show(rest)),
+            "wordless" => Ok(Row::Wordless(lack_of(rest)?)),
             "call" => Ok(Row::Call(Manner::Planned, rest)),
             "unfailing" => Ok(Row::Call(Manner::Unfailing, rest)),
-            "put" | "build" | "fail" | "cuts" | "repeats" | "failing" => {
+            "full" => Ok(Row::Call(Manner::Full, rest)),
+            "keep" => Ok(Row::Call(Manner::Kept, rest)),
+            "count" => Ok(Row::Call(Manner::Counted, rest)),
+            "put" | "build" | "fail" | "long" | "cuts" | "repeats" | "failing" => {
                 let (first, more) = rest.split_once(' ').ok_or(Trouble::NoRow)?;
                 of_two_parts(word, first, more)
             }
             _ => Ok(Row::Ask(word, rest)),
         }
+    }
+}
+
+// The kind of error of words that can't be had: they are no text, or no memory is left for them.
+fn lack_of(word: &str) -> Result<ErrorKind, Trouble> {
+    match word {
+        "text" => Ok(ErrorKind::InvalidData),
+        "memory" => Ok(ErrorKind::OutOfMemory),
+        _ => Err(Trouble::NoRow),
     }
 }
 
@@ -98,6 +123,11 @@ fn of_two_parts<'a>(word: &str, first: &'a str, more: &'a str) -> Result<Row<'a>
         "put" => Ok(Row::Put(first, more)),
         "build" => Ok(Row::Build(Shape::of(first)?, number_of(more)?)),
         "fail" => Ok(Row::Fail(Object::of(first)?, u64::from(number_of(more)?))),
+        "long" => {
+            let (length, words) = more.split_once(' ').ok_or(Trouble::NoRow)?;
+            let length = number_of(length)? as usize;
+            Ok(Row::Call(Manner::Long(first, length), words))
+        }
         "cuts" => Ok(Row::Call(Manner::Cuts(first), more)),
         "repeats" => Ok(Row::Call(Manner::Repeats(first), more)),
         "failing" => {

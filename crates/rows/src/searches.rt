@@ -1,7 +1,10 @@
 // The rows about searches.
+use crate::answer_lines::add_came;
 use crate::claims;
+use calls::{Ending, tell};
 use netlist::Netlist;
-use row_answers::{Text, Trouble};
+use pd_io::MemorySink;
+use row_answers::{Text, Trouble, number_of};
 use std::alloc::Global;
 
 /// Adds what came of a question about the search for tests of a path, or about what it stands on.
@@ -25,7 +28,29 @@ pub fn asked(
         "walk" => search_answers::walked(alloc, net, delays, row, answer),
         // what writes to a list are undone to: values, writes, and writes that are undone, bars between them
         "undo" => search_answers::undone(alloc, row, answer),
+        // whether there is room for a trail of two to this power notes, or else how a call ends for want of memory
+        "room" => {
+            add_room(alloc, number_of(row)?, answer);
+            Ok(())
+        }
         // what is read of a file of a run, or no question
         _ => claims::read(alloc, net, word, row, answer),
     }
+}
+
+// Whether there is room for a trail of two to this power notes, or else the status and the line of a call that ends for want of memory.
+fn add_room(alloc: Global, power: u32, answer: &mut Text) {
+    if search_answers::has_room(alloc, power) {
+        answer.add_yes_or_no(true);
+        return;
+    }
+    let mut err = MemorySink::new(alloc);
+    let status = without_memory(&mut err);
+    add_came(status, err.bytes(), &[], answer);
+}
+
+// The status of a call that ends for want of memory, told on err. It promises nothing, so that what is printed is not proved over again
+// under the contract of `tell`.
+fn without_memory(err: &mut MemorySink) -> u8 {
+    tell(&Ending::NoMemory, err).number()
 }

@@ -1,17 +1,26 @@
-// Texts of netlists of one shape and any size, for rows on what is large: wide, deep, with long names, or with a gate of many pins.
+// Texts of netlists of one shape and any size, for rows on what is large: wide, deep, with long names, or with a gate of many pins; and
+// those of large_texts.rt.
+use crate::large_texts::{add_broad, add_ladder, add_parity};
 use row_answers::{Text, Trouble};
+use std::alloc::Global;
 
-/// A shape of netlists. All have one source.
+/// A shape of netlists.
 #[derive(Clone, Copy)]
 pub enum Shape {
-    /// So many buffers of the source, all observed.
+    /// So many buffers of one source, all observed.
     Wide,
-    /// So many buffers, one behind the other, of which the last one is observed.
+    /// A source and so many buffers, one behind the other, of which the last one is observed.
     Chain,
     /// The same with names of a hundred bytes.
     LongNames,
-    /// An AND of so many pins, all on the source.
+    /// An AND of so many pins, all on one source.
     Pins,
+    /// So many thousand sources with a buffer each, an AND of each thousand buffers, and an AND of these, which is observed.
+    Broad,
+    /// The parity of so many sources and its complement, which are never both 1; their conjunction with one more source is observed.
+    Parity,
+    /// The ladder of so many stages.
+    Ladder,
 }
 
 impl Shape {
@@ -22,12 +31,26 @@ impl Shape {
             "chain" => Ok(Shape::Chain),
             "long_names" => Ok(Shape::LongNames),
             "pins" => Ok(Shape::Pins),
+            "broad" => Ok(Shape::Broad),
+            "parity" => Ok(Shape::Parity),
+            "ladder" => Ok(Shape::Ladder),
             _ => Err(Trouble::NoRow),
         }
     }
 
     /// Adds the text of the netlist of this shape and size.
-    pub fn add(self, size: u32, text: &mut Text) {
+    pub fn add(self, alloc: Global, size: u32, text: &mut Text) -> Result<(), Trouble> {
+        match self {
+            Shape::Broad => add_broad(size, text),
+            Shape::Parity => add_parity(size, text),
+            Shape::Ladder => add_ladder(alloc, size, text)?,
+            _ => self.add_parts(size, text),
+        }
+        Ok(())
+    }
+
+    // The text of a shape that has a head, parts of which each is like the one before, and an end.
+    fn add_parts(self, size: u32, text: &mut Text) {
         self.add_head(size, text);
         for number in 1..=size {
             self.add_part(number, text);
@@ -41,6 +64,7 @@ impl Shape {
             Shape::Wide => text.add("INPUT(a)\n"),
             Shape::Chain | Shape::LongNames => self.add_chain_head(size, text),
             Shape::Pins => text.add("INPUT(a)\nOUTPUT(y)\ny = AND("),
+            _ => {}
         }
     }
 
@@ -59,6 +83,7 @@ impl Shape {
             Shape::Wide => self.add_observed_buffer(number, text),
             Shape::Chain | Shape::LongNames => self.add_chained_buffer(number, text),
             Shape::Pins => text.add(if number == 1 { "a" } else { ", a" }),
+            _ => {}
         }
     }
 

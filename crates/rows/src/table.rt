@@ -1,12 +1,14 @@
 // What stands between two calls: the files that a call finds, and what is to fail in the next one.
 use crate::answer_lines::{add, add_line};
+use crate::long_files::LongFiles;
 use crate::outside::{Outside, call_unfailing};
 use crate::row::Object;
 use pd_base::OutOfMemory;
 use pd_io::SteadyFiles;
-use row_answers::{Text, spelled_out};
+use row_answers::{Text, Trouble, spelled_out};
 use std::alloc::{AllocError, Global};
 use std::collections::BTreeMap;
+use std::io::ErrorKind;
 
 /// The names of which a call may change what they hold.
 pub const NAMES: [&str; 6] = ["net", "delays", "tests", "report", "proofs", "other"];
@@ -97,10 +99,61 @@ impl Table {
         Ok(())
     }
 
+    /// A call whose words can't be had, with an error of this kind: adds what came of it, line by line.
+    pub fn call_without_words(
+        &self,
+        kind: ErrorKind,
+        answer: &mut Text,
+    ) -> Result<(), OutOfMemory> {
+        let mut outside = self.outside()?;
+        outside.call_without_words(kind, answer);
+        self.add_changed(&outside, answer);
+        Ok(())
+    }
+
+    /// A call with these words: adds its status, and what err and out took. What it leaves in files is what later calls find.
+    pub fn keep(&mut self, words: &[&str], answer: &mut Text) -> Result<(), Trouble> {
+        let mut outside = self.outside()?;
+        outside.call(words, answer);
+        self.take_files(&outside)
+    }
+
+    // Holds from now on what is held there.
+    fn take_files(&mut self, outside: &Outside) -> Result<(), Trouble> {
+        for name in NAMES {
+            if let Some(bytes) = outside.get(name) {
+                self.put_as_is(name, text_of(bytes)?)?;
+            }
+        }
+        Ok(())
+    }
+
+    /// A call with these words: adds its status, what err took, and how many lines out took, by the word at their end.
+    pub fn count(&self, words: &[&str], answer: &mut Text) -> Result<(), OutOfMemory> {
+        let mut outside = self.outside()?;
+        outside.count(words, answer);
+        Ok(())
+    }
+
     /// A call with these words over files and streams whose calls never fail: adds its status, and what err and out took.
     pub fn call_unfailing(&self, words: &[&str], answer: &mut Text) -> Result<(), OutOfMemory> {
         let mut files = SteadyFiles::new(self.alloc);
         self.put_steady(&mut files)?;
+        call_unfailing(self.alloc, words, &mut files, answer);
+        Ok(())
+    }
+
+    /// The same, but the file of this name has so many bytes, each of them `#`.
+    pub fn call_long(
+        &self,
+        name: &str,
+        length: usize,
+        words: &[&str],
+        answer: &mut Text,
+    ) -> Result<(), OutOfMemory> {
+        let mut files = SteadyFiles::new(self.alloc);
+        self.put_steady(&mut files)?;
+        let mut files = LongFiles::new(self.alloc, files, name, length)?;
         call_unfailing(self.alloc, words, &mut files, answer);
         Ok(())
     }
@@ -152,6 +205,14 @@ impl Table {
                 add_file(name, after, answer);
             }
         }
+    }
+}
+
+// The text that these bytes are.
+fn text_of(bytes: &[u8]) -> Result<&str, Trouble> {
+    match str::from_utf8(bytes) {
+        Ok(text) => Ok(text),
+        Err(_) => Err(Trouble::NoText),
     }
 }
 

@@ -1,3 +1,1 @@
-pub mod Forests
-pub mod Preorders
 pub mod Nameable

@@ -12,8 +12,8 @@ use Rattle.runs.specs.declared.run.Proof.{Proof}
 use Rattle.runs.specs.declared.run.Run.{Run}
 use Rattle.runs.specs.declared.run.Verdict.{Verdict}
 use Rattle.runs.specs.declared.run.Verdict.TheVariants.{Robust, Nonrobust, Untestable, Aborted}
-use Rattle.runs.specs.declared.tree.Node.{Node}
-use Rattle.runs.specs.declared.tree.Node.TheVariants.{Closed, Waiting, Value, Steadiness}
+use Rattle.trees.specs.declared.tree.Node.{Node}
+use Rattle.trees.specs.declared.tree.Node.TheVariants.{Closed, Waiting, Value, Steadiness}
 use Rattle.runs.specs.Verdicts.{verdicts_of}
 
 -- the number of a listed path, from 1

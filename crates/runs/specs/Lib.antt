@@ -1,3 +1,2 @@
 pub mod Lawful
-pub mod Trees
 pub mod Verdicts

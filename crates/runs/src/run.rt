@@ -1,6 +1,6 @@
 // A run: what the three files of the program spell together.
-use crate::Tree;
 use pd_base::{Direction, Items, Kind, Path, Rules, Test};
+use trees::Tree;
 
 /// What was found for one path and one direction. Tests and proofs are named by their numbers in the run, from 1.
 #[derive(Clone, Copy, Debug, PartialEq, Eq)]

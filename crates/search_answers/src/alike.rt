@@ -1,6 +1,7 @@
 // Sweeps over all gates, and the worklist of engines, play the same assumptions: the labels that they end with are the same,
 // or both leave some line without a state. Scopes are played in scopes.rt.
 ghost use Rattle.std.specs.Prelude.{◌<◌, All, IsTrue};
+ghost use Rattle.trees.specs.Unlinked.{IsUnlinked};
 ghost use Rattle.netlist.specs.Circuit.{source_count};
 
 use crate::scopes::{whole_alike, within_alike};
@@ -64,8 +65,9 @@ pub fn ends_alike(
     answer: &mut Text,
 ) -> Result<(), Trouble> {
     let path = path(alloc, net, route)?;
-    let alike = rules_alike(alloc, net, &path, &Rules::One)?
-        && rules_alike(alloc, net, &path, &Rules::Two)?;
+    let one = Rules::One;
+    let two = Rules::Two;
+    let alike = rules_alike(alloc, net, &path, &one)? && rules_alike(alloc, net, &path, &two)?;
     answer.add_yes_or_no(alike);
     Ok(())
 }
@@ -76,7 +78,9 @@ fn rules_alike(
     net: &Netlist,
     path: &Path,
     rules: &Rules,
-) -> Result<bool, OutOfMemory> {
+) -> Result<bool, OutOfMemory>
+    requires { IsUnlinked rules.now }
+{
     for (direction, kind) in FAULTS {
         if !fault_alike(alloc, net, path, rules, direction, kind)? {
             return Ok(false);
@@ -93,7 +97,9 @@ fn fault_alike<'x>(
     rules: &'x Rules,
     direction: Direction,
     kind: Kind,
-) -> Result<bool, OutOfMemory> {
+) -> Result<bool, OutOfMemory>
+    requires { IsUnlinked rules.now }
+{
     for halves in HALVES {
         let assumed = Assumed {
             rules,
@@ -111,7 +117,9 @@ fn fault_alike<'x>(
 }
 
 // Whether an engine that tells all lines, and one that tells those in the fan-in of the path's end alone, end like the sweeps.
-fn all_alike(alloc: Global, net: &Netlist, assumed: &Assumed) -> Result<bool, OutOfMemory> {
+fn all_alike(alloc: Global, net: &Netlist, assumed: &Assumed) -> Result<bool, OutOfMemory>
+    requires { IsUnlinked assumed.now.rules.now }
+{
     // a netlist without these sources has no such row
     if assumed.source.0 < net.sources() && are_on_sources(net, assumed.halves) {
         Ok(whole_alike(alloc, net, assumed)? && within_alike(alloc, net, assumed)?)

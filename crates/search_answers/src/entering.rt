@@ -25,6 +25,7 @@ pub(crate) fn enter_all<S: Setting>(
     requires told { AreMarkedTold (standing scope.old) marks.now }
     ensures scope { IsSameScope scope.old scope.new }
     ensures net { (standing scope.new).net ≡ (standing scope.old).net }
+    ensures rules { (standing scope.new).rules ≡ (standing scope.old).rules }
     ensures ends { (standing scope.new).ends ≡ (standing scope.old).ends }
     ensures entered { IsTrue result → standing scope.new
         ≡ grown (standing scope.old) ((standing scope.old).assumptions ++ map Entered pins.now) }
@@ -41,6 +42,7 @@ fn enter<S: Setting>(scope: &mut Scope<FourStates, S>, pin: PinRef, marks: &[boo
     requires told { AreMarkedTold (standing scope.old) marks.now }
     ensures scope { IsSameScope scope.old scope.new }
     ensures net { (standing scope.new).net ≡ (standing scope.old).net }
+    ensures rules { (standing scope.new).rules ≡ (standing scope.old).rules }
     ensures ends { (standing scope.new).ends ≡ (standing scope.old).ends }
     ensures entered { IsTrue result → standing scope.new
         ≡ grown (standing scope.old) (with_entered (standing scope.old).assumptions pin) }

@@ -2,7 +2,7 @@
 use justify::Found;
 use pd_base::{Pair, Path};
 use row_answers::{RuledFault, Text};
-use runs::Node;
+use trees::Node;
 
 /// A test of a path is searched for.
 #[derive(Clone, Copy)]
@@ -10,7 +10,7 @@ pub(crate) struct Wanted<'a> {
     /// The path.
     pub(crate) path: &'a Path,
     /// The rules for pairs, the transition at its source, and the kind of test.
-    pub(crate) ruled: RuledFault,
+    pub(crate) ruled: RuledFault<'a>,
     /// The most splits.
     pub(crate) budget: u32,
 }

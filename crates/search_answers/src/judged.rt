@@ -1,5 +1,6 @@
 // Whether the tree that a search found has as many splits as it may have, and the judge of trees accepts it.
 ghost use Rattle.netlist.specs.Paths.{IsPath};
+ghost use Rattle.trees.specs.Unlinked.{IsUnlinked};
 
 use crate::found::Wanted;
 use justify::Found;
@@ -7,8 +8,8 @@ use netlist::Netlist;
 use pd_base::OutOfMemory;
 use refutation_check::TreeCheck;
 use row_answers::{judged, judged_spent};
-use runs::Tree;
 use std::alloc::Global;
+use trees::Tree;
 
 /// Whether what was found is a pair, or a tree that is accepted.
 pub(crate) fn is_accepted(
@@ -17,7 +18,8 @@ pub(crate) fn is_accepted(
     wanted: &Wanted,
     found: &Found,
 ) -> Result<bool, OutOfMemory>
-    requires { IsPath net.now wanted.now.path.now }
+    requires path { IsPath net.now wanted.now.path.now }
+    requires unlinked { IsUnlinked wanted.now.ruled.rules.now }
 {
     match found {
         Found::Test(_) => Ok(true),
@@ -27,21 +29,25 @@ pub(crate) fn is_accepted(
 }
 
 // Whether a tree refutes within the budget.
+#[tactic(auto, using(crate::proofs::Told::fits, crate::proofs::Told::few_links))]
 fn is_refutation(
     alloc: Global,
     net: &Netlist,
     wanted: &Wanted,
     tree: &Tree,
 ) -> Result<bool, OutOfMemory>
-    requires { IsPath net.now wanted.now.path.now }
+    requires path { IsPath net.now wanted.now.path.now }
+    requires unlinked { IsUnlinked wanted.now.ruled.rules.now }
 {
     let told = judged(alloc, net, wanted.path, wanted.ruled, tree)?;
     Ok(tree.splits() <= wanted.budget && matches!(told, TreeCheck::Yes))
 }
 
 // Whether a tree spent the budget.
+#[tactic(auto, using(crate::proofs::Told::fits, crate::proofs::Told::few_links))]
 fn is_spent(alloc: Global, net: &Netlist, wanted: &Wanted, tree: &Tree) -> Result<bool, OutOfMemory>
-    requires { IsPath net.now wanted.now.path.now }
+    requires path { IsPath net.now wanted.now.path.now }
+    requires unlinked { IsUnlinked wanted.now.ruled.rules.now }
 {
     let budget = wanted.budget;
     let told = judged_spent(alloc, net, wanted.path, wanted.ruled, budget, tree)?;

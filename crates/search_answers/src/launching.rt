@@ -3,13 +3,16 @@
 ghost use Rattle.std.specs.Prelude.{◌≡◌, ◌<◌, IsSome, None};
 ghost use Rattle.netlist.specs.Circuit.{source_count};
 ghost use Rattle.netlist.specs.Paths.{IsPath};
+ghost use Rattle.trees.specs.Unlinked.{IsUnlinked};
 ghost use Rattle.implication.specs.Scopes.{standing};
 
 use crate::entering::is_on;
 use implication::{Engine, RuledNetlist, Scope, Setting};
 use netlist::Netlist;
 use pd_base::{LineId, Path, PinRef, Steps};
-use row_answers::{Fault, RuledFault, Text, Trouble, add_labels, path, ruled_fault_of};
+use row_answers::{
+    Fault, RuledFault, Text, Trouble, add_labels, fault_of, path, unlinked_rules_of,
+};
 use state_sets::{FourStates, StateSet};
 use std::alloc::Global;
 
@@ -18,7 +21,7 @@ const RISES: StateSet = StateSet(8);
 
 /// Adds a line for each line of the circuit, when a transition is launched at the source of a path: its name, and the numbers of its
 /// states. Then whether the path's first pin leads to a conflict, and whether an assumption about the source leaves it so; how many steps
-/// and how many conflicts were counted. The row: the rules, if they are not rules One, transition and kind.
+/// and how many conflicts were counted. The row: the rules, which have no links, transition and kind.
 pub fn launched(
     alloc: Global,
     net: &Netlist,
@@ -26,9 +29,11 @@ pub fn launched(
     row: &str,
     answer: &mut Text,
 ) -> Result<(), Trouble> {
-    let (fault, _) = ruled_fault_of(row)?;
+    let (rules, row) = unlinked_rules_of(row);
+    let (fault, _) = fault_of(row)?;
     let path = path(alloc, net, route)?;
-    add_launch(alloc, net, &path, fault, answer)
+    let rules = &rules;
+    add_launch(alloc, net, &path, RuledFault { rules, fault }, answer)
 }
 
 // The same on an engine of its own.
@@ -39,7 +44,8 @@ fn add_launch(
     fault: RuledFault,
     answer: &mut Text,
 ) -> Result<(), Trouble>
-    requires { IsPath net.now path.now }
+    requires path { IsPath net.now path.now }
+    requires unlinked { IsUnlinked fault.rules.now }
 {
     let RuledFault { rules, fault } = fault;
     let setting = RuledNetlist { net, rules };

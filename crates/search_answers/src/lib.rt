@@ -32,5 +32,5 @@ pub use marking::keep_agreeing;
 pub use nesting::walk;
 pub use searching::searched;
 pub use steady_lines::{is_steady_at_one, steady_bit};
-pub use trails::undone;
+pub use trails::{has_room, undone};
 pub use walks::walked;

@@ -1,5 +1,6 @@
 // Scopes within scopes, by recursion.
 ghost use Rattle.netlist.specs.Circuit.{source_count};
+ghost use Rattle.trees.specs.Unlinked.{IsUnlinked};
 ghost use Rattle.implication.specs.Scopes.{IsSameScope, standing};
 ghost use Rattle.implication.specs.Clients.{IsRestored};
 ghost use Rattle.search_answers.specs.Choices.{AreAtSources};
@@ -9,8 +10,10 @@ use implication::{Scope, Setting};
 use state_sets::Algebra;
 
 /// Goes through all ways to choose, one scope for each choice, and below a conflict no further. Leaves the scope as it was.
+#[tactic(auto, using(crate::proofs::Told::unlinked_told))]
 pub fn walk<A: Algebra, S: Setting>(scope: &mut Scope<A, S>, choices: &[Choice])
-    requires { AreAtSources (source_count (standing scope.old).net) choices.now }
+    requires sources { AreAtSources (source_count (standing scope.old).net) choices.now }
+    requires unlinked { IsUnlinked (standing scope.old).rules }
     ensures scope { IsSameScope scope.old scope.new }
     ensures restored { IsRestored (standing scope.old) (standing scope.new) }
 {

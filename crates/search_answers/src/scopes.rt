@@ -2,6 +2,7 @@
 // within it, and when they have gone back. Only what the next call asks for is promised.
 ghost use Rattle.std.specs.Prelude.{◌≡◌, ◌<◌, None, All, IsSome, length};
 ghost use Rattle.netlist.specs.Circuit.{source_count, line_count};
+ghost use Rattle.trees.specs.Unlinked.{IsUnlinked};
 ghost use Rattle.implication.specs.Clients.{ExtendsStanding, IsRestored};
 ghost use Rattle.implication.specs.Scopes.{IsSameScope, standing};
 ghost use Rattle.search_answers.specs.Told.{AreMarkedTold};
@@ -24,13 +25,14 @@ pub(crate) fn whole_alike(
 ) -> Result<bool, OutOfMemory>
     requires source { assumed.now.source.0 < source_count net.now }
     requires halves { All (λ half. half.source < source_count net.now) assumed.now.halves.now }
+    requires unlinked { IsUnlinked assumed.now.rules.now }
 {
     let marks = vec![in alloc; true; net.lines() as usize]?;
     marked_alike(alloc, net, assumed, marks.as_slice())
 }
 
 // The same at these lines.
-#[tactic(auto, using(crate::proofs::Told::all_told))]
+#[tactic(auto, using(crate::proofs::Told::all_told, crate::proofs::Told::fits, crate::proofs::Told::few_links))]
 fn marked_alike(
     alloc: Global,
     net: &Netlist,
@@ -39,6 +41,7 @@ fn marked_alike(
 ) -> Result<bool, OutOfMemory>
     requires source { assumed.now.source.0 < source_count net.now }
     requires halves { All (λ half. half.source < source_count net.now) assumed.now.halves.now }
+    requires unlinked { IsUnlinked assumed.now.rules.now }
 {
     let rules = assumed.rules;
     let mut engine = Engine::<FourStates, RuledNetlist>::new(alloc, RuledNetlist { net, rules })?;
@@ -53,6 +56,7 @@ pub(crate) fn within_alike(
 ) -> Result<bool, OutOfMemory>
     requires source { assumed.now.source.0 < source_count net.now }
     requires halves { All (λ half. half.source < source_count net.now) assumed.now.halves.now }
+    requires unlinked { IsUnlinked assumed.now.rules.now }
 {
     let mut marks = vec![in alloc; false; net.lines() as usize]?;
     cone_alike(
@@ -76,7 +80,7 @@ fn last_line(net: &Netlist, assumed: &Assumed) -> LineId
 }
 
 // The same of an engine that tells the fan-in of this line, which it marks.
-#[tactic(auto, using(crate::proofs::Told::cone_told))]
+#[tactic(auto, using(crate::proofs::Told::cone_told, crate::proofs::Told::fits, crate::proofs::Told::few_links))]
 fn cone_alike(
     alloc: Global,
     net: &Netlist,
@@ -86,6 +90,7 @@ fn cone_alike(
 ) -> Result<bool, OutOfMemory>
     requires source { assumed.now.source.0 < source_count net.now }
     requires halves { All (λ half. half.source < source_count net.now) assumed.now.halves.now }
+    requires unlinked { IsUnlinked assumed.now.rules.now }
     requires end { end.0 < line_count net.now }
     requires places { length marks.old ≡ line_count net.now }
 {
@@ -108,6 +113,7 @@ fn prefixes_alike<S: Setting>(
     requires source { assumed.now.source.0 < source_count engine.old.net }
     requires halves { All (λ half. half.source < source_count engine.old.net) assumed.now.halves.now }
     requires told { AreMarkedTold engine.old marks.now }
+    requires unlinked { IsUnlinked engine.old.rules }
 {
     for count in 0..=assumed.steps.len() {
         let shorter = Assumed {
@@ -122,7 +128,7 @@ fn prefixes_alike<S: Setting>(
 }
 
 // Whether a scope ends like the sweeps.
-#[tactic(auto, using(crate::proofs::Told::still_told))]
+#[tactic(auto, using(crate::proofs::Told::still_told, crate::proofs::Told::unlinked_told))]
 fn scope_alike<S: Setting>(
     alloc: Global,
     engine: &mut Engine<FourStates, S>,
@@ -133,8 +139,10 @@ fn scope_alike<S: Setting>(
     requires source { assumed.now.source.0 < source_count engine.old.net }
     requires halves { All (λ half. half.source < source_count engine.old.net) assumed.now.halves.now }
     requires told { AreMarkedTold engine.old marks.now }
+    requires unlinked { IsUnlinked engine.old.rules }
     ensures idle { engine.new.beginning ≡ None }
     ensures net { engine.new.net ≡ engine.old.net }
+    ensures rules { engine.new.rules ≡ engine.old.rules }
     ensures ends { engine.new.ends ≡ engine.old.ends }
 {
     let mut scope = Scope::begin(engine, assumed.source, assumed.direction, assumed.kind);
@@ -153,8 +161,10 @@ fn begun_alike<S: Setting>(
     requires begun { IsSome (standing scope.old).beginning }
     requires halves { All (λ half. half.source < source_count (standing scope.old).net) assumed.now.halves.now }
     requires told { AreMarkedTold (standing scope.old) marks.now }
+    requires unlinked { IsUnlinked (standing scope.old).rules }
     ensures scope { IsSameScope scope.old scope.new }
     ensures net { (standing scope.new).net ≡ (standing scope.old).net }
+    ensures rules { (standing scope.new).rules ≡ (standing scope.old).rules }
     ensures ends { (standing scope.new).ends ≡ (standing scope.old).ends }
 {
     if enter_all(scope, assumed.steps, marks) {
@@ -178,7 +188,8 @@ fn entered_alike<S: Setting>(
     assumed: &Assumed,
     marks: &[bool],
 ) -> Result<bool, OutOfMemory>
-    requires { All (λ half. half.source < source_count (standing scope.old).net) assumed.now.halves.now }
+    requires halves { All (λ half. half.source < source_count (standing scope.old).net) assumed.now.halves.now }
+    requires unlinked { IsUnlinked (standing scope.old).rules }
     ensures scope { IsSameScope scope.old scope.new }
     ensures restored { IsRestored (standing scope.old) (standing scope.new) }
 {
@@ -216,7 +227,8 @@ fn halves_alike<S: Setting>(
     assumed: &Assumed,
     marks: &[bool],
 ) -> Result<bool, OutOfMemory>
-    requires { All (λ half. half.source < source_count (standing scope.old).net) assumed.now.halves.now }
+    requires halves { All (λ half. half.source < source_count (standing scope.old).net) assumed.now.halves.now }
+    requires unlinked { IsUnlinked (standing scope.old).rules }
     ensures scope { IsSameScope scope.old scope.new }
     ensures restored { IsRestored (standing scope.old) (standing scope.new) }
 {
@@ -235,7 +247,8 @@ fn inner_alike<S: Setting>(
     assumed: &Assumed,
     marks: &[bool],
 ) -> Result<bool, OutOfMemory>
-    requires { All (λ half. half.source < source_count (standing scope.old).net) assumed.now.halves.now }
+    requires halves { All (λ half. half.source < source_count (standing scope.old).net) assumed.now.halves.now }
+    requires unlinked { IsUnlinked (standing scope.old).rules }
     ensures scope { IsSameScope scope.old scope.new }
     ensures restored { IsRestored (standing scope.old) (standing scope.new) }
 {
@@ -248,8 +261,10 @@ fn inner_alike<S: Setting>(
 }
 
 // Assumes these halves.
+#[tactic(auto, using(crate::proofs::Told::unlinked_told))]
 fn assume_all<S: Setting>(scope: &mut Scope<FourStates, S>, halves: &[Half])
-    requires { All (λ half. half.source < source_count (standing scope.old).net) halves.now }
+    requires halves { All (λ half. half.source < source_count (standing scope.old).net) halves.now }
+    requires unlinked { IsUnlinked (standing scope.old).rules }
     ensures scope { IsSameScope scope.old scope.new }
     ensures extends { ExtendsStanding (standing scope.old) (standing scope.new) }
 {

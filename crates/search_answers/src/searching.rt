@@ -4,6 +4,7 @@
 ghost use Rattle.std.specs.Prelude.{◌≡◌, None};
 ghost use Rattle.pd_base.specs.Target.{target_of};
 ghost use Rattle.netlist.specs.Paths.{IsPath, IsPrefix};
+ghost use Rattle.trees.specs.Unlinked.{IsUnlinked};
 ghost use Rattle.implication.specs.Scopes.{standing};
 ghost use Rattle.justify.specs.Scoping.{IsStart};
 ghost use Rattle.search_answers.specs.Told.{AreMarkedTold};
@@ -15,11 +16,11 @@ use implication::{Engine, RuledNetlist, Scope, Setting};
 use justify::{Found, search};
 use netlist::Netlist;
 use pd_base::MOST_BUDGET;
-use row_answers::{Fault, Text, Trouble, number_of, path, ruled_fault_of};
+use row_answers::{Fault, RuledFault, Text, Trouble, fault_of, number_of, path, unlinked_rules_of};
 use state_sets::{FourStates, StateSet};
 use std::alloc::Global;
 
-/// Adds what a search for a test of a path ends with: the rules, if they are not rules One, transition, kind, and the budget.
+/// Adds what a search for a test of a path ends with: the rules, which have no links, transition, kind, and the budget.
 pub fn searched(
     alloc: Global,
     net: &Netlist,
@@ -27,12 +28,14 @@ pub fn searched(
     row: &str,
     answer: &mut Text,
 ) -> Result<(), Trouble> {
-    let (ruled, budget) = ruled_fault_of(row)?;
+    let (rules, row) = unlinked_rules_of(row);
+    let (fault, budget) = fault_of(row)?;
     let budget = number_of(budget)?;
     let path = path(alloc, net, route)?;
+    let rules = &rules;
     let wanted = Wanted {
         path: &path,
-        ruled,
+        ruled: RuledFault { rules, fault },
         budget,
     };
     add_search(alloc, net, &wanted, answer)
@@ -45,7 +48,8 @@ fn add_search(
     wanted: &Wanted,
     answer: &mut Text,
 ) -> Result<(), Trouble>
-    requires { IsPath net.now wanted.now.path.now }
+    requires path { IsPath net.now wanted.now.path.now }
+    requires unlinked { IsUnlinked wanted.now.ruled.rules.now }
 {
     let came = search_for(alloc, net, wanted)?;
     add_came(alloc, net, wanted, &came, answer)
@@ -59,7 +63,8 @@ fn add_came(
     came: &Came,
     answer: &mut Text,
 ) -> Result<(), Trouble>
-    requires { IsPath net.now wanted.now.path.now }
+    requires path { IsPath net.now wanted.now.path.now }
+    requires unlinked { IsUnlinked wanted.now.ruled.rules.now }
 {
     let accepted = is_accepted(alloc, net, wanted, &came.found)?;
     add_line(came, accepted, answer);
@@ -68,16 +73,18 @@ fn add_came(
 
 // Searches on an engine of its own, where all lines are marked.
 fn search_for(alloc: Global, net: &Netlist, wanted: &Wanted) -> Result<Came, Trouble>
-    requires { IsPath net.now wanted.now.path.now }
+    requires path { IsPath net.now wanted.now.path.now }
+    requires unlinked { IsUnlinked wanted.now.ruled.rules.now }
 {
     let marks = vec![in alloc; true; net.lines() as usize]?;
     search_at(alloc, net, wanted, marks.as_slice())
 }
 
 // The same with these marks.
-#[tactic(auto, using(crate::proofs::Told::all_told))]
+#[tactic(auto, using(crate::proofs::Told::all_told, crate::proofs::Told::fits, crate::proofs::Told::few_links))]
 fn search_at(alloc: Global, net: &Netlist, wanted: &Wanted, marks: &[bool]) -> Result<Came, Trouble>
-    requires { IsPath net.now wanted.now.path.now }
+    requires path { IsPath net.now wanted.now.path.now }
+    requires unlinked { IsUnlinked wanted.now.ruled.rules.now }
 {
     let rules = wanted.ruled.rules;
     let mut engine = Engine::<FourStates, RuledNetlist>::new(alloc, RuledNetlist { net, rules })?;
@@ -85,7 +92,7 @@ fn search_at(alloc: Global, net: &Netlist, wanted: &Wanted, marks: &[bool]) -> R
 }
 
 // Searches on an engine on which no scope is open.
-#[tactic(auto, using(crate::proofs::Starts::at_start, crate::proofs::Starts::at_path, crate::proofs::Told::still_told))]
+#[tactic(auto, using(crate::proofs::Starts::at_start, crate::proofs::Starts::at_path, crate::proofs::Told::still_told, crate::proofs::Told::unlinked_told))]
 fn search_on<S: Setting>(
     alloc: Global,
     engine: &mut Engine<FourStates, S>,
@@ -95,6 +102,7 @@ fn search_on<S: Setting>(
     requires idle { engine.old.beginning ≡ None }
     requires path { IsPath engine.old.net wanted.now.path.now }
     requires told { AreMarkedTold engine.old marks.now }
+    requires unlinked { IsUnlinked engine.old.rules }
 {
     let path = wanted.path;
     let Fault { direction, kind } = wanted.ruled.fault;
@@ -112,6 +120,7 @@ fn search_in<S: Setting>(
     wanted: &Wanted,
 ) -> Result<Came, Trouble>
     requires path { IsPrefix (standing scope.old).net wanted.now.path.now }
+    requires unlinked { IsUnlinked (standing scope.old).rules }
     requires start { IsStart (target_of wanted.now.path.now wanted.now.ruled.fault.direction wanted.now.ruled.fault.kind)
         (standing scope.old) }
 {
@@ -127,6 +136,7 @@ fn search_beside<S: Setting>(
     labels: &[StateSet],
 ) -> Result<Came, Trouble>
     requires path { IsPrefix (standing scope.old).net wanted.now.path.now }
+    requires unlinked { IsUnlinked (standing scope.old).rules }
     requires start { IsStart (target_of wanted.now.path.now wanted.now.ruled.fault.direction wanted.now.ruled.fault.kind)
         (standing scope.old) }
 {
@@ -147,6 +157,7 @@ fn find<S: Setting>(
     wanted: &Wanted,
 ) -> Result<Found, Trouble>
     requires path { IsPrefix (standing scope.old).net wanted.now.path.now }
+    requires unlinked { IsUnlinked (standing scope.old).rules }
     requires start { IsStart (target_of wanted.now.path.now wanted.now.ruled.fault.direction wanted.now.ruled.fault.kind)
         (standing scope.old) }
 {

@@ -1,4 +1,4 @@
-// Writes to a list, undone by a trail.
+// Writes to a list, undone by a trail; and trails with much room.
 ghost use Rattle.std.specs.Prelude.{◌≡◌};
 ghost use Rattle.search_answers.specs.declared.trails.TheConstants.{ROOM};
 
@@ -18,6 +18,11 @@ pub fn undone(alloc: Global, row: &str, answer: &mut Text) -> Result<(), Trouble
     let left = undo(alloc, values.as_mut_slice(), before, since)?;
     add_line(values.as_slice(), left, answer);
     Ok(())
+}
+
+/// Whether memory has room for a trail of two to this power notes.
+pub fn has_room(alloc: Global, power: u32) -> bool {
+    power < usize::BITS && Trail::<u32>::new(alloc, 1 << power).is_ok()
 }
 
 // The values of a row.

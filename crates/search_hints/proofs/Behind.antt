@@ -3,16 +3,17 @@ use Rattle.std.proofs.Common.{◌≡◌, ⊎_elim, inl, inr, ◌⊎◌, ℕ, ◌
 use Rattle.std.specs.Prelude.{IfSome}
 use Rattle.std.specs.List.{All, Contains}
 use Rattle.std.proofs.lemmas.List.Elements.{All-contains, Contains-get_or}
+use Rattle.pd_base.specs.Links.{LinkList}
 use Rattle.pd_base.specs.declared.ids.LineId.{LineId}
 use Rattle.netlist.specs.Circuit.{Circuit, HasLines, line_count}
 use Rattle.netlist.specs.Lawful.{IsCircuit}
-use Rattle.netlist.specs.Pins.{IsInFanIn}
-use Rattle.state_laws.proofs.FanIns.{fan_in_in_circuit}
+use Rattle.netlist.specs.LinkedPairs.{IsSupported}
 use Rattle.netlist.specs.Pins.IsInFanIn.{end_itself}
-use Rattle.test_judging.specs.FoundLines.{FoundSet, FindsMore, reads_of}
+use Rattle.state_laws.proofs.FanIns.{fan_in_in_circuit}
+use Rattle.pair_judging.specs.FoundLines.{FoundSet, FindsMore, reads_of}
 use Rattle.search_hints.specs.Blamed.{AreBehind, IsSomeLine}
-use Rattle.test_judging.proofs.Finding.{only_one}
-use Rattle.test_judging.proofs.Spreading.{reads_in_fan_in}
+use Rattle.pair_judging.proofs.Finding.{only_one}
+use Rattle.pair_judging.proofs.Spreading.{reads_in_fan_in, next_supported}
 
 -- what a list has, by number
 pub all_of_each : (P : ℕ → Type 0) (lines : List LineId) → ((line : ℕ) → Contains lines (record { 0 = line }) → P line) → All (λ line. P line.0) lines
@@ -20,22 +21,24 @@ all_of_each P lines each k d inside = each (get_or lines k d).0 (Contains-get_or
 
 module _ (c : Circuit) (first : List LineId) where
   pub behind_first : HasLines c first → AreBehind c first first
-  behind_first within = record { in_circuit = within; in_fan_in = λ end are. are }
+  behind_first within = record { in_circuit = within; supported = λ links end are. are }
 
   module _ (circuit : IsCircuit c) (line : LineId) (place : ℕ) (old new : FoundSet) (inside : place < length old.lines)
       (at : get_or old.lines place line ≡ line) (finds : FindsMore (reads_of c line.0) old new) (behind : AreBehind c first old.lines) where
     line_within : line.0 < line_count c
     line_within = subst (λ (l : LineId). l.0 < line_count c) at (behind.in_circuit place line inside)
 
-    new_in_fan_in : (end : ℕ) → All (λ l. IsInFanIn c end l.0) first → All (λ l. IsInFanIn c end l.0) new.lines
-    new_in_fan_in end are =
-        let before = behind.in_fan_in end are in
-        let own : IsInFanIn c end line.0 = subst (λ (l : LineId). IsInFanIn c end l.0) at (before place line inside) in
-        all_of_each (IsInFanIn c end) new.lines
+    new_supported : (links : LinkList) (end : ℕ) → All (λ l. IsSupported c links end l.0) first
+        → All (λ l. IsSupported c links end l.0) new.lines
+    new_supported links end are =
+        let before = behind.supported links end are in
+        let own : IsSupported c links end line.0 = subst (λ (l : LineId). IsSupported c links end l.0) at (before place line inside) in
+        all_of_each (IsSupported c links end) new.lines
         (λ other has. ⊎_elim
         (λ (was : Contains old.lines (record { 0 = other })).
-        All-contains (λ (l : LineId). IsInFanIn c end l.0) old.lines (record { 0 = other }) before was)
-        (λ (read : Contains (reads_of c line.0) (record { 0 = other })). reads_in_fan_in c end line.0 line_within own other read)
+        All-contains (λ (l : LineId). IsSupported c links end l.0) old.lines (record { 0 = other }) before was)
+        (λ (read : Contains (reads_of c line.0) (record { 0 = other })).
+        next_supported c links end line.0 line_within own other (inl read))
         ((finds.exactly other).0 has))
 
     -- what is read is behind too
@@ -49,7 +52,7 @@ module _ (c : Circuit) (first : List LineId) where
           fan_in_in_circuit c line.0 circuit.reads_lines line_within other
           (reads_in_fan_in c line.0 line.0 line_within end_itself other read))
           ((finds.exactly other).0 has));
-      in_fan_in = new_in_fan_in;
+      supported = new_supported;
     }
 
 -- where one line was found in a set of none, it is the only one

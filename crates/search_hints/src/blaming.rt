@@ -6,11 +6,11 @@ ghost use Rattle.netlist.specs.Circuit.{HasLines, line_count};
 ghost use Rattle.search_hints.specs.Blamed.{AreBlamed, AreBehind, IsSomeLine};
 
 use netlist::Netlist;
+use pair_judging::{FoundLines, find_reads};
 use pd_base::{LineId, OutOfMemory};
 use state_sets::StateSet;
 use std::alloc::Global;
 use std::marker::Model;
-use test_judging::{FoundLines, find_reads};
 
 /// Sources that are blamed for a failure, with room for those of any.
 #[derive(Drop)]

@@ -5,10 +5,10 @@ ghost use Rattle.netlist.specs.Circuit.{gate_count, line_count};
 
 use crate::changes::{Cause, Change};
 use netlist::Netlist;
+use pair_judging::{FoundLines, find_reads};
 use pd_base::{GateId, OutOfMemory};
 use std::alloc::Global;
 use std::marker::Model;
-use test_judging::{FoundLines, find_reads};
 
 // The decisions on which a conflict rests. Contracts see how many lines there are.
 #[derive(Drop)]

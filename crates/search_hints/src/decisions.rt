@@ -12,7 +12,7 @@ use crate::picking::{Cut, Sight, pick, pick_any, without};
 use crate::region::Region;
 use netlist::Netlist;
 use pd_base::{GateId, LineId, OutOfMemory};
-use state_sets::StateSet;
+use state_sets::{Algebra, StateSet};
 use std::alloc::Global;
 use std::marker::Model;
 
@@ -88,12 +88,12 @@ impl Model for Decisions {
 
 impl Decisions {
     // Nothing is decided.
-    pub(crate) fn new(alloc: Global, net: &Netlist) -> Result<Decisions, OutOfMemory>
+    pub(crate) fn new<A: Algebra>(alloc: Global, net: &Netlist) -> Result<Decisions, OutOfMemory>
         ensures { IfOk result (IsSizedFor net.now) }
     {
         // What has most parts is made last, since each refusal drops what was made before.
         let culprits = Culprits::new(alloc, net)?;
-        let draft = Draft::new(alloc, net)?;
+        let draft = Draft::new::<A>(alloc, net)?;
         Ok(Decisions {
             draft,
             made: Vec::new(alloc),
@@ -129,19 +129,23 @@ impl Decisions {
     }
 
     // Notes the gate as open, if its line is not justified now.
-    pub(crate) fn note_open(&mut self, net: &Netlist, gate: GateId) -> Result<(), OutOfMemory>
+    pub(crate) fn note_open<A: Algebra>(
+        &mut self,
+        net: &Netlist,
+        gate: GateId,
+    ) -> Result<(), OutOfMemory>
         requires sized { IsSizedFor net.now self.old }
         requires gate { gate.0 < gate_count net.now }
         ensures { self.new ≡ self.old }
     {
-        if !is_justified(net, self.draft.labels(), gate) {
+        if !is_justified::<A>(net, self.draft.labels(), gate) {
             self.open_at_first.push(gate)?;
         }
         Ok(())
     }
 
     // Decides until each line is justified, within so many conflicts.
-    pub(crate) fn search(
+    pub(crate) fn search<A: Algebra>(
         &mut self,
         region: &Region,
         order: Order,
@@ -153,12 +157,12 @@ impl Decisions {
         self.restart();
         let mut left = most_conflicts;
         for _ in 0..MOST_DECISIONS {
-            let settled = match self.next(region, order) {
+            let settled = match self.next::<A>(region, order) {
                 Next::Nothing => return Ok(Ended::Justified),
-                Next::Decide(cut) => self.decide(region, cut)?,
+                Next::Decide(cut) => self.decide::<A>(region, cut)?,
                 Next::GiveUp => return Ok(Ended::Unknown),
             };
-            match self.resolve(region, settled, &mut left)? {
+            match self.resolve::<A>(region, settled, &mut left)? {
                 Some(ended) => return Ok(ended),
                 None => {}
             }
@@ -177,32 +181,32 @@ impl Decisions {
     }
 
     // What to decide: first what a step's side pins need, then what the lines need that were cut, then those that were open at first.
-    fn next(&mut self, region: &Region, order: Order) -> Next
+    fn next<A: Algebra>(&mut self, region: &Region, order: Order) -> Next
         requires { IsSizedFor region.now.net.now self.old }
         ensures same { self.new ≡ self.old }
         ensures line { IsNextIn region.now.net.now result }
     {
-        if let Some(cut) = next_side(region, self.draft.labels(), &mut self.cursor.steps) {
+        if let Some(cut) = next_side::<A>(region, self.draft.labels(), &mut self.cursor.steps) {
             return Next::Decide(cut);
         }
-        if let Some(gate) = next_changed(region, &self.draft, &mut self.cursor.changes) {
-            return self.pick_for(region, gate);
+        if let Some(gate) = next_changed::<A>(region, &self.draft, &mut self.cursor.changes) {
+            return self.pick_for::<A>(region, gate);
         }
         let open = self.open_at_first.as_slice();
-        match next_open(
+        match next_open::<A>(
             region,
             self.draft.labels(),
             open,
             order,
             &mut self.cursor.places,
         ) {
-            Some(gate) => self.pick_for(region, gate),
+            Some(gate) => self.pick_for::<A>(region, gate),
             None => Next::Nothing,
         }
     }
 
     // A decision towards the label of a gate's line.
-    fn pick_for(&self, region: &Region, gate: GateId) -> Next
+    fn pick_for<A: Algebra>(&self, region: &Region, gate: GateId) -> Next
         requires sized { IsSizedFor region.now.net.now self.now }
         requires gate { gate.0 < gate_count region.now.net.now }
         ensures { IsNextIn region.now.net.now result }
@@ -213,17 +217,17 @@ impl Decisions {
             liked: region.liked,
         };
         let states = sight.labels[region.net.line_of(gate).0 as usize];
-        if let Some(cut) = pick(&sight, gate, states) {
+        if let Some(cut) = pick::<A>(&sight, gate, states) {
             return Next::Decide(cut);
         }
-        match pick_any(&sight, region.sources) {
+        match pick_any::<A>(&sight, region.sources) {
             Some(cut) => Next::Decide(cut),
             None => Next::GiveUp,
         }
     }
 
     // Makes a decision, and narrows. One that leaves nothing for a second part would not end.
-    fn decide(&mut self, region: &Region, cut: Cut) -> Result<Settled, OutOfMemory>
+    fn decide<A: Algebra>(&mut self, region: &Region, cut: Cut) -> Result<Settled, OutOfMemory>
         requires sized { IsSizedFor region.now.net.now self.old }
         requires line { cut.line.0 < line_count region.now.net.now }
         ensures same { self.new ≡ self.old }
@@ -233,11 +237,16 @@ impl Decisions {
         if second == StateSet::EMPTY || cut.to == StateSet::EMPTY {
             return Ok(Settled::Unknown);
         }
-        self.take(region, cut, second)
+        self.take::<A>(region, cut, second)
     }
 
     // Takes a part of the states of a line, where a second one is left for later, or none.
-    fn take(&mut self, region: &Region, cut: Cut, second: StateSet) -> Result<Settled, OutOfMemory>
+    fn take<A: Algebra>(
+        &mut self,
+        region: &Region,
+        cut: Cut,
+        second: StateSet,
+    ) -> Result<Settled, OutOfMemory>
         requires sized { IsSizedFor region.now.net.now self.old }
         requires line { cut.line.0 < line_count region.now.net.now }
         ensures same { self.new ≡ self.old }
@@ -253,12 +262,12 @@ impl Decisions {
         };
         self.made.push(decision)?;
         self.draft.cut(region, cut.line, cut.to, cause)?;
-        self.draft.settle(region)
+        self.draft.settle::<A>(region)
     }
 
     // While there is a conflict, turns the newest decision on which it rests and of which a part is left. Tells how the search ends,
     // unless the labels are at rest then.
-    fn resolve(
+    fn resolve<A: Algebra>(
         &mut self,
         region: &Region,
         settled: Settled,
@@ -278,7 +287,7 @@ impl Decisions {
             let Some(decision) = self.newest_culprit() else {
                 return Ok(Some(Ended::Exhausted));
             };
-            settled = self.turn(region, decision)?;
+            settled = self.turn::<A>(region, decision)?;
         }
         match settled {
             Settled::AtRest => Ok(None),
@@ -331,7 +340,11 @@ impl Decisions {
     }
 
     // Takes the second part of a decision, which then rests on what else the conflict rested on.
-    fn turn(&mut self, region: &Region, decision: Decision) -> Result<Settled, OutOfMemory>
+    fn turn<A: Algebra>(
+        &mut self,
+        region: &Region,
+        decision: Decision,
+    ) -> Result<Settled, OutOfMemory>
         requires sized { IsSizedFor region.now.net.now self.old }
         requires line { decision.line.0 < line_count region.now.net.now }
         ensures same { self.new ≡ self.old }
@@ -342,7 +355,7 @@ impl Decisions {
             line: decision.line,
             to: decision.second,
         };
-        let settled = self.take(region, cut, StateSet::EMPTY)?;
+        let settled = self.take::<A>(region, cut, StateSet::EMPTY)?;
         self.culprits.list(&mut self.reasons)?;
         Ok(settled)
     }
@@ -358,13 +371,13 @@ fn at_start() -> Cursor {
 }
 
 // What the side pins of the first step need that is open, from a place on, which goes on to that step.
-fn next_side(region: &Region, labels: &[StateSet], place: &mut usize) -> Option<Cut>
+fn next_side<A: Algebra>(region: &Region, labels: &[StateSet], place: &mut usize) -> Option<Cut>
     requires { length labels.now ≡ line_count region.now.net.now }
     ensures { IfSome result (λ cut. cut.line.0 < line_count region.now.net.now) }
 {
     let steps = region.conditions.steps();
     for at in *place..steps.len() {
-        let cut = open_side(region.net, labels, steps[at], region.conditions.kind());
+        let cut = open_side::<A>(region.net, labels, steps[at], region.conditions.kind());
         if cut.is_some() {
             return cut;
         }
@@ -374,13 +387,13 @@ fn next_side(region: &Region, labels: &[StateSet], place: &mut usize) -> Option<
 }
 
 // The gate of the first changed line that is not justified, from a place on, which goes on to that change.
-fn next_changed(region: &Region, draft: &Draft, place: &mut usize) -> Option<GateId>
+fn next_changed<A: Algebra>(region: &Region, draft: &Draft, place: &mut usize) -> Option<GateId>
     requires { IsSizedFor region.now.net.now draft.now }
     ensures { IfSome result (λ gate. gate.0 < gate_count region.now.net.now) }
 {
     let changes = draft.changes();
     for at in *place..changes.len() {
-        if let Some(gate) = open_gate(region, draft, changes[at].line) {
+        if let Some(gate) = open_gate::<A>(region, draft, changes[at].line) {
             return Some(gate);
         }
         *place = at + 1;
@@ -389,20 +402,20 @@ fn next_changed(region: &Region, draft: &Draft, place: &mut usize) -> Option<Gat
 }
 
 // The gate of a line that is not justified.
-fn open_gate(region: &Region, draft: &Draft, line: LineId) -> Option<GateId>
+fn open_gate<A: Algebra>(region: &Region, draft: &Draft, line: LineId) -> Option<GateId>
     requires sized { IsSizedFor region.now.net.now draft.now }
     requires line { line.0 < line_count region.now.net.now }
     ensures { IfSome result (λ gate. gate.0 < gate_count region.now.net.now) }
 {
     let gate = region.net.gate_of(line)?;
-    if is_justified(region.net, draft.labels(), gate) {
+    if is_justified::<A>(region.net, draft.labels(), gate) {
         return None;
     }
     Some(gate)
 }
 
 // The first of these gates, in an order, whose line is not justified, from a place on, which goes on to that gate.
-fn next_open(
+fn next_open<A: Algebra>(
     region: &Region,
     labels: &[StateSet],
     gates: &[GateId],
@@ -419,7 +432,7 @@ fn next_open(
             Order::LowestFirst => gates[at],
             Order::HighestFirst => gates[count - 1 - at],
         };
-        if !is_justified(region.net, labels, gate) {
+        if !is_justified::<A>(region.net, labels, gate) {
             return Some(gate);
         }
         *place = at + 1;

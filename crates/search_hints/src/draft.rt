@@ -10,7 +10,7 @@ use crate::region::{Region, condition_of, is_inside};
 use hulls::{NarrowScratch, Waiting, kept_at};
 use netlist::Netlist;
 use pd_base::{GateId, LineId, OutOfMemory};
-use state_sets::{FourStates, StateSet, every_state};
+use state_sets::{Algebra, StateSet, every_state};
 use std::alloc::Global;
 use std::marker::Model;
 
@@ -52,12 +52,12 @@ impl Model for Draft {
 
 impl Draft {
     // All states at each line, and no changes.
-    pub(crate) fn new(alloc: Global, net: &Netlist) -> Result<Draft, OutOfMemory>
+    pub(crate) fn new<A: Algebra>(alloc: Global, net: &Netlist) -> Result<Draft, OutOfMemory>
         ensures { IfOk result (IsSizedFor net.now) }
     {
         // What has most parts is made last, since each refusal drops what was made before.
         let scratch = NarrowScratch::new(alloc, net)?;
-        let labels = vec![in alloc; every_state::<FourStates>(); net.lines() as usize]?;
+        let labels = vec![in alloc; every_state::<A>(); net.lines() as usize]?;
         let waiting = Waiting::new(alloc, vec![in alloc; true; net.gates() as usize]?)?;
         Ok(Draft {
             labels,
@@ -170,7 +170,7 @@ impl Draft {
     }
 
     // Narrows at the gates that wait, until none does or a line has no state left.
-    pub(crate) fn settle(&mut self, region: &Region) -> Result<Settled, OutOfMemory>
+    pub(crate) fn settle<A: Algebra>(&mut self, region: &Region) -> Result<Settled, OutOfMemory>
         requires { IsSizedFor region.now.net.now self.old }
         ensures same { self.new ≡ self.old }
         ensures gate { IfOk result (HasGate region.now.net.now) }
@@ -179,7 +179,7 @@ impl Draft {
             let Some(gate) = self.next() else {
                 return Ok(Settled::AtRest);
             };
-            if !self.narrow_at(region, gate)? {
+            if !self.narrow_at::<A>(region, gate)? {
                 return Ok(Settled::Conflict(gate));
             }
         }
@@ -195,13 +195,13 @@ impl Draft {
     }
 
     // Narrows at a gate. Whether each of its lines has a state left.
-    fn narrow_at(&mut self, region: &Region, gate: GateId) -> Result<bool, OutOfMemory>
+    fn narrow_at<A: Algebra>(&mut self, region: &Region, gate: GateId) -> Result<bool, OutOfMemory>
         requires sized { IsSizedFor region.now.net.now self.old }
         requires gate { gate.0 < gate_count region.now.net.now }
         ensures { self.new ≡ self.old }
     {
         let own = LineId(region.net.sources() + gate.0);
-        let given = kept_at::<FourStates>(
+        let given = kept_at::<A>(
             region.net,
             self.labels.as_slice(),
             gate,

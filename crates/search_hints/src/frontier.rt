@@ -7,7 +7,7 @@ ghost use Rattle.netlist.specs.Circuit.{line_count, HasLines};
 use crate::open_lines::{is_justified, open_side};
 use crate::picking::{Cut, Sight, pick};
 use pd_base::{Kind, LineId, Path};
-use state_sets::StateSet;
+use state_sets::{Algebra, StateSet};
 use undo_trail::Note;
 
 /// How many of the path's steps, of the lines that the scope began, and of the changes of labels are known to leave nothing open, at a
@@ -33,7 +33,7 @@ pub struct Lead {
 
 /// Leads from the first thing that is open to a source: first what the conditions of a kind of tests need at the path's steps, then what
 /// the lines begun need, in their order, then the lines whose labels have changed, in the order of these changes.
-pub fn follow(
+pub fn follow<A: Algebra>(
     sight: &Sight,
     begun_lines: &[LineId],
     changes: &[Note<StateSet>],
@@ -45,30 +45,35 @@ pub fn follow(
     requires changes { All (λ change. change.index < line_count sight.now.net.now) changes.now }
 {
     let mut frontier = frontier;
-    if let Some(cut) = open_step(sight, path, kind, &mut frontier) {
-        let source = descend(sight, cut);
+    if let Some(cut) = open_step::<A>(sight, path, kind, &mut frontier) {
+        let source = descend::<A>(sight, cut);
         return Lead { source, frontier };
     }
-    if let Some(cut) = open_begun(sight, begun_lines, &mut frontier) {
-        let source = descend(sight, cut);
+    if let Some(cut) = open_begun::<A>(sight, begun_lines, &mut frontier) {
+        let source = descend::<A>(sight, cut);
         return Lead { source, frontier };
     }
-    let source = match open_change(sight, changes, &mut frontier) {
-        Some(cut) => descend(sight, cut),
+    let source = match open_change::<A>(sight, changes, &mut frontier) {
+        Some(cut) => descend::<A>(sight, cut),
         None => None,
     };
     Lead { source, frontier }
 }
 
 // What the first step needs that leaves something open.
-fn open_step(sight: &Sight, path: &Path, kind: Kind, frontier: &mut Frontier) -> Option<Cut>
+fn open_step<A: Algebra>(
+    sight: &Sight,
+    path: &Path,
+    kind: Kind,
+    frontier: &mut Frontier,
+) -> Option<Cut>
     ensures { IfSome result (λ cut. cut.line.0 < line_count sight.now.net.now) }
 {
     let steps = path.steps();
     for place in frontier.steps..steps.len() {
         let step = steps[place];
         if step.gate.0 < sight.net.gates()
-            && let Some(cut) = open_side(sight.net, sight.labels, step, kind)
+            && let Some(cut) = open_side::<A>(sight.net, sight.labels, step, kind)
         {
             frontier.steps = place;
             return Some(cut);
@@ -79,12 +84,16 @@ fn open_step(sight: &Sight, path: &Path, kind: Kind, frontier: &mut Frontier) ->
 }
 
 // What the first of the lines begun needs that is open.
-fn open_begun(sight: &Sight, begun_lines: &[LineId], frontier: &mut Frontier) -> Option<Cut>
+fn open_begun<A: Algebra>(
+    sight: &Sight,
+    begun_lines: &[LineId],
+    frontier: &mut Frontier,
+) -> Option<Cut>
     requires { HasLines sight.now.net.now begun_lines.now }
     ensures { IfSome result (λ cut. cut.line.0 < line_count sight.now.net.now) }
 {
     for place in frontier.begun_lines..begun_lines.len() {
-        let cut = open_line(sight, begun_lines[place]);
+        let cut = open_line::<A>(sight, begun_lines[place]);
         if cut.is_some() {
             frontier.begun_lines = place;
             return cut;
@@ -95,13 +104,17 @@ fn open_begun(sight: &Sight, begun_lines: &[LineId], frontier: &mut Frontier) ->
 }
 
 // What the first line needs, in the order of the changes, that is open.
-fn open_change(sight: &Sight, changes: &[Note<StateSet>], frontier: &mut Frontier) -> Option<Cut>
+fn open_change<A: Algebra>(
+    sight: &Sight,
+    changes: &[Note<StateSet>],
+    frontier: &mut Frontier,
+) -> Option<Cut>
     requires { All (λ change. change.index < line_count sight.now.net.now) changes.now }
     ensures { IfSome result (λ cut. cut.line.0 < line_count sight.now.net.now) }
 {
     for place in frontier.changes..changes.len() {
         let line = LineId(changes[place].index);
-        let cut = open_line(sight, line);
+        let cut = open_line::<A>(sight, line);
         if cut.is_some() {
             frontier.changes = place;
             return cut;
@@ -112,12 +125,12 @@ fn open_change(sight: &Sight, changes: &[Note<StateSet>], frontier: &mut Frontie
 }
 
 // The label of a line, if its gate does not justify it.
-fn open_line(sight: &Sight, line: LineId) -> Option<Cut>
+fn open_line<A: Algebra>(sight: &Sight, line: LineId) -> Option<Cut>
     requires { line.0 < line_count sight.now.net.now }
     ensures { IfSome result (λ cut. cut.line ≡ line) }
 {
     let gate = sight.net.gate_of(line)?;
-    if is_justified(sight.net, sight.labels, gate) {
+    if is_justified::<A>(sight.net, sight.labels, gate) {
         return None;
     }
     Some(Cut {
@@ -127,7 +140,7 @@ fn open_line(sight: &Sight, line: LineId) -> Option<Cut>
 }
 
 // From a line back to a source, by what is wanted of it.
-fn descend(sight: &Sight, cut: Cut) -> Option<LineId>
+fn descend<A: Algebra>(sight: &Sight, cut: Cut) -> Option<LineId>
     requires { cut.line.0 < line_count sight.now.net.now }
 {
     let mut cut = cut;
@@ -135,7 +148,7 @@ fn descend(sight: &Sight, cut: Cut) -> Option<LineId>
         let Some(gate) = sight.net.gate_of(cut.line) else {
             return Some(cut.line);
         };
-        cut = pick(sight, gate, cut.to)?;
+        cut = pick::<A>(sight, gate, cut.to)?;
     }
     Some(cut.line)
 }

@@ -1,10 +1,13 @@
 // The private justifier: states for the sources of a cone, found by decisions on any of its lines. What it finds is a proposal, which
-// evaluation judges; so its contracts say that it ends and stays within its room, and no more.
+// evaluation judges; so its contracts say that it ends and stays within its room, and no more. It takes the conditions of the path's steps
+// that are not met, then the lines that its decisions changed and that are not justified, then those that were not justified at the
+// beginning; it brings a pin to what would justify them, narrows, and at a conflict goes back to the last decision on which the conflict
+// rests. It is tried with the lowest levels first, and once more with the highest first where the conflicts ran out.
 ghost use Rattle.std.specs.Prelude.{◌≡◌, [], length, IfOk};
 ghost use Rattle.netlist.specs.Circuit.{line_count, HasGates, HasLines};
 ghost use Rattle.netlist.specs.Paths.{IsPrefix, end_of};
 ghost use Rattle.hulls.specs.Conditions.{IsEnteredOn};
-ghost use Rattle.test_judging.specs.KeptCones.{IsConeFor, IsConeAt};
+ghost use Rattle.pair_judging.specs.KeptCones.{IsConeFor, IsConeAt};
 ghost use Rattle.search_hints.specs.Drafts.{IsJustifierOf, IsSizedFor, IsConeIn};
 
 use crate::decisions::{Decisions, Ended, Order};
@@ -13,11 +16,11 @@ use crate::picking::Sight;
 use crate::region::Region;
 use hulls::{Conditions, enter_all};
 use netlist::Netlist;
+use pair_judging::Cone;
 use pd_base::{Kind, OutOfMemory, Path};
-use state_sets::StateSet;
+use state_sets::{Algebra, StateSet};
 use std::alloc::Global;
 use std::marker::Model;
-use test_judging::Cone;
 
 // The most conflicts in one order where a budget was spent.
 const MOST_CONFLICTS: u32 = 300;
@@ -50,11 +53,11 @@ impl Model for Justifier {
 
 impl Justifier {
     /// Room for the lines, gates and levels of a netlist. It fails only where memory runs out.
-    pub fn new(alloc: Global, net: &Netlist) -> Result<Justifier, OutOfMemory>
+    pub fn new<A: Algebra>(alloc: Global, net: &Netlist) -> Result<Justifier, OutOfMemory>
         ensures { IfOk result (IsJustifierOf net.now) }
     {
         let conditions = Conditions::new(alloc, net, Kind::Robust)?;
-        let decisions = Decisions::new(alloc, net)?;
+        let decisions = Decisions::new::<A>(alloc, net)?;
         Ok(Justifier {
             conditions,
             decisions,
@@ -73,7 +76,7 @@ impl Justifier {
     /// kind at the gates of a path that ends where the cone does. Whether it found some: `labels` then has them, with the states that are
     /// left where any does. It costs the cone, and what narrowing changes there. It fails only where memory runs out, and still serves
     /// then.
-    pub fn propose(
+    pub fn propose<A: Algebra>(
         &mut self,
         sight: &Sight,
         cone: &Cone,
@@ -93,13 +96,13 @@ impl Justifier {
             Effort::Little => self.patience.conflicts(kind),
             Effort::Much => MOST_CONFLICTS,
         };
-        let found = self.decide(sight, cone, most_conflicts);
+        let found = self.decide::<A>(sight, cone, most_conflicts);
         leave_all(&mut self.conditions);
         found
     }
 
     // The same where the conditions are entered.
-    fn decide(
+    fn decide<A: Algebra>(
         &mut self,
         sight: &Sight,
         cone: &Cone,
@@ -110,7 +113,7 @@ impl Justifier {
         requires entered { IsEnteredOn sight.now.net.now self.old.entered }
         ensures { self.new ≡ self.old }
     {
-        begin(&mut self.decisions, sight, cone)?;
+        begin::<A>(&mut self.decisions, sight, cone)?;
         let region = Region {
             net: sight.net,
             conditions: &self.conditions,
@@ -118,7 +121,7 @@ impl Justifier {
             sources: cone.sources(),
             liked: sight.liked,
         };
-        search(&mut self.decisions, &region, most_conflicts)
+        search::<A>(&mut self.decisions, &region, most_conflicts)
     }
 
     /// The labels that the last call of `propose` came to, by line number; of lines that are not in its cone those of earlier calls.
@@ -130,7 +133,11 @@ impl Justifier {
 }
 
 // Copies the labels of the cone's lines, and notes which of its gates are open.
-fn begin(decisions: &mut Decisions, sight: &Sight, cone: &Cone) -> Result<(), OutOfMemory>
+fn begin<A: Algebra>(
+    decisions: &mut Decisions,
+    sight: &Sight,
+    cone: &Cone,
+) -> Result<(), OutOfMemory>
     requires sizes { IsSizedFor sight.now.net.now decisions.old }
     requires cone { IsConeIn sight.now.net.now cone.now }
     ensures { decisions.new ≡ decisions.old }
@@ -142,13 +149,13 @@ fn begin(decisions: &mut Decisions, sight: &Sight, cone: &Cone) -> Result<(), Ou
     for gate in cone.gates() {
         let line = sight.net.line_of(*gate);
         decisions.write(line, sight.labels[line.0 as usize]);
-        decisions.note_open(sight.net, *gate)?;
+        decisions.note_open::<A>(sight.net, *gate)?;
     }
     Ok(())
 }
 
 // Decides, the lines of the lowest levels first, and where that takes too many conflicts, those of the highest first.
-fn search(
+fn search<A: Algebra>(
     decisions: &mut Decisions,
     region: &Region,
     most_conflicts: u32,
@@ -156,11 +163,11 @@ fn search(
     requires { IsSizedFor region.now.net.now decisions.old }
     ensures { decisions.new ≡ decisions.old }
 {
-    match decisions.search(region, Order::LowestFirst, most_conflicts)? {
+    match decisions.search::<A>(region, Order::LowestFirst, most_conflicts)? {
         Ended::Justified => Ok(true),
         Ended::Exhausted => Ok(false),
         Ended::Unknown => {
-            let ended = decisions.search(region, Order::HighestFirst, most_conflicts)?;
+            let ended = decisions.search::<A>(region, Order::HighestFirst, most_conflicts)?;
             Ok(matches!(ended, Ended::Justified))
         }
     }

@@ -3,18 +3,9 @@
 ghost use Rattle.std.specs.Prelude.{◌≡◌, ◌<◌, length, IfSome};
 ghost use Rattle.netlist.specs.Circuit.{gate_count, line_count, HasLines};
 
-use netlist::{GateKind, Netlist, Op};
+use netlist::{GateKind, Netlist, Op, SideCondition};
 use pd_base::{GateId, LineId};
-use state_sets::{Algebra, FourStates, StateSet, every_state};
-
-// The states that end at 0.
-pub(crate) const ENDS_AT_0: StateSet = StateSet(0b0101);
-
-// The states that end at 1.
-pub(crate) const ENDS_AT_1: StateSet = StateSet(0b1010);
-
-// The steady states.
-pub(crate) const STEADY: StateSet = StateSet(0b0011);
+use state_sets::{Algebra, StateSet, every_state};
 
 // A decision: of a line, the states that are tried first.
 #[derive(Clone, Copy)]
@@ -42,96 +33,103 @@ pub(crate) fn without(set: StateSet, other: StateSet) -> StateSet {
     StateSet(set.0 & !other.0)
 }
 
+// The steady states.
+fn steady_states<A: Algebra>() -> StateSet {
+    A::allowed_by(SideCondition::AnySteady)
+}
+
 // The states of which a gate of this kind makes those of a set.
-pub(crate) fn uninverted(kind: GateKind, set: StateSet) -> StateSet {
-    let set = set.intersect(every_state::<FourStates>());
+pub(crate) fn uninverted<A: Algebra>(kind: GateKind, set: StateSet) -> StateSet {
+    let set = set.intersect(every_state::<A>());
     if kind.inverts() {
-        FourStates::invert_set(set)
+        A::invert_set(set)
     } else {
         set
     }
 }
 
 // A cut of a line that a pin of the gate reads, towards these states of the gate's line.
-pub(crate) fn pick(sight: &Sight, gate: GateId, states: StateSet) -> Option<Cut>
+pub(crate) fn pick<A: Algebra>(sight: &Sight, gate: GateId, states: StateSet) -> Option<Cut>
     requires { gate.0 < gate_count sight.now.net.now }
     ensures { IfSome result (λ cut. cut.line.0 < line_count sight.now.net.now) }
 {
     let kind = sight.net.kind(gate);
     let pins = sight.net.pins(gate);
-    let wanted = uninverted(kind, states);
+    let wanted = uninverted::<A>(kind, states);
     if let [pin] = pins {
         return cut_into(sight, *pin, wanted);
     }
     let picked = match kind.operation() {
-        Op::And => pick_controlled(sight, pins, wanted, ENDS_AT_0, ENDS_AT_1),
-        Op::Or => pick_controlled(sight, pins, wanted, ENDS_AT_1, ENDS_AT_0),
-        Op::Xor => pick_parity(sight, pins, wanted),
+        Op::And => pick_controlled::<A>(sight, pins, wanted, false),
+        Op::Or => pick_controlled::<A>(sight, pins, wanted, true),
+        Op::Xor => pick_parity::<A>(sight, pins, wanted),
     };
     if picked.is_some() {
         return picked;
     }
-    pick_any(sight, pins)
+    pick_any::<A>(sight, pins)
 }
 
-// The same where one pin can control the gate: the easiest pin into the controlling states that are wanted, and into the steady ones
+// The same where a pin with this last value controls the gate: the easiest pin into the controlling states that are wanted, and into the steady ones
 // where that takes no pin anywhere; else all pins into the other states, the hardest one first.
-fn pick_controlled(
+fn pick_controlled<A: Algebra>(
     sight: &Sight,
     pins: &[LineId],
     wanted: StateSet,
-    controlling: StateSet,
-    others: StateSet,
+    controlling: bool,
 ) -> Option<Cut>
     requires { HasLines sight.now.net.now pins.now }
     ensures { IfSome result (λ cut. cut.line.0 < line_count sight.now.net.now) }
 {
-    let picked = easiest_into(sight, pins, wanted.intersect(controlling));
+    let picked = easiest_into::<A>(sight, pins, wanted.intersect(A::ending_at(controlling)));
     if picked.is_some() {
         return picked;
     }
+    let others = A::ending_at(!controlling);
     let free = wanted.intersect(others);
     if free == StateSet::EMPTY {
         return None;
     }
-    if without(free, STEADY) == StateSet::EMPTY {
-        return hardest(sight, pins, others.intersect(STEADY));
+    let steady = steady_states::<A>();
+    if without(free, steady) == StateSet::EMPTY {
+        return hardest(sight, pins, others.intersect(steady));
     }
-    hardest_into(sight, pins, others)
+    hardest_into::<A>(sight, pins, others)
 }
 
 // The same at a parity: all pins steady, the hardest one first, where that is wanted; else the easiest pin to the final value that its
 // line is liked to have.
-fn pick_parity(sight: &Sight, pins: &[LineId], wanted: StateSet) -> Option<Cut>
+fn pick_parity<A: Algebra>(sight: &Sight, pins: &[LineId], wanted: StateSet) -> Option<Cut>
     requires { HasLines sight.now.net.now pins.now }
     ensures { IfSome result (λ cut. cut.line.0 < line_count sight.now.net.now) }
 {
-    if without(wanted, STEADY) == StateSet::EMPTY {
-        let picked = hardest(sight, pins, STEADY);
+    let steady = steady_states::<A>();
+    if without(wanted, steady) == StateSet::EMPTY {
+        let picked = hardest(sight, pins, steady);
         if picked.is_some() {
             return picked;
         }
     }
-    match easiest(sight, pins, ENDS_AT_0) {
+    match easiest::<A>(sight, pins, A::ending_at(false)) {
         Some(cut) => Some(as_liked(sight, cut)),
-        None => easiest(sight, pins, STEADY),
+        None => easiest::<A>(sight, pins, steady),
     }
 }
 
 // The easiest pin into a set, or into its steady states where no pin has states in the set and others.
-fn easiest_into(sight: &Sight, pins: &[LineId], to: StateSet) -> Option<Cut>
+fn easiest_into<A: Algebra>(sight: &Sight, pins: &[LineId], to: StateSet) -> Option<Cut>
     requires { HasLines sight.now.net.now pins.now }
     ensures { IfSome result (λ cut. cut.line.0 < line_count sight.now.net.now) }
 {
-    let picked = easiest(sight, pins, to);
+    let picked = easiest::<A>(sight, pins, to);
     if picked.is_some() {
         return picked;
     }
-    easiest(sight, pins, to.intersect(STEADY))
+    easiest::<A>(sight, pins, to.intersect(steady_states::<A>()))
 }
 
 // The hardest pin, in the same way.
-fn hardest_into(sight: &Sight, pins: &[LineId], to: StateSet) -> Option<Cut>
+fn hardest_into<A: Algebra>(sight: &Sight, pins: &[LineId], to: StateSet) -> Option<Cut>
     requires { HasLines sight.now.net.now pins.now }
     ensures { IfSome result (λ cut. cut.line.0 < line_count sight.now.net.now) }
 {
@@ -139,7 +137,7 @@ fn hardest_into(sight: &Sight, pins: &[LineId], to: StateSet) -> Option<Cut>
     if picked.is_some() {
         return picked;
     }
-    hardest(sight, pins, to.intersect(STEADY))
+    hardest(sight, pins, to.intersect(steady_states::<A>()))
 }
 
 // The cut to what its line is liked to be in, where that leaves the line some states and takes some away.
@@ -154,7 +152,7 @@ fn as_liked(sight: &Sight, cut: Cut) -> Cut
 }
 
 // Of the pins with states in a set and others: one that is liked to be there, else one of the lowest level.
-fn easiest(sight: &Sight, pins: &[LineId], to: StateSet) -> Option<Cut>
+fn easiest<A: Algebra>(sight: &Sight, pins: &[LineId], to: StateSet) -> Option<Cut>
     requires { HasLines sight.now.net.now pins.now }
     ensures { IfSome result (λ cut. cut.line.0 < line_count sight.now.net.now) }
 {
@@ -162,7 +160,7 @@ fn easiest(sight: &Sight, pins: &[LineId], to: StateSet) -> Option<Cut>
     for line in pins {
         if let Some(cut) = cut_into(sight, *line, to) {
             best = Some(match best {
-                Some(other) if !is_easier(sight, cut, other) => other,
+                Some(other) if !is_easier::<A>(sight, cut, other) => other,
                 _ => cut,
             });
         }
@@ -201,12 +199,12 @@ fn cut_into(sight: &Sight, line: LineId, to: StateSet) -> Option<Cut>
 }
 
 // Whether a cut is preferred to another one: where its line alone is liked to be in such states, else where it is on a lower level.
-fn is_easier(sight: &Sight, cut: Cut, other: Cut) -> bool
+fn is_easier<A: Algebra>(sight: &Sight, cut: Cut, other: Cut) -> bool
     requires cut { cut.line.0 < line_count sight.now.net.now }
     requires other { other.line.0 < line_count sight.now.net.now }
 {
-    let likes = is_liked(sight.liked[cut.line.0 as usize], cut.to);
-    let likes_other = is_liked(sight.liked[other.line.0 as usize], other.to);
+    let likes = is_liked::<A>(sight.liked[cut.line.0 as usize], cut.to);
+    let likes_other = is_liked::<A>(sight.liked[other.line.0 as usize], other.to);
     if likes != likes_other {
         return likes;
     }
@@ -214,12 +212,12 @@ fn is_easier(sight: &Sight, cut: Cut, other: Cut) -> bool
 }
 
 // Whether a line that is liked to be in some states alone is liked to be in one of these.
-fn is_liked(liked: StateSet, states: StateSet) -> bool {
-    liked != every_state::<FourStates>() && liked.intersect(states) != StateSet::EMPTY
+fn is_liked<A: Algebra>(liked: StateSet, states: StateSet) -> bool {
+    liked != every_state::<A>() && liked.intersect(states) != StateSet::EMPTY
 }
 
 // The first of these lines that has several states: its steady ones, if it has others too, else the least one.
-pub(crate) fn pick_any(sight: &Sight, lines: &[LineId]) -> Option<Cut>
+pub(crate) fn pick_any<A: Algebra>(sight: &Sight, lines: &[LineId]) -> Option<Cut>
     requires { HasLines sight.now.net.now lines.now }
     ensures { IfSome result (λ cut. cut.line.0 < line_count sight.now.net.now) }
 {
@@ -228,7 +226,7 @@ pub(crate) fn pick_any(sight: &Sight, lines: &[LineId]) -> Option<Cut>
         if label.0 & label.0.wrapping_sub(1) != 0 {
             return Some(Cut {
                 line: *line,
-                to: first_part(label),
+                to: first_part::<A>(label),
             });
         }
     }
@@ -236,8 +234,8 @@ pub(crate) fn pick_any(sight: &Sight, lines: &[LineId]) -> Option<Cut>
 }
 
 // The steady states of a set that has others too, else its least state.
-fn first_part(set: StateSet) -> StateSet {
-    let steady = set.intersect(STEADY);
+fn first_part<A: Algebra>(set: StateSet) -> StateSet {
+    let steady = set.intersect(steady_states::<A>());
     if steady != StateSet::EMPTY && steady != set {
         return steady;
     }

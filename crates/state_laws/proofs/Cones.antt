@@ -5,6 +5,7 @@ use Rattle.std.specs.List.{All, range_with_len}
 use Rattle.std.proofs.lemmas.Bool.{cases_Bool, cases_lt, cond-true, cond-false, ne_eqb, false≢true}
 use Rattle.std.proofs.lemmas.List.Elements.{All-head, All-tail, All-pop, All-push, All-from_get_or}
 use Rattle.std.proofs.lemmas.List.FromFn.{get_or-map-range_with_len, length-map-range_with_len}
+use Rattle.pd_base.specs.Links.{LinkList, IsLink}
 use Rattle.pd_base.specs.declared.ids.LineId.{LineId}
 use Rattle.pd_base.specs.declared.ids.PinRef.{PinRef}
 use Rattle.pd_base.specs.declared.fault.Kind.{Kind}
@@ -19,14 +20,14 @@ use Rattle.state_sets.specs.States.{Has, no_states}
 use Rattle.state_sets.specs.StateAlgebra.{StateAlgebra, HasLaws}
 use Rattle.state_sets.specs.Labellings.{label_at, IsLabelling, LiesIn}
 use Rattle.state_sets.specs.Narrowing.{IsChoice, GateSets, IsNarrowing, GivesAtGate, GivesAtPin, gate_sets, gate_lines, gate_state}
-use Rattle.state_sets.specs.Hulls.{Narrowing, IsNarrowingOf, IsAtRest, IsRestAmong, IsHull, IsEmptied, Closes, HasNoEmptySet, condition_at}
+use Rattle.state_sets.specs.Hulls.{IsNarrowingOf, IsAtRest, IsRestAmong, IsHull, HasNoEmptySet, condition_at}
 use Rattle.state_sets.specs.Hulls.Narrowing.{at_gate, along_link}
 use Rattle.state_laws.specs.Cones.{IsClosedBack, IsNarrowingIn, IsLineIn, IsPartOfHull}
-use Rattle.state_laws.specs.Sweeps.{KeepsRests}
 use Rattle.state_laws.proofs.Choices.{some_choice, choice_with, choice_into}
-use Rattle.state_laws.proofs.Hulls.{Widens, emptied_if_wider, closes_if_wider, condition_of_more}
+use Rattle.state_laws.proofs.Hulls.{Widens, condition_of_more}
 use Rattle.state_laws.proofs.Images.{image, image_has, has_image, image_within, has_some}
 use Rattle.state_laws.proofs.Sets.{none_has, has_in_circuit, label_within}
+use Rattle.state_laws.proofs.Linked.{none_linked}
 use Rattle.state_laws.proofs.Steps.{rest_without_condition}
 
 module _ (a : StateAlgebra) (c : Circuit) (gate : ℕ) (condition : Option Condition) (old new : List StateSet)
@@ -85,7 +86,7 @@ pins_inside c inside reads closed gate within e = all_from_places (λ (pin : Lin
     (cases_lt pin.0 (source_count c)))
 
 -- no condition stands at a gate that no step goes through
-none_at : (kind : Kind) (inside : ℕ → Bool) (gate : ℕ) → inside gate ≡ false → (steps : List PinRef)
+pub none_at : (kind : Kind) (inside : ℕ → Bool) (gate : ℕ) → inside gate ≡ false → (steps : List PinRef)
     → All (λ step. inside step.gate.0 ≡ true) steps → condition_at kind steps gate ≡ None
 none_at kind inside gate outside [] through = refl
 none_at kind inside gate outside (step ∷ steps) through =
@@ -94,26 +95,20 @@ none_at kind inside gate outside (step ∷ steps) through =
     let e : (step.gate.0 == gate) ≡ false = ne_eqb step.gate.0 gate other in
     rw e (none_at kind inside gate outside steps (All-tail P step steps through))
 
-module _ (a : StateAlgebra) (c : Circuit) (inside : ℕ → Bool) (kind : Kind) (steps : List PinRef) (May : ℕ → State → Type 0) where
+module _ (a : StateAlgebra) (c : Circuit) (inside : ℕ → Bool) (links : LinkList) (kind : Kind) (steps : List PinRef) (May : ℕ → State → Type 0) where
   -- labels at rest at all gates are at rest at those inside
-  pub rest_inside : (labels : List StateSet) → IsRestAmong a c (IsNarrowingOf c kind steps) May labels
-      → IsRestAmong a c (IsNarrowingIn c inside kind steps) May labels
+  pub rest_inside : (labels : List StateSet) → IsRestAmong a c (IsNarrowingOf c links kind steps) May labels
+      → IsRestAmong a c (IsNarrowingIn c inside links kind steps) May labels
   rest_inside labels is = record { labelling = is.labelling; rest = rests; among = is.among }
     where
-      rests : IsAtRest a c (IsNarrowingIn c inside kind steps) labels
+      rests : IsAtRest a c (IsNarrowingIn c inside links kind steps) labels
       rests (at_gate gate condition) of = is.rest (at_gate gate condition) (of.0, of.2)
-      rests (along_link source line) of = absurd of
+      rests (along_link source line) of = is.rest (along_link source line) of
 
-  -- what the gates inside empty is emptied
-  pub emptied_inside : (line : ℕ) → IsEmptied a c (IsNarrowingIn c inside kind steps) May line
-      → IsEmptied a c (IsNarrowingOf c kind steps) May line
-  emptied_inside line emptied =
-      emptied_if_wider a c (IsNarrowingOf c kind steps) (IsNarrowingIn c inside kind steps) May May rest_inside line emptied
-
-  module _ (laws : HasLaws a) (reads : ReadsLines c) (loop_free : IsLoopFree c) (closed : IsClosedBack c inside)
+  module _ (unlinked : links ≡ []) (laws : HasLaws a) (reads : ReadsLines c) (loop_free : IsLoopFree c) (closed : IsClosedBack c inside)
       (through : All (λ step. inside step.gate.0 ≡ true) steps)
       (free : (gate : ℕ) → gate < gate_count c → inside gate ≡ false → (state : State) → state.0 < a.count → May (gate_line c gate) state)
-      (labels : List StateSet) (is : IsHull a c (IsNarrowingIn c inside kind steps) May labels)
+      (labels : List StateSet) (is : IsHull a c (IsNarrowingIn c inside links kind steps) May labels)
       (some : (line : ℕ) → IsLineIn c inside line → label_at labels line ≢ no_states) where
     abbrev extend : ℕ → List StateSet → StateSet
     extend gate sets = cond (inside gate) (label_at labels (gate_line c gate)) (image a laws (kind_at c gate) sets)
@@ -255,7 +250,7 @@ module _ (a : StateAlgebra) (c : Circuit) (inside : ℕ → Bool) (kind : Kind) 
         (λ i d in_pins. whole_same (get_or (pins_at c gate) i d).0 (pins_inside c inside reads closed gate within e i d in_pins))
         (at_inside gate within e)
 
-    whole_rests : IsAtRest a c (IsNarrowingOf c kind steps) whole
+    whole_rests : IsAtRest a c (IsNarrowingOf c links kind steps) whole
     whole_rests (at_gate gate condition) of = ⊎_elim
         (λ (e : inside gate ≡ true).
         subst (λ k. IsNarrowing a c gate k whole whole) (sym of.1)
@@ -265,7 +260,7 @@ module _ (a : StateAlgebra) (c : Circuit) (inside : ℕ → Bool) (kind : Kind) 
         subst (λ k. IsNarrowing a c gate k whole whole) (sym (of.1 ∙ none_at kind inside gate e steps through))
         (outside_rests gate of.0 e))
         (cases_Bool (inside gate))
-    whole_rests (along_link source line) of = absurd of
+    whole_rests (along_link source line) of = absurd (none_linked source line (subst (λ (l : LinkList). IsLink l source line) unlinked of))
 
     may_in : (line : ℕ) → line < line_count c → (state : State) → Has a.count (label_at whole line) state → May line state
     may_in = by_line c (λ line. (state : State) → Has a.count (label_at whole line) state → May line state)
@@ -276,14 +271,14 @@ module _ (a : StateAlgebra) (c : Circuit) (inside : ℕ → Bool) (kind : Kind) 
         (λ (e : inside gate ≡ false). free gate within e state has.in_range)
         (cases_Bool (inside gate)))
 
-    whole_among : IsRestAmong a c (IsNarrowingOf c kind steps) May whole
+    whole_among : IsRestAmong a c (IsNarrowingOf c links kind steps) May whole
     whole_among = record {
       labelling = labelling;
       rest = whole_rests;
       among = λ line state has. may_in line (has_in_circuit a.count c whole labelling line state has) state has;
     }
 
-    module _ (other : List StateSet) (among : IsRestAmong a c (IsNarrowingOf c kind steps) May other) where
+    module _ (other : List StateSet) (among : IsRestAmong a c (IsNarrowingOf c links kind steps) May other) where
       other_inside : LiesIn a.count other labels
       other_inside = is.greatest other (rest_inside other among)
 
@@ -304,7 +299,7 @@ module _ (a : StateAlgebra) (c : Circuit) (inside : ℕ → Bool) (kind : Kind) 
           loop_free
 
     -- and these labels are the hull of all narrowings
-    pub whole_hull : IsHull a c (IsNarrowingOf c kind steps) May whole
+    pub whole_hull : IsHull a c (IsNarrowingOf c links kind steps) May whole
     whole_hull = record {
       rest = whole_among;
       greatest = λ other among line state has.
@@ -323,16 +318,16 @@ line_in c inside line of = ⊎_elim (λ (source : line < source_count c). omega 
 -- The law of cones: where the gates inside are closed under fan-in, all steps go through them, and lines of gates may be in every state,
 -- labels that are the hull of the narrowings inside, each line with some state, are part of the hull of the whole circuit.
 pub part_of_hull : (a : StateAlgebra) (c : Circuit) → HasLaws a → ReadsLines c → IsLoopFree c → (inside : ℕ → Bool) → IsClosedBack c inside
-    → (kind : Kind) (steps : List PinRef) → All (λ step. inside step.gate.0 ≡ true) steps → (May : ℕ → State → Type 0)
+    → (links : LinkList) → links ≡ [] → (kind : Kind) (steps : List PinRef) → All (λ step. inside step.gate.0 ≡ true) steps → (May : ℕ → State → Type 0)
     → ((gate : ℕ) → gate < gate_count c → (state : State) → state.0 < a.count → May (gate_line c gate) state)
-    → (labels : List StateSet) → IsHull a c (IsNarrowingIn c inside kind steps) May labels → HasNoEmptySet c labels
-    → IsPartOfHull a c inside kind steps May labels
-part_of_hull a c laws reads loop_free inside closed kind steps through May free labels is some = record {
-  whole = whole a c inside kind steps May laws reads loop_free closed through free_outside labels is some_inside;
-  hull = whole_hull a c inside kind steps May laws reads loop_free closed through free_outside labels is some_inside;
-  none_empty = whole_some a c inside kind steps May laws reads loop_free closed through free_outside labels is some_inside;
-  same = whole_same a c inside kind steps May laws reads loop_free closed through free_outside labels is some_inside;
-  lies = whole_lies a c inside kind steps May laws reads loop_free closed through free_outside labels is some_inside;
+    → (labels : List StateSet) → IsHull a c (IsNarrowingIn c inside links kind steps) May labels → HasNoEmptySet c labels
+    → IsPartOfHull a c (IsLineIn c inside) links kind steps May labels
+part_of_hull a c laws reads loop_free inside closed links unlinked kind steps through May free labels is some = record {
+  whole = whole a c inside links kind steps May unlinked laws reads loop_free closed through free_outside labels is some_inside;
+  hull = whole_hull a c inside links kind steps May unlinked laws reads loop_free closed through free_outside labels is some_inside;
+  none_empty = whole_some a c inside links kind steps May unlinked laws reads loop_free closed through free_outside labels is some_inside;
+  same = whole_same a c inside links kind steps May unlinked laws reads loop_free closed through free_outside labels is some_inside;
+  lies = whole_lies a c inside links kind steps May unlinked laws reads loop_free closed through free_outside labels is some_inside;
 }
   where
     free_outside : (gate : ℕ) → gate < gate_count c → inside gate ≡ false → (state : State) → state.0 < a.count → May (gate_line c gate) state
@@ -341,60 +336,13 @@ part_of_hull a c laws reads loop_free inside closed kind steps through May free 
     some_inside : (line : ℕ) → IsLineIn c inside line → label_at labels line ≢ no_states
     some_inside line of = some line (line_in c inside line of)
 
--- and what closes inside closes in the whole circuit
-pub closes_inside : (a : StateAlgebra) (c : Circuit) (inside : ℕ → Bool) (kind : Kind) (steps : List PinRef) (May : ℕ → State → Type 0)
-    → Closes a c (IsNarrowingIn c inside kind steps) May → Closes a c (IsNarrowingOf c kind steps) May
-closes_inside a c inside kind steps May =
-    closes_if_wider a c (IsNarrowingOf c kind steps) (IsNarrowingIn c inside kind steps) May May (rest_inside a c inside kind steps May)
-
--- Where all gates are inside, the narrowings inside are all of them.
-module _ (a : StateAlgebra) (c : Circuit) (inside : ℕ → Bool) (all : (gate : ℕ) → gate < gate_count c → inside gate ≡ true)
-    (kind : Kind) (steps : List PinRef) where
-  pub of_all : (narrowing : Narrowing) → IsNarrowingIn c inside kind steps narrowing → IsNarrowingOf c kind steps narrowing
-  of_all (at_gate gate condition) is = (is.0, is.2)
-  of_all (along_link source line) is = is
-
-  pub in_all : (narrowing : Narrowing) → IsNarrowingOf c kind steps narrowing → IsNarrowingIn c inside kind steps narrowing
-  in_all (at_gate gate condition) is = (is.0, all gate is.0, is.1)
-  in_all (along_link source line) is = is
-
-  -- labels are at rest inside exactly where they are at rest
-  pub rest_of_all : (labels : List StateSet) → IsAtRest a c (IsNarrowingIn c inside kind steps) labels
-      → IsAtRest a c (IsNarrowingOf c kind steps) labels
-  rest_of_all labels rest narrowing is = rest narrowing (in_all narrowing is)
-
-  pub rest_in_all : (labels : List StateSet) → IsAtRest a c (IsNarrowingOf c kind steps) labels
-      → IsAtRest a c (IsNarrowingIn c inside kind steps) labels
-  rest_in_all labels rest narrowing is = rest narrowing (of_all narrowing is)
-
-  -- so the hull inside is the hull
-  pub hull_of_all : (May : ℕ → State → Type 0) (hull : List StateSet) → IsHull a c (IsNarrowingIn c inside kind steps) May hull
-      → IsHull a c (IsNarrowingOf c kind steps) May hull
-  hull_of_all May hull is = record {
-    rest = record { labelling = is.rest.labelling; rest = rest_of_all hull is.rest.rest; among = is.rest.among };
-    greatest = λ other among. is.greatest other (record {
-      labelling = among.labelling;
-      rest = rest_in_all other among.rest;
-      among = among.among;
-    });
-  }
-
-  -- and what keeps labels at rest inside keeps all labels at rest
-  pub keeps_of_all : (old new : List StateSet) → KeepsRests a c (IsNarrowingIn c inside kind steps) old new
-      → KeepsRests a c (IsNarrowingOf c kind steps) old new
-  keeps_of_all old new keeps = record {
-    labelling = keeps.labelling;
-    inside = keeps.inside;
-    keeps = λ other is rest lies. keeps.keeps other is (rest_in_all other rest) lies;
-  }
-
 -- fewer steps are wider inside too
-pub widens_by_steps_in : (a : StateAlgebra) (c : Circuit) (inside : ℕ → Bool) (kind : Kind) (steps more : List PinRef) (May : ℕ → State → Type 0)
-    → Widens a c (IsNarrowingIn c inside kind (steps ++ more)) May (IsNarrowingIn c inside kind steps) May
-widens_by_steps_in a c inside kind steps more May labels is = record { labelling = is.labelling; rest = rests; among = is.among }
+pub widens_by_steps_in : (a : StateAlgebra) (c : Circuit) (inside : ℕ → Bool) (links : LinkList) (kind : Kind) (steps more : List PinRef) (May : ℕ → State → Type 0)
+    → Widens a c (IsNarrowingIn c inside links kind (steps ++ more)) May (IsNarrowingIn c inside links kind steps) May
+widens_by_steps_in a c inside links kind steps more May labels is = record { labelling = is.labelling; rest = rests; among = is.among }
   where
-    rests : IsAtRest a c (IsNarrowingIn c inside kind steps) labels
-    rests (along_link source line) of = absurd of
+    rests : IsAtRest a c (IsNarrowingIn c inside links kind steps) labels
+    rests (along_link source line) of = is.rest (along_link source line) of
     rests (at_gate gate condition) of =
         let all : IsNarrowing a c gate (condition_at kind (steps ++ more) gate) labels labels =
         is.rest (at_gate gate (condition_at kind (steps ++ more) gate)) (of.0, of.1, refl) in

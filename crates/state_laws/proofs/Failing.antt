@@ -3,6 +3,7 @@
 use Rattle.std.proofs.Common.{◌≡◌, ◌⊎◌, inl, inr, ⊎_elim, ℕ, zero, suc, ◌<◌, Bool, true, false, List, [], ◌∷◌, length, get_or, refl, sym, ap, subst, arith}
 use Rattle.std.proofs.lemmas.Bool.{cases_eq, cases_lt}
 use Rattle.std.proofs.lemmas.Option.{get_or_from_slice_get, slice_get-get_or, slice_get_within}
+use Rattle.pd_base.specs.Links.{LinkList}
 use Rattle.pd_base.specs.Pair.{Vectors}
 use Rattle.pd_base.specs.Route.{Route}
 use Rattle.pd_base.specs.declared.ids.LineId.{LineId}
@@ -20,12 +21,13 @@ use Rattle.netlist.specs.declared.side_conditions.SideCondition.TheVariants.{Fre
 use Rattle.state_sets.specs.declared.state.State.{State}
 use Rattle.state_sets.specs.declared.state.StateSet.{StateSet}
 use Rattle.state_sets.specs.States.{Has, no_states}
-use Rattle.state_sets.specs.FourStates.{four_states}
+use Rattle.state_sets.specs.StateAlgebra.{StateAlgebra, HasLaws}
 use Rattle.state_sets.specs.LineStates.{state_under}
 use Rattle.state_sets.specs.Labellings.{label_at, IsLabelling}
 use Rattle.state_sets.specs.Hulls.{IsNarrowingOf, Closes}
 use Rattle.state_laws.specs.Pairs.{IsGiven}
-use Rattle.state_laws.proofs.Deciding.{IsRestOn, rest_on_path, some_state, step_met}
+use Rattle.state_laws.proofs.Deciding.{IsRestOn, rest_on_path, step_met}
+use Rattle.state_laws.proofs.Images.{has_some}
 use Rattle.state_laws.proofs.StepConditions.{AreStepsOn, steps_on}
 
 -- a fact holds or not
@@ -119,18 +121,18 @@ module _ (kind : Kind) (c : Circuit) (pair : Vectors) where
       (sides_settled line step)
 
 -- a line of a labelling without a state has the empty set
-none_left : (c : Circuit) (labels : List StateSet) → IsLabelling four_states.count c labels → (line : ℕ) → line < line_count c
-    → ((state : State) → Has four_states.count (label_at labels line) state → ⊥) → label_at labels line ≡ no_states
-none_left c labels is line within none =
+pub none_left : (a : StateAlgebra) (c : Circuit) (labels : List StateSet) → IsLabelling a.count c labels → (line : ℕ) → line < line_count c
+    → ((state : State) → Has a.count (label_at labels line) state → ⊥) → label_at labels line ≡ no_states
+none_left a c labels is line within none =
     ⊎_elim
     (λ (empty : (label_at labels line).0 ≡ 0). ap (λ n. record { 0 = n }) empty)
     (λ (some : (label_at labels line).0 ≡ 0 → ⊥).
-    let found = some_state (label_at labels line) (is.within line no_states (omega (arith, is.one_each)))
+    let found = has_some a.count (label_at labels line) (is.within line no_states (omega (arith, is.one_each)))
     (λ same. some (ap (λ (set : StateSet). set.0) same)) in
     absurd (none found.0 found.1))
     (cases_eq (label_at labels line).0 0)
 
-module _ (c : Circuit) (circuit : IsCircuit c) (kind : Kind) (path : Route) (is : IsPrefix c path) (pair : Vectors) where
+module _ (a : StateAlgebra) (laws : HasLaws a) (c : Circuit) (circuit : IsCircuit c) (kind : Kind) (path : Route) (is : IsPrefix c path) (pair : Vectors) where
   -- the gate at which a pair fails is one of the circuit
   fails_in_circuit : (line : ℕ) (steps : List PinRef) → AreStepsOn c kind path line steps
       → (gate : ℕ) → FailsAt kind c pair line steps gate → gate < gate_count c
@@ -138,34 +140,34 @@ module _ (c : Circuit) (circuit : IsCircuit c) (kind : Kind) (path : Route) (is 
   fails_in_circuit line (step ∷ steps) on gate (inl here) = subst (λ g. g < gate_count c) here.0 on.0.reads.in_circuit
   fails_in_circuit line (step ∷ steps) on gate (inr later) = fails_in_circuit (gate_line c step.gate.0) steps on.1 gate later
 
-  module _ (labels : List StateSet) (rest : IsRestOn c kind path labels) (given : IsGiven c pair path labels) where
+  module _ (labels : List StateSet) (rest : IsRestOn a c kind path labels) (given : IsGiven a c pair path labels) where
     -- labels at rest that leave the sources only the states of the pair have none there
     none_where_fails : (line : ℕ) (steps : List PinRef) → AreStepsOn c kind path line steps
         → (gate : ℕ) → FailsAt kind c pair line steps gate
-        → (state : State) → Has four_states.count (label_at labels (gate_line c gate)) state → ⊥
+        → (state : State) → Has a.count (label_at labels (gate_line c gate)) state → ⊥
     none_where_fails line [] on gate fails state has = fails
     none_where_fails line (step ∷ steps) on gate (inl here) state has =
-        here.1 (step_met c circuit kind path is pair labels rest given line step on.0 state
-        (subst (λ g. Has four_states.count (label_at labels (gate_line c g)) state) (sym here.0) has))
+        here.1 (step_met a laws c circuit kind path is pair labels rest given line step on.0 state
+        (subst (λ g. Has a.count (label_at labels (gate_line c g)) state) (sym here.0) has))
     none_where_fails line (step ∷ steps) on gate (inr later) state has =
         none_where_fails (gate_line c step.gate.0) steps on.1 gate later state has
 
   -- so what lines may be in closes, where the sources may only be in the states of a pair that does not meet the conditions
-  pub closes_unless_met : (May : ℕ → State → Type 0)
+  pub closes_unless_met : (links : LinkList) (May : ℕ → State → Type 0)
       → ((source : ℕ) → source < source_count c → IsInFanIn c (end_of c path) source
-      → (state : State) → May source state → state ≡ state_under c pair source)
-      → (SidesMeet c kind pair path.source.0 path.steps → ⊥) → Closes four_states c (IsNarrowingOf c kind path.steps) May
-  closes_unless_met May only unmet = ⊎_elim (λ meet. absurd (unmet meet)) failing (meets_or_fails kind c pair path.source.0 path.steps)
+      → (state : State) → May source state → state ≡ state_under a c pair source)
+      → (SidesMeet c kind pair path.source.0 path.steps → ⊥) → Closes a c (IsNarrowingOf c links kind path.steps) May
+  closes_unless_met links May only unmet = ⊎_elim (λ meet. absurd (unmet meet)) failing (meets_or_fails kind c pair path.source.0 path.steps)
     where
-      failing : (gate : ℕ) × FailsAt kind c pair path.source.0 path.steps gate → Closes four_states c (IsNarrowingOf c kind path.steps) May
+      failing : (gate : ℕ) × FailsAt kind c pair path.source.0 path.steps gate → Closes a c (IsNarrowingOf c links kind path.steps) May
       failing (gate, fails) =
           let on = steps_on c circuit kind path is in
           let within = fails_in_circuit path.source.0 path.steps on gate fails in
           record {
             line = gate_line c gate;
             in_circuit = omega arith;
-            emptied = λ labels among. none_left c labels among.labelling (gate_line c gate) (omega arith)
-                (none_where_fails labels (rest_on_path c kind path May labels among)
+            emptied = λ labels among. none_left a c labels among.labelling (gate_line c gate) (omega arith)
+                (none_where_fails labels (rest_on_path a c links kind path May labels among)
                 (λ source inside further state has. only source inside further state (among.among source state has))
                 path.source.0 path.steps on gate fails);
           }

@@ -1,15 +1,15 @@
 -- Where sources are in one set each and lines of gates in any state, the hull of the narrowings without steps is computed forward, and
 -- none of its sets is empty. Each labelling at rest lies in labels that are full or made of their pins' sets. Where a transition is launched
 -- with states that the set of the start has, the labels are cut at its source alone.
-use Rattle.std.proofs.Common.{◌≡◌, ◌≢◌, ℕ, zero, suc, ◌<◌, ◌≤◌, ◌^◌, ◌↔◌, ◌⊎◌, inl, inr, ⊎_elim, Bool, true, false, List, [], ◌∷◌, length, map, get_or, Some, None, refl, sym, ap, ◌∙◌, subst, arith, set}
+use Rattle.std.proofs.Common.{◌≡◌, ◌≢◌, ℕ, zero, suc, ◌<◌, ◌^◌, ◌↔◌, ◌⊎◌, inl, inr, ⊎_elim, Bool, true, false, List, [], ◌∷◌, length, map, get_or, Some, None, refl, sym, ap, ◌∙◌, subst, arith, set}
 use Rattle.std.specs.List.{All, Contains}
 use Rattle.std.proofs.lemmas.Bool.{cases_Bool, cases_eq, false≢true}
 use Rattle.std.proofs.lemmas.List.{length-set, get_or-set_same, get_or-set_other}
 use Rattle.std.proofs.lemmas.List.Elements.{All-nil, All-set, All-push}
 use Rattle.std.proofs.lemmas.Nat.{pow_pos}
-use Rattle.std.proofs.lemmas.Nat.Bits.{bit_at_ones}
 use Rattle.pd_base.specs.declared.fault.Direction.{Direction}
 use Rattle.pd_base.specs.declared.fault.Kind.{Kind}
+use Rattle.pd_base.specs.Links.{LinkList}
 use Rattle.pd_base.specs.declared.ids.LineId.{LineId}
 use Rattle.pd_base.specs.declared.ids.PinRef.{PinRef}
 use Rattle.pd_base.specs.declared.rules.Rules.{Rules}
@@ -22,7 +22,7 @@ use Rattle.state_sets.specs.States.{Has, no_states, all_states}
 use Rattle.state_sets.specs.StateAlgebra.{StateAlgebra, HasLaws}
 use Rattle.state_sets.specs.Starts.{MayStart, IsLaunching, IsOtherStart}
 use Rattle.state_sets.specs.Labellings.{label_at, IsLabelling, LiesIn}
-use Rattle.state_sets.specs.Narrowing.{IsChoice, IsNarrowing, gate_lines, gate_state}
+use Rattle.state_sets.specs.Narrowing.{IsChoice, gate_lines, gate_state}
 use Rattle.state_sets.specs.Hulls.{IsNarrowingOf, IsAtRest, IsRestAmong, IsAmong, IsHull, IsEmptied, HasNoEmptySet, HasAt}
 use Rattle.state_sets.specs.Hulls.Narrowing.{at_gate, along_link}
 use Rattle.state_laws.specs.Cones.{IsClosedBack, IsNarrowingIn, IsLineIn, IsPartOfHull}
@@ -30,11 +30,8 @@ use Rattle.state_laws.specs.Forward.{IsForward}
 use Rattle.state_laws.proofs.Choices.{choice_into}
 use Rattle.state_laws.proofs.Cones.{whole, whole_hull, whole_some, whole_same, made, rest_inside, pins_inside, same_rests, part_of_hull}
 use Rattle.state_laws.proofs.Hulls.{hull_once}
-use Rattle.state_laws.proofs.Sets.{has_in_circuit}
-
--- all states are in the set of all, which is not empty
-all_have : (count : ℕ) (state : State) → state.0 < count → Has count (all_states count) state
-all_have count state below = record { in_range = below; bit = bit_at_ones count state.0 below }
+use Rattle.state_laws.proofs.Linked.{none_linked}
+use Rattle.state_laws.proofs.Sets.{all_have, has_in_circuit}
 
 -- a line stands in a list, or not
 behind_first : (first : LineId) (lines : List LineId) (line : ℕ) → first.0 ≢ line → (k : ℕ) → k < length (first ∷ lines)
@@ -67,7 +64,7 @@ module _ (a : StateAlgebra) (c : Circuit) (inside : ℕ → Bool) (closed : IsCl
 
   -- The hull inside has each state at the line of a gate outside that this may be in.
   pub free_outside : (kind : Kind) (steps : List PinRef) (May : ℕ → State → Type 0) (labels : List StateSet)
-      → IsHull a c (IsNarrowingIn c inside kind steps) May labels → (gate : ℕ) → gate < gate_count c → inside gate ≡ false
+      → IsHull a c (IsNarrowingIn c inside [] kind steps) May labels → (gate : ℕ) → gate < gate_count c → inside gate ≡ false
       → ((state : State) → state.0 < a.count → May (gate_line c gate) state)
       → (state : State) → state.0 < a.count → Has a.count (label_at labels (gate_line c gate)) state
   free_outside kind steps May labels is gate within outside free state below =
@@ -93,12 +90,12 @@ module _ (a : StateAlgebra) (c : Circuit) (inside : ℕ → Bool) (closed : IsCl
             (let p = pow_pos a.count in omega arith) is.rest.labelling.within;
       }
 
-      rests : IsAtRest a c (IsNarrowingIn c inside kind steps) more
+      rests : IsAtRest a c (IsNarrowingIn c inside [] kind steps) more
       rests (at_gate g condition) of =
           same_rests a c g condition labels more
           (λ k d k_in. other (get_or (gate_lines c g) k d).0 (apart gate outside g of.0 of.1 k d k_in))
           (is.rest.rest (at_gate g condition) of)
-      rests (along_link source line) of = absurd of
+      rests (along_link source line) of = absurd (none_linked source line of)
 
       among : IsAmong a.count May more
       among line s has = ⊎_elim
@@ -114,15 +111,15 @@ module _ (a : StateAlgebra) (c : Circuit) (laws : HasLaws a) (reads : ReadsLines
   abbrev none : ℕ → Bool
   none gate = false
 
-  old_hull : IsHull a c (IsNarrowingIn c none kind []) (HasAt a.count old) old
+  old_hull : IsHull a c (IsNarrowingIn c none [] kind []) (HasAt a.count old) old
   old_hull = record {
     rest = record { labelling = is_old; rest = rests; among = λ line state has. has };
     greatest = λ other among. among.among;
   }
     where
-      rests : IsAtRest a c (IsNarrowingIn c none kind []) old
+      rests : IsAtRest a c (IsNarrowingIn c none [] kind []) old
       rests (at_gate gate condition) of = absurd (false≢true of.1)
-      rests (along_link source line) of = absurd of
+      rests (along_link source line) of = absurd (none_linked source line of)
 
   free_gates : (gate : ℕ) → gate < gate_count c → (state : State) → state.0 < a.count → HasAt a.count old (gate_line c gate) state
   free_gates gate within state below =
@@ -134,37 +131,37 @@ module _ (a : StateAlgebra) (c : Circuit) (laws : HasLaws a) (reads : ReadsLines
 
   -- what the gates make of the start, forward from the sources
   abbrev forward : List StateSet
-  forward = whole a c none kind [] (HasAt a.count old) laws reads loop_free (λ gate other within is reads_it. absurd (false≢true is))
+  forward = whole a c none [] kind [] (HasAt a.count old) refl laws reads loop_free (λ gate other within is reads_it. absurd (false≢true is))
       (All-nil (λ (step : PinRef). none step.gate.0 ≡ true)) (λ gate within outside. free_gates gate within) old old_hull some_old
 
-  forward_hull : IsHull a c (IsNarrowingOf c kind []) (HasAt a.count old) forward
-  forward_hull = whole_hull a c none kind [] (HasAt a.count old) laws reads loop_free (λ gate other within is reads_it. absurd (false≢true is))
+  forward_hull : IsHull a c (IsNarrowingOf c [] kind []) (HasAt a.count old) forward
+  forward_hull = whole_hull a c none [] kind [] (HasAt a.count old) refl laws reads loop_free (λ gate other within is reads_it. absurd (false≢true is))
       (All-nil (λ (step : PinRef). none step.gate.0 ≡ true)) (λ gate within outside. free_gates gate within) old old_hull some_old
 
   forward_some : HasNoEmptySet c forward
-  forward_some = whole_some a c none kind [] (HasAt a.count old) laws reads loop_free (λ gate other within is reads_it. absurd (false≢true is))
+  forward_some = whole_some a c none [] kind [] (HasAt a.count old) refl laws reads loop_free (λ gate other within is reads_it. absurd (false≢true is))
       (All-nil (λ (step : PinRef). none step.gate.0 ≡ true)) (λ gate within outside. free_gates gate within) old old_hull some_old
 
   forward_same : (line : ℕ) → line < source_count c → label_at forward line ≡ label_at old line
-  forward_same line source = whole_same a c none kind [] (HasAt a.count old) laws reads loop_free
+  forward_same line source = whole_same a c none [] kind [] (HasAt a.count old) refl laws reads loop_free
       (λ gate other within is reads_it. absurd (false≢true is)) (All-nil (λ (step : PinRef). none step.gate.0 ≡ true))
       (λ gate within outside. free_gates gate within) old old_hull some_old line (inl source)
 
   forward_made : (gate : ℕ) → gate < gate_count c → (choice : List State)
       → IsChoice a.count (map (λ pin. label_at forward pin.0) (pins_at c gate)) choice
       → Has a.count (label_at forward (gate_line c gate)) (gate_state a (kind_at c gate) choice)
-  forward_made gate within choice each = made a c none kind [] (HasAt a.count old) laws reads loop_free
+  forward_made gate within choice each = made a c none [] kind [] (HasAt a.count old) refl laws reads loop_free
       (λ gate other within is reads_it. absurd (false≢true is)) (All-nil (λ (step : PinRef). none step.gate.0 ≡ true))
       (λ gate within outside. free_gates gate within) old old_hull some_old gate within refl choice each
 
   module _ (inside : ℕ → Bool) (closed : IsClosedBack c inside) where
     -- no line is emptied there
-    pub start_keeps : (line : ℕ) → line < line_count c → ¬ IsEmptied a c (IsNarrowingIn c inside kind []) (HasAt a.count old) line
+    pub start_keeps : (line : ℕ) → line < line_count c → ¬ IsEmptied a c (IsNarrowingIn c inside [] kind []) (HasAt a.count old) line
     start_keeps line within emptied =
-        forward_some line within (emptied forward (rest_inside a c inside kind [] (HasAt a.count old) forward forward_hull.rest))
+        forward_some line within (emptied forward (rest_inside a c inside [] kind [] (HasAt a.count old) forward forward_hull.rest))
 
     -- and the hull is computed forward
-    pub settled_forward : (labels : List StateSet) → IsHull a c (IsNarrowingIn c inside kind []) (HasAt a.count old) labels
+    pub settled_forward : (labels : List StateSet) → IsHull a c (IsNarrowingIn c inside [] kind []) (HasAt a.count old) labels
         → HasNoEmptySet c labels → IsForward a c inside start labels
     settled_forward labels is some = record {
       labelling = is.rest.labelling;
@@ -181,19 +178,19 @@ module _ (a : StateAlgebra) (c : Circuit) (laws : HasLaws a) (reads : ReadsLines
       none_empty = some;
     }
       where
-        part : IsPartOfHull a c inside kind [] (HasAt a.count old) labels
-        part = part_of_hull a c laws reads loop_free inside closed kind [] (All-nil (λ (step : PinRef). inside step.gate.0 ≡ true))
+        part : IsPartOfHull a c (IsLineIn c inside) [] kind [] (HasAt a.count old) labels
+        part = part_of_hull a c laws reads loop_free inside closed [] refl kind [] (All-nil (λ (step : PinRef). inside step.gate.0 ≡ true))
             (HasAt a.count old) free_gates labels is some
 
         same : (line : ℕ) → IsLineIn c inside line → label_at forward line ≡ label_at labels line
         same line of =
             ap (λ (l : List StateSet). label_at l line)
-            (hull_once a c (IsNarrowingOf c kind []) (HasAt a.count old) forward forward_hull part.whole part.hull)
+            (hull_once a c (IsNarrowingOf c [] kind []) (HasAt a.count old) forward forward_hull part.whole part.hull)
             ∙ part.same line of
 
-        rests : (other : Kind) → IsAtRest a c (IsNarrowingIn c inside other []) labels
+        rests : (other : Kind) → IsAtRest a c (IsNarrowingIn c inside [] other []) labels
         rests other (at_gate gate condition) of = is.rest.rest (at_gate gate condition) of
-        rests other (along_link source line) of = absurd of
+        rests other (along_link source line) of = absurd (none_linked source line of)
 
 -- the line has every state
 abbrev IsFullAt : StateAlgebra → List StateSet → ℕ → Type 0
@@ -206,11 +203,11 @@ HasImages a c labels gate = (choice : List State) → IsChoice a.count (map (λ 
 
 -- Labels that have of each source what it may be in, and of each gate all states or, where it is inside, those of the choices: each
 -- labelling at rest, in which lines have only states that they may be in, lies in them.
-module _ (a : StateAlgebra) (c : Circuit) (reads : ReadsLines c) (loop_free : IsLoopFree c) (inside : ℕ → Bool) (kind : Kind)
+module _ (a : StateAlgebra) (c : Circuit) (reads : ReadsLines c) (loop_free : IsLoopFree c) (inside : ℕ → Bool) (links : LinkList) (kind : Kind)
     (May : ℕ → State → Type 0) (labels : List StateSet)
     (at_sources : (line : ℕ) → line < source_count c → (state : State) → state.0 < a.count → May line state → Has a.count (label_at labels line) state)
     (at_gates : (gate : ℕ) → gate < gate_count c → IsFullAt a labels (gate_line c gate) ⊎ ((inside gate ≡ true) × HasImages a c labels gate))
-    (other : List StateSet) (among : IsRestAmong a c (IsNarrowingIn c inside kind []) May other) where
+    (other : List StateSet) (among : IsRestAmong a c (IsNarrowingIn c inside links kind []) May other) where
   abbrev Lies : ℕ → Type 0
   Lies line = (state : State) → Has a.count (label_at other line) state → Has a.count (label_at labels line) state
 
@@ -233,19 +230,19 @@ module _ (a : StateAlgebra) (c : Circuit) (reads : ReadsLines c) (loop_free : Is
 
 -- Where the set of the start has the states that launch the transition, the labels are cut at the source alone.
 module _ (a : StateAlgebra) (c : Circuit) (reads : ReadsLines c) (loop_free : IsLoopFree c) (inside : ℕ → Bool) (start : StateSet)
-    (base : List StateSet) (forward : IsForward a c inside start base) (rules : Rules) (source : ℕ)
+    (base : List StateSet) (forward : IsForward a c inside start base) (rules : Rules) (source : ℕ) (is_source_line : source < source_count c)
     (others : (line : ℕ) → line < source_count c → line ≢ source → (state : State) → state.0 < a.count
-    → IsOtherStart a rules state ↔ Has a.count start state)
-    (direction : Direction) (launching : (state : State) → state.0 < a.count → IsLaunching a direction state → Has a.count start state)
-    (kind : Kind) where
+    → (IsOtherStart a rules state × Has a.count a.sources state) ↔ Has a.count start state)
+    (direction : Direction) (launching : (state : State) → state.0 < a.count → Has a.count a.sources state → IsLaunching a direction state
+    → Has a.count start state) (links : LinkList) (kind : Kind) where
   abbrev MayBegin : ℕ → State → Type 0
   MayBegin = MayStart a c rules source direction
 
   has_start : (line : ℕ) → line < source_count c → (state : State) → state.0 < a.count → MayBegin line state → Has a.count (label_at base line) state
   has_start line is_source state below may =
       subst (λ (s : StateSet). Has a.count s state) (sym (forward.sources line is_source))
-      (⊎_elim (λ (here : line ≡ source). launching state below (may.own here))
-      (λ (away : line ≢ source). (others line is_source away state below).0 (may.other is_source away)) (cases_eq line source))
+      (⊎_elim (λ (here : line ≡ source). launching state below (may.is_source is_source) (may.own here))
+      (λ (away : line ≢ source). (others line is_source away state below).0 (may.other is_source away, may.is_source is_source)) (cases_eq line source))
 
   has_images : (gate : ℕ) → gate < gate_count c
       → IsFullAt a base (gate_line c gate)
@@ -254,26 +251,32 @@ module _ (a : StateAlgebra) (c : Circuit) (reads : ReadsLines c) (loop_free : Is
       (λ (is_out : inside gate ≡ false). inl (forward.outside gate within is_out)) (cases_Bool (inside gate))
 
   module _ (labels : List StateSet) (cut : (line : ℕ) (state : State)
-      → HasAt a.count labels line state ↔ (HasAt a.count base line state × (line ≡ source → IsLaunching a direction state))) where
+      → HasAt a.count labels line state ↔ (HasAt a.count base line state × (line ≡ source → Has a.count a.sources state × IsLaunching a direction state))) where
     -- a line has only states that it may start in
     cut_among : IsAmong a.count MayBegin labels
     cut_among line state has =
         let had = (cut line state).0 has in record {
-          own = had.1;
-          other = λ is_source away. (others line is_source away state had.0.in_range).1
-              (subst (λ (s : StateSet). Has a.count s state) (forward.sources line is_source) had.0);
+          own = λ here. (had.1 here).1;
+          is_source = λ below. ⊎_elim (λ (here : line ≡ source). (had.1 here).0)
+              (λ (away : line ≢ source). ((others line below away state had.0.in_range).1
+              (subst (λ (s : StateSet). Has a.count s state) (forward.sources line below) had.0)).1) (cases_eq line source);
+          other = λ is_source away. ((others line is_source away state had.0.in_range).1
+              (subst (λ (s : StateSet). Has a.count s state) (forward.sources line is_source) had.0)).0;
         }
 
+    source_of : {line : ℕ} {state : State} → MayBegin line state → line ≡ source → Has a.count a.sources state
+    source_of may here = may.is_source (subst (λ (l : ℕ). l < source_count c) (sym here) is_source_line)
+
     -- and each labelling at rest among these lies in the labels
-    cut_keeps : (other : List StateSet) → IsRestAmong a c (IsNarrowingIn c inside kind []) MayBegin other → LiesIn a.count other labels
+    cut_keeps : (other : List StateSet) → IsRestAmong a c (IsNarrowingIn c inside links kind []) MayBegin other → LiesIn a.count other labels
     cut_keeps other among line state has = (cut line state).1 (
-      rest_lies a c reads loop_free inside kind MayBegin base has_start has_images other among line state has,
-      (among.among line state has).own,
+      rest_lies a c reads loop_free inside links kind MayBegin base has_start has_images other among line state has,
+      (λ here. (source_of (among.among line state has) here, (among.among line state has).own here)),
     )
 
     -- so their hull is that of the start, and what is emptied in them is emptied in the start
-    pub cut_hull : (hull : List StateSet) → IsHull a c (IsNarrowingIn c inside kind []) (HasAt a.count labels) hull
-        → IsHull a c (IsNarrowingIn c inside kind []) MayBegin hull
+    pub cut_hull : (hull : List StateSet) → IsHull a c (IsNarrowingIn c inside links kind []) (HasAt a.count labels) hull
+        → IsHull a c (IsNarrowingIn c inside links kind []) MayBegin hull
     cut_hull hull is = record {
       rest = record {
         labelling = is.rest.labelling;
@@ -284,7 +287,7 @@ module _ (a : StateAlgebra) (c : Circuit) (reads : ReadsLines c) (loop_free : Is
           (record { labelling = among.labelling; rest = among.rest; among = cut_keeps other among });
     }
 
-    pub cut_emptied : (line : ℕ) → IsEmptied a c (IsNarrowingIn c inside kind []) (HasAt a.count labels) line
-        → IsEmptied a c (IsNarrowingIn c inside kind []) MayBegin line
+    pub cut_emptied : (line : ℕ) → IsEmptied a c (IsNarrowingIn c inside links kind []) (HasAt a.count labels) line
+        → IsEmptied a c (IsNarrowingIn c inside links kind []) MayBegin line
     cut_emptied line emptied other among =
         emptied other (record { labelling = among.labelling; rest = among.rest; among = cut_keeps other among })

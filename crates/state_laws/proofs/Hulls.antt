@@ -2,6 +2,7 @@
 -- have to rest, and its empty lines are the emptied ones.
 use Rattle.std.proofs.Common.{◌≡◌, ℕ, ◌<◌, ◌⊎◌, inl, inr, ⊎_elim, Bool, true, false, List, [], ◌∷◌, ◌++◌, Option, Some, None, if◌then◌else◌, ◌==◌, length, refl, sym, ◌∙◌, subst, arith}
 use Rattle.std.proofs.lemmas.List.{same_lists, get_or_default}
+use Rattle.pd_base.specs.Links.{LinkList, links_of}
 use Rattle.pd_base.specs.Route.{Route}
 use Rattle.pd_base.specs.Target.{Target, target_of}
 use Rattle.pd_base.specs.declared.rules.Rules.{Rules}
@@ -16,7 +17,6 @@ use Rattle.state_sets.specs.declared.state.StateSet.{StateSet}
 use Rattle.state_sets.specs.declared.condition.Condition.{Condition}
 use Rattle.state_sets.specs.States.{Has, no_states}
 use Rattle.state_sets.specs.StateAlgebra.{StateAlgebra}
-use Rattle.state_sets.specs.FourStates.{four_states}
 use Rattle.state_sets.specs.Labellings.{label_at, LiesIn}
 use Rattle.state_sets.specs.Narrowing.{IsNarrowing}
 use Rattle.state_sets.specs.Starts.{MayStart}
@@ -126,11 +126,11 @@ condition_of_more kind (step ∷ steps) more gate =
     one_step_more kind step (step.gate.0 == gate) (condition_at kind steps gate) (condition_at kind (steps ++ more) gate)
     (condition_of_more kind steps more gate)
 
-module _ (a : StateAlgebra) (c : Circuit) (kind : Kind) (steps more : List PinRef) where
+module _ (a : StateAlgebra) (c : Circuit) (links : LinkList) (kind : Kind) (steps more : List PinRef) where
   -- labels at rest under the conditions of more steps are at rest under those of the first ones
-  rest_of_first : (labels : List StateSet) → IsAtRest a c (IsNarrowingOf c kind (steps ++ more)) labels
-      → (narrowing : Narrowing) → IsNarrowingOf c kind steps narrowing → Narrows a c narrowing labels labels
-  rest_of_first labels rest (along_link source line) is = absurd is
+  rest_of_first : (labels : List StateSet) → IsAtRest a c (IsNarrowingOf c links kind (steps ++ more)) labels
+      → (narrowing : Narrowing) → IsNarrowingOf c links kind steps narrowing → Narrows a c narrowing labels labels
+  rest_of_first labels rest (along_link source line) is = rest (along_link source line) is
   rest_of_first labels rest (at_gate gate condition) is =
       let whole : IsNarrowing a c gate (condition_at kind (steps ++ more) gate) labels labels =
       rest (at_gate gate (condition_at kind (steps ++ more) gate)) (is.0, refl) in
@@ -144,48 +144,51 @@ module _ (a : StateAlgebra) (c : Circuit) (kind : Kind) (steps more : List PinRe
 
   -- fewer steps are wider
   pub widens_by_steps : (May : ℕ → State → Type 0)
-      → Widens a c (IsNarrowingOf c kind (steps ++ more)) May (IsNarrowingOf c kind steps) May
+      → Widens a c (IsNarrowingOf c links kind (steps ++ more)) May (IsNarrowingOf c links kind steps) May
   widens_by_steps May labels is = record {
     labelling = is.labelling;
     rest = rest_of_first labels is.rest;
     among = is.among;
   }
 
-module _ (c : Circuit) (rules : Rules) (prefix path : Route) (of : IsPrefixOf prefix path) (direction : Direction) (kind : Kind) (halves : List Half) where
+module _ (a : StateAlgebra) (c : Circuit) (rules : Rules) (prefix path : Route) (of : IsPrefixOf prefix path) (direction : Direction) (kind : Kind) (halves : List Half) where
+  abbrev links : LinkList
+  links = links_of rules
+
   abbrev on : Route → Target
   on route = target_of route direction kind
 
   -- what a line may be in with the path it may be in with the prefix
-  may_be_of_prefix : (line : ℕ) (state : State) → MayBe four_states c rules (on path) halves line state
-      → MayBe four_states c rules (on prefix) halves line state
+  may_be_of_prefix : (line : ℕ) (state : State) → MayBe a c rules (on path) halves line state
+      → MayBe a c rules (on prefix) halves line state
   may_be_of_prefix line state may = record {
-    start = let P : LineId → Type 0 = λ source. MayStart four_states c rules source.0 direction line state in
+    start = let P : LineId → Type 0 = λ source. MayStart a c rules source.0 direction line state in
         subst P (sym of.source) may.start;
     cut = may.cut;
   }
 
   -- what rests under the conditions of the path rests under those of the prefix
-  prefix_widens : Widens four_states c (IsNarrowingOf c kind path.steps) (MayBe four_states c rules (on path) halves)
-      (IsNarrowingOf c kind prefix.steps) (MayBe four_states c rules (on prefix) halves)
+  prefix_widens : Widens a c (IsNarrowingOf c links kind path.steps) (MayBe a c rules (on path) halves)
+      (IsNarrowingOf c links kind prefix.steps) (MayBe a c rules (on prefix) halves)
   prefix_widens labels is =
-      widens_by_steps four_states c kind prefix.steps of.rest (MayBe four_states c rules (on prefix) halves) labels (record {
+      widens_by_steps a c links kind prefix.steps of.rest (MayBe a c rules (on prefix) halves) labels (record {
         labelling = is.labelling;
-        rest = let P : List PinRef → Type 0 = λ steps. IsAtRest four_states c (IsNarrowingOf c kind steps) labels in
+        rest = let P : List PinRef → Type 0 = λ steps. IsAtRest a c (IsNarrowingOf c links kind steps) labels in
             subst P (sym of.steps) is.rest;
         among = λ line state has. may_be_of_prefix line state (is.among line state has);
       })
 
   -- a node that closes for a prefix closes for each longer prefix
-  pub prefix_closes : ClosesAtNode c rules (on prefix) halves → ClosesAtNode c rules (on path) halves
-  prefix_closes = closes_if_wider four_states c (IsNarrowingOf c kind path.steps) (IsNarrowingOf c kind prefix.steps)
-      (MayBe four_states c rules (on path) halves) (MayBe four_states c rules (on prefix) halves) prefix_widens
+  pub prefix_closes : ClosesAtNode a c rules (on prefix) halves → ClosesAtNode a c rules (on path) halves
+  prefix_closes = closes_if_wider a c (IsNarrowingOf c links kind path.steps) (IsNarrowingOf c links kind prefix.steps)
+      (MayBe a c rules (on path) halves) (MayBe a c rules (on prefix) halves) prefix_widens
 
   -- and so do emptied lines stay emptied, and hulls in hulls
-  pub prefix_empties : (line : ℕ) → IsEmptiedAtNode c rules (on prefix) halves line → IsEmptiedAtNode c rules (on path) halves line
-  prefix_empties = emptied_if_wider four_states c (IsNarrowingOf c kind path.steps) (IsNarrowingOf c kind prefix.steps)
-      (MayBe four_states c rules (on path) halves) (MayBe four_states c rules (on prefix) halves) prefix_widens
+  pub prefix_empties : (line : ℕ) → IsEmptiedAtNode a c rules (on prefix) halves line → IsEmptiedAtNode a c rules (on path) halves line
+  prefix_empties = emptied_if_wider a c (IsNarrowingOf c links kind path.steps) (IsNarrowingOf c links kind prefix.steps)
+      (MayBe a c rules (on path) halves) (MayBe a c rules (on prefix) halves) prefix_widens
 
-  pub prefix_hulls : (hull wider : List StateSet) → IsNodeHull c rules (on path) halves hull
-      → IsNodeHull c rules (on prefix) halves wider → LiesIn four_states.count hull wider
-  prefix_hulls = hull_in_wider four_states c (IsNarrowingOf c kind path.steps) (IsNarrowingOf c kind prefix.steps)
-      (MayBe four_states c rules (on path) halves) (MayBe four_states c rules (on prefix) halves) prefix_widens
+  pub prefix_hulls : (hull wider : List StateSet) → IsNodeHull a c rules (on path) halves hull
+      → IsNodeHull a c rules (on prefix) halves wider → LiesIn a.count hull wider
+  prefix_hulls = hull_in_wider a c (IsNarrowingOf c links kind path.steps) (IsNarrowingOf c links kind prefix.steps)
+      (MayBe a c rules (on path) halves) (MayBe a c rules (on prefix) halves) prefix_widens

@@ -22,11 +22,11 @@ abbrev pub state_of : ℕ → State
 state_of n = record { 0 = n }
 
 -- the test passes for some number below this one
-abbrev any_below : ℕ → (ℕ → Bool) → Bool
+abbrev pub any_below : ℕ → (ℕ → Bool) → Bool
 any_below zero test = false
 any_below (suc n) test = test n || any_below n test
 
-any_decides : (P : ℕ → Type 0) (test : ℕ → Bool) → ((k : ℕ) → Decides (test k) (P k)) → (n : ℕ)
+pub any_decides : (P : ℕ → Type 0) (test : ℕ → Bool) → ((k : ℕ) → Decides (test k) (P k)) → (n : ℕ)
     → Decides (any_below n test) ((k : ℕ) × (k < n) × P k)
 any_decides P test each = Decides-below_or test P (λ n. any_below n test) each refl (λ n. refl)
 
@@ -48,13 +48,13 @@ with_bit true set k = bit_or set (2 ^ k)
 with_bit false set k = set
 
 -- the number whose bits are those below a bound that pass a test
-abbrev gathered : ℕ → (ℕ → Bool) → ℕ
+abbrev pub gathered : ℕ → (ℕ → Bool) → ℕ
 gathered zero test = 0
 gathered (suc k) test = with_bit (test k) (gathered k test) k
 
 module _ (test : ℕ → Bool) where
   -- the bits of a number are those below the bound that pass
-  abbrev Gathers : ℕ → ℕ → Type 0
+  abbrev pub Gathers : ℕ → ℕ → Type 0
   Gathers bound set = (j : ℕ) → (bit_at set j ≡ 1) ↔ ((j < bound) × (test j ≡ true))
 
   gathers_none : Gathers 0 0
@@ -85,7 +85,7 @@ module _ (test : ℕ → Bool) where
       ))
       (cases_eq j k)
 
-  gathers : (k : ℕ) → Gathers k (gathered k test)
+  pub gathers : (k : ℕ) → Gathers k (gathered k test)
   gathers zero = gathers_none
   gathers (suc k) = gathers_more k (gathered k test) (gathers k)
 
@@ -94,7 +94,7 @@ module _ (test : ℕ → Bool) where
       or_lt (suc k) set (2 ^ k) (let f = pow_below k (suc k) (omega arith) in omega arith) (pow_below k (suc k) (omega arith))
   with_within k set within false = let f = pow_below k (suc k) (omega arith) in omega arith
 
-  gathered_within : (k : ℕ) → gathered k test < 2 ^ k
+  pub gathered_within : (k : ℕ) → gathered k test < 2 ^ k
   gathered_within zero = omega arith
   gathered_within (suc k) = with_within k (gathered k test) (gathered_within k) (test k)
 

@@ -1,4 +1,5 @@
 pub mod Choices
+pub mod Linked
 pub mod Narrowing
 pub mod PairStates
 pub mod Sets
@@ -16,6 +17,12 @@ pub mod StepConditions
 pub mod Knowing
 pub mod Steadied
 pub mod Images
+pub mod Solutions
+pub mod LinkedSets
 pub mod Cones
+pub mod LinkedCones
 pub mod Idempotent
 pub mod Forward
+pub mod LinkedStarts
+pub mod LinkedTrials
+pub mod Supports

@@ -2,13 +2,13 @@
 -- cut so.
 use Rattle.std.proofs.Common.{ℕ, ◌<◌, ◌↔◌, List, [], ◌∷◌, ◌++◌, Some, refl}
 use Rattle.std.proofs.lemmas.List.Elements.{All-pop, All-push}
+use Rattle.pd_base.specs.Links.{links_of}
 use Rattle.pd_base.specs.Target.{Target}
 use Rattle.pd_base.specs.declared.rules.Rules.{Rules}
 use Rattle.netlist.specs.Circuit.{Circuit, line_count}
 use Rattle.state_sets.specs.declared.state.State.{State}
 use Rattle.state_sets.specs.declared.state.StateSet.{StateSet}
 use Rattle.state_sets.specs.StateAlgebra.{StateAlgebra}
-use Rattle.state_sets.specs.FourStates.{four_states}
 use Rattle.state_sets.specs.Hulls.{Narrowing, IsNarrowingOf, IsHull, IsEmptied, HasAt}
 use Rattle.state_laws.specs.declared.half.Half.{Half}
 use Rattle.state_laws.specs.Nodes.{MayBe, IsCut, IsNodeHull, IsEmptiedAtNode}
@@ -68,38 +68,38 @@ module _ (a : StateAlgebra) (c : Circuit) (rules : Rules) (target : Target) (hal
       let parts = All-pop (IsCut a line state) (halves ++ half ∷ []) halves (Some half) refl may.cut in
       (record { start = may.start; cut = parts.0 }, parts.1)
 
-module _ (c : Circuit) (rules : Rules) (target : Target) (halves : List Half) (half : Half)
-    (before start : List StateSet) (is : IsNodeHull c rules target halves before)
-    (cut : (line : ℕ) (state : State) → line < line_count c → state.0 < four_states.count
-    → HasAt four_states.count start line state ↔ (HasAt four_states.count before line state × IsCut four_states line state half)) where
+module _ (a : StateAlgebra) (c : Circuit) (rules : Rules) (target : Target) (halves : List Half) (half : Half)
+    (before start : List StateSet) (is : IsNodeHull a c rules target halves before)
+    (cut : (line : ℕ) (state : State) → line < line_count c → state.0 < a.count
+    → HasAt a.count start line state ↔ (HasAt a.count before line state × IsCut a line state half)) where
   abbrev Narrowings : Narrowing → Type 0
-  Narrowings = IsNarrowingOf c target.kind target.path.steps
+  Narrowings = IsNarrowingOf c (links_of rules) target.kind target.path.steps
 
   abbrev May : ℕ → State → Type 0
-  May = MayBe four_states c rules target halves
+  May = MayBe a c rules target halves
 
   abbrev Cut : ℕ → State → Type 0
-  Cut line state = IsCut four_states line state half
+  Cut line state = IsCut a line state half
 
   -- the hull of a node's labels, cut by a half, is the hull at the child
-  pub child_hull : (hull : List StateSet) → IsHull four_states c Narrowings (HasAt four_states.count start) hull
-      → IsNodeHull c rules target (halves ++ half ∷ []) hull
+  pub child_hull : (hull : List StateSet) → IsHull a c Narrowings (HasAt a.count start) hull
+      → IsNodeHull a c rules target (halves ++ half ∷ []) hull
   child_hull hull hull_is =
-      hull_of_same four_states c Narrowings (cut_by May Cut) (MayBe four_states c rules target (halves ++ half ∷ []))
-      (may_be_below four_states c rules target halves half) (may_be_above four_states c rules target halves half) hull
-      (hull_restarts four_states c Narrowings May Cut before is hull
-      (hull_of_same four_states c Narrowings (HasAt four_states.count start) (cut_by (HasAt four_states.count before) Cut)
+      hull_of_same a c Narrowings (cut_by May Cut) (MayBe a c rules target (halves ++ half ∷ []))
+      (may_be_below a c rules target halves half) (may_be_above a c rules target halves half) hull
+      (hull_restarts a c Narrowings May Cut before is hull
+      (hull_of_same a c Narrowings (HasAt a.count start) (cut_by (HasAt a.count before) Cut)
       (λ line state in_circuit in_range. (cut line state in_circuit in_range).0)
       (λ line state in_circuit in_range. (cut line state in_circuit in_range).1) hull hull_is))
 
   -- and a line that it empties is emptied there
-  pub child_emptied : (line : ℕ) → IsEmptied four_states c Narrowings (HasAt four_states.count start) line
-      → IsEmptiedAtNode c rules target (halves ++ half ∷ []) line
+  pub child_emptied : (line : ℕ) → IsEmptied a c Narrowings (HasAt a.count start) line
+      → IsEmptiedAtNode a c rules target (halves ++ half ∷ []) line
   child_emptied line emptied =
-      emptied_if_wider four_states c Narrowings Narrowings (MayBe four_states c rules target (halves ++ half ∷ [])) (cut_by May Cut)
-      (widens_by_states four_states c Narrowings (MayBe four_states c rules target (halves ++ half ∷ [])) (cut_by May Cut)
-      (may_be_above four_states c rules target halves half)) line
-      (emptied_restarts four_states c Narrowings May Cut before is line
-      (emptied_if_wider four_states c Narrowings Narrowings (cut_by (HasAt four_states.count before) Cut) (HasAt four_states.count start)
-      (widens_by_states four_states c Narrowings (cut_by (HasAt four_states.count before) Cut) (HasAt four_states.count start)
+      emptied_if_wider a c Narrowings Narrowings (MayBe a c rules target (halves ++ half ∷ [])) (cut_by May Cut)
+      (widens_by_states a c Narrowings (MayBe a c rules target (halves ++ half ∷ [])) (cut_by May Cut)
+      (may_be_above a c rules target halves half)) line
+      (emptied_restarts a c Narrowings May Cut before is line
+      (emptied_if_wider a c Narrowings Narrowings (cut_by (HasAt a.count before) Cut) (HasAt a.count start)
+      (widens_by_states a c Narrowings (cut_by (HasAt a.count before) Cut) (HasAt a.count start)
       (λ line state in_circuit in_range. (cut line state in_circuit in_range).1)) line emptied))

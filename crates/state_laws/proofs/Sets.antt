@@ -3,12 +3,12 @@ use Rattle.std.proofs.Common.{◌≡◌, ℕ, ◌<◌, ◌≤◌, ◌^◌, ⊎_e
 use Rattle.std.specs.Int.{bit_at}
 use Rattle.std.proofs.lemmas.Nat.{and_le_r, pow_pos}
 use Rattle.std.proofs.lemmas.List.{get_or_past}
-use Rattle.std.proofs.lemmas.Nat.Bits.{bit_at-zero, bit_at-lt, bit_at_and, same_from_bits_below}
+use Rattle.std.proofs.lemmas.Nat.Bits.{bit_at_ones, bit_at-zero, bit_at-lt, bit_at_and, same_from_bits_below}
 use Rattle.std.proofs.lemmas.Bool.{cases_eq, cases_lt}
 use Rattle.netlist.specs.Circuit.{Circuit, line_count}
 use Rattle.state_sets.specs.declared.state.State.{State}
 use Rattle.state_sets.specs.declared.state.StateSet.{StateSet}
-use Rattle.state_sets.specs.States.{Has, no_states}
+use Rattle.state_sets.specs.States.{Has, no_states, all_states}
 use Rattle.state_sets.specs.Labellings.{label_at, IsLabelling}
 
 -- the set of a number, and the state
@@ -75,3 +75,7 @@ module _ (count : ℕ) where
         (λ (past : length labels ≤ line).
         absurd (none_has count state (subst (λ s. Has count s state) (get_or_past labels line no_states past) has)))
         (cases_lt line (length labels))
+
+-- all states are in the set of all, which is not empty
+pub all_have : (count : ℕ) (state : State) → state.0 < count → Has count (all_states count) state
+all_have count state below = record { in_range = below; bit = bit_at_ones count state.0 below }

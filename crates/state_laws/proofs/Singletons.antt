@@ -1,6 +1,6 @@
 -- A labelling that gives each line one state alone. Where these states agree at each gate it is at rest, so that each hull of what
 -- lines may be in has them. For every kind of states.
-use Rattle.std.proofs.Common.{◌≡◌, ⊎_elim, ℕ, ◌<◌, ◌≤◌, ◌^◌, List, map, Option, refl, sym, ap, subst, arith}
+use Rattle.std.proofs.Common.{◌≡◌, ⊎_elim, ℕ, ◌<◌, ◌≤◌, ◌^◌, List, map, Option, IsTrue, refl, sym, ap, subst, arith}
 use Rattle.std.specs.List.{All, range_with_len}
 use Rattle.std.proofs.lemmas.Bool.{cases_eq, cases_lt}
 use Rattle.std.proofs.lemmas.List.{get_or_past}
@@ -8,6 +8,7 @@ use Rattle.std.proofs.lemmas.List.Elements.{All-push, All-from_get_or}
 use Rattle.std.proofs.lemmas.List.FromFn.{get_or-map-range_with_len, length-map-range_with_len}
 use Rattle.std.proofs.lemmas.Nat.{pow_below}
 use Rattle.std.proofs.lemmas.Nat.Bits.{bit_at-pow_same, bit_at-pow_other}
+use Rattle.pd_base.specs.Links.{LinkList, IsLink}
 use Rattle.pd_base.specs.declared.ids.LineId.{LineId}
 use Rattle.pd_base.specs.declared.ids.PinRef.{PinRef}
 use Rattle.pd_base.specs.declared.fault.Kind.{Kind}
@@ -19,10 +20,11 @@ use Rattle.state_sets.specs.declared.condition.Condition.{Condition}
 use Rattle.state_sets.specs.States.{Has, no_states}
 use Rattle.state_sets.specs.StateAlgebra.{StateAlgebra}
 use Rattle.state_sets.specs.Labellings.{label_at, IsLabelling}
-use Rattle.state_sets.specs.Narrowing.{AgreesAt, IsKept, IsNarrowing, gate_lines}
+use Rattle.state_sets.specs.Narrowing.{AgreesAt, IsKept, IsNarrowing, IsLinkNarrowing, IsKeptByLink, gate_lines}
 use Rattle.state_sets.specs.Hulls.{condition_at, IsNarrowingOf, IsAtRest, IsRestAmong, IsHull, Closes}
 use Rattle.state_sets.specs.Hulls.Narrowing.{at_gate, along_link}
 use Rattle.state_laws.proofs.Narrowing.{agreeing_kept}
+use Rattle.state_laws.proofs.Steps.{agreeing_kept_by_link}
 use Rattle.state_laws.proofs.Sets.{none_has}
 
 -- the set of one state alone
@@ -103,17 +105,35 @@ module _ (a : StateAlgebra) (c : Circuit) (reads : ReadsLines c) (states : ℕ �
     );
   }
 
-  module _ (kind : Kind) (steps : List PinRef)
-      (agree : (gate : ℕ) → gate < gate_count c → AgreesAt a c gate (condition_at kind steps gate) states) where
-    -- where they agree at each gate under the conditions of steps, the labelling is at rest
-    pub singletons_rest : IsAtRest a c (IsNarrowingOf c kind steps) (singletons c states)
+  -- where the state of a source may be linked to that of a line, the narrowing along that link changes nothing
+  pub singletons_linked : (source line : ℕ) → source < line_count c → line < line_count c → IsTrue (a.link (states source) (states line))
+      → IsLinkNarrowing a source line (singletons c states) (singletons c states)
+  singletons_linked source line is_source is_line linked = record {
+    lines = refl;
+    exactly = λ at state. (
+      λ has. let own = (only_states c states a.count at state has).1 in
+          subst (IsKeptByLink a source line (singletons c states) at) (sym own)
+          (agreeing_kept_by_link a source line (singletons c states) states linked (has_own source is_source) (has_own line is_line) at
+          (subst (Has a.count (label_at (singletons c states) at)) own has)),
+      λ kept. kept.had,
+    );
+  }
+
+  module _ (links : LinkList) (kind : Kind) (steps : List PinRef)
+      (agree : (gate : ℕ) → gate < gate_count c → AgreesAt a c gate (condition_at kind steps gate) states)
+      (linked : (source line : ℕ) → IsLink links source line
+      → (source < line_count c) × (line < line_count c) × IsTrue (a.link (states source) (states line))) where
+    -- where they agree at each gate under the conditions of steps, and along each link, the labelling is at rest
+    pub singletons_rest : IsAtRest a c (IsNarrowingOf c links kind steps) (singletons c states)
     singletons_rest (at_gate gate condition) is =
         subst (λ asked. IsNarrowing a c gate asked (singletons c states) (singletons c states)) (sym is.1)
         (singletons_narrow gate is.0 (condition_at kind steps gate) (agree gate is.0))
-    singletons_rest (along_link source line) is = absurd is
+    singletons_rest (along_link source line) is =
+        let tie = linked source line is in
+        singletons_linked source line tie.0 tie.1 tie.2
 
     module _ (May : ℕ → State → Type 0) (may : (line : ℕ) → line < line_count c → May line (states line)) where
-      pub singletons_among : IsRestAmong a c (IsNarrowingOf c kind steps) May (singletons c states)
+      pub singletons_among : IsRestAmong a c (IsNarrowingOf c links kind steps) May (singletons c states)
       singletons_among = record {
         labelling = singletons_labelling;
         rest = singletons_rest;
@@ -122,12 +142,12 @@ module _ (a : StateAlgebra) (c : Circuit) (reads : ReadsLines c) (states : ℕ �
       }
 
       -- so where lines may be in these states, each hull has them
-      pub agreeing_in_hull : (hull : List StateSet) → IsHull a c (IsNarrowingOf c kind steps) May hull
+      pub agreeing_in_hull : (hull : List StateSet) → IsHull a c (IsNarrowingOf c links kind steps) May hull
           → (line : ℕ) → line < line_count c → Has a.count (label_at hull line) (states line)
       agreeing_in_hull hull is line within = is.greatest (singletons c states) singletons_among line (states line) (has_own line within)
 
       -- and no line is emptied
-      pub agreeing_never_close : Closes a c (IsNarrowingOf c kind steps) May → ⊥
+      pub agreeing_never_close : Closes a c (IsNarrowingOf c links kind steps) May → ⊥
       agreeing_never_close closes =
           none_has a.count (states closes.line)
           (subst (λ set. Has a.count set (states closes.line)) (closes.emptied (singletons c states) singletons_among)

@@ -9,7 +9,7 @@ use Rattle.pd_base.specs.declared.ids.LineId.{LineId}
 use Rattle.pd_base.specs.declared.ids.PinRef.{PinRef}
 use Rattle.pd_base.specs.declared.fault.Kind.{Kind}
 use Rattle.pd_base.specs.declared.rules.Rules.{Rules}
-use Rattle.pd_base.specs.declared.rules.Rules.TheVariants.{One, Two}
+use Rattle.pd_base.specs.declared.rules.Rules.TheVariants.{One, Two, Linked}
 use Rattle.netlist.specs.declared.side_conditions.SideCondition.{SideCondition}
 use Rattle.netlist.specs.declared.side_conditions.SideCondition.TheVariants.{Free, EndsAt, SteadyAt, AnySteady}
 use Rattle.netlist.specs.Circuit.{Circuit, source_count, line_count, gate_line, kind_at, pins_at}
@@ -19,7 +19,7 @@ use Rattle.netlist.specs.Values.{bit_of, value}
 use Rattle.netlist.specs.Steadiness.{agreed_bit, is_known_as, is_steady}
 use Rattle.netlist.specs.Conditions.{Allows, Meets, SidesMeet, side_condition}
 use Rattle.netlist.proofs.Evaluation.{all_at_place}
-use Rattle.state_sets.specs.FourLaws.{same_bit}
+use Rattle.state_sets.specs.StateAlgebra.{StateAlgebra, HasLaws, same_bit}
 use Rattle.state_laws.specs.Steadied.{KeepsRules, steadied}
 use Rattle.state_laws.proofs.SourceStates.{source_steady, steady_under}
 use Rattle.state_laws.proofs.Knowing.{StaysKnown, steady_stays}
@@ -60,10 +60,10 @@ module _ (c : Circuit) (source : ℕ) (pair : Vectors) where
       get_or-map-range_with_len (λ o. if o == source then bit_of pair.first o else bit_of pair.second o) 0 (source_count c)
       other other false within (omega arith)
 
-  first_of_own : source < source_count c → bit_of now.first source ≡ bit_of pair.first source
+  pub first_of_own : source < source_count c → bit_of now.first source ≡ bit_of pair.first source
   first_of_own within = first_bit source within ∙ cond-true (source == source) _ _ (eq-eqb source source refl)
 
-  first_of_other : (other : ℕ) → other < source_count c → other ≢ source → bit_of now.first other ≡ bit_of pair.second other
+  pub first_of_other : (other : ℕ) → other < source_count c → other ≢ source → bit_of now.first other ≡ bit_of pair.second other
   first_of_other other within apart = first_bit other within ∙ cond-false (other == source) _ _ (ne_eqb other source apart)
 
   agreed_bit_stays : (other : ℕ) → other < source_count c → StaysKnown (agreed_bit pair other) (agreed_bit now other)
@@ -74,10 +74,11 @@ module _ (c : Circuit) (source : ℕ) (pair : Vectors) where
       subst P (sym (first_bit other within)) (agreed_stays (other == source) (bit_of pair.first other) second)
 
   -- the other sources start as any rules leave them
-  pub steadied_keeps : (rules : Rules) → KeepsRules c rules source now
-  steadied_keeps One other within apart = tt
-  steadied_keeps Two other within apart =
-      steady_under c now other ∙ source_steady c now other within
+  pub steadied_keeps : (a : StateAlgebra) (laws : HasLaws a) (rules : Rules) → KeepsRules a c rules source now
+  steadied_keeps a laws One other within apart = tt
+  steadied_keeps a laws (Linked links) other within apart = tt
+  steadied_keeps a laws Two other within apart =
+      steady_under a laws c now other ∙ source_steady a laws c now other within
       ∙ ap (λ (first : Bool). same_bit first (bit_of pair.second other)) (first_of_other other within apart)
       ∙ same_as_itself (bit_of pair.second other)
 

@@ -20,7 +20,7 @@ use Rattle.netlist.specs.Steadiness.{is_steady}
 use Rattle.netlist.specs.Conditions.{Allows, SidesAllowed, side_condition}
 use Rattle.path_laws.proofs.StepCounts.{step_raises}
 use Rattle.state_sets.specs.declared.state.State.{State}
-use Rattle.state_sets.specs.FourStates.{four_states, four_last, four_steady}
+use Rattle.state_sets.specs.StateAlgebra.{StateAlgebra, HasLaws}
 use Rattle.state_sets.specs.LineStates.{state_under}
 use Rattle.state_sets.specs.Narrowing.{SidesMeetAt, state_at}
 use Rattle.state_sets.specs.Hulls.{condition_at}
@@ -76,21 +76,21 @@ module _ (c : Circuit) (circuit : IsCircuit c) (kind : Kind) (path : Route) wher
   pub steps_on : IsPrefix c path → AreStepsOn c kind path path.source.0 path.steps
   steps_on is = on_from path.source.0 path.steps is.connects refl (λ gate within above. refl)
 
-module _ (c : Circuit) (pair : Vectors) where
+module _ (a : StateAlgebra) (laws : HasLaws a) (c : Circuit) (pair : Vectors) where
   -- the states of the lines that a gate's pins read
   abbrev pub pin_states : ℕ → List State
-  pin_states gate = map (λ line. state_under c pair line.0) (pins_at c gate)
+  pin_states gate = map (λ line. state_under a c pair line.0) (pins_at c gate)
 
   pin_state : (gate pin : ℕ) (line : LineId) → slice_get (pins_at c gate) pin ≡ Some line
-      → state_at four_states (pin_states gate) pin ≡ state_under c pair line.0
+      → state_at a (pin_states gate) pin ≡ state_under a c pair line.0
   pin_state gate pin line reads =
       let lines = pins_at c gate in
-      get_or-map (λ (l : LineId). state_under c pair l.0) lines pin line _ (slice_get_within lines pin line reads)
-      ∙ ap (λ (l : LineId). state_under c pair l.0) (get_or_from_slice_get lines pin line line reads)
+      get_or-map (λ (l : LineId). state_under a c pair l.0) lines pin line _ (slice_get_within lines pin line reads)
+      ∙ ap (λ (l : LineId). state_under a c pair l.0) (get_or_from_slice_get lines pin line line reads)
 
   -- where the states of a pair meet the condition of a step, the pair does
   pub sides_from_states : (kind : Kind) (line : ℕ) (step : PinRef) → slice_get (pins_at c step.gate.0) step.pin ≡ Some (record { 0 = line })
-      → SidesMeetAt four_states (kind_at c step.gate.0) (record { pin = step.pin; kind = kind }) (pin_states step.gate.0)
+      → SidesMeetAt a (kind_at c step.gate.0) (record { pin = step.pin; kind = kind }) (pin_states step.gate.0)
       → SidesAllowed c kind pair line step
   sides_from_states kind line step reads meet pin side is =
       let gate = step.gate.0 in
@@ -98,16 +98,16 @@ module _ (c : Circuit) (pair : Vectors) where
       let inside : pin < length states = omega (
         arith,
         slice_get_within (pins_at c gate) pin side is.reads,
-        length-map (pins_at c gate) (λ (l : LineId). state_under c pair l.0),
+        length-map (pins_at c gate) (λ (l : LineId). state_under a c pair l.0),
       ) in
       let asked = λ (row : Bool). side_condition kind (kind_at c gate) row in
-      let row : four_last (state_at four_states states step.pin) ≡ value c pair.second line =
-      ap four_last (pin_state gate step.pin (record { 0 = line }) reads) ∙ last_under c pair line in
-      let last : four_last (state_at four_states states pin) ≡ value c pair.second side.0 =
-      ap four_last (pin_state gate pin side is.reads) ∙ last_under c pair side.0 in
-      let held : four_steady (state_at four_states states pin) ≡ is_steady c pair side.0 =
-      ap four_steady (pin_state gate pin side is.reads) ∙ steady_under c pair side.0 in
+      let row : a.last (state_at a states step.pin) ≡ value c pair.second line =
+      ap a.last (pin_state gate step.pin (record { 0 = line }) reads) ∙ last_under a laws c pair line in
+      let last : a.last (state_at a states pin) ≡ value c pair.second side.0 =
+      ap a.last (pin_state gate pin side is.reads) ∙ last_under a laws c pair side.0 in
+      let held : a.steady (state_at a states pin) ≡ is_steady c pair side.0 =
+      ap a.steady (pin_state gate pin side is.reads) ∙ steady_under a laws c pair side.0 in
       subst (λ steady. Allows (asked (value c pair.second line)) (value c pair.second side.0) steady) held
-      (subst (λ final. Allows (asked (value c pair.second line)) final (four_steady (state_at four_states states pin))) last
-      (subst (λ b. Allows (asked b) (four_last (state_at four_states states pin)) (four_steady (state_at four_states states pin))) row
+      (subst (λ final. Allows (asked (value c pair.second line)) final (a.steady (state_at a states pin))) last
+      (subst (λ b. Allows (asked b) (a.last (state_at a states pin)) (a.steady (state_at a states pin))) row
       (meet pin inside is.other)))

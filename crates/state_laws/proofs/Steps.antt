@@ -1,12 +1,13 @@
 -- Narrowings of both kinds: what they keep lies in the labels, what they keep of labels they keep of larger ones, and labels at
 -- rest stay in what is narrowed.
-use Rattle.std.proofs.Common.{◌≡◌, ℕ, List, length, refl, Option, None}
+use Rattle.std.proofs.Common.{◌≡◌, ℕ, List, length, refl, sym, subst, Option, None, IsTrue}
 use Rattle.netlist.specs.Circuit.{Circuit}
 use Rattle.state_sets.specs.declared.state.State.{State}
 use Rattle.state_sets.specs.declared.state.StateSet.{StateSet}
 use Rattle.state_sets.specs.declared.condition.Condition.{Condition}
 use Rattle.state_sets.specs.StateAlgebra.{StateAlgebra}
-use Rattle.state_sets.specs.Labellings.{LiesIn}
+use Rattle.state_sets.specs.States.{Has}
+use Rattle.state_sets.specs.Labellings.{label_at, LiesIn}
 use Rattle.state_sets.specs.Narrowing.{IsNarrowing, IsLinkNarrowing, IsKeptByLink}
 use Rattle.state_sets.specs.Hulls.{Narrowing, Narrows}
 use Rattle.state_sets.specs.Hulls.Narrowing.{at_gate, along_link}
@@ -16,6 +17,16 @@ module _ (a : StateAlgebra) where
   -- what a narrowing along a link keeps lies in the labels
   pub link_shrinks : (source line : ℕ) (old new : List StateSet) → IsLinkNarrowing a source line old new → LiesIn a.count new old
   link_shrinks source line old new is at state has = ((is.exactly at state).0 has).had
+
+  -- states that may be linked are kept: where source and line have theirs, each line that had its own keeps it
+  pub agreeing_kept_by_link : (source line : ℕ) (old : List StateSet) (states : ℕ → State) → IsTrue (a.link (states source) (states line))
+      → Has a.count (label_at old source) (states source) → Has a.count (label_at old line) (states line)
+      → (at : ℕ) → Has a.count (label_at old at) (states at) → IsKeptByLink a source line old at (states at)
+  agreeing_kept_by_link source line old states linked at_source at_line at had = record {
+    had = had;
+    at_source = λ here. (states line, at_line, subst (λ l. IsTrue (a.link (states l) (states line))) (sym here) linked);
+    at_line = λ here. (states source, at_source, subst (λ l. IsTrue (a.link (states source) (states l))) (sym here) linked);
+  }
 
   -- what it keeps of labels it keeps of larger ones
   kept_by_larger_link : (source line : ℕ) (old larger : List StateSet) → LiesIn a.count old larger

@@ -22,7 +22,7 @@ pub record IsForward (a : StateAlgebra) (c : Circuit) (inside : ℕ → Bool) (s
       → Has a.count (label_at labels (gate_line c gate)) (gate_state a (kind_at c gate) choice)
   pub outside : (gate : ℕ) → gate < gate_count c → inside gate ≡ false
       → (state : State) → state.0 < a.count → Has a.count (label_at labels (gate_line c gate)) state
-  pub rests : (kind : Kind) → IsAtRest a c (IsNarrowingIn c inside kind []) labels
+  pub rests : (kind : Kind) → IsAtRest a c (IsNarrowingIn c inside [] kind []) labels
   pub none_empty : HasNoEmptySet c labels
 
 -- the lines reached from a source: itself, and the line of each gate inside that reads one of them

@@ -4,3 +4,4 @@ pub mod Pairs
 pub mod Steadied
 pub mod Cones
 pub mod Forward
+pub mod FailedTrials

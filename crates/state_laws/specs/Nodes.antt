@@ -1,13 +1,13 @@
 -- What lines may be in at a node of a tree of cases: as at the start, and cut by the halves of the splits above the node (this
 -- project's own).
 use Rattle.std.specs.Prelude.{◌≡◌, ℕ, List, All}
+use Rattle.pd_base.specs.Links.{links_of}
 use Rattle.pd_base.specs.Target.{Target}
 use Rattle.pd_base.specs.declared.rules.Rules.{Rules}
 use Rattle.netlist.specs.Circuit.{Circuit}
 use Rattle.state_sets.specs.declared.state.State.{State}
 use Rattle.state_sets.specs.declared.state.StateSet.{StateSet}
 use Rattle.state_sets.specs.StateAlgebra.{StateAlgebra}
-use Rattle.state_sets.specs.FourStates.{four_states}
 use Rattle.state_sets.specs.Starts.{MayStart, IsInHalf}
 use Rattle.state_sets.specs.Hulls.{IsNarrowingOf, IsHull, IsEmptied, Closes}
 use Rattle.state_laws.specs.declared.half.Half.{Half}
@@ -22,16 +22,16 @@ pub record MayBe (a : StateAlgebra) (c : Circuit) (rules : Rules) (target : Targ
   pub cut : All (IsCut a line state) halves
 
 -- the hull at a node, under the conditions of the target's kind at the gates of its path
-abbrev pub IsNodeHull : Circuit → Rules → Target → List Half → List StateSet → Type 0
-IsNodeHull c rules target halves hull =
-    IsHull four_states c (IsNarrowingOf c target.kind target.path.steps) (MayBe four_states c rules target halves) hull
+abbrev pub IsNodeHull : StateAlgebra → Circuit → Rules → Target → List Half → List StateSet → Type 0
+IsNodeHull a c rules target halves hull =
+    IsHull a c (IsNarrowingOf c (links_of rules) target.kind target.path.steps) (MayBe a c rules target halves) hull
 
 -- this line is emptied at the node
-abbrev pub IsEmptiedAtNode : Circuit → Rules → Target → List Half → ℕ → Type 0
-IsEmptiedAtNode c rules target halves line =
-    IsEmptied four_states c (IsNarrowingOf c target.kind target.path.steps) (MayBe four_states c rules target halves) line
+abbrev pub IsEmptiedAtNode : StateAlgebra → Circuit → Rules → Target → List Half → ℕ → Type 0
+IsEmptiedAtNode a c rules target halves line =
+    IsEmptied a c (IsNarrowingOf c (links_of rules) target.kind target.path.steps) (MayBe a c rules target halves) line
 
 -- the node closes: some line is emptied there
-abbrev pub ClosesAtNode : Circuit → Rules → Target → List Half → Type 0
-ClosesAtNode c rules target halves =
-    Closes four_states c (IsNarrowingOf c target.kind target.path.steps) (MayBe four_states c rules target halves)
+abbrev pub ClosesAtNode : StateAlgebra → Circuit → Rules → Target → List Half → Type 0
+ClosesAtNode a c rules target halves =
+    Closes a c (IsNarrowingOf c (links_of rules) target.kind target.path.steps) (MayBe a c rules target halves)

@@ -5,14 +5,14 @@ use Rattle.pd_base.specs.Pair.{Vectors}
 use Rattle.pd_base.specs.declared.rules.Rules.{Rules}
 use Rattle.netlist.specs.Circuit.{Circuit, source_count}
 use Rattle.netlist.specs.Values.{bit_of}
-use Rattle.state_sets.specs.FourStates.{four_states}
+use Rattle.state_sets.specs.StateAlgebra.{StateAlgebra}
 use Rattle.state_sets.specs.LineStates.{state_under}
 use Rattle.state_sets.specs.Starts.{IsOtherStart}
 
 -- each source but this one starts under the pair in a state that the rules leave it
-abbrev pub KeepsRules : Circuit → Rules → ℕ → Vectors → Type 0
-KeepsRules c rules source pair =
-    (other : ℕ) → other < source_count c → other ≢ source → IsOtherStart four_states rules (state_under c pair other)
+abbrev pub KeepsRules : StateAlgebra → Circuit → Rules → ℕ → Vectors → Type 0
+KeepsRules a c rules source pair =
+    (other : ℕ) → other < source_count c → other ≢ source → IsOtherStart a rules (state_under a c pair other)
 
 -- the bits of the sources where each but this one has before the transition the bit that it has after it
 abbrev pub steadied_bits : Circuit → ℕ → Vectors → List Bool

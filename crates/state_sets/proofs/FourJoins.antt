@@ -6,7 +6,7 @@ use Rattle.netlist.specs.declared.op.Op.{Op}
 use Rattle.netlist.specs.declared.op.Op.TheVariants.{And, Or, Xor}
 use Rattle.state_sets.specs.declared.four_tables.TheConstants.{AND_STATES, OR_STATES, XOR_STATES}
 use Rattle.state_sets.specs.FourStates.{four_states}
-use Rattle.state_sets.specs.FourLaws.{all_below, all_below_at, state_of}
+use Rattle.state_sets.specs.ComputedLaws.{all_below, all_below_at, state_of}
 
 -- the table of an operation
 abbrev pub states_of : Op → List ℕ

@@ -1,4 +1,7 @@
-pub mod FourInversions
 pub mod FourJoins
 pub mod FourSets
-pub mod FourTables
+pub mod NumberTables
+pub mod SixJoins
+pub mod SixSets
+pub mod UnitedSets
+pub mod SixFirst

@@ -42,4 +42,5 @@ four_states = record {
   steady = four_steady;
   sources = record { 0 = 15 };
   link = four_link;
+  of = λ steady first last. four_state steady last;
 }

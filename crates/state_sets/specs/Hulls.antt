@@ -1,5 +1,6 @@
 -- What is left of the states of all lines when narrowings are repeated until nothing changes: a hull (this project's own).
 use Rattle.std.specs.Prelude.{◌≡◌, ◌≢◌, ℕ, ◌<◌, ◌==◌, List, [], ◌∷◌, Option, Some, None, if◌then◌else◌}
+use Rattle.pd_base.specs.Links.{LinkList, IsLink}
 use Rattle.pd_base.specs.declared.ids.PinRef.{PinRef}
 use Rattle.pd_base.specs.declared.fault.Kind.{Kind}
 use Rattle.netlist.specs.Circuit.{Circuit, gate_count, line_count}
@@ -27,11 +28,11 @@ condition_at kind [] gate = None
 condition_at kind (step ∷ steps) gate =
     if step.gate.0 == gate then Some (record { pin = step.pin; kind = kind }) else condition_at kind steps gate
 
--- The narrowings of a circuit under the conditions of these steps: one at each gate, under the condition of the step through it
--- if there is one. No source is linked to a line.
-abbrev pub IsNarrowingOf : Circuit → Kind → List PinRef → Narrowing → Type 0
-IsNarrowingOf c kind steps (at_gate gate condition) = (gate < gate_count c) × (condition ≡ condition_at kind steps gate)
-IsNarrowingOf c kind steps (along_link source line) = ⊥
+-- The narrowings of a circuit with these links under the conditions of these steps: one at each gate, under the condition of the step
+-- through it if there is one, and one along each link.
+abbrev pub IsNarrowingOf : Circuit → LinkList → Kind → List PinRef → Narrowing → Type 0
+IsNarrowingOf c links kind steps (at_gate gate condition) = (gate < gate_count c) × (condition ≡ condition_at kind steps gate)
+IsNarrowingOf c links kind steps (along_link source line) = IsLink links source line
 
 -- a labelling is at rest if none of these narrowings changes it
 abbrev pub IsAtRest : StateAlgebra → Circuit → (Narrowing → Type 0) → List StateSet → Type 0

@@ -1,10 +1,14 @@
+pub mod ComputedLaws
 pub mod FourLaws
 pub mod FourStates
 pub mod Hulls
 pub mod Labellings
 pub mod LineStates
 pub mod Narrowing
+pub mod SixLaws
+pub mod SixStates
 pub mod Starts
 pub mod StateAlgebra
 pub mod StateSets
 pub mod States
+pub mod FirstValues

@@ -3,7 +3,7 @@
 use Rattle.std.specs.Prelude.{◌≡◌, ◌≢◌, ⊤, ℕ, ◌<◌, ◌≤◌, Bool, true, false, not}
 use Rattle.pd_base.specs.declared.fault.Direction.{Direction}
 use Rattle.pd_base.specs.declared.rules.Rules.{Rules}
-use Rattle.pd_base.specs.declared.rules.Rules.TheVariants.{One, Two}
+use Rattle.pd_base.specs.declared.rules.Rules.TheVariants.{One, Two, Linked}
 use Rattle.netlist.specs.Circuit.{Circuit, source_count}
 use Rattle.netlist.specs.Conditions.{final_bit}
 use Rattle.state_sets.specs.declared.state.State.{State}
@@ -16,15 +16,17 @@ pub record IsLaunching (a : StateAlgebra) (direction : Direction) (state : State
   pub moves : a.steady state ≡ false
   pub ends : a.last state ≡ final_bit direction
 
--- a source that is not the path's may start in every state, or, where the rules hold such sources steady, in the steady ones
+-- a source that is not the path's may start in every state of a source, or, where the rules hold such sources steady, in the steady ones
 abbrev pub IsOtherStart : StateAlgebra → Rules → State → Type 0
 IsOtherStart a One state = ⊤
 IsOtherStart a Two state = a.steady state ≡ true
+IsOtherStart a (Linked links) state = ⊤
 
--- what a line may be in at the start: the path's source launches the transition, the other sources are as the rules leave them, and
--- the line of a gate may be in every state
+-- what a line may be in at the start: the path's source launches the transition, the other sources are as the rules leave them, all in
+-- states of a source, and the line of a gate may be in every state
 pub record MayStart (a : StateAlgebra) (c : Circuit) (rules : Rules) (source : ℕ) (direction : Direction) (line : ℕ) (state : State)
     : Type 0 where
+  pub is_source : line < source_count c → Has a.count a.sources state
   pub own : line ≡ source → IsLaunching a direction state
   pub other : line < source_count c → line ≢ source → IsOtherStart a rules state
 

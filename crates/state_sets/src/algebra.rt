@@ -1,4 +1,5 @@
-// What a kind of states has to offer so that gates can be narrowed by it.
+// What a kind of states has to offer so that gates can be narrowed by it. `join_sets` is part of it so that narrowing takes from a table
+// what an operation makes of two sets.
 ghost use Rattle.std.specs.Prelude.{◌≡◌, ◌<◌, ◌≤◌, ℕ};
 ghost use Rattle.state_sets.specs.States.{IsWithin, all_states};
 ghost use Rattle.state_sets.specs.StateAlgebra.{StateAlgebra, HasLaws};
@@ -51,6 +52,10 @@ pub trait Algebra {
         requires source { a.0 < algebra.count }
         requires line { c.0 < algebra.count }
         ensures { result ≡ algebra.link a c };
+
+    /// The state of a line that is steady or not, and has these values under the two vectors.
+    fn of(steady: bool, first: bool, last: bool) -> State
+        ensures { result ≡ algebra.of steady first last };
 
     /// What an operation makes of one state of each set.
     fn join_sets(op: Op, a: StateSet, b: StateSet) -> StateSet

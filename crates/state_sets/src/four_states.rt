@@ -56,6 +56,10 @@ impl Algebra for FourStates {
         c.0 >= 2 || is_one(a) == is_one(c)
     }
 
+    fn of(steady: bool, _first: bool, last: bool) -> State {
+        state_of(steady, last)
+    }
+
     fn join_sets(op: Op, a: StateSet, b: StateSet) -> StateSet {
         match op {
             Op::And => set_in(&AND_SETS, a, b),

@@ -1,5 +1,6 @@
-// What stood at the places of a list before they were written, from the first write on. Undoing goes back from the last write to a
-// mark, and gives each place what stood there.
+// What stood at the places of a list before they were written, from the first write on. Undoing goes back from the last write to a mark,
+// and gives each place what stood there. Marks are lengths, plain numbers: a mark past the end changes nothing, and a mark of another trail
+// can't be told from one of this.
 ghost use Rattle.std.specs.Prelude.{◌≡◌, ◌<◌, ◌-◌, List, [], ◌∷◌, ◌++◌, length, take, drop, slice_set, IfOk};
 ghost use Rattle.undo_trail.specs.Undoing.{undone, AreNoted};
 

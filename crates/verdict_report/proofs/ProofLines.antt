@@ -5,8 +5,8 @@ use Rattle.std.proofs.lemmas.List.Folds.{flat_map-map}
 use Rattle.std.proofs.lemmas.List.Elements.{recursion_from_All}
 use Rattle.netlist.specs.Circuit.{Circuit, source_count}
 use Rattle.runs.specs.declared.run.Proof.{Proof}
-use Rattle.runs.specs.declared.tree.Node.{Node}
-use Rattle.runs.specs.declared.tree.Node.TheVariants.{Closed, Waiting, Value, Steadiness}
+use Rattle.trees.specs.declared.tree.Node.{Node}
+use Rattle.trees.specs.declared.tree.Node.TheVariants.{Closed, Waiting, Value, Steadiness}
 use Rattle.runs.specs.Lawful.{IsLawfulProof, IsOnSource}
 use Rattle.text_pieces.specs.Tokens.{after_space, direction_word, kind_word, line, space}
 use Rattle.text_pieces.specs.LineFiles.{lines_text, state_after, AreLines}

@@ -4,9 +4,9 @@ use Rattle.std.proofs.lemmas.List.{length-map}
 use Rattle.std.proofs.lemmas.Option.{none-some, same_Some}
 use Rattle.netlist.specs.Circuit.{Circuit}
 use Rattle.runs.specs.declared.run.Proof.{Proof}
-use Rattle.runs.specs.declared.tree.Node.{Node}
+use Rattle.trees.specs.declared.tree.Node.{Node}
 use Rattle.runs.specs.Lawful.{IsOnSource}
-use Rattle.runs.specs.Trees.{IsTree}
+use Rattle.trees.specs.Trees.{IsTree}
 use Rattle.text_pieces.specs.Tokens.{space}
 use Rattle.text_pieces.specs.Cuts.{words_of}
 use Rattle.text_pieces.specs.Reads.{Reads}

@@ -6,7 +6,8 @@ use Rattle.pd_base.specs.declared.rules.Rules.{Rules}
 use Rattle.netlist.specs.Circuit.{Circuit}
 use Rattle.runs.specs.declared.run.Proof.{Proof}
 use Rattle.runs.specs.Lawful.{AreLawfulProofsOf, IsLawfulProof, IsOnSource, IsPathNumber}
-use Rattle.runs.specs.Trees.{IsTree}
+use Rattle.trees.specs.Trees.{IsTree}
+use Rattle.trees.specs.Unlinked.{IsUnlinked}
 use Rattle.netlist.specs.declared.limits.TheConstants.{MOST_LEVELS}
 use Rattle.text_pieces.specs.Tokens.{direction_word, kind_word, line}
 use Rattle.text_pieces.specs.LineFiles.{Form, lines_text, IsWhole, LacksForm}
@@ -31,20 +32,26 @@ pub record AreSpelledProofs (c : Circuit) (proofs : List Proof) : Type 0 where
   pub lawful : AreLawfulProofsOf c proofs
   pub whole : All (λ proof. IsTree proof.tree) proofs
 
+-- the rules and the proofs of a file that is read: no file under linked rules is
+pub record IsSpelledFile (c : Circuit) (file : Rules × List Proof) : Type 0 where
+  pub unlinked : IsUnlinked file.0
+  pub proofs : AreSpelledProofs c file.1
+
 -- how such proofs stand one behind another
 abbrev pub spelled_form : Circuit → Form ℕ Proof
 spelled_form c = proofs_form (IsSpelledProof c)
 
--- The line of this number is the first one of a proofs file that lacks its form: the text begins with the line of no version, or
--- the line is one behind it.
+-- The line of this number is the first one of a proofs file that lacks its form: the text begins with the line of no version that is
+-- read, or the line is one behind it.
 pub data IsFirstBadProofLine (c : Circuit) (text : List ℕ) : ℕ → Type 0 where
-  no_version : ((rules : Rules) (rest : List ℕ) → text ≢ line (version_line rules) ++ rest) → IsFirstBadProofLine c text 1
-  no_proof : (rules : Rules) (rest : List ℕ) (number : ℕ) → text ≡ line (version_line rules) ++ rest
+  no_version : ((rules : Rules) (rest : List ℕ) → IsUnlinked rules → text ≢ line (version_line rules) ++ rest)
+      → IsFirstBadProofLine c text 1
+  no_proof : (rules : Rules) (rest : List ℕ) (number : ℕ) → IsUnlinked rules → text ≡ line (version_line rules) ++ rest
       → LacksForm (spelled_form c) 1 rest number → IsFirstBadProofLine c text (number + 1)
 
 -- what a text is read as: the rules whose version it has, and proofs
 abbrev pub ReadsProofs : Circuit → List ℕ → Option (Rules × List Proof) → Type 0
-ReadsProofs c text read = Reads (λ (file : Rules × List Proof). proofs_text file.0 file.1) (λ file. AreSpelledProofs c file.1) text read
+ReadsProofs c text read = Reads (λ (file : Rules × List Proof). proofs_text file.0 file.1) (IsSpelledFile c) text read
 
 -- What a reader of proofs files answers of a text: its version, and the lawful proofs whose file it is; or, where it is that of no
 -- lawful proofs, the first line that lacks its form; or that memory ran out.

@@ -3,10 +3,10 @@
 use Rattle.std.specs.Prelude.{⊤, ℕ, ◌+◌, List, ◌∷◌, ◌++◌, Bool, true, false, map, codes, decimal}
 use Rattle.std.specs.List.{join_with_byte}
 use Rattle.pd_base.specs.declared.rules.Rules.{Rules}
-use Rattle.pd_base.specs.declared.rules.Rules.TheVariants.{One, Two}
+use Rattle.pd_base.specs.declared.rules.Rules.TheVariants.{One, Two, Linked}
 use Rattle.runs.specs.declared.run.Proof.{Proof}
-use Rattle.runs.specs.declared.tree.Node.{Node}
-use Rattle.runs.specs.declared.tree.Node.TheVariants.{Closed, Waiting, Value, Steadiness}
+use Rattle.trees.specs.declared.tree.Node.{Node}
+use Rattle.trees.specs.declared.tree.Node.TheVariants.{Closed, Waiting, Value, Steadiness}
 use Rattle.runs.specs.Lawful.{IsLawfulProof}
 use Rattle.text_pieces.specs.Tokens.{space, line, direction_word, kind_word}
 use Rattle.text_pieces.specs.LineFiles.{Form, lines_text}
@@ -42,15 +42,17 @@ proofs_form Lawful = record {
   Ends = λ number. ⊤;
 }
 
--- the version of the file of proofs that are judged under these rules
+-- the version of the file of proofs that are judged under these rules; which links linked rules have, no version tells
 abbrev pub version_of : Rules → ℕ
 version_of One = 1
 version_of Two = 2
+version_of (Linked links) = 3
 
 -- its first line
 abbrev pub version_line : Rules → List ℕ
 version_line One = codes "pdfgen proofs 1"
 version_line Two = codes "pdfgen proofs 2"
+version_line (Linked links) = codes "pdfgen proofs 3"
 
 -- the whole file
 abbrev pub proofs_text : Rules → List Proof → List ℕ

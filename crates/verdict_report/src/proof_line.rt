@@ -10,9 +10,10 @@ ghost use Rattle.verdict_report.specs.ProofsReading.{IsSpelledProof};
 use crate::proof_head::read_head;
 use netlist::Netlist;
 use pd_base::OutOfMemory;
-use runs::{Node, Proof, Tree};
+use runs::Proof;
 use std::alloc::Global;
 use text_pieces::{next_word, read_number};
+use trees::{Node, Tree};
 
 // For how many nodes room is taken at once, at most. So a long line of spaces takes no memory.
 const MOST_ROOM: usize = 1_048_576;

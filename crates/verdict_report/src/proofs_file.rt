@@ -7,9 +7,10 @@ ghost use Rattle.text_pieces.specs.Tokens.{after_space, line};
 
 use pd_base::{OutOfMemory, Rules, push_decimal};
 use pd_io::{Pieces, whole_text};
-use runs::{Node, Proof, Run};
+use runs::{Proof, Run};
 use std::alloc::Global;
 use text_pieces::{direction_word, kind_word, push_spaced, push_spaced_number};
+use trees::Node;
 
 /// The proofs file, piece by piece: the version of the rules, and then a line for each proof, numbered from 1.
 #[derive(Clone, Copy)]
@@ -62,6 +63,7 @@ pub(crate) fn version_line(rules: &Rules) -> &'static [u8]
     match rules {
         Rules::One => b"pdfgen proofs 1\n",
         Rules::Two => b"pdfgen proofs 2\n",
+        Rules::Linked(_) => b"pdfgen proofs 3\n",
     }
 }
 

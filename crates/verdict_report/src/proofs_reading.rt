@@ -1,7 +1,8 @@
 // The proofs file, read: its version, and then line by line its proofs. One line is read in proof_line.rt.
-ghost use Rattle.std.specs.Prelude.{◌≡◌, ◌≤◌, ⊤, length, option_map, IfSome};
+ghost use Rattle.std.specs.Prelude.{◌≡◌, ◌≤◌, length, option_map, IfSome};
 ghost use Rattle.text_pieces.specs.Reads.{Reads};
 ghost use Rattle.text_pieces.specs.declared.limits.TheConstants.{MOST_BYTES};
+ghost use Rattle.trees.specs.Unlinked.{IsUnlinked};
 ghost use Rattle.verdict_report.specs.ProofsText.{version_of};
 ghost use Rattle.verdict_report.specs.ProofsReading.{ProofLinesAnswer, ProofsAnswer, version_at_front, version_lent};
 
@@ -34,7 +35,7 @@ pub fn read_proofs(
 
 // The rules whose version the first line tells, and what stands behind it.
 fn read_version(bytes: &[u8]) -> Option<(Rules, &[u8])>
-    ensures reads { Reads version_at_front (λ read. ⊤) bytes.now (option_map version_lent result) }
+    ensures reads { Reads version_at_front (λ read. IsUnlinked read.0) bytes.now (option_map version_lent result) }
     ensures shorter { IfSome result (λ read. length read.1.now ≤ length bytes.now) }
 {
     if let Some(lines) = text_behind(version_line(&Rules::One), bytes) {
@@ -51,6 +52,7 @@ fn version_of(rules: &Rules) -> u32
     match rules {
         Rules::One => 1,
         Rules::Two => 2,
+        Rules::Linked(_) => 3,
     }
 }
 

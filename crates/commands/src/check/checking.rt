@@ -8,7 +8,7 @@ ghost use Rattle.calls.specs.Preparing.{Prepares};
 ghost use Rattle.delay_annotation.specs.Annotation.{Fits, delays_of};
 ghost use Rattle.netlist.specs.Lawful.{IsCircuit};
 ghost use Rattle.commands.specs.Check.{check_work, good_products};
-ghost use Rattle.commands.specs.Checking.{JudgesClaims};
+ghost use Rattle.commands.specs.Inside.Checking.{JudgesClaims};
 
 use crate::check::judging::judge_run;
 use crate::check::spelling::run_from;

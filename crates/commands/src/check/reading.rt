@@ -2,9 +2,9 @@
 ghost use Rattle.std.specs.Prelude.{IfOk};
 ghost use Rattle.pd_io.specs.Seen.{files_seen};
 ghost use Rattle.command_line.specs.Commands.{run_call_of};
-ghost use Rattle.commands.specs.Checking.{AreWithinLimit, ReadsClaims};
+ghost use Rattle.commands.specs.Inside.Checking.{AreWithinLimit, ReadsClaims};
 
-use crate::inputs::claims_from;
+use crate::inputs::text_from;
 use calls::{Ending, Role};
 use command_line::RunCommand;
 use pd_io::Files;
@@ -31,9 +31,9 @@ pub(crate) fn claim_texts<F: Files>(
     ensures reads { ReadsClaims (run_call_of command.now) result
         (files_seen F.Files files.old) (files_seen F.Files files.new) }
 {
-    let tests = claims_from(alloc, files, Role::Tests, command.tests)?;
-    let report = claims_from(alloc, files, Role::Report, command.report)?;
-    let proofs = claims_from(alloc, files, Role::Proofs, command.proofs)?;
+    let tests = text_from(alloc, files, Role::Tests, command.tests)?;
+    let report = text_from(alloc, files, Role::Report, command.report)?;
+    let proofs = text_from(alloc, files, Role::Proofs, command.proofs)?;
     Ok(ClaimTexts {
         tests,
         report,

@@ -1,70 +1,141 @@
-// Claim files: each read up to its limit, and the tests of one judged. A report and proofs are judged by the command that reads them.
-ghost use Rattle.std.specs.Prelude.{◌≤◌, length, Some, IfOk, IfErr};
+// The claim files of a run, judged: the tests, the report and the proofs that their texts spell. Each is refused under the word of the
+// command that reads it.
+ghost use Rattle.std.specs.Prelude.{◌≡◌, ◌≤◌, length, IfOk, IfErr};
+ghost use Rattle.pd_base.specs.declared.rules.Rules.{Rules};
 ghost use Rattle.pd_io.specs.Seen.{files_seen};
 ghost use Rattle.text_pieces.specs.declared.limits.TheConstants.{MOST_BYTES};
-ghost use Rattle.calls.specs.Inputs.{ReadsInput};
-ghost use Rattle.commands.specs.InputJudging.{FailsTests, FailsToGiveTests, FailsWithin, GivesTests};
+ghost use Rattle.trees.specs.Unlinked.{IsUnlinked};
+ghost use Rattle.verdict_report.specs.ProofsText.{version_of};
+ghost use Rattle.commands.specs.Inside.InputJudging.{FailsProofs, FailsReport, FailsTests, FailsToGiveTests, GivesTests};
+ghost use Rattle.commands.specs.InputRefusals.{malformed};
+ghost use Rattle.commands.specs.SpelledRuns.{SpellsProofs, SpellsReport};
 ghost use Rattle.commands.specs.SpelledTests.{SpellsTests};
 
-use crate::inputs::reading::read_within;
-use calls::{ClaimsReader, Ending, Refusal, Role};
+use crate::inputs::reading::text_from;
+use calls::{Cause, Ending, Part, Refusal, Role};
 use netlist::Netlist;
 use pattern_writer::{TestsFault, read_tests};
-use pd_base::Test;
+use pd_base::{Rules, Test};
 use pd_io::Files;
+use runs::{ListedPath, Proof};
 use std::alloc::Global;
-use text_pieces::MOST_BYTES;
+use verdict_report::{TextFault, read_proofs, read_report};
 
-/// Reads the claim file of this role, and gives its bytes. One of more than `MOST_BYTES` is refused.
-pub(crate) fn claims_from<F: Files>(
-    alloc: Global,
-    files: &mut F,
-    role: Role,
-    name: &str,
-) -> Result<Vec<u8>, Ending>
-    ensures read { IfOk result (λ read. ReadsInput MOST_BYTES name.now (Some read)
-        (files_seen F.Files files.old) (files_seen F.Files files.new)) }
-    ensures failed { IfErr result (λ ending. FailsWithin MOST_BYTES role name.now ending
-        (files_seen F.Files files.old) (files_seen F.Files files.new)) }
-{
-    read_within(alloc, files, role, name, MOST_BYTES)
-}
-
-/// Reads TESTS, and gives the tests of NET that its text spells. One over the limit is refused, and one that spells none, as this command
-/// tells.
+/// Reads TESTS, and gives the tests of NET that its text spells. One over the limit is refused, and one that spells none.
 pub(crate) fn tests_from<F: Files>(
     alloc: Global,
     files: &mut F,
-    reader: ClaimsReader,
+    command: &'static [u8],
     net: &Netlist,
     name: &str,
 ) -> Result<Vec<Test>, Ending>
     ensures gives { IfOk result (λ tests. GivesTests name.now net.now tests.items
         (files_seen F.Files files.old) (files_seen F.Files files.new)) }
-    ensures fails { IfErr result (λ ending. FailsToGiveTests reader name.now net.now ending
+    ensures fails { IfErr result (λ ending. FailsToGiveTests command.now name.now net.now ending
         (files_seen F.Files files.old) (files_seen F.Files files.new)) }
 {
-    let text = claims_from(alloc, files, Role::Tests, name)?;
-    tests_in(alloc, reader, net, text.as_slice())
+    let text = text_from(alloc, files, Role::Tests, name)?;
+    tests_in(alloc, command, net, text.as_slice())
 }
 
-/// The tests of NET that the text of TESTS spells. A text is refused exactly where it spells none: its first line that lacks its form is
-/// told, as this command tells it.
+/// The tests of NET that the text of TESTS spells. A text is refused exactly where it spells none, for its first line that lacks its
+/// form.
 pub(crate) fn tests_in(
     alloc: Global,
-    reader: ClaimsReader,
+    command: &'static [u8],
     net: &Netlist,
     text: &[u8],
 ) -> Result<Vec<Test>, Ending>
     requires { length text.now ≤ MOST_BYTES }
     ensures spells { IfOk result (λ tests. SpellsTests net.now text.now tests.items) }
-    ensures fails { IfErr result (FailsTests reader net.now text.now) }
+    ensures fails { IfErr result (FailsTests command.now net.now text.now) }
 {
     match read_tests(alloc, net, text) {
         Ok(tests) => Ok(tests),
         Err(TestsFault::Malformed(line)) => {
-            Err(Ending::Refused(Refusal::Malformed(reader, Role::Tests, line)))
+            Err(Ending::Refused(malformed(command, Role::Tests, line)))
         }
         Err(TestsFault::NoMemory) => Err(Ending::NoMemory),
     }
+}
+
+/// The listed paths that the text of REPORT spells. A text is refused exactly where it spells none, for its first line that lacks its
+/// form.
+pub(crate) fn report_in(
+    alloc: Global,
+    command: &'static [u8],
+    net: &Netlist,
+    text: &[u8],
+) -> Result<Vec<ListedPath>, Ending>
+    requires { length text.now ≤ MOST_BYTES }
+    ensures spells { IfOk result (λ paths. SpellsReport net.now text.now paths.items) }
+    ensures fails { IfErr result (FailsReport command.now net.now text.now) }
+{
+    match read_report(alloc, net, text) {
+        Ok(paths) => Ok(paths),
+        Err(TextFault::Malformed(line)) => {
+            Err(Ending::Refused(malformed(command, Role::Report, line)))
+        }
+        Err(TextFault::NoMemory) => Err(Ending::NoMemory),
+    }
+}
+
+/// Proofs, and the rules under which they are judged.
+#[derive(Drop)]
+pub(crate) struct RuledProofs {
+    /// The rules that the first line of PROOFS names.
+    pub(crate) rules: Rules,
+    /// The proofs.
+    pub(crate) proofs: Vec<Proof>,
+}
+
+/// The proofs that the text of PROOFS spells, with their rules. A text is refused exactly where it spells none, for its first line that
+/// lacks its form.
+pub(crate) fn proofs_in(
+    alloc: Global,
+    command: &'static [u8],
+    net: &Netlist,
+    text: &[u8],
+) -> Result<RuledProofs, Ending>
+    requires { length text.now ≤ MOST_BYTES }
+    ensures spells { IfOk result (λ ruled. SpellsProofs net.now text.now ruled.rules ruled.proofs.items) }
+    ensures fails { IfErr result (FailsProofs command.now net.now text.now) }
+{
+    match read_proofs(alloc, net, text) {
+        Ok((version, proofs)) => Ok(RuledProofs {
+            rules: rules_of(version),
+            proofs,
+        }),
+        Err(TextFault::Malformed(line)) => {
+            Err(Ending::Refused(malformed(command, Role::Proofs, line)))
+        }
+        Err(TextFault::NoMemory) => Err(Ending::NoMemory),
+    }
+}
+
+// The rules, not linked ones, of which this is the version of a proofs file.
+fn rules_of(version: u32) -> Rules
+    ensures { (rules : Rules) → IsUnlinked rules → version ≡ version_of rules → result ≡ rules }
+{
+    match version {
+        1 => Rules::One,
+        _ => Rules::Two,
+    }
+}
+
+// The refusal of the claim file of this role, whose line of this number lacks its form.
+fn malformed(command: &'static [u8], role: Role, line: u32) -> Refusal
+    ensures { result ≡ malformed command.now role line }
+{
+    Refusal::new(
+        Cause::Claims,
+        &[
+            Part::Words(command),
+            Part::Words(b": "),
+            Part::Words(role.word()),
+            Part::Words(b" line "),
+            Part::Number(u64::from(line)),
+            Part::Words(b" malformed"),
+        ],
+    )
 }

@@ -4,19 +4,18 @@ ghost use Rattle.pd_io.specs.Seen.{files_seen};
 ghost use Rattle.bench_reader.specs.Circuits.{HasCircuit};
 ghost use Rattle.delay_annotation.specs.Annotation.{Fits, delays_of};
 ghost use Rattle.delay_annotation.specs.DelayFile.{HasDelays};
-ghost use Rattle.commands.specs.InputJudging.{FailsDelays, FailsNet, FailsToGiveDelays, FailsToGiveNet, GivesDelays, GivesNet};
+ghost use Rattle.commands.specs.declared.inputs.reading.TheConstants.{INPUT_LIMIT};
+ghost use Rattle.commands.specs.Inside.InputJudging.{FailsDelays, FailsNet, FailsToGiveDelays, FailsToGiveNet, GivesDelays, GivesNet};
 
-use crate::inputs::reading::read_within;
-use crate::inputs::reasons::{delays_reason_of, reason_of};
+use crate::inputs::delays_ending::delays_ending;
+use crate::inputs::netlist_ending::netlist_ending;
+use crate::inputs::reading::text_from;
 use bench_reader::read_bench;
-use calls::{Ending, Refusal, Role};
+use calls::{Ending, Role};
 use delay_annotation::{Delays, read_delays};
 use netlist::Netlist;
 use pd_io::Files;
 use std::alloc::Global;
-
-/// How many bytes NET and DELAYS may have.
-pub const INPUT_LIMIT: usize = 33_554_432;
 
 /// Reads NET, and gives the netlist of the circuit that its text has. One over the limit is refused, and one that has no circuit.
 pub(crate) fn netlist_from<F: Files>(
@@ -29,7 +28,7 @@ pub(crate) fn netlist_from<F: Files>(
     ensures fails { IfErr result (λ ending. FailsToGiveNet name.now ending
         (files_seen F.Files files.old) (files_seen F.Files files.new)) }
 {
-    let text = read_within(alloc, files, Role::Net, name, INPUT_LIMIT)?;
+    let text = text_from(alloc, files, Role::Net, name)?;
     netlist_of(alloc, text.as_slice())
 }
 
@@ -46,7 +45,7 @@ pub(crate) fn delays_from<F: Files>(
     ensures fails { IfErr result (λ ending. FailsToGiveDelays name.now net.now ending
         (files_seen F.Files files.old) (files_seen F.Files files.new)) }
 {
-    let text = read_within(alloc, files, Role::Delays, name, INPUT_LIMIT)?;
+    let text = text_from(alloc, files, Role::Delays, name)?;
     delays_in(alloc, net, text.as_slice())
 }
 
@@ -58,10 +57,7 @@ fn netlist_of(alloc: Global, net: &[u8]) -> Result<Netlist, Ending>
 {
     match read_bench(alloc, net) {
         Ok(netlist) => Ok(netlist),
-        Err(fault) => match reason_of(fault) {
-            Some(reason) => Err(Ending::Refused(Refusal::Netlist(reason))),
-            None => Err(Ending::NoMemory),
-        },
+        Err(fault) => Err(netlist_ending(fault)),
     }
 }
 
@@ -74,9 +70,6 @@ fn delays_in(alloc: Global, net: &Netlist, delays: &[u8]) -> Result<Delays, Endi
 {
     match read_delays(alloc, net, delays) {
         Ok(kept) => Ok(kept),
-        Err(fault) => match delays_reason_of(fault) {
-            Some(reason) => Err(Ending::Refused(Refusal::Delays(reason))),
-            None => Err(Ending::NoMemory),
-        },
+        Err(fault) => Err(delays_ending(fault)),
     }
 }

@@ -1,9 +1,10 @@
 // How much text a call may lead to: two products (specs/Sizes.antt), and the limit of each.
 ghost use Rattle.std.specs.Prelude.{◌≡◌, ◌≤◌, OnOk, IfErr};
 ghost use Rattle.pd_base.specs.declared.limits.TheConstants.{MOST_PATHS};
+ghost use Rattle.commands.specs.InputRefusals.{long_path_text, long_test_text};
 ghost use Rattle.commands.specs.Sizes.{HasLongTexts, HasShortTexts, path_text_product, test_text_product};
 
-use calls::{Ending, Refusal};
+use calls::{Cause, Ending, Part, Refusal};
 use netlist::Netlist;
 
 /// The most that the product for the texts of the paths may be.
@@ -33,12 +34,40 @@ pub(crate) fn require_short_texts(net: &Netlist, paths: u32) -> Result<(), Endin
 {
     let sizes = sizes_of(net, paths);
     if sizes.path_text > MOST_PATH_TEXT {
-        return Err(Ending::Refused(Refusal::PathText(sizes.path_text)));
+        return Err(Ending::Refused(long_path_text(sizes.path_text)));
     }
     if sizes.test_text > MOST_TEST_TEXT {
-        return Err(Ending::Refused(Refusal::TestText(sizes.test_text)));
+        return Err(Ending::Refused(long_test_text(sizes.test_text)));
     }
     Ok(())
+}
+
+// The refusal of texts of the paths that may be too long, by the product that bounds them.
+fn long_path_text(product: u64) -> Refusal
+    ensures { result ≡ long_path_text product }
+{
+    Refusal::new(
+        Cause::Size,
+        &[
+            Part::Words(b"size: "),
+            Part::Words(b"path text "),
+            Part::Number(product),
+        ],
+    )
+}
+
+// That of texts of the tests.
+fn long_test_text(product: u64) -> Refusal
+    ensures { result ≡ long_test_text product }
+{
+    Refusal::new(
+        Cause::Size,
+        &[
+            Part::Words(b"size: "),
+            Part::Words(b"test text "),
+            Part::Number(product),
+        ],
+    )
 }
 
 // The products for so many paths of a netlist.

@@ -6,15 +6,15 @@ ghost use Rattle.delay_annotation.specs.Annotation.{Fits, delays_of};
 ghost use Rattle.command_line.specs.Commands.{replay_call_of};
 ghost use Rattle.command_line.specs.Words.{HasReplayNumbers};
 ghost use Rattle.calls.specs.Preparing.{Prepares};
-ghost use Rattle.commands.specs.InputJudging.{GivesNet};
-ghost use Rattle.commands.specs.Replay.{printed_text, replay_work};
+ghost use Rattle.commands.specs.Inside.InputJudging.{GivesNet};
+ghost use Rattle.commands.specs.Replay.{changes_too_often, printed_text, replay_work};
 ghost use Rattle.commands.specs.ReplayText.{replay_text};
-ghost use Rattle.commands.specs.ReplayEndings.{EndsForFault, FailsReplay, NamesLine};
+ghost use Rattle.commands.specs.Inside.ReplayEndings.{EndsForFault, FailsReplay, NamesLine};
 ghost use Rattle.commands.specs.TestChanges.{HaveFewChanges};
 
 use crate::inputs::{delays_from, netlist_from, tests_from};
 use crate::replay::text::{ReplayTextFault, replay_text};
-use calls::{ClaimsReader, Ending, Refusal};
+use calls::{Cause, Ending, Part, Refusal};
 use command_line::ReplayCommand;
 use delay_annotation::Delays;
 use netlist::Netlist;
@@ -49,7 +49,7 @@ fn prepare_behind_net<F: Files>(
         → Prepares printed_text (replay_work (replay_call_of command.now)) result begun (files_seen F.Files files.new) }
 {
     let delays = delays_from(alloc, files, net, command.delays)?;
-    let tests = tests_from(alloc, files, ClaimsReader::Replay, net, command.tests)?;
+    let tests = tests_from(alloc, files, b"replay", net, command.tests)?;
     text_at(alloc, net, &delays, tests.as_slice(), command.time as i64)
 }
 
@@ -81,11 +81,26 @@ fn ending_for(alloc: Global, net: &Netlist, fault: ReplayTextFault) -> Ending
 {
     match fault {
         ReplayTextFault::TooManyChanges(number, line) => match copied(alloc, net.name(line)) {
-            Ok(name) => Ending::Refused(Refusal::TooManyChanges(number, name)),
+            Ok(name) => Ending::Refused(changes_too_often(number, name)),
             Err(OutOfMemory) => Ending::NoMemory,
         },
         ReplayTextFault::NoMemory => Ending::NoMemory,
     }
+}
+
+// The refusal of a test of this number, under whose pair the line of this name changes too often.
+fn changes_too_often(number: u32, name: Items<u8>) -> Refusal
+    ensures { result ≡ changes_too_often number name }
+{
+    Refusal::naming(
+        Cause::Size,
+        &[
+            Part::Words(b"size: test "),
+            Part::Number(u64::from(number)),
+            Part::Words(b" line "),
+        ],
+        name,
+    )
 }
 
 // A copy of a name.

@@ -1,5 +1,6 @@
 -- The first steps of a path make a prefix.
 use Rattle.std.proofs.Common.{◌≡◌, take, sym, ap, subst, ◌∙◌}
+use Rattle.pd_base.specs.Links.{links_of}
 use Rattle.pd_base.specs.Route.{Route}
 use Rattle.netlist.specs.Paths.{IsPrefix, end_of, prefix_of}
 use Rattle.implication.specs.Standing.{IsToldBy}
@@ -8,7 +9,7 @@ use Rattle.claim_check.proofs.PathsTold.{prefix_told}
 use Rattle.claim_check.proofs.proving.refutes_prefix.Goals as goal
 
 pub check_tree-requires-clause-prefix : goal.check_tree-requires-clause-prefix
-check_tree-requires-clause-prefix c =
+check_tree-requires-clause-prefix g c =
     let net = c.args.judge.now.net in
     let path = c.args.path.now in
     let steps = c.args.proof.now.steps in
@@ -22,7 +23,7 @@ check_tree-requires-clause-prefix c =
     subst (IsPrefix net) (sym same) (prefix_is_prefix net (prefix_of steps path) path (prefix_of-is_prefix steps path) c.requires.path.is_path.prefix)
 
 pub check_tree-requires-clause-told : goal.check_tree-requires-clause-told
-check_tree-requires-clause-told c =
+check_tree-requires-clause-told g c =
     let made = c.args.judge.now in
     let path = c.args.path.now in
     let steps = c.args.proof.now.steps in
@@ -32,5 +33,5 @@ check_tree-requires-clause-told c =
     let parts : own ≡ prefix_of steps path =
     λ i. record { source = source i; steps = taken i } in
     let same : c.in_ok-prefix.prefix ≡ prefix_of steps path = c.in_ok-prefix.ensures ∙ parts in
-    let P : Route → Type 0 = λ route. IsToldBy made.net made.ends (end_of made.net route) in
-    subst P (sym same) (prefix_told made.net made.ends path steps c.requires.path)
+    let P : Route → Type 0 = λ route. IsToldBy made.net (links_of made.rules) made.ends (end_of made.net route) in
+    subst P (sym same) (prefix_told made.net (links_of made.rules) made.ends path steps c.requires.path)

@@ -2,6 +2,7 @@
 use Rattle.std.proofs.Common.{◌≡◌, List, length, refl, sym, ap, ◌∙◌, subst, subst₂, All, arith}
 use Rattle.std.specs.Prelude.{slice_get, None, Some}
 use Rattle.std.proofs.lemmas.Option.{MatchOption-at_none, MatchOption-at_some, slice_get_read}
+use Rattle.pd_base.specs.Links.{links_of}
 use Rattle.pd_base.specs.Route.{Route}
 use Rattle.pd_base.specs.declared.rules.Rules.{Rules}
 use Rattle.runs.specs.declared.run.Proof.{Proof}
@@ -16,15 +17,15 @@ use Rattle.claim_check.proofs.Telling.{first_at, proofs_only, right_more}
 use Rattle.claim_check.proofs.proving.wrong_by.Goals as goal
 
 pub loop-place-init : goal.loop-place-init
-loop-place-init c = record { same = refl; right = no_proofs_yet c.args.judge.now.net c.args.budget c.args.run.now }
+loop-place-init g c = record { same = refl; right = no_proofs_yet c.args.judge.now.net c.args.budget c.args.run.now }
 
 pub wrong_in-requires-clause-paths : goal.wrong_in-requires-clause-paths
-wrong_in-requires-clause-paths c =
-    let P : MadeFor → Type 0 = λ made. All (IsPathTold made.net made.ends) c.args.paths.now in
+wrong_in-requires-clause-paths g c =
+    let P : MadeFor → Type 0 = λ made. All (IsPathTold made.net (links_of made.rules) made.ends) c.args.paths.now in
     subst P (sym c.loop-place.invariant.same) c.requires.paths
 
 pub returns-in-Some : goal.returns-in-Some
-returns-in-Some c =
+returns-in-Some g c =
     let net = c.args.judge.now.net in
     let run = c.args.run.now in
     let list = c.as_slice-proofs.result.now in
@@ -43,7 +44,7 @@ returns-in-Some c =
     (subst₂ P c.requires.rules c.requires.routes (subst M c.loop-place.invariant.same wrong)))
 
 pub loop-place-preserved : goal.loop-place-preserved
-loop-place-preserved c =
+loop-place-preserved g c =
     let net = c.args.judge.now.net in
     let run = c.args.run.now in
     let list = c.as_slice-proofs.result.now in
@@ -64,7 +65,7 @@ loop-place-preserved c =
     }
 
 pub returns : goal.returns
-returns c = λ item reason proof is.
+returns g c = λ item reason proof is.
     let few = number_within c.args.run.now.proofs item proof is in
     let long = ap length c.as_slice-proofs.ensures in
     c.loop-place.invariant.right item reason (omega arith) proof is

@@ -6,7 +6,7 @@ use Rattle.claim_check.proofs.ProofFlaws.{judged_refutation, judged_spent}
 use Rattle.claim_check.proofs.proving.wrong_in.Goals as goal
 
 pub returns-then-proof-clause-tells : goal.returns-then-proof-clause-tells
-returns-then-proof-clause-tells c =
+returns-then-proof-clause-tells g c =
     let net = c.args.judge.now.net in
     let rules = c.args.judge.now.rules in
     let routes = c.args.paths.now in
@@ -15,7 +15,7 @@ returns-then-proof-clause-tells c =
     (judged_spent net rules c.args.budget routes proof c.if-proof.true c.in_ok-good.good c.in_ok-good.ensures.good)
 
 pub returns-clause-tells : goal.returns-clause-tells
-returns-clause-tells c =
+returns-clause-tells g c =
     let net = c.args.judge.now.net in
     let rules = c.args.judge.now.rules in
     let routes = c.args.paths.now in

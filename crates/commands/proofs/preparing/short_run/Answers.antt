@@ -1,7 +1,7 @@
 -- The texts may be too long, memory ran out, or the run was made.
 use Rattle.std.proofs.Common.{refl}
 use Rattle.std.proofs.lemmas.Result.{err_from_is_err_and}
-use Rattle.commands.specs.Judging as found
+use Rattle.commands.specs.Inside.Judging as found
 use Rattle.commands.proofs.preparing.short_run.Goals as goal
 
 pub returns-in_err-require_short_texts-clause-fails : goal.returns-in_err-require_short_texts-clause-fails

@@ -4,6 +4,7 @@ use Rattle.std.proofs.Common.{ℕ, ◌<◌, List, length, map, ap, ap₂, sym, s
 use Rattle.pd_base.specs.declared.ids.LineId.{LineId}
 use Rattle.netlist.specs.Circuit.{kind_at}
 use Rattle.state_sets.specs.States.{Has}
+use Rattle.state_sets.specs.FourStates.{four_states}
 use Rattle.state_sets.specs.LineStates.{state_under}
 use Rattle.five_valued.specs.declared.five.Five.{Five}
 use Rattle.five_valued.specs.declared.five.Five.TheVariants.{XX}
@@ -45,7 +46,7 @@ returns c =
     record {
       exactly = exactly;
       completions = λ pair sources line within.
-          subst (λ v. Has 4 (states_of v) (state_under net pair line)) (sym (exactly line within))
+          subst (λ v. Has 4 (states_of v) (state_under four_states net pair line)) (sym (exactly line within))
           (line_holds net c.sources.ensures.circuit pair partial
           (λ source inside. sources source (omega arith)) line (omega arith));
     }

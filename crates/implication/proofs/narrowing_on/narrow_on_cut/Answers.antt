@@ -36,4 +36,4 @@ returns-clause-narrowed g c =
 pub returns-clause-follows : goal.returns-clause-follows
 returns-clause-follows g c =
     follows_cut g.A.Algebra.algebra.count c.args.net.now c.args.source.0 c.args.set c.args.board.now c.cut.new.self c.settle.new.self
-    c.cut.ensures.cut c.settle.ensures.follows
+    c.cut.ensures.cut c.settle.ensures.narrowed.follows

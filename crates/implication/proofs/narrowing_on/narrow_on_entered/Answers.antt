@@ -12,7 +12,7 @@ settle-requires-clause-ready g c =
 
 pub returns-clause-settled : goal.returns-clause-settled
 returns-clause-settled g c =
-    let P : OnBoard → Type 0 = λ b. IsSettledFrom g.A.Algebra.algebra c.args.net.now b.inside c.enter.new.self.kind c.enter.new.self.steps
+    let P : OnBoard → Type 0 = λ b. IsSettledFrom g.A.Algebra.algebra c.args.net.now b.inside b.links c.enter.new.self.kind c.enter.new.self.steps
     b.labels c.settle.new.self.labels c.settle.result in
     subst P c.ask.ensures.labels (record {
       hull = c.settle.ensures.hull;
@@ -23,5 +23,5 @@ returns-clause-settled g c =
 pub returns-clause-follows : goal.returns-clause-follows
 returns-clause-follows g c =
     let P : OnBoard → Type 0 = λ b. Follows b c.settle.new.self in
-    let follows = subst P c.ask.ensures.labels c.settle.ensures.follows in
+    let follows = subst P c.ask.ensures.labels c.settle.ensures.narrowed.follows in
     record { more = follows.more; notes = follows.notes; back = follows.back }

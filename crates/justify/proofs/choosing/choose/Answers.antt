@@ -10,7 +10,7 @@ use Rattle.implication.specs.Scopes.{standing}
 use Rattle.justify.specs.Choices.{IsSingleAt}
 use Rattle.justify.specs.Tasks.{task_target}
 use Rattle.justify.proofs.SplitChoices.{useful_at}
-use Rattle.justify.proofs.TriedSources.{read_in_support}
+use Rattle.justify.proofs.TriedSources.{read_in_support, support_in_cone}
 use Rattle.justify.proofs.Visits.{from_none}
 use Rattle.justify.proofs.choosing.choose.Goals as goal
 
@@ -27,28 +27,29 @@ returns-then-is_some-2-clause-none g c = where_some _ c.split_at-split.result (s
 
 pub split_at-split-requires-clause-source : goal.split_at-split-requires-clause-source
 split_at-split-requires-clause-source g c =
-    (read_in_support (standing c.args.scope.now).net c.args.task.now.path.now c.args.desk.now.cone.sources c.sources-sources.result.now
-    c.requires.desk.cone.sources c.sources-sources.ensures c.loop-source.source-index _ c.loop-source-test.true).is_source
+    read_in_support g.A.Algebra.algebra (standing c.args.scope.now).net (standing c.args.scope.now).rules c.args.task.now.path.now
+    c.args.desk.now c.requires.desk c.sources-sources.result.now c.sources-sources.ensures c.loop-source.source-index _ c.loop-source-test.true
 
 pub returns-then-is_some-2-clause-some : goal.returns-then-is_some-2-clause-some
 returns-then-is_some-2-clause-some g c =
-    useful_at (task_target c.args.task.now) (standing c.args.scope.now) _
-    (read_in_support (standing c.args.scope.now).net c.args.task.now.path.now c.args.desk.now.cone.sources c.sources-sources.result.now
-    c.requires.desk.cone.sources c.sources-sources.ensures c.loop-source.source-index _ c.loop-source-test.true)
+    useful_at g.A.Algebra.algebra (task_target c.args.task.now) (standing c.args.scope.now) _
+    (read_in_support g.A.Algebra.algebra (standing c.args.scope.now).net (standing c.args.scope.now).rules c.args.task.now.path.now
+    c.args.desk.now c.requires.desk c.sources-sources.result.now c.sources-sources.ensures c.loop-source.source-index _ c.loop-source-test.true)
     c.split_at-split.result c.split_at-split.ensures.some
 
 pub loop-source-preserved : goal.loop-source-preserved
 loop-source-preserved g c =
-    All-more (λ source. IsSingleAt (standing c.args.scope.now) source.0) c.sources-sources.result.now c.loop-source.source-index _
+    All-more (λ source. IsSingleAt g.A.Algebra.algebra (standing c.args.scope.now) source.0) c.sources-sources.result.now c.loop-source.source-index _
     c.loop-source-test.true c.loop-source.invariant
     (from_none c.split_at-split.result (sym c.is_some-in-loop-source.ensures ∙ c.if-is_some-2.false) c.split_at-split.ensures.none)
 
 pub returns-clause-none : goal.returns-clause-none
 returns-clause-none g c = λ source support.
-    let Single : LineId → Type 0 = λ l. IsSingleAt (standing c.args.scope.now) l.0 in
+    let Single : LineId → Type 0 = λ l. IsSingleAt g.A.Algebra.algebra (standing c.args.scope.now) l.0 in
     let P : List LineId → Type 0 = λ xs. All Single xs in
     let all =
     subst P (take_all c.loop-source.source-index c.sources-sources.result.now c.loop-source-test.false ∙ c.sources-sources.ensures)
     c.loop-source.invariant in
     All-contains Single c.args.desk.now.cone.sources (record { 0 = source }) all
-    ((c.requires.desk.cone.sources.exactly source).1 (support.is_source, support.in_fan_in))
+    (support_in_cone (standing c.args.scope.now).net (standing c.args.scope.now).rules c.args.task.now.path.now c.args.desk.now.cone
+    c.requires.desk.made.links c.requires.desk.cone source support)

@@ -6,4 +6,4 @@ use Rattle.justify.specs.Choices.{IsSingleAt}
 use Rattle.justify.proofs.choosing.choose.Given as goal
 
 abbrev pub invariant-loop-source : goal.invariant-loop-source
-invariant-loop-source g l = All (λ source. IsSingleAt (standing l.scope) source.0) (take l.source-index l.sources)
+invariant-loop-source g l = All (λ source. IsSingleAt g.A.Algebra.algebra (standing l.scope) source.0) (take l.source-index l.sources)

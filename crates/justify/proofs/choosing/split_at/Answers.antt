@@ -1,16 +1,16 @@
 -- What the label tells of the source holds in all labels of the node: each half has a state, or there are less than two.
 use Rattle.std.proofs.Common.{Option, Some, None, refl, subst, arith}
 use Rattle.std.specs.Prelude.{IfNone}
-use Rattle.std.proofs.lemmas.Grind.{common_steps}
 use Rattle.state_sets.specs.declared.state.StateSet.{StateSet}
-use Rattle.tree_laws.specs.Spent.{HasInHalf}
+use Rattle.trees.specs.Spent.{HasInHalf}
 use Rattle.implication.specs.Scopes.{standing}
-use Rattle.tree_laws.specs.NodeScopes.{beginning_of}
+use Rattle.implication.specs.NodeScopes.{beginning_of}
 use Rattle.justify.specs.Choices.{IsSingleAt}
 use Rattle.justify.specs.Tasks.{task_target}
 use Rattle.justify.specs.Trying.{IsSingle}
 use Rattle.justify.proofs.HalfStates.{in_both}
 use Rattle.justify.proofs.Resting.{label_is}
+use Rattle.justify.proofs.Suiting.{support_told, label_of_sources}
 use Rattle.justify.proofs.choosing.split_at.Goals as goal
 
 -- what holds anyway holds where there is no value
@@ -22,22 +22,26 @@ pub returns-clause-some : goal.returns-clause-some
 returns-clause-some g c = record {
   at_source = refl;
   in_half = λ labels is second.
-      let P : StateSet → Type 0 = λ set. HasInHalf set c.in_ok-steadiness.steadiness second in
-      subst P (label_is (standing c.args.scope.now) (beginning_of (task_target c.args.task.now)) c.requires.node.beginning c.args.source.0
-      c.label.result c.requires.source (c.label.ensures.told c.requires.node.free) labels is)
-      (in_both c.label.result c.in_ok-steadiness.steadiness c.in_ok-steadiness.ensures.some second);
+      let P : StateSet → Type 0 = λ set. HasInHalf g.A.Algebra.algebra set c.in_ok-steadiness.steadiness second in
+      subst P (label_is g.A.Algebra.algebra (standing c.args.scope.now) (beginning_of (task_target c.args.task.now)) c.requires.node.beginning
+      c.args.source.0 c.label.result (support_told g.A.Algebra.algebra (task_target c.args.task.now) (standing c.args.scope.now)
+      c.requires.suits c.args.source.0 c.requires.source) (c.label.ensures.told c.requires.node.free) labels is)
+      (in_both g.A.Algebra.algebra c.label.result c.in_ok-steadiness.steadiness c.in_ok-steadiness.ensures.some second);
 }
 
-pub way_to_split-requires : goal.way_to_split-requires
-way_to_split-requires g c = grind (arith, common_steps)
+pub way_to_split-requires-clause-sources : goal.way_to_split-requires-clause-sources
+way_to_split-requires-clause-sources g c =
+    label_of_sources g.A.Algebra.algebra (task_target c.args.task.now) (standing c.args.scope.now) c.requires.suits c.requires.node
+    c.args.source.0 c.requires.source c.label.result (c.label.ensures.told c.requires.node.free)
 
 pub label-requires : goal.label-requires
-label-requires g c = let within = c.requires.source in omega (arith, within)
+label-requires g c = let within = c.requires.source.is_source in omega (arith, within)
 
 pub returns-in_err-steadiness-clause-none : goal.returns-in_err-steadiness-clause-none
 returns-in_err-steadiness-clause-none g c =
-    if_none (IsSingleAt (standing c.args.scope.now) c.args.source.0) c.from_residual.result (λ labels is.
-    subst IsSingle
-    (label_is (standing c.args.scope.now) (beginning_of (task_target c.args.task.now)) c.requires.node.beginning c.args.source.0
-    c.label.result c.requires.source (c.label.ensures.told c.requires.node.free) labels is)
+    if_none (IsSingleAt g.A.Algebra.algebra (standing c.args.scope.now) c.args.source.0) c.from_residual.result (λ labels is.
+    subst (IsSingle g.A.Algebra.algebra.count)
+    (label_is g.A.Algebra.algebra (standing c.args.scope.now) (beginning_of (task_target c.args.task.now)) c.requires.node.beginning
+    c.args.source.0 c.label.result (support_told g.A.Algebra.algebra (task_target c.args.task.now) (standing c.args.scope.now)
+    c.requires.suits c.args.source.0 c.requires.source) (c.label.ensures.told c.requires.node.free) labels is)
     c.in_err-steadiness.ensures.none)

@@ -1,7 +1,7 @@
 -- No node so far waits.
 use Rattle.std.proofs.Common.{◌≢◌, take}
 use Rattle.std.specs.List.{All}
-use Rattle.runs.specs.declared.tree.Node.TheVariants.{Waiting}
+use Rattle.trees.specs.declared.tree.Node.TheVariants.{Waiting}
 use Rattle.justify.proofs.ending.has_waiting.Given as goal
 
 abbrev pub invariant-loop-node : goal.invariant-loop-node

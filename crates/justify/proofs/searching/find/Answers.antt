@@ -4,10 +4,10 @@ use Rattle.std.specs.Prelude.{is_some}
 use Rattle.std.proofs.lemmas.Grind.{common_steps}
 use Rattle.netlist.specs.Circuit.{Circuit, line_count}
 use Rattle.implication.specs.Scopes.{standing}
-use Rattle.test_judging.specs.KeptCones.{IsConeFor}
+use Rattle.pair_judging.specs.KeptCones.{IsConeFor}
 use Rattle.justify.specs.Tasks.{task_target}
 use Rattle.justify.proofs.Orders.{at_least}
-use Rattle.justify.proofs.Starting.{start_under_way, start_desk}
+use Rattle.justify.proofs.Starting.{start_under_way, start_desk, start_suits}
 use Rattle.justify.proofs.searching.find.Goals as goal
 
 pub set_end-requires-clause-made : goal.set_end-requires-clause-made
@@ -21,8 +21,15 @@ set_end-requires-clause-end g c =
 
 pub propose-requires-clause-desk : goal.propose-requires-clause-desk
 propose-requires-clause-desk g c =
-    start_desk (task_target c.args.task.now) (standing c.args.scope.now) c.requires.start c.requires.prefix c.args.desk.now c.set_end.new.self
-    c.net.result.now c.last_line.result.0 c.net.ensures c.last_line.ensures.end c.requires.desk c.set_end.ensures.made c.set_end.ensures.cone
+    start_desk (task_target c.args.task.now) (standing c.args.scope.now) c.requires.start c.requires.prefix g.A.Algebra.algebra
+    c.args.desk.now c.set_end.new.self c.net.result.now c.last_line.result.0 c.net.ensures c.last_line.ensures.end c.requires.desk
+    c.set_end.ensures.made c.set_end.ensures.links c.set_end.ensures.cone
+
+pub split_cases-requires-clause-suits : goal.split_cases-requires-clause-suits
+split_cases-requires-clause-suits g c =
+    start_suits (task_target c.args.task.now) (standing c.args.scope.now) c.requires.start c.requires.prefix g.A.Algebra.algebra
+    c.args.desk.now c.last_line.result.0 c.last_line.ensures.end (c.last_line.ensures.told (ap is_some c.requires.start.beginning))
+    c.requires.desk
 
 pub returns-in-Some-clause-goes_on : goal.returns-in-Some-clause-goes_on
 returns-in-Some-clause-goes_on g c = record {

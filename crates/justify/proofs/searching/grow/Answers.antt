@@ -7,26 +7,27 @@ use Rattle.justify.proofs.Ended.{counted_more}
 use Rattle.justify.proofs.Orders.{no_less}
 use Rattle.std.proofs.lemmas.Grind.{common_steps}
 use Rattle.justify.proofs.GoingOn.{goes_further, grown_some, visit_none, searching_on}
-use Rattle.tree_laws.proofs.Settings.{same_twice}
+use Rattle.implication.proofs.Settings.{same_twice}
 use Rattle.justify.proofs.searching.grow.Goals as goal
 
 pub returns-in_err-test-clause-goes_on : goal.returns-in_err-test-clause-goes_on
 returns-in_err-test-clause-goes_on g c =
     let inv = c.loop-place.invariant in
-    goes_further c.args.task.now (standing c.args.scope.now) (standing c.loop-place.scope) (standing c.visit.new.scope) c.visit.new.desk
+    goes_further g.A.Algebra.algebra c.args.task.now (standing c.args.scope.now) (standing c.loop-place.scope) (standing c.visit.new.scope) c.visit.new.desk
     inv.setting inv.later c.visit.ensures.goes_on
 
 pub returns-in-Some-test-clause-goes_on : goal.returns-in-Some-test-clause-goes_on
 returns-in-Some-test-clause-goes_on g c =
     let inv = c.loop-place.invariant in
-    goes_further c.args.task.now (standing c.args.scope.now) (standing c.loop-place.scope) (standing c.visit.new.scope) c.visit.new.desk
+    goes_further g.A.Algebra.algebra c.args.task.now (standing c.args.scope.now) (standing c.loop-place.scope) (standing c.visit.new.scope) c.visit.new.desk
     inv.setting inv.later c.visit.ensures.goes_on
 
 pub returns-in-Some-test-clause-answer : goal.returns-in-Some-test-clause-answer
 returns-in-Some-test-clause-answer g c =
-    grown_some c.args.task.now (standing c.args.scope.now) (standing c.loop-place.scope) (standing c.visit.new.scope) _
+    grown_some g.A.Algebra.algebra c.args.task.now (standing c.args.scope.now) (standing c.loop-place.scope) (standing c.visit.new.scope) _
     c.visit.new.growth c.visit.new.growth
-    c.in_ok-test.test c.in-Some-test.pair c.in-Some-test.is c.loop-place.invariant.setting.net c.in_ok-test.ensures.answer
+    c.in_ok-test.test c.in-Some-test.pair c.in-Some-test.is c.loop-place.invariant.setting.net c.loop-place.invariant.setting.rules
+    c.in_ok-test.ensures.answer
 
 pub loop-place-preserved : goal.loop-place-preserved
 loop-place-preserved g c =
@@ -34,13 +35,13 @@ loop-place-preserved g c =
     let first = standing c.args.scope.now in let middle = standing c.loop-place.scope in let last = standing c.visit.new.scope in
     let inv = c.loop-place.invariant in
     let goes = c.visit.ensures.goes_on in
-    let adds = visit_none task middle last _ c.visit.new.growth c.in_ok-test.test c.in_default-test.is c.in_ok-test.ensures.answer in
+    let adds = visit_none g.A.Algebra.algebra task middle last _ c.visit.new.growth c.in_ok-test.test c.in_default-test.is c.in_ok-test.ensures.answer in
     let P : ℕ → Type 0 = λ n. HasCounted n first last in
     record {
       scope = same_scope_twice inv.scope c.visit.ensures.scope;
       setting = same_twice first middle last inv.setting goes.setting;
       later = no_less first.closings middle.closings last.closings inv.later goes.later;
-      searching = searching_on task middle last c.loop-place.desk c.visit.new.desk _ _ _ c.visit.new.growth inv.searching goes adds;
+      searching = searching_on g.A.Algebra.algebra task middle last c.loop-place.desk c.visit.new.desk _ _ _ c.visit.new.growth inv.searching goes adds;
       counted =
           subst P (sym adds.one_more) (counted_more (length c.loop-place.growth.nodes.items) first middle last inv.counted adds.counted);
     }

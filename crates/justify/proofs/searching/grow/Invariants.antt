@@ -3,7 +3,7 @@ use Rattle.std.proofs.Common.{◌+◌, ◌-◌, ◌*◌, ◌≤◌, length, reve
 use Rattle.implication.specs.Scopes.{IsSameScope, standing}
 use Rattle.justify.specs.Answers.{HasCounted}
 use Rattle.justify.specs.Searches.{IsSearching}
-use Rattle.tree_laws.specs.Settings.{IsSameSetting}
+use Rattle.implication.specs.Settings.{IsSameSetting}
 use Rattle.justify.proofs.searching.grow.Given as goal
 
 abbrev pub invariant-loop-place : goal.invariant-loop-place
@@ -11,7 +11,7 @@ invariant-loop-place g l = record {
   scope : IsSameScope l.initial.scope l.scope;
   setting : IsSameSetting (standing l.initial.scope) (standing l.scope);
   later : (standing l.initial.scope).closings ≤ (standing l.scope).closings;
-  searching : IsSearching l.task (standing l.scope) l.desk (reverse l.growth.places.items) l.growth;
+  searching : IsSearching g.A.Algebra.algebra l.task (standing l.scope) l.desk (reverse l.growth.places.items) l.growth;
   counted : HasCounted (length l.growth.nodes.items) (standing l.initial.scope) (standing l.scope);
 }
 

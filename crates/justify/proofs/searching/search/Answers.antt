@@ -1,9 +1,12 @@
--- The desk is made for the scope's netlist.
-use Rattle.std.proofs.Common.{subst}
+-- The desk is made for the scope's netlist and rules, which have no links, and four states.
 use Rattle.netlist.specs.Circuit.{Circuit}
+use Rattle.pd_base.specs.declared.rules.Rules.{Rules}
+use Rattle.state_sets.specs.FourStates.{four_states}
+use Rattle.implication.proofs.ScopeLabels.{there_too}
 use Rattle.justify.specs.Desks.{IsDeskFor}
 use Rattle.justify.proofs.searching.search.Goals as goal
 
 pub search_at-requires-clause-desk : goal.search_at-requires-clause-desk
 search_at-requires-clause-desk g c =
-    let P : Circuit → Type 0 = λ n. IsDeskFor n c.in_ok-desk.desk in subst P c.net.ensures c.in_ok-desk.ensures
+    let P : Circuit → Rules → Type 0 = λ n r. IsDeskFor four_states n r c.in_ok-desk.desk in
+    there_too P _ _ _ _ c.net.ensures c.rules.ensures c.in_ok-desk.ensures

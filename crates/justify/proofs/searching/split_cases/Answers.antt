@@ -21,12 +21,12 @@ returns-in_err-growth-clause-goes_on g c = record {
 
 pub grow-grown-requires-clause-searching : goal.grow-grown-requires-clause-searching
 grow-grown-requires-clause-searching g c =
-    let P : LineId → List Place = λ source. root_place c.mark.result source ∷ [] in
+    let P : LineId → List Place = λ source. root_place g.A.Algebra.algebra.count c.mark.result source ∷ [] in
     record {
-      prefix = c.requires.prefix;
+      suits = c.requires.suits;
       under_way = start_under_way (task_target c.args.task.now) (standing c.args.scope.now) c.requires.start;
       serves = c.requires.desk;
-      growing = start_growing (task_target c.args.task.now) (standing c.args.scope.now) c.requires.start c.requires.prefix c.requires.left_open
+      growing = start_growing (task_target c.args.task.now) (standing c.args.scope.now) c.requires.start c.requires.suits.prefix g.A.Algebra.algebra c.requires.left_open
           c.args.task.now.budget c.mark.result c.mark.ensures c.in_ok-growth.growth c.in_ok-growth.ensures.nodes
           (c.in_ok-growth.ensures.places ∙ ap P c.source.ensures) c.in_ok-growth.ensures.splits;
     }
@@ -36,12 +36,12 @@ grow-grown-requires-clause-origin g c = grind (arith, common_steps)
 
 pub answer-requires-clause-whole : goal.answer-requires-clause-whole
 answer-requires-clause-whole g c =
-    grown_whole c.args.task.now (standing c.args.scope.now) (standing c.grow-grown.new.scope) c.grow-grown.new.growth c.grow-grown.result
+    grown_whole g.A.Algebra.algebra c.args.task.now (standing c.args.scope.now) (standing c.grow-grown.new.scope) c.grow-grown.new.growth c.grow-grown.result
     c.grow-grown.ensures.answer
 
 pub answer-requires-clause-few : goal.answer-requires-clause-few
 answer-requires-clause-few g c =
-    grown_few c.args.task.now (standing c.args.scope.now) (standing c.grow-grown.new.scope) c.grow-grown.new.growth c.requires.budget
+    grown_few g.A.Algebra.algebra c.args.task.now (standing c.args.scope.now) (standing c.grow-grown.new.scope) c.grow-grown.new.growth c.requires.budget
     c.grow-grown.result c.grow-grown.ensures.answer
 
 pub returns-clause-goes_on : goal.returns-clause-goes_on
@@ -49,11 +49,11 @@ returns-clause-goes_on g c = c.grow-grown.ensures.goes_on
 
 pub returns-clause-found : goal.returns-clause-found
 returns-clause-found g c =
-    answer_found c.args.task.now (standing c.args.scope.now) (standing c.grow-grown.new.scope) c.grow-grown.new.growth
+    answer_found g.A.Algebra.algebra c.args.task.now (standing c.args.scope.now) (standing c.grow-grown.new.scope) c.grow-grown.new.growth
     c.grow-grown.ensures.goes_on.setting.net c.grow-grown.ensures.goes_on.setting.rules
     c.grow-grown.result c.answer.result c.grow-grown.ensures.answer c.answer.ensures
 
 pub returns-clause-counted : goal.returns-clause-counted
 returns-clause-counted g c =
-    answer_counts c.args.task.now (standing c.args.scope.now) (standing c.grow-grown.new.scope) c.grow-grown.new.growth
+    answer_counts g.A.Algebra.algebra c.args.task.now (standing c.args.scope.now) (standing c.grow-grown.new.scope) c.grow-grown.new.growth
     c.grow-grown.result c.answer.result c.grow-grown.ensures.answer c.answer.ensures

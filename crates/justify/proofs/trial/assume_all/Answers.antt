@@ -8,11 +8,12 @@ use Rattle.implication.specs.Scopes.{standing}
 use Rattle.implication.specs.Standing.{IsFree}
 use Rattle.implication.proofs.Restoring.{extends_itself, extends_trans, same_scope_twice}
 use Rattle.justify.specs.Tasks.{task_target}
-use Rattle.tree_laws.specs.NodeScopes.{beginning_of}
+use Rattle.implication.specs.NodeScopes.{beginning_of}
 use Rattle.justify.specs.Trying.{IsHeldIn}
 use Rattle.justify.proofs.Assumed.{grown_list, grown_conflict, closed_list, closed_count}
-use Rattle.tree_laws.proofs.ScopeLabels.{closes_there}
+use Rattle.implication.proofs.ScopeLabels.{closes_there}
 use Rattle.justify.proofs.Resting.{counted_later}
+use Rattle.justify.proofs.Suiting.{support_told, told_after}
 use Rattle.justify.proofs.Trials.{within_itself, within_more, held_here, held_before}
 use Rattle.justify.proofs.trial.assume_all.Goals as goal
 
@@ -23,9 +24,9 @@ returns-in-Err-clause-trial g c =
       begun = ap is_some (c.loop-entry.invariant.extends.beginning ∙ c.requires.node.beginning);
       free = c.loop-entry.invariant.held.free;
     } in
-    within_more (task_target c.args.task.now) first c.requires.node now (standing c.assume.new.self) _
+    within_more g.A.Algebra.algebra (task_target c.args.task.now) first c.requires.node now (standing c.assume.new.self) _
     (c.requires.tried c.loop-entry.entry-index _ c.loop-entry-test.true) c.only.result c.only.ensures
-    (closed_list now (standing c.assume.new.self) _ c.only.result _ (c.in-Err.ensures.err free)) c.loop-entry.invariant.trial
+    (closed_list g.A.Algebra.algebra.count now (standing c.assume.new.self) _ c.only.result _ (c.in-Err.ensures.err free)) c.loop-entry.invariant.trial
 
 pub returns-in-Err-clause-ends : goal.returns-in-Err-clause-ends
 returns-in-Err-clause-ends g c =
@@ -33,11 +34,11 @@ returns-in-Err-clause-ends g c =
     let before = c.loop-entry.invariant.extends in
     let free : IsFree now = record { begun = ap is_some (before.beginning ∙ c.requires.node.beginning); free = c.loop-entry.invariant.held.free } in
     record {
-      closes = closes_there first new (beginning_of (task_target c.args.task.now)) (c.assume.ensures.extends.net ∙ before.net)
+      closes = closes_there g.A.Algebra.algebra first new (beginning_of (task_target c.args.task.now)) (c.assume.ensures.extends.net ∙ before.net)
           (c.assume.ensures.extends.rules ∙ before.rules) (c.assume.ensures.extends.beginning ∙ before.beginning ∙ c.requires.node.beginning)
           _ c.in-Err.ensures.emptied;
       counted = counted_later first.closings now.closings new.closings before.later
-          (closed_count now new _ c.only.result _ (c.in-Err.ensures.err free));
+          (closed_count g.A.Algebra.algebra.count now new _ c.only.result _ (c.in-Err.ensures.err free));
     }
 
 pub loop-entry-preserved : goal.loop-entry-preserved
@@ -45,24 +46,24 @@ loop-entry-preserved g c =
     let first = standing c.args.scope.now in let now = standing c.loop-entry.scope in let new = standing c.assume.new.self in
     let target = task_target c.args.task.now in
     let before = c.loop-entry.invariant in
-    let more = grown_list now new _ c.only.result c.in-Ok.ensures.ok in
+    let more = grown_list g.A.Algebra.algebra.count now new _ c.only.result c.in-Ok.ensures.ok in
     let is = c.requires.tried c.loop-entry.entry-index _ c.loop-entry-test.true in
     record {
       scope = same_scope_twice before.scope c.assume.ensures.scope;
       extends = extends_trans first now new before.extends c.assume.ensures.extends;
-      trial = within_more target first c.requires.node now new _ is c.only.result c.only.ensures more before.trial;
+      trial = within_more g.A.Algebra.algebra target first c.requires.node now new _ is c.only.result c.only.ensures more before.trial;
       held = record {
-        free = grown_conflict now new _ c.only.result c.in-Ok.ensures.ok ∙ before.held.free;
+        free = grown_conflict g.A.Algebra.algebra.count now new _ c.only.result c.in-Ok.ensures.ok ∙ before.held.free;
         left_open = c.in-Ok.ensures.open;
-        held = All-more (IsHeldIn target first new) c.args.tried.now c.loop-entry.entry-index _ c.loop-entry-test.true
-            (held_before target first c.requires.node now new _ is c.only.result c.only.ensures more (take c.loop-entry.entry-index c.args.tried.now) before.held.held)
-            (held_here target first c.requires.node now new _ is c.only.result c.only.ensures more);
+        held = All-more (IsHeldIn g.A.Algebra.algebra target first new) c.args.tried.now c.loop-entry.entry-index _ c.loop-entry-test.true
+            (held_before g.A.Algebra.algebra target first c.requires.node now new _ is c.only.result c.only.ensures more (take c.loop-entry.entry-index c.args.tried.now) before.held.held)
+            (held_here g.A.Algebra.algebra target first c.requires.node now new _ is c.only.result c.only.ensures more);
       };
     }
 
 pub returns-clause-ends : goal.returns-clause-ends
 returns-clause-ends g c =
-    let P : _ → Type 0 = λ xs. All (IsHeldIn (task_target c.args.task.now) (standing c.args.scope.now) (standing c.loop-entry.scope)) xs in
+    let P : _ → Type 0 = λ xs. All (IsHeldIn g.A.Algebra.algebra (task_target c.args.task.now) (standing c.args.scope.now) (standing c.loop-entry.scope)) xs in
     record {
       free = c.loop-entry.invariant.held.free;
       left_open = c.loop-entry.invariant.held.left_open;
@@ -75,13 +76,21 @@ loop-entry-init g c =
     record {
       scope = record { engine = refl; origin = refl };
       extends = extends_itself first;
-      trial = within_itself (task_target c.args.task.now) first;
+      trial = within_itself g.A.Algebra.algebra (task_target c.args.task.now) first;
       held = record { free = c.requires.node.free; left_open = c.requires.node.left_open; held = λ k d inside. absurd (omega (arith, inside)) };
     }
 
-pub assume-requires : goal.assume-requires
-assume-requires g c =
+pub assume-requires-clause-source : goal.assume-requires-clause-source
+assume-requires-clause-source g c =
     rw c.loop-entry.invariant.extends.net (c.requires.tried c.loop-entry.entry-index _ c.loop-entry-test.true).in_support.is_source
+
+pub assume-requires-clause-told : goal.assume-requires-clause-told
+assume-requires-clause-told g c =
+    let first = standing c.args.scope.now in let now = standing c.loop-entry.scope in
+    let extends = c.loop-entry.invariant.extends in
+    told_after first now (record { net = extends.net; rules = extends.rules; ends = extends.ends }) _
+    (support_told g.A.Algebra.algebra (task_target c.args.task.now) first c.requires.suits _
+    (c.requires.tried c.loop-entry.entry-index _ c.loop-entry-test.true).in_support)
 
 pub returns-in-Err-clause-scope : goal.returns-in-Err-clause-scope
 returns-in-Err-clause-scope g c = same_scope_twice c.loop-entry.invariant.scope c.assume.ensures.scope

@@ -10,6 +10,6 @@ abbrev pub invariant-loop-entry : goal.invariant-loop-entry
 invariant-loop-entry g l = record {
   scope : IsSameScope l.initial.scope l.scope;
   extends : ExtendsStanding (standing l.initial.scope) (standing l.scope);
-  trial : IsWithinTrial (task_target l.task) (standing l.initial.scope) (standing l.scope);
-  held : AreHeld (task_target l.task) (standing l.initial.scope) (standing l.scope) (take l.entry-index l.tried);
+  trial : IsWithinTrial g.A.Algebra.algebra (task_target l.task) (standing l.initial.scope) (standing l.scope);
+  held : AreHeld g.A.Algebra.algebra (task_target l.task) (standing l.initial.scope) (standing l.scope) (take l.entry-index l.tried);
 }

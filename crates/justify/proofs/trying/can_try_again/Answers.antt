@@ -4,6 +4,9 @@ use Rattle.std.proofs.lemmas.Grind.{common_steps}
 use Rattle.std.specs.List.{All}
 use Rattle.std.proofs.lemmas.List.{take_all}
 use Rattle.std.proofs.lemmas.List.Elements.{All-more}
+use Rattle.pd_base.specs.Links.{LinkList}
+use Rattle.netlist.specs.LinkedPairs.{IsSupported}
+use Rattle.netlist.specs.Paths.{end_of}
 use Rattle.implication.specs.Scopes.{standing}
 use Rattle.justify.specs.declared.trial.Tried.{Tried}
 use Rattle.justify.specs.Tasks.{task_target}
@@ -14,14 +17,16 @@ use Rattle.justify.proofs.trying.can_try_again.Goals as goal
 pub loop-entry-preserved : goal.loop-entry-preserved
 loop-entry-preserved g c =
     let target = task_target c.args.task.now in let now = standing c.args.scope.now in
-    All-more (CanTry target now) c.as_slice-tried.result.now c.loop-entry.entry-index _ c.loop-entry-test.true c.loop-entry.invariant
-    (tried_again target now c.marks.result.now _
-    (λ line marked. (c.requires.desk.cone.lines line).0 ((c.marks.ensures.exactly line).0 marked))
+    All-more (CanTry g.A.Algebra.algebra target now) c.as_slice-tried.result.now c.loop-entry.entry-index _ c.loop-entry-test.true c.loop-entry.invariant
+    (tried_again g.A.Algebra.algebra target now c.marks.result.now _
+    (λ line marked.
+    let P : LinkList → Type 0 = λ links. IsSupported now.net links (end_of now.net target.path) line in
+    subst P c.requires.desk.made.links ((c.requires.desk.cone.lines line).0 ((c.marks.ensures.exactly line).0 marked)))
     (c.has_least.ensures c.if-not-has_least.false))
 
 pub returns : goal.returns
 returns g c = λ some.
-    let P : List Tried → Type 0 = λ xs. All (CanTry (task_target c.args.task.now) (standing c.args.scope.now)) xs in
+    let P : List Tried → Type 0 = λ xs. All (CanTry g.A.Algebra.algebra (task_target c.args.task.now) (standing c.args.scope.now)) xs in
     subst P (take_all c.loop-entry.entry-index c.as_slice-tried.result.now c.loop-entry-test.false ∙ c.as_slice-tried.ensures.value)
     c.loop-entry.invariant
 
@@ -30,3 +35,9 @@ has_least-requires-clause-marks g c = grind (arith, common_steps)
 
 pub loop-entry-init : goal.loop-entry-init
 loop-entry-init g c = grind (arith, common_steps)
+
+pub has_least-requires-clause-supported : goal.has_least-requires-clause-supported
+has_least-requires-clause-supported g c = λ line marked.
+    let now = standing c.args.scope.now in let target = task_target c.args.task.now in
+    let P : LinkList → Type 0 = λ links. IsSupported now.net links (end_of now.net target.path) line in
+    subst P c.requires.desk.made.links ((c.requires.desk.cone.lines line).0 ((c.marks.ensures.exactly line).0 marked))

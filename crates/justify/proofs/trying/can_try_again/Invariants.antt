@@ -7,4 +7,4 @@ use Rattle.justify.specs.Trying.{CanTry}
 use Rattle.justify.proofs.trying.can_try_again.Given as goal
 
 abbrev pub invariant-loop-entry : goal.invariant-loop-entry
-invariant-loop-entry g l = All (CanTry (task_target l.task) (standing l.scope)) (take l.entry-index l.tried)
+invariant-loop-entry g l = All (CanTry g.A.Algebra.algebra (task_target l.task) (standing l.scope)) (take l.entry-index l.tried)

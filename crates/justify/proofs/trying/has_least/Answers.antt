@@ -5,10 +5,11 @@ use Rattle.netlist.specs.Circuit.{source_count}
 use Rattle.state_sets.specs.declared.state.State.{State}
 use Rattle.state_sets.specs.declared.state.StateSet.{StateSet}
 use Rattle.implication.specs.Scopes.{standing}
-use Rattle.test_judging.specs.LeastStates.{IsTakenOf}
-use Rattle.tree_laws.specs.NodeScopes.{beginning_of}
+use Rattle.pair_judging.specs.LeastStates.{IsTakenOf}
+use Rattle.implication.specs.NodeScopes.{beginning_of}
 use Rattle.justify.specs.Tasks.{task_target}
 use Rattle.justify.proofs.Resting.{label_is}
+use Rattle.justify.proofs.Suiting.{support_told}
 use Rattle.justify.proofs.trying.has_least.Goals as goal
 
 pub returns-then-marked : goal.returns-then-marked
@@ -18,15 +19,17 @@ returns-then-marked g c = λ yes.
     let within : c.args.entry.source.0 < source_count now.net = omega (arith, c.if-entry-sources.false, count, same_count) in
     let same = eqb-true c.least.result.0 c.args.entry.state.0 (sym c.eq.ensures ∙ yes) in
     let is : c.args.entry.state ≡ c.least.result = ap (λ n. record { 0 = n }) (sym same) in
-    let P : State → Type 0 = λ state. state.0 < 4 in
+    let P : State → Type 0 = λ state. state.0 < g.A.Algebra.algebra.count in
     record {
       is_source = within;
       marked = c.if-marked.true;
       in_range = subst P (sym is) c.least.ensures.in_range;
       least = λ labels labelled.
-          let T : StateSet → Type 0 = λ set. IsTakenOf set c.args.entry.state in
-          let U : State → Type 0 = λ state. IsTakenOf c.label.result state in
-          subst T (label_is now (beginning_of (task_target c.args.task.now))
-          c.requires.node.beginning c.args.entry.source.0 c.label.result within (c.label.ensures.told c.requires.node.free) labels labelled)
+          let T : StateSet → Type 0 = λ set. IsTakenOf g.A.Algebra.algebra.count set c.args.entry.state in
+          let U : State → Type 0 = λ state. IsTakenOf g.A.Algebra.algebra.count c.label.result state in
+          subst T (label_is g.A.Algebra.algebra now (beginning_of (task_target c.args.task.now))
+          c.requires.node.beginning c.args.entry.source.0 c.label.result
+          (support_told g.A.Algebra.algebra (task_target c.args.task.now) now c.requires.suits c.args.entry.source.0
+          (record { is_source = within; supported = c.requires.supported c.args.entry.source.0 c.if-marked.true })) (c.label.ensures.told c.requires.node.free) labels labelled)
           (subst U (sym is) c.least.ensures);
     }

@@ -6,36 +6,40 @@ use Rattle.netlist.specs.Circuit.{Circuit, line_count, source_count}
 use Rattle.netlist.specs.Paths.{IsPrefix, end_of}
 use Rattle.state_sets.specs.declared.state.State.{State}
 use Rattle.implication.specs.Scopes.{standing}
-use Rattle.test_judging.specs.KeptCones.{AreConeGates}
-use Rattle.test_judging.specs.ConeStates.{AreFourStates, state_in}
+use Rattle.netlist.specs.LinkedPairs.{AreLinksOf}
+use Rattle.pair_judging.specs.KeptCones.{IsConeFor, IsConeAt}
+use Rattle.pair_judging.specs.ConeStates.{AreStates, AreSourceStates, state_in}
 use Rattle.justify.specs.Desks.{AreInSupport}
 use Rattle.justify.specs.Tasks.{task_target}
 use Rattle.justify.proofs.TriedSources.{blamed_in_support, in_cone_within, side_within, desk_again, kept_desk, read_at, sources_within}
-use Rattle.justify.proofs.TriedSources.{judged_fits}
+use Rattle.justify.proofs.TriedSources.{judged_fits, kept_sources}
 use Rattle.justify.proofs.trying.judge_states.Goals as goal
 
 pub set_failure-requires-clause-line : goal.set_failure-requires-clause-line
 set_failure-requires-clause-line g c =
     let P : Circuit → Type 0 = λ n. IsPrefix n c.args.task.now.path.now in
-    in_cone_within c.net-net.result.now c.sources.ensures.circuit c.args.task.now.path.now
-    (subst P (sym c.net-net.ensures) c.requires.prefix) c.in-FailsAt.line.0 c.in-FailsAt.ensures.within.0
+    in_cone_within c.net-net.result.now c.sources.ensures.circuit c.args.desk.now.cone.links
+    (subst (λ (n : Circuit). AreLinksOf n c.args.desk.now.cone.links) (sym c.net-net.ensures) c.requires.desk.made.cone.fit)
+    c.args.task.now.path.now (subst P (sym c.net-net.ensures) c.requires.prefix) c.in-FailsAt.line.0 c.in-FailsAt.ensures.within.0
 
 pub set_failure-requires-clause-side : goal.set_failure-requires-clause-side
 set_failure-requires-clause-side g c =
     let P : Circuit → Type 0 = λ n. IsPrefix n c.args.task.now.path.now in
-    side_within c.net-net.result.now c.sources.ensures.circuit c.args.task.now.path.now (subst P (sym c.net-net.ensures) c.requires.prefix)
+    side_within c.net-net.result.now c.sources.ensures.circuit c.args.desk.now.cone.links
+    (subst (λ (n : Circuit). AreLinksOf n c.args.desk.now.cone.links) (sym c.net-net.ensures) c.requires.desk.made.cone.fit)
+    c.args.task.now.path.now (subst P (sym c.net-net.ensures) c.requires.prefix)
     c.in-FailsAt.side c.in-FailsAt.ensures.within.1
 
 pub read_test-requires-clause-sources : goal.read_test-requires-clause-sources
 read_test-requires-clause-sources g c =
-    sources_within c.net-net.result.now (standing c.args.scope.now).net c.net-net.ensures c.args.task.now.path.now
-    c.sources-in-IsTest.result.now c.args.desk.now.cone.sources c.sources-in-IsTest.ensures c.requires.desk.cone.sources
+    sources_within g.A.Algebra.algebra c.net-net.result.now (standing c.args.scope.now).net c.net-net.ensures
+    (standing c.args.scope.now).rules c.args.task.now.path.now c.args.desk.now c.requires.desk
 
 pub returns-in_ok-pair-in-IsTest-clause-desk : goal.returns-in_ok-pair-in-IsTest-clause-desk
 returns-in_ok-pair-in-IsTest-clause-desk g c =
     let long = c.judge-judgement.ensures.places ∙ ap length c.as_mut_slice.ensures.value in
-    kept_desk (standing c.args.scope.now).net c.args.task.now.path.now _ c.keep.new.self c.keep.ensures
-    (desk_again (standing c.args.scope.now).net c.args.task.now.path.now c.args.desk.now _ c.judge-judgement.new.states c.requires.desk
+    kept_desk g.A.Algebra.algebra (standing c.args.scope.now).net (standing c.args.scope.now).rules c.args.task.now.path.now _ c.keep.new.self c.keep.ensures
+    (desk_again g.A.Algebra.algebra (standing c.args.scope.now).net (standing c.args.scope.now).rules c.args.task.now.path.now c.args.desk.now _ c.judge-judgement.new.states c.requires.desk
     refl refl refl
     (with_items_is c.args.desk.now.states c.judge-judgement.new.states (long ∙ sym c.args.desk.now.states.ok.0))
     c.judge-judgement.ensures.states long c.requires.desk.made.justifier)
@@ -56,10 +60,10 @@ pub returns-in_ok-pair-in-IsTest-clause-test : goal.returns-in_ok-pair-in-IsTest
 returns-in_ok-pair-in-IsTest-clause-test g c =
     let long = c.judge-judgement.ensures.places ∙ ap length c.as_mut_slice.ensures.value ∙ sym c.args.desk.now.states.ok.0 in
     let net = (standing c.args.scope.now).net in let target = task_target c.args.task.now in
-    judged_fits c.net-net.result.now net c.net-net.ensures target c.judge-judgement.new.states c.in_ok-pair-in-IsTest.pair
-    (read_at c.net-net.result.now net c.net-net.ensures target c.sources-in-IsTest.result.now c.args.desk.now.cone.sources
-    c.sources-in-IsTest.ensures c.requires.desk.cone.sources
-    c.as_slice.result.now c.judge-judgement.new.states
+    judged_fits g.A.Algebra.algebra c.net-net.result.now net c.net-net.ensures (standing c.args.scope.now).rules target c.args.desk.now
+    c.requires.desk c.judge-judgement.new.states c.in_ok-pair-in-IsTest.pair
+    (read_at g.A.Algebra.algebra c.net-net.result.now net c.net-net.ensures (standing c.args.scope.now).rules target.path c.args.desk.now
+    c.requires.desk c.as_slice.result.now c.judge-judgement.new.states
     (c.as_slice.ensures.value ∙ with_items_is c.args.desk.now.states c.judge-judgement.new.states long)
     c.in_ok-pair-in-IsTest.pair c.in_ok-pair-in-IsTest.ensures)
     c.in-IsTest.ensures.judged
@@ -67,7 +71,7 @@ returns-in_ok-pair-in-IsTest-clause-test g c =
 pub returns-in_err-pair-in-IsTest-clause-desk : goal.returns-in_err-pair-in-IsTest-clause-desk
 returns-in_err-pair-in-IsTest-clause-desk g c =
     let long = c.judge-judgement.ensures.places ∙ ap length c.as_mut_slice.ensures.value in
-    desk_again (standing c.args.scope.now).net c.args.task.now.path.now c.args.desk.now _ c.judge-judgement.new.states c.requires.desk
+    desk_again g.A.Algebra.algebra (standing c.args.scope.now).net (standing c.args.scope.now).rules c.args.task.now.path.now c.args.desk.now _ c.judge-judgement.new.states c.requires.desk
     refl refl refl
     (with_items_is c.args.desk.now.states c.judge-judgement.new.states (long ∙ sym c.args.desk.now.states.ok.0))
     c.judge-judgement.ensures.states long c.requires.desk.made.justifier
@@ -86,7 +90,7 @@ returns-in_err-pair-in-IsTest-clause-kept g c =
 pub returns-in-FailsAt-clause-desk : goal.returns-in-FailsAt-clause-desk
 returns-in-FailsAt-clause-desk g c =
     let long = c.judge-judgement.ensures.places ∙ ap length c.as_mut_slice.ensures.value in
-    desk_again (standing c.args.scope.now).net c.args.task.now.path.now c.args.desk.now _ c.judge-judgement.new.states c.requires.desk
+    desk_again g.A.Algebra.algebra (standing c.args.scope.now).net (standing c.args.scope.now).rules c.args.task.now.path.now c.args.desk.now _ c.judge-judgement.new.states c.requires.desk
     refl c.set_failure.ensures.room refl
     (with_items_is c.args.desk.now.states c.judge-judgement.new.states (long ∙ sym c.args.desk.now.states.ok.0))
     c.judge-judgement.ensures.states long c.requires.desk.made.justifier
@@ -106,12 +110,14 @@ pub judge-judgement-requires-clause-prefix : goal.judge-judgement-requires-claus
 judge-judgement-requires-clause-prefix g c =
     let P : Circuit → Type 0 = λ n. IsPrefix n c.args.task.now.path.now in subst P (sym c.net-net.ensures) c.requires.prefix
 
-pub judge-judgement-requires-clause-gates : goal.judge-judgement-requires-clause-gates
-judge-judgement-requires-clause-gates g c =
-    let P : Circuit → Type 0 = λ n. AreConeGates n (end_of n c.args.task.now.path.now) c.gates.result.now in
-    let net = (standing c.args.scope.now).net in
-    subst P (sym c.net-net.ensures)
-    (subst (AreConeGates net (end_of net c.args.task.now.path.now)) (sym c.gates.ensures) c.requires.desk.cone.gates)
+pub judge-judgement-requires-clause-made : goal.judge-judgement-requires-clause-made
+judge-judgement-requires-clause-made g c =
+    let P : Circuit → Type 0 = λ n. IsConeFor n c.args.desk.now.cone in subst P (sym c.net-net.ensures) c.requires.desk.made.cone
+
+pub judge-judgement-requires-clause-cone : goal.judge-judgement-requires-clause-cone
+judge-judgement-requires-clause-cone g c =
+    let P : Circuit → Type 0 = λ n. IsConeAt n (end_of n c.args.task.now.path.now) c.args.desk.now.cone in
+    subst P (sym c.net-net.ensures) c.requires.desk.cone
 
 pub judge-judgement-requires-clause-labels : goal.judge-judgement-requires-clause-labels
 judge-judgement-requires-clause-labels g c = c.labels.ensures.one_each ∙ sym (ap line_count c.net-net.ensures)
@@ -119,7 +125,7 @@ judge-judgement-requires-clause-labels g c = c.labels.ensures.one_each ∙ sym (
 pub judge-judgement-requires-clause-states : goal.judge-judgement-requires-clause-states
 judge-judgement-requires-clause-states g c = record {
   places = ap length c.as_mut_slice.ensures.value ∙ c.requires.desk.made.states ∙ sym (ap line_count c.net-net.ensures);
-  four = subst AreFourStates (sym c.as_mut_slice.ensures.value) c.requires.desk.made.four;
+  below = subst (AreStates g.A.Algebra.algebra.count) (sym c.as_mut_slice.ensures.value) c.requires.desk.made.within;
 }
 
 pub read_test-requires-clause-places : goal.read_test-requires-clause-places
@@ -132,7 +138,13 @@ pub read_test-requires-clause-states : goal.read_test-requires-clause-states
 read_test-requires-clause-states g c =
     let long = c.judge-judgement.ensures.places ∙ ap length c.as_mut_slice.ensures.value in
     let here = with_items_is c.args.desk.now.states c.judge-judgement.new.states (long ∙ sym c.args.desk.now.states.ok.0) in
-    subst AreFourStates (sym (c.as_slice.ensures.value ∙ here)) c.judge-judgement.ensures.states
+    let Q : List State → Type 0 = λ xs. AreSourceStates g.A.Algebra.algebra c.args.desk.now.cone.sources xs in
+    subst Q (sym (c.as_slice.ensures.value ∙ here))
+    (kept_sources g.A.Algebra.algebra (standing c.args.scope.now).net (standing c.args.scope.now).rules c.args.task.now.path.now
+    c.args.desk.now c.requires.desk c.args.desk.now.states.items c.judge-judgement.new.states
+    (λ source within.
+    c.judge-judgement.ensures.sources source (subst (λ (n : Circuit). source < source_count n) (sym c.net-net.ensures) within)
+    ∙ ap (λ (xs : List State). state_in xs source) c.as_mut_slice.ensures.value) c.requires.sources)
 
 pub set_failure-requires-clause-room : goal.set_failure-requires-clause-room
 set_failure-requires-clause-room g c = c.requires.desk.made.blame ∙ sym (ap line_count c.net-net.ensures)
@@ -142,7 +154,12 @@ set_failure-requires-clause-labels g c = c.labels-in-FailsAt.ensures.one_each �
 
 pub returns-in-FailsAt-clause-blamed : goal.returns-in-FailsAt-clause-blamed
 returns-in-FailsAt-clause-blamed g c =
-    let P : Circuit → Type 0 = λ n. AreInSupport n c.args.task.now.path.now c.set_failure.new.self.sources in
+    let P : Circuit → Type 0 = λ n. AreInSupport n (standing c.args.scope.now).rules c.args.task.now.path.now c.set_failure.new.self.sources in
     subst P c.net-net.ensures
-    (blamed_in_support c.net-net.result.now c.args.task.now.path.now c.in-FailsAt.line c.in-FailsAt.side c.set_failure.new.self.sources
+    (blamed_in_support c.net-net.result.now (standing c.args.scope.now).rules c.args.task.now.path.now c.args.desk.now.cone.links
+    c.requires.desk.made.links c.in-FailsAt.line c.in-FailsAt.side c.set_failure.new.self.sources
     c.set_failure.ensures.blamed c.in-FailsAt.ensures.within.0 c.in-FailsAt.ensures.within.1)
+
+pub read_test-requires-clause-made : goal.read_test-requires-clause-made
+read_test-requires-clause-made g c =
+    let P : Circuit → Type 0 = λ n. IsConeFor n c.args.desk.now.cone in subst P (sym c.net-net.ensures) c.requires.desk.made.cone

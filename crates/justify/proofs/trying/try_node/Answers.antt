@@ -1,10 +1,14 @@
 -- The last sources close the trial again; or all is as before, and the trial goes on.
-use Rattle.std.proofs.Common.{sym, subst, arith}
-use Rattle.std.proofs.lemmas.Grind.{common_steps}
+use Rattle.std.proofs.Common.{Option, sym, subst}
+use Rattle.std.specs.Prelude.{IfSome}
+use Rattle.pd_base.specs.Pair.{Vectors}
 use Rattle.netlist.specs.Circuit.{Circuit}
-use Rattle.netlist.specs.Paths.{IsPrefix}
+use Rattle.pd_base.specs.declared.rules.Rules.{Rules}
 use Rattle.implication.specs.Scopes.{standing}
 use Rattle.implication.proofs.Restoring.{same_scope_twice}
+use Rattle.implication.proofs.ScopeLabels.{there_too}
+use Rattle.justify.proofs.Suiting.{suits_restored}
+use Rattle.justify.specs.Tests.{IsFitTest}
 use Rattle.justify.specs.Desks.{IsDesk}
 use Rattle.justify.specs.Tasks.{task_target}
 use Rattle.justify.proofs.SameNodes.{ok_answer, restored_trans, same_restored, stays_at_node}
@@ -16,43 +20,56 @@ returns-then-closes_again-clause-answer g c = c.closes_again.ensures.failed c.if
 pub judge_least-requires-clause-node : goal.judge_least-requires-clause-node
 judge_least-requires-clause-node g c =
     let first = standing c.args.scope.now in let now = standing c.closes_again.new.scope in
-    stays_at_node (task_target c.args.task.now) first now (same_restored first now c.closes_again.ensures.restored) c.requires.node
+    stays_at_node g.A.Algebra.algebra (task_target c.args.task.now) first now (same_restored first now c.closes_again.ensures.restored) c.requires.node
 
-pub judge_least-requires-clause-prefix : goal.judge_least-requires-clause-prefix
-judge_least-requires-clause-prefix g c =
-    let P : Circuit → Type 0 = λ n. IsPrefix n c.args.task.now.path.now in subst P (sym c.closes_again.ensures.restored.net) c.requires.prefix
+pub judge_least-requires-clause-suits : goal.judge_least-requires-clause-suits
+judge_least-requires-clause-suits g c =
+    suits_restored g.A.Algebra.algebra (task_target c.args.task.now) (standing c.args.scope.now) (standing c.closes_again.new.scope)
+    c.closes_again.ensures.restored c.requires.suits
 
 pub judge_least-requires-clause-desk : goal.judge_least-requires-clause-desk
 judge_least-requires-clause-desk g c =
-    let P : Circuit → Type 0 = λ n. IsDesk n c.args.task.now.path.now c.args.desk.now in
-    subst P (sym c.closes_again.ensures.restored.net) c.requires.desk
+    let P : Circuit → Rules → Type 0 = λ n r. IsDesk g.A.Algebra.algebra n r c.args.task.now.path.now c.args.desk.now in
+    there_too P (standing c.args.scope.now).net (standing c.closes_again.new.scope).net (standing c.args.scope.now).rules
+    (standing c.closes_again.new.scope).rules (sym c.closes_again.ensures.restored.net) (sym c.closes_again.ensures.restored.rules)
+    c.requires.desk
 
 pub returns-in_err-pair-clause-desk : goal.returns-in_err-pair-clause-desk
 returns-in_err-pair-clause-desk g c =
-    let P : Circuit → Type 0 = λ n. IsDesk n c.args.task.now.path.now c.judge_least.new.desk in
-    subst P c.closes_again.ensures.restored.net c.judge_least.ensures.desk
+    let P : Circuit → Rules → Type 0 = λ n r. IsDesk g.A.Algebra.algebra n r c.args.task.now.path.now c.judge_least.new.desk in
+    there_too P (standing c.closes_again.new.scope).net (standing c.args.scope.now).net (standing c.closes_again.new.scope).rules
+    (standing c.args.scope.now).rules c.closes_again.ensures.restored.net c.closes_again.ensures.restored.rules c.judge_least.ensures.desk
 
-pub try_blamed-requires-clause-prefix : goal.try_blamed-requires-clause-prefix
-try_blamed-requires-clause-prefix g c =
-    let P : Circuit → Type 0 = λ n. IsPrefix n c.args.task.now.path.now in subst P (sym c.closes_again.ensures.restored.net) c.requires.prefix
+pub try_blamed-requires-clause-suits : goal.try_blamed-requires-clause-suits
+try_blamed-requires-clause-suits g c =
+    suits_restored g.A.Algebra.algebra (task_target c.args.task.now) (standing c.args.scope.now) (standing c.closes_again.new.scope)
+    c.closes_again.ensures.restored c.requires.suits
 
 pub try_blamed-requires-clause-node : goal.try_blamed-requires-clause-node
 try_blamed-requires-clause-node g c =
     let first = standing c.args.scope.now in let now = standing c.closes_again.new.scope in
-    stays_at_node (task_target c.args.task.now) first now (same_restored first now c.closes_again.ensures.restored) c.requires.node
+    stays_at_node g.A.Algebra.algebra (task_target c.args.task.now) first now (same_restored first now c.closes_again.ensures.restored) c.requires.node
 
 pub returns-in-Some-clause-desk : goal.returns-in-Some-clause-desk
 returns-in-Some-clause-desk g c =
-    let P : Circuit → Type 0 = λ n. IsDesk n c.args.task.now.path.now c.judge_least.new.desk in
-    subst P c.closes_again.ensures.restored.net c.judge_least.ensures.desk
+    let P : Circuit → Rules → Type 0 = λ n r. IsDesk g.A.Algebra.algebra n r c.args.task.now.path.now c.judge_least.new.desk in
+    there_too P (standing c.closes_again.new.scope).net (standing c.args.scope.now).net (standing c.closes_again.new.scope).rules
+    (standing c.args.scope.now).rules c.closes_again.ensures.restored.net c.closes_again.ensures.restored.rules c.judge_least.ensures.desk
 
 pub returns-in-Some-clause-answer : goal.returns-in-Some-clause-answer
-returns-in-Some-clause-answer g c = grind (arith, common_steps)
+returns-in-Some-clause-answer g c =
+    let Q : Option Vectors → Type 0 = λ found. IfSome found
+    (IsFitTest (standing c.closes_again.new.scope).net (standing c.closes_again.new.scope).rules (task_target c.args.task.now)) in
+    let P : Circuit → Rules → Type 0 = λ n r. IsFitTest n r (task_target c.args.task.now) c.in-Some.pair in
+    there_too P (standing c.closes_again.new.scope).net (standing c.args.scope.now).net (standing c.closes_again.new.scope).rules
+    (standing c.args.scope.now).rules c.closes_again.ensures.restored.net c.closes_again.ensures.restored.rules
+    (subst Q c.in-Some.is c.in_ok-pair.ensures.test)
 
 pub returns-in-None-clause-desk : goal.returns-in-None-clause-desk
 returns-in-None-clause-desk g c =
-    let P : Circuit → Type 0 = λ n. IsDesk n c.args.task.now.path.now c.try_blamed.new.desk in
-    subst P c.closes_again.ensures.restored.net c.try_blamed.ensures.desk
+    let P : Circuit → Rules → Type 0 = λ n r. IsDesk g.A.Algebra.algebra n r c.args.task.now.path.now c.try_blamed.new.desk in
+    there_too P (standing c.closes_again.new.scope).net (standing c.args.scope.now).net (standing c.closes_again.new.scope).rules
+    (standing c.args.scope.now).rules c.closes_again.ensures.restored.net c.closes_again.ensures.restored.rules c.try_blamed.ensures.desk
 
 pub returns-in-None-clause-scope : goal.returns-in-None-clause-scope
 returns-in-None-clause-scope g c = same_scope_twice c.closes_again.ensures.scope c.try_blamed.ensures.scope
@@ -64,5 +81,5 @@ returns-in-None-clause-restored g c =
 
 pub returns-in-None-clause-answer : goal.returns-in-None-clause-answer
 returns-in-None-clause-answer g c =
-    ok_answer (task_target c.args.task.now) (standing c.args.scope.now) (standing c.closes_again.new.scope) (standing c.try_blamed.new.scope)
+    ok_answer g.A.Algebra.algebra (task_target c.args.task.now) (standing c.args.scope.now) (standing c.closes_again.new.scope) (standing c.try_blamed.new.scope)
     c.closes_again.ensures.restored c.try_blamed.result c.try_blamed.ensures.answer

@@ -1,42 +1,46 @@
 -- The place is shut out, or the node there is visited.
 use Rattle.implication.specs.Moves.{start_at}
 use Rattle.implication.specs.Scopes.{standing}
-use Rattle.justify.proofs.GoingOn.{next_late, next_at_mark, next_at_source, next_within, next_open, shut_goes_on, shut_visited, entered_node, entered_prefix, entered_desk, entered_goes_on, node_visited}
+use Rattle.justify.proofs.GoingOn.{next_late, next_at_mark, next_at_source, next_told, next_within, next_open, shut_goes_on, shut_visited, entered_node, entered_suits, entered_desk, entered_goes_on, node_visited}
 use Rattle.justify.proofs.visiting.visit.Goals as goal
 
 pub enter-requires-clause-start : goal.enter-requires-clause-start
 enter-requires-clause-start g c =
-    next_late c.args.task.now (standing c.args.scope.now) c.args.desk.now c.args.growth.now c.args.place c.requires.searching (start_at c.args.scope.now.origin) c.requires.origin
+    next_late g.A.Algebra.algebra c.args.task.now (standing c.args.scope.now) c.args.desk.now c.args.growth.now c.args.place c.requires.searching (start_at c.args.scope.now.origin) c.requires.origin
 
 pub enter-requires-clause-now : goal.enter-requires-clause-now
 enter-requires-clause-now g c =
-    next_at_mark c.args.task.now (standing c.args.scope.now) c.args.desk.now c.args.growth.now c.args.place c.requires.searching
+    next_at_mark g.A.Algebra.algebra c.args.task.now (standing c.args.scope.now) c.args.desk.now c.args.growth.now c.args.place c.requires.searching
 
 pub enter-requires-clause-source : goal.enter-requires-clause-source
 enter-requires-clause-source g c =
-    next_at_source c.args.task.now (standing c.args.scope.now) c.args.desk.now c.args.growth.now c.args.place c.requires.searching
+    next_at_source g.A.Algebra.algebra c.args.task.now (standing c.args.scope.now) c.args.desk.now c.args.growth.now c.args.place c.requires.searching
+
+pub enter-requires-clause-told : goal.enter-requires-clause-told
+enter-requires-clause-told g c =
+    next_told g.A.Algebra.algebra c.args.task.now (standing c.args.scope.now) c.args.desk.now c.args.growth.now c.args.place c.requires.searching
 
 pub enter-requires-clause-set : goal.enter-requires-clause-set
 enter-requires-clause-set g c =
-    next_within c.args.task.now (standing c.args.scope.now) c.args.desk.now c.args.growth.now c.args.place c.requires.searching
+    next_within g.A.Algebra.algebra c.args.task.now (standing c.args.scope.now) c.args.desk.now c.args.growth.now c.args.place c.requires.searching
 
 pub enter-requires-clause-left_open : goal.enter-requires-clause-left_open
 enter-requires-clause-left_open g c =
-    next_open c.args.task.now (standing c.args.scope.now) c.args.desk.now c.args.growth.now c.args.place c.requires.searching
+    next_open g.A.Algebra.algebra c.args.task.now (standing c.args.scope.now) c.args.desk.now c.args.growth.now c.args.place c.requires.searching
 
-pub visit_node-requires-clause-prefix : goal.visit_node-requires-clause-prefix
-visit_node-requires-clause-prefix g c =
-    entered_prefix c.args.task.now (standing c.args.scope.now) c.args.desk.now c.args.growth.now c.args.place c.requires.searching
+pub visit_node-requires-clause-suits : goal.visit_node-requires-clause-suits
+visit_node-requires-clause-suits g c =
+    entered_suits g.A.Algebra.algebra c.args.task.now (standing c.args.scope.now) c.args.desk.now c.args.growth.now c.args.place c.requires.searching
     (standing c.enter.new.scope) (c.enter.ensures.entered c.if-enter.true)
 
 pub visit_node-requires-clause-node : goal.visit_node-requires-clause-node
 visit_node-requires-clause-node g c =
-    entered_node c.args.task.now (standing c.args.scope.now) c.args.desk.now c.args.growth.now c.args.place c.requires.searching
+    entered_node g.A.Algebra.algebra c.args.task.now (standing c.args.scope.now) c.args.desk.now c.args.growth.now c.args.place c.requires.searching
     (standing c.enter.new.scope) (c.enter.ensures.entered c.if-enter.true)
 
 pub visit_node-requires-clause-desk : goal.visit_node-requires-clause-desk
 visit_node-requires-clause-desk g c =
-    entered_desk c.args.task.now (standing c.args.scope.now) c.args.desk.now c.args.growth.now c.args.place c.requires.searching
+    entered_desk g.A.Algebra.algebra c.args.task.now (standing c.args.scope.now) c.args.desk.now c.args.growth.now c.args.place c.requires.searching
     (standing c.enter.new.scope) (c.enter.ensures.entered c.if-enter.true)
 
 pub visit_node-requires-clause-budget : goal.visit_node-requires-clause-budget
@@ -44,23 +48,23 @@ visit_node-requires-clause-budget g c = c.requires.searching.growing.within
 
 pub returns-then-enter-clause-goes_on : goal.returns-then-enter-clause-goes_on
 returns-then-enter-clause-goes_on g c =
-    entered_goes_on c.args.task.now (standing c.args.scope.now) c.args.desk.now c.args.growth.now c.args.place c.requires.searching
+    entered_goes_on g.A.Algebra.algebra c.args.task.now (standing c.args.scope.now) c.args.desk.now c.args.growth.now c.args.place c.requires.searching
     (standing c.enter.new.scope) (c.enter.ensures.entered c.if-enter.true)
     (standing c.visit_node.new.scope) c.visit_node.ensures.restored c.visit_node.new.desk c.visit_node.ensures.desk
 
 pub returns-then-enter-clause-answer : goal.returns-then-enter-clause-answer
 returns-then-enter-clause-answer g c =
-    node_visited c.args.task.now (standing c.args.scope.now) c.args.desk.now c.args.growth.now c.args.place c.requires.searching
+    node_visited g.A.Algebra.algebra c.args.task.now (standing c.args.scope.now) c.args.desk.now c.args.growth.now c.args.place c.requires.searching
     (standing c.enter.new.scope) (c.enter.ensures.entered c.if-enter.true)
     (standing c.visit_node.new.scope) c.visit_node.ensures.restored c.visit_node.new.growth c.visit_node.result c.visit_node.ensures.answer
 
 pub returns-else-enter-clause-goes_on : goal.returns-else-enter-clause-goes_on
 returns-else-enter-clause-goes_on g c =
-    shut_goes_on c.args.task.now (standing c.args.scope.now) c.args.desk.now c.args.growth.now c.args.place c.requires.searching
+    shut_goes_on g.A.Algebra.algebra c.args.task.now (standing c.args.scope.now) c.args.desk.now c.args.growth.now c.args.place c.requires.searching
     (standing c.enter.new.scope) (c.enter.ensures.shut c.if-enter.false) c.enter.ensures.later
 
 pub returns-else-enter-clause-answer : goal.returns-else-enter-clause-answer
 returns-else-enter-clause-answer g c =
-    shut_visited c.args.task.now (standing c.args.scope.now) c.args.desk.now c.args.growth.now c.args.place c.requires.searching
+    shut_visited g.A.Algebra.algebra c.args.task.now (standing c.args.scope.now) c.args.desk.now c.args.growth.now c.args.place c.requires.searching
     (standing c.enter.new.scope) (c.enter.ensures.shut c.if-enter.false) c.enter.ensures.later
     c.add_closed.new.growth c.add_closed.result c.add_closed.ensures

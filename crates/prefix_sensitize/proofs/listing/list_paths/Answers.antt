@@ -17,8 +17,8 @@ pub loop-path-init : goal.loop-path-init
 loop-path-init g c =
     let none = c.in_ok-listed.ensures.items in
     let net = c.args.net.now in
-    let Rises : ℕ → Type 0 = λ from. AreBothOutcomesFrom net g.searches.routes g.searches.proofs Rise from c.args.rises.now in
-    let Falls : ℕ → Type 0 = λ from. AreBothOutcomesFrom net g.searches.routes g.searches.proofs Fall from c.args.falls.now in
+    let Rises : ℕ → Type 0 = λ from. AreBothOutcomesFrom net g.searches.rules g.searches.routes g.searches.proofs Rise from c.args.rises.now in
+    let Falls : ℕ → Type 0 = λ from. AreBothOutcomesFrom net g.searches.rules g.searches.routes g.searches.proofs Fall from c.args.falls.now in
     record {
       listed = none_listed net (delays_of net c.args.delays.now) g.searches c.in_ok-listed.listed.items (written_by c.args.writer.now) none
           c.requires.1.1.1.1.1.1;
@@ -38,8 +38,8 @@ take-rise-requires-clause-robust g c =
     c.loop-path.listed.items (written_by c.loop-path.writer) turn.listed c.in-Some.path _ c.in-Some.ensures.steps.0
     (c.len-row.result + 1) next in
     let within = slice_get_within g.searches.routes (c.len-row.result + 1 - 1) c.in-Some.path listed.found in
-    let Left : ℕ → Type 0 = λ from. AreBothOutcomesFrom net g.searches.routes g.searches.proofs Rise from c.loop-path.rises in
-    robust_within net g.searches.routes g.searches.proofs Rise c.len-row.result c.loop-path.rises (subst Left (sym row) turn.rises)
+    let Left : ℕ → Type 0 = λ from. AreBothOutcomesFrom net g.searches.rules g.searches.routes g.searches.proofs Rise from c.loop-path.rises in
+    robust_within net g.searches.rules g.searches.routes g.searches.proofs Rise c.len-row.result c.loop-path.rises (subst Left (sym row) turn.rises)
     (omega (arith, within))
 
 pub take-rise-requires-clause-nonrobust : goal.take-rise-requires-clause-nonrobust
@@ -52,8 +52,8 @@ take-rise-requires-clause-nonrobust g c =
     c.loop-path.listed.items (written_by c.loop-path.writer) turn.listed c.in-Some.path _ c.in-Some.ensures.steps.0
     (c.len-row.result + 1) next in
     let within = slice_get_within g.searches.routes (c.len-row.result + 1 - 1) c.in-Some.path listed.found in
-    let Left : ℕ → Type 0 = λ from. AreBothOutcomesFrom net g.searches.routes g.searches.proofs Rise from c.loop-path.rises in
-    nonrobust_within net g.searches.routes g.searches.proofs Rise c.len-row.result c.loop-path.rises (subst Left (sym row) turn.rises)
+    let Left : ℕ → Type 0 = λ from. AreBothOutcomesFrom net g.searches.rules g.searches.routes g.searches.proofs Rise from c.loop-path.rises in
+    nonrobust_within net g.searches.rules g.searches.routes g.searches.proofs Rise c.len-row.result c.loop-path.rises (subst Left (sym row) turn.rises)
     (omega (arith, within))
 
 pub take-fall-requires-clause-robust : goal.take-fall-requires-clause-robust
@@ -66,8 +66,8 @@ take-fall-requires-clause-robust g c =
     c.loop-path.listed.items (written_by c.loop-path.writer) turn.listed c.in-Some.path _ c.in-Some.ensures.steps.0
     (c.len-row.result + 1) next in
     let within = slice_get_within g.searches.routes (c.len-row.result + 1 - 1) c.in-Some.path listed.found in
-    let Left : ℕ → Type 0 = λ from. AreBothOutcomesFrom net g.searches.routes g.searches.proofs Fall from c.loop-path.falls in
-    robust_within net g.searches.routes g.searches.proofs Fall c.len-row.result c.loop-path.falls (subst Left (sym row) turn.falls)
+    let Left : ℕ → Type 0 = λ from. AreBothOutcomesFrom net g.searches.rules g.searches.routes g.searches.proofs Fall from c.loop-path.falls in
+    robust_within net g.searches.rules g.searches.routes g.searches.proofs Fall c.len-row.result c.loop-path.falls (subst Left (sym row) turn.falls)
     (omega (arith, within))
 
 pub take-fall-requires-clause-nonrobust : goal.take-fall-requires-clause-nonrobust
@@ -80,8 +80,8 @@ take-fall-requires-clause-nonrobust g c =
     c.loop-path.listed.items (written_by c.loop-path.writer) turn.listed c.in-Some.path _ c.in-Some.ensures.steps.0
     (c.len-row.result + 1) next in
     let within = slice_get_within g.searches.routes (c.len-row.result + 1 - 1) c.in-Some.path listed.found in
-    let Left : ℕ → Type 0 = λ from. AreBothOutcomesFrom net g.searches.routes g.searches.proofs Fall from c.loop-path.falls in
-    nonrobust_within net g.searches.routes g.searches.proofs Fall c.len-row.result c.loop-path.falls (subst Left (sym row) turn.falls)
+    let Left : ℕ → Type 0 = λ from. AreBothOutcomesFrom net g.searches.rules g.searches.routes g.searches.proofs Fall from c.loop-path.falls in
+    nonrobust_within net g.searches.rules g.searches.routes g.searches.proofs Fall c.len-row.result c.loop-path.falls (subst Left (sym row) turn.falls)
     (omega (arith, within))
 
 pub list_path-requires : goal.list_path-requires
@@ -94,16 +94,16 @@ list_path-requires g c =
     let next : c.len-row.result + 1 ≡ length c.loop-path.listed.items + 1 = omega (arith, row) in
     let listed = is_listed net delays g.searches are c.loop-path.yielded _ turn.rest c.loop-path.listed.items
     (written_by c.loop-path.writer) turn.listed c.in-Some.path _ c.in-Some.ensures.steps.0 (c.len-row.result + 1) next in
-    let Rises : ℕ → Type 0 = λ from. AreBothOutcomesFrom net g.searches.routes g.searches.proofs Rise from c.loop-path.rises in
-    let Falls : ℕ → Type 0 = λ from. AreBothOutcomesFrom net g.searches.routes g.searches.proofs Fall from c.loop-path.falls in (
+    let Rises : ℕ → Type 0 = λ from. AreBothOutcomesFrom net g.searches.rules g.searches.routes g.searches.proofs Rise from c.loop-path.rises in
+    let Falls : ℕ → Type 0 = λ from. AreBothOutcomesFrom net g.searches.rules g.searches.routes g.searches.proofs Fall from c.loop-path.falls in (
       c.requires.0,
       (
         is_next net delays g.searches are c.loop-path.yielded _ turn.rest c.loop-path.listed.items (written_by c.loop-path.writer)
             turn.listed c.in-Some.path _ c.in-Some.ensures.steps.0 (c.len-row.result + 1) next c.loop-path.writer turn.writer refl,
         (
-          taken_are net g.searches.routes g.searches.proofs Rise c.len-row.result c.loop-path.rises (subst Rises (sym row) turn.rises)
+          taken_are net g.searches.rules g.searches.routes g.searches.proofs Rise c.len-row.result c.loop-path.rises (subst Rises (sym row) turn.rises)
               (c.len-row.result + 1) c.in-Some.path listed refl c.take-rise.result c.take-rise.ensures.taken,
-          taken_are net g.searches.routes g.searches.proofs Fall c.len-row.result c.loop-path.falls (subst Falls (sym row) turn.falls)
+          taken_are net g.searches.rules g.searches.routes g.searches.proofs Fall c.len-row.result c.loop-path.falls (subst Falls (sym row) turn.falls)
               (c.len-row.result + 1) c.in-Some.path listed refl c.take-fall.result c.take-fall.ensures.taken,
         ),
       ),
@@ -116,18 +116,18 @@ loop-path-preserved g c =
     let row : c.len-row.result ≡ length c.loop-path.listed.items = omega (arith, c.len-row.ensures) in
     let more : length c.push.new.self.items ≡ c.len-row.result + 1 =
     ap length c.in_ok-push.ensures.items ∙ length_push c.loop-path.listed.items c.in_ok-entry.entry ∙ ap (λ (n : ℕ). n + 1) (sym row) in
-    let Rises : ℕ → Type 0 = λ from. AreBothOutcomesFrom net g.searches.routes g.searches.proofs Rise from c.loop-path.rises in
-    let Falls : ℕ → Type 0 = λ from. AreBothOutcomesFrom net g.searches.routes g.searches.proofs Fall from c.loop-path.falls in
+    let Rises : ℕ → Type 0 = λ from. AreBothOutcomesFrom net g.searches.rules g.searches.routes g.searches.proofs Rise from c.loop-path.rises in
+    let Falls : ℕ → Type 0 = λ from. AreBothOutcomesFrom net g.searches.rules g.searches.routes g.searches.proofs Fall from c.loop-path.falls in
     record {
       listed = one_more net (delays_of net c.args.delays.now) g.searches c.requires.1.1.0 c.loop-path.yielded _ turn.rest
           c.loop-path.listed.items (written_by c.loop-path.writer) turn.listed c.in-Some.path _ c.in-Some.ensures.steps.0
           (c.len-row.result + 1) (omega (arith, row)) (written_by c.list_path.new.writer) c.in_ok-entry.entry c.push.new.self.items
           c.in_ok-push.ensures.items c.in_ok-entry.ensures.listed;
       writer = c.in_ok-entry.ensures.writer;
-      rises = others_left net g.searches.routes g.searches.proofs Rise c.len-row.result c.loop-path.rises
+      rises = others_left net g.searches.rules g.searches.routes g.searches.proofs Rise c.len-row.result c.loop-path.rises
           (subst Rises (sym row) turn.rises) c.take-rise.new.self c.take-rise.ensures.robust c.take-rise.ensures.nonrobust
           (length c.push.new.self.items) more;
-      falls = others_left net g.searches.routes g.searches.proofs Fall c.len-row.result c.loop-path.falls
+      falls = others_left net g.searches.rules g.searches.routes g.searches.proofs Fall c.len-row.result c.loop-path.falls
           (subst Falls (sym row) turn.falls) c.take-fall.new.self c.take-fall.ensures.robust c.take-fall.ensures.nonrobust
           (length c.push.new.self.items) more;
       rest = append_assoc c.loop-path.yielded (c.in-Some.path ∷ []) (into_iter_items c.next.new.self)

@@ -15,7 +15,7 @@ abbrev pub invariant-loop-path : goal.invariant-loop-path
 invariant-loop-path g l = record {
   listed : ArePathsAnswered l.net (delays_of l.net l.delays) g.searches l.yielded l.listed.items (written_by l.writer);
   writer : IsWriterFor l.net g.searches l.writer;
-  rises : AreBothOutcomesFrom l.net g.searches.routes g.searches.proofs Rise (length l.listed.items) l.rises;
-  falls : AreBothOutcomesFrom l.net g.searches.routes g.searches.proofs Fall (length l.listed.items) l.falls;
+  rises : AreBothOutcomesFrom l.net g.searches.rules g.searches.routes g.searches.proofs Rise (length l.listed.items) l.rises;
+  falls : AreBothOutcomesFrom l.net g.searches.rules g.searches.routes g.searches.proofs Fall (length l.listed.items) l.falls;
   rest : l.yielded ++ into_iter_items l.path-iterator ≡ g.searches.routes;
 }

@@ -1,5 +1,5 @@
 -- What was found for the rising transition stays while the falling one is searched for.
-use Rattle.std.proofs.Common.{List, refl, sym, subst, subst₂}
+use Rattle.std.proofs.Common.{List, refl, sym, subst₂}
 use Rattle.pd_base.specs.declared.fault.Direction.TheVariants.{Rise, Fall}
 use Rattle.pd_base.specs.declared.rules.Rules.{Rules}
 use Rattle.netlist.specs.Circuit.{Circuit}
@@ -40,16 +40,17 @@ returns-clause-outcomes g c =
     let listed = c.requires.ready.listed in
     let proofs = c.search_way-2.new.proofs.items in
     let Found : Circuit → Rules → Type 0 = λ net rules. AreFoundProofs net rules c.args.budget c.args.paths.now proofs in
-    let Falls : Circuit → Type 0 = λ net. AreBothOutcomesFrom net c.args.paths.now proofs Fall 0 c.in_ok-falls.falls in
+    let Falls : Circuit → Rules → Type 0 = λ net r. AreBothOutcomesFrom net r c.args.paths.now proofs Fall 0 c.in_ok-falls.falls in
     record {
       are_searches = record {
+        fit = c.requires.ready.desk.fit;
         are_paths = listed.are_paths;
         few = listed.few;
         found = subst₂ Found rest.net rest.rules c.in_ok-falls.ensures.found;
       };
       budget = refl;
       proofs = refl {A = List Proof};
-      rises = rises_stay c.args.engine.now.net c.args.paths.now c.search_way.new.proofs.items proofs c.in_ok-rises.rises
+      rises = rises_stay c.args.engine.now.net c.args.engine.now.rules c.args.paths.now c.search_way.new.proofs.items proofs c.in_ok-rises.rises
           c.in_ok-falls.ensures.adds c.in_ok-rises.ensures.outcomes;
-      falls = subst Falls rest.net c.in_ok-falls.ensures.outcomes;
+      falls = subst₂ Falls rest.net rest.rules c.in_ok-falls.ensures.outcomes;
     }

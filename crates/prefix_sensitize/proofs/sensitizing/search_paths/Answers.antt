@@ -1,40 +1,60 @@
 -- The engine is made within the last lines of the paths, and tells each of them.
-use Rattle.std.proofs.Common.{◌≡◌, ◌<◌, List, All, Some, sym, ap, subst, subst₂, ◌∙◌}
+use Rattle.std.proofs.Common.{◌≡◌, ◌<◌, List, All, Some, sym, ap, subst, subst₂, length, arith, ◌∙◌}
 use Rattle.std.proofs.lemmas.Result.{IfOk-weaker}
+use Rattle.pd_base.specs.Links.{links_of}
+use Rattle.netlist.specs.LinkedPairs.{FitRules}
+use Rattle.trees.specs.Algebras.{algebra_of}
+use Rattle.trees.specs.Unlinked.{IsUnlinked}
+use Rattle.trees.proofs.Unlinked.{four_unlinked, no_links, unlinked_fit}
 use Rattle.pd_base.specs.declared.ids.LineId.{LineId}
 use Rattle.pd_base.specs.Route.{Route}
 use Rattle.pd_base.specs.declared.rules.Rules.{Rules}
 use Rattle.netlist.specs.Circuit.{Circuit, line_count}
 use Rattle.netlist.specs.Paths.{end_of}
 use Rattle.implication.specs.Standing.{IsToldBy, Standing}
-use Rattle.tree_laws.proofs.Told.{ends_told}
-use Rattle.test_judging.specs.PathEnds.{ends_of}
+use Rattle.implication.proofs.Told.{ends_told}
+use Rattle.pair_judging.specs.PathEnds.{ends_of}
 use Rattle.prefix_sensitize.specs.declared.all_outcomes.AllOutcomes.{AllOutcomes}
 use Rattle.prefix_sensitize.specs.Listed.{AreAllOutcomes}
 use Rattle.prefix_sensitize.specs.Searches.{searches_of}
 use Rattle.prefix_sensitize.specs.Walks.{AreSearchablePaths}
 use Rattle.prefix_sensitize.proofs.sensitizing.search_paths.Goals as goal
 
-pub within-requires : goal.within-requires
-within-requires g c =
+pub within-requires-clause-ends : goal.within-requires-clause-ends
+within-requires-clause-ends g c =
     let net = c.args.net.now in
     let P : List LineId → Type 0 = All (λ (end : LineId). end.0 < line_count net) in
     subst P (sym c.as_slice.ensures.value) c.in_ok-ends.ensures.lines
 
+pub within-requires-clause-fit : goal.within-requires-clause-fit
+within-requires-clause-fit g c = unlinked_fit c.args.net.now c.args.rules.now (no_links c.args.rules.now c.requires.unlinked)
+
+pub within-requires-clause-few : goal.within-requires-clause-few
+within-requires-clause-few g c = let none = ap length (no_links c.args.rules.now c.requires.unlinked) in omega (arith, none)
+
 pub search_on-outcomes-requires-clause-told : goal.search_on-outcomes-requires-clause-told
 search_on-outcomes-requires-clause-told g c =
     let net = c.args.net.now in
+    let rules = c.args.rules.now in
     let engine = c.in_ok-engine.engine in
     let are : engine.ends ≡ Some (ends_of net c.args.paths.now) =
     ap (λ (s : Standing). s.ends) c.in_ok-engine.ensures ∙ ap Some (c.as_slice.ensures.value ∙ c.in_ok-ends.ensures.ends) in
-    let P : Circuit → Type 0 = λ n. All (λ (route : Route). IsToldBy n engine.ends (end_of n route)) c.args.paths.now in
-    subst P (sym (ap (λ (s : Standing). s.net) c.in_ok-engine.ensures)) (ends_told net c.args.paths.now engine.ends are)
+    let P : Circuit → Rules → Type 0 =
+    λ n r. All (λ (route : Route). IsToldBy n (links_of r) engine.ends (end_of n route)) c.args.paths.now in
+    subst₂ P (sym (ap (λ (s : Standing). s.net) c.in_ok-engine.ensures)) (sym (ap (λ (s : Standing). s.rules) c.in_ok-engine.ensures))
+    (ends_told net (links_of rules) c.args.paths.now engine.ends are)
 
-pub search_on-outcomes-requires-clause-net : goal.search_on-outcomes-requires-clause-net
-search_on-outcomes-requires-clause-net g c = ap (λ (s : Standing). s.net) c.in_ok-engine.ensures
-
-pub search_on-outcomes-requires-clause-idle : goal.search_on-outcomes-requires-clause-idle
-search_on-outcomes-requires-clause-idle g c = ap (λ (s : Standing). s.beginning) c.in_ok-engine.ensures
+pub search_on-outcomes-requires-clause-set : goal.search_on-outcomes-requires-clause-set
+search_on-outcomes-requires-clause-set g c =
+    let rules = c.args.rules.now in
+    let its_net = ap (λ (s : Standing). s.net) c.in_ok-engine.ensures in
+    let its_rules = ap (λ (s : Standing). s.rules) c.in_ok-engine.ensures in
+    record {
+      of_rules = four_unlinked rules c.requires.unlinked ∙ ap algebra_of (sym its_rules);
+      fit = subst₂ FitRules (sym its_net) (sym its_rules) (unlinked_fit c.args.net.now rules (no_links rules c.requires.unlinked));
+      unlinked = subst IsUnlinked (sym its_rules) c.requires.unlinked;
+      idle = ap (λ (s : Standing). s.beginning) c.in_ok-engine.ensures;
+    }
 
 pub search_on-outcomes-requires-clause-listed : goal.search_on-outcomes-requires-clause-listed
 search_on-outcomes-requires-clause-listed g c =

@@ -1,5 +1,5 @@
 -- The two walks give the outcomes for the transition, and all that they add is for it.
-use Rattle.std.proofs.Common.{length, map, not, true, refl, sym, ap, subst, subst₂, ◌∙◌, arith}
+use Rattle.std.proofs.Common.{length, map, not, true, refl, sym, ap, subst₂, ◌∙◌, arith}
 use Rattle.std.proofs.lemmas.List.{length-replicate}
 use Rattle.pd_base.specs.declared.fault.Kind.TheVariants.{Robust, Nonrobust}
 use Rattle.pd_base.specs.declared.rules.Rules.{Rules}
@@ -15,31 +15,8 @@ use Rattle.prefix_sensitize.proofs.sensitizing.search_way.Goals as goal
 pub walk-requires-clause-ready : goal.walk-requires-clause-ready
 walk-requires-clause-ready g c = c.requires.ready
 
-pub walk-requires-clause-needed : goal.walk-requires-clause-needed
-walk-requires-clause-needed g c =
-    ap length (c.in_ok-all.ensures.items_if_clones_equal (λ y same. same)) ∙ length-replicate (length c.args.paths.now) true
-
-pub walk-requires-clause-excused : goal.walk-requires-clause-excused
-walk-requires-clause-excused g c =
-    all_excused c.args.engine.now.net c.args.paths.now c.args.dir c.args.budget c.in_ok-all.all.items
-    (c.in_ok-all.ensures.items_if_clones_equal (λ y same. same)) Robust
-
-pub walk-requires-clause-found : goal.walk-requires-clause-found
-walk-requires-clause-found g c = c.requires.found
-
-pub walk-requires-clause-fresh : goal.walk-requires-clause-fresh
-walk-requires-clause-fresh g c =
-    none_about c.args.engine.now.net c.args.paths.now c.args.dir c.args.budget Robust c.args.proofs.now.items c.requires.fresh
-
 pub walk-requires-clause-room : goal.walk-requires-clause-room
 walk-requires-clause-room g c = let room = c.requires.room in omega (arith, room)
-
-pub walk-requires-2-clause-needed : goal.walk-requires-2-clause-needed
-walk-requires-2-clause-needed g c =
-    some_each c.args.engine.now.net c.args.paths.now c.args.dir c.args.budget c.in_ok-all.all.items
-    (c.in_ok-all.ensures.items_if_clones_equal (λ y same. same)) c.walk.new.proofs.items c.in_ok-robust.robust.items
-    c.in_ok-robust.ensures.outcomes c.in_ok-untested.untested.items
-    (c.in_ok-untested.ensures ∙ ap (map (λ (outcome : Outcome). not (is_test outcome))) c.as_slice.ensures.value)
 
 pub walk-requires-2-clause-room : goal.walk-requires-2-clause-room
 walk-requires-2-clause-room g c =
@@ -48,30 +25,8 @@ walk-requires-2-clause-room g c =
     let room = c.requires.room in
     omega (arith, few, grown, room)
 
-pub walk-requires-2-clause-excused : goal.walk-requires-2-clause-excused
-walk-requires-2-clause-excused g c =
-    let P : Circuit → Type 0 = λ net. AreExcused net (record { kind = Nonrobust; dir = c.args.dir; budget = c.args.budget })
-    c.args.paths.now c.in_ok-untested.untested.items in
-    subst P (sym c.in_ok-robust.ensures.rest.net)
-    (untested_excused c.args.engine.now.net c.args.paths.now c.args.dir c.args.budget c.in_ok-all.all.items
-    (c.in_ok-all.ensures.items_if_clones_equal (λ y same. same)) c.walk.new.proofs.items c.in_ok-robust.robust.items
-    c.in_ok-robust.ensures.outcomes c.in_ok-untested.untested.items
-    (c.in_ok-untested.ensures ∙ ap (map (λ (outcome : Outcome). not (is_test outcome))) c.as_slice.ensures.value))
-
 pub walk-requires-2-clause-ready : goal.walk-requires-2-clause-ready
 walk-requires-2-clause-ready g c = c.in_ok-robust.ensures.ready
-
-pub walk-requires-2-clause-found : goal.walk-requires-2-clause-found
-walk-requires-2-clause-found g c =
-    let rest = c.in_ok-robust.ensures.rest in
-    let Found : Circuit → Rules → Type 0 =
-    λ net rules. AreFoundProofs net rules c.args.budget c.args.paths.now c.walk.new.proofs.items in
-    subst₂ Found (sym rest.net) (sym rest.rules) c.in_ok-robust.ensures.found
-
-pub walk-requires-2-clause-fresh : goal.walk-requires-2-clause-fresh
-walk-requires-2-clause-fresh g c =
-    nonrobust_is_new c.args.engine.now.net c.args.paths.now c.args.dir c.args.budget c.args.proofs.now.items
-    c.walk.new.proofs.items c.requires.fresh c.in_ok-robust.ensures.adds
 
 pub returns-clause-ready : goal.returns-clause-ready
 returns-clause-ready g c = c.in_ok-nonrobust.ensures.ready
@@ -92,23 +47,23 @@ returns-clause-found g c =
     let rest = c.in_ok-robust.ensures.rest in
     let Found : Circuit → Rules → Type 0 =
     λ net rules. AreFoundProofs net rules c.args.budget c.args.paths.now c.walk-2.new.proofs.items in
-    subst₂ Found rest.net rest.rules c.in_ok-nonrobust.ensures.found
+    subst₂ Found rest.net rest.rules c.in_ok-nonrobust.ensures.behind.found
 
 pub returns-clause-outcomes : goal.returns-clause-outcomes
 returns-clause-outcomes g c =
-    let P : Circuit → Type 0 = λ net. AreOutcomes net c.args.paths.now c.walk-2.new.proofs.items c.in_ok-untested.untested.items
+    let P : Circuit → Rules → Type 0 = λ net r. AreOutcomes net r c.args.paths.now c.walk-2.new.proofs.items c.in_ok-untested.untested.items
     (record { kind = Nonrobust; dir = c.args.dir; budget = c.args.budget }) c.in_ok-nonrobust.nonrobust.items in
-    both_are c.args.engine.now.net c.args.paths.now c.args.dir c.args.budget c.in_ok-all.all.items
+    both_are c.args.engine.now.net c.args.engine.now.rules c.args.paths.now c.args.dir c.args.budget c.in_ok-all.all.items
     (c.in_ok-all.ensures.items_if_clones_equal (λ y same. same)) c.walk.new.proofs.items c.in_ok-robust.robust.items
     c.in_ok-robust.ensures.outcomes c.in_ok-untested.untested.items
     (c.in_ok-untested.ensures ∙ ap (map (λ (outcome : Outcome). not (is_test outcome))) c.as_slice.ensures.value)
-    c.walk-2.new.proofs.items c.in_ok-nonrobust.nonrobust.items c.in_ok-nonrobust.ensures.adds
-    (subst P c.in_ok-robust.ensures.rest.net c.in_ok-nonrobust.ensures.outcomes) _ refl refl
+    c.walk-2.new.proofs.items c.in_ok-nonrobust.nonrobust.items c.in_ok-nonrobust.ensures.behind.adds
+    (subst₂ P c.in_ok-robust.ensures.rest.net c.in_ok-robust.ensures.rest.rules c.in_ok-nonrobust.ensures.outcomes) _ refl refl
 
 pub returns-clause-adds : goal.returns-clause-adds
 returns-clause-adds g c =
-    both_add c.args.engine.now.net c.args.paths.now c.args.dir c.args.budget c.args.proofs.now.items c.walk.new.proofs.items
-    c.walk-2.new.proofs.items c.in_ok-robust.ensures.adds c.in_ok-nonrobust.ensures.adds
+    both_add c.args.engine.now.net c.args.engine.now.rules c.args.paths.now c.args.dir c.args.budget c.args.proofs.now.items c.walk.new.proofs.items
+    c.walk-2.new.proofs.items c.in_ok-robust.ensures.behind.adds c.in_ok-nonrobust.ensures.behind.adds
 
 pub returns-in_err-robust-clause-steps : goal.returns-in_err-robust-clause-steps
 returns-in_err-robust-clause-steps g c =
@@ -131,3 +86,49 @@ returns-clause-steps g c =
     let first = counted c.args.paths.now c.args.tree.now c.requires.ready.tree c.args.steps.now c.walk.new.steps c.walk.ensures.counted in
     let second = counted c.args.paths.now c.args.tree.now c.requires.ready.tree c.walk.new.steps c.walk-2.new.steps c.walk-2.ensures.counted in
     omega (arith, first, second)
+
+pub walk-requires-clause-asked : goal.walk-requires-clause-asked
+walk-requires-clause-asked g c = record {
+  one_each =
+      (ap length (c.in_ok-all.ensures.items_if_clones_equal (λ y same. same)) ∙ length-replicate (length c.args.paths.now) true);
+  excused =
+      (all_excused c.args.engine.now.net c.args.engine.now.rules c.args.paths.now c.args.dir c.args.budget c.in_ok-all.all.items
+      (c.in_ok-all.ensures.items_if_clones_equal (λ y same. same)) Robust);
+}
+
+pub walk-requires-clause-before : goal.walk-requires-clause-before
+walk-requires-clause-before g c = record {
+  found =
+      (c.requires.found);
+  fresh =
+      (none_about c.args.engine.now.net c.args.engine.now.rules c.args.paths.now c.args.dir c.args.budget Robust c.args.proofs.now.items c.requires.fresh);
+}
+
+pub walk-requires-2-clause-asked : goal.walk-requires-2-clause-asked
+walk-requires-2-clause-asked g c = record {
+  one_each =
+      (some_each c.args.engine.now.net c.args.engine.now.rules c.args.paths.now c.args.dir c.args.budget c.in_ok-all.all.items
+      (c.in_ok-all.ensures.items_if_clones_equal (λ y same. same)) c.walk.new.proofs.items c.in_ok-robust.robust.items
+      c.in_ok-robust.ensures.outcomes c.in_ok-untested.untested.items
+      (c.in_ok-untested.ensures ∙ ap (map (λ (outcome : Outcome). not (is_test outcome))) c.as_slice.ensures.value));
+  excused =
+      (let P : Circuit → Rules → Type 0 = λ net r. AreExcused net r (record { kind = Nonrobust; dir = c.args.dir; budget = c.args.budget })
+      c.args.paths.now c.in_ok-untested.untested.items in
+      subst₂ P (sym c.in_ok-robust.ensures.rest.net) (sym c.in_ok-robust.ensures.rest.rules)
+      (untested_excused c.args.engine.now.net c.args.engine.now.rules c.args.paths.now c.args.dir c.args.budget c.in_ok-all.all.items
+      (c.in_ok-all.ensures.items_if_clones_equal (λ y same. same)) c.walk.new.proofs.items c.in_ok-robust.robust.items
+      c.in_ok-robust.ensures.outcomes c.in_ok-untested.untested.items
+      (c.in_ok-untested.ensures ∙ ap (map (λ (outcome : Outcome). not (is_test outcome))) c.as_slice.ensures.value)));
+}
+
+pub walk-requires-2-clause-before : goal.walk-requires-2-clause-before
+walk-requires-2-clause-before g c = record {
+  found =
+      (let rest = c.in_ok-robust.ensures.rest in
+      let Found : Circuit → Rules → Type 0 =
+      λ net rules. AreFoundProofs net rules c.args.budget c.args.paths.now c.walk.new.proofs.items in
+      subst₂ Found (sym rest.net) (sym rest.rules) c.in_ok-robust.ensures.behind.found);
+  fresh =
+      (nonrobust_is_new c.args.engine.now.net c.args.engine.now.rules c.args.paths.now c.args.dir c.args.budget c.args.proofs.now.items
+      c.walk.new.proofs.items c.requires.fresh c.in_ok-robust.ensures.behind.adds);
+}

@@ -7,7 +7,7 @@ use Rattle.netlist.specs.declared.limits.TheConstants.{MOST_LEVELS}
 use Rattle.netlist.specs.Paths.{prefix_of}
 use Rattle.pd_base.specs.Route.{Route}
 use Rattle.runs.specs.declared.run.Proof.{Proof}
-use Rattle.runs.specs.declared.tree.Node.{Node}
+use Rattle.trees.specs.declared.tree.Node.{Node}
 use Rattle.prefix_sensitize.specs.declared.course.Course.{Course}
 use Rattle.prefix_sensitize.specs.declared.descent.Ended.{Ended}
 use Rattle.prefix_sensitize.specs.declared.descent.Ended.TheVariants.{Refuted}

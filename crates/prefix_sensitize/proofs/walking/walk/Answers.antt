@@ -16,33 +16,36 @@ use Rattle.prefix_sensitize.proofs.walking.walk.Goals as goal
 pub walk_course-requires : goal.walk_course-requires
 walk_course-requires g c κs lives =
     let engine = c.args.engine.now in
-    let course : Course = record { paths = c.args.paths; order = c.order.result; needed = c.as_slice.result; aim = c.args.aim } in
+    let course : Course = record { alloc = c.args.alloc; paths = c.args.paths; order = c.order.result; needed = c.as_slice.result; aim = c.args.aim } in
     let C : Circuit → Type 0 = λ n. IsCircuit n in
     let O : List ℕ → Type 0 = λ order. IsOrder c.args.paths.now order in
     let N : List Bool → Type 0 = λ needed. length needed ≡ length c.args.paths.now in
-    let X : List Bool → Type 0 = λ needed. AreExcused engine.net c.args.aim c.args.paths.now needed in (
+    let X : List Bool → Type 0 = λ needed. AreExcused engine.net engine.rules c.args.aim c.args.paths.now needed in (
       lives.0,
       (
-        lives.1,
+        lives.1.0,
         (
-          c.requires.ready.idle,
+          lives.1.1,
           (
-            record {
-              circuit = subst C c.net.ensures c.lines.ensures.circuit;
-              searchable = c.requires.ready.listed;
-              told = c.requires.ready.told;
-              order = subst O (sym c.order.ensures) c.requires.ready.tree.order;
-              one_each = subst N (sym c.as_slice.ensures.value) c.requires.needed;
-              excused = subst X (sym c.as_slice.ensures.value) c.requires.excused;
-              budget = c.requires.ready.within;
-            },
+            c.requires.ready.idle,
             (
-              c.requires.ready.desk,
-              (
-                c.requires.room,
-                come_none engine.net engine.rules course c.args.proofs.now.items c.args.steps.now c.as_mut_slice.result.now
-                    (c.as_mut_slice.ensures.value ∙ c.in_ok-outcomes.ensures) c.requires.found c.requires.fresh,
-              ),
+              record {
+                is_course = record {
+                  circuit = subst C c.net.ensures c.lines.ensures.circuit;
+                  fit = c.requires.ready.desk.fit;
+                  unlinked = c.requires.ready.unlinked;
+                  searchable = c.requires.ready.listed;
+                  told = c.requires.ready.told;
+                  order = subst O (sym c.order.ensures) c.requires.ready.tree.order;
+                  one_each = subst N (sym c.as_slice.ensures.value) c.requires.asked.one_each;
+                  excused = subst X (sym c.as_slice.ensures.value) c.requires.asked.excused;
+                  budget = c.requires.ready.within;
+                };
+                is_desk = c.requires.ready.desk;
+                room = c.requires.room;
+              },
+              come_none engine.net engine.rules course c.args.proofs.now.items c.args.steps.now c.as_mut_slice.result.now
+                  (c.as_mut_slice.ensures.value ∙ c.in_ok-outcomes.ensures) c.requires.before.found c.requires.before.fresh,
             ),
           ),
         ),
@@ -52,13 +55,13 @@ walk_course-requires g c κs lives =
 pub returns-clause-outcomes : goal.returns-clause-outcomes
 returns-clause-outcomes g c =
     let engine = c.args.engine.now in
-    let course : Course = record { paths = c.args.paths; order = c.order.result; needed = c.as_slice.result; aim = c.args.aim } in
+    let course : Course = record { alloc = c.args.alloc; paths = c.args.paths; order = c.order.result; needed = c.as_slice.result; aim = c.args.aim } in
     let before = c.in_ok-outcomes.outcomes.items in
     let after = c.walk_course.new.outcomes in
     let proofs = c.walk_course.new.proofs.items in
     let O : List ℕ → Type 0 = λ order. IsOrder c.args.paths.now order in
-    let P : List Outcome → Type 0 = λ o. AreOutcomes engine.net c.args.paths.now proofs c.args.needed.items c.args.aim o in
-    let N : List Bool → Type 0 = λ needed. AreOutcomes engine.net c.args.paths.now proofs needed c.args.aim after in
+    let P : List Outcome → Type 0 = λ o. AreOutcomes engine.net engine.rules c.args.paths.now proofs c.args.needed.items c.args.aim o in
+    let N : List Bool → Type 0 = λ needed. AreOutcomes engine.net engine.rules c.args.paths.now proofs needed c.args.aim after in
     let many = c.as_mut_slice.ensures.len in
     let same = c.walk_course.auto.outcomes in
     let long : c.in_ok-outcomes.outcomes.len ≡ length after = omega (arith, many, same) in
@@ -71,17 +74,11 @@ returns-clause-outcomes g c =
 
 pub returns-clause-ready : goal.returns-clause-ready
 returns-clause-ready g c =
-    ready_again c.args.paths.now c.args.tree.now c.args.aim.budget c.args.engine.now c.walk_course.new.engine c.args.desk.now
+    ready_again g.A.Algebra.algebra c.args.paths.now c.args.tree.now c.args.aim.budget c.args.engine.now c.walk_course.new.engine c.args.desk.now
     c.walk_course.new.desk c.requires.ready c.in_ok-walk_course.ensures.rest c.in_ok-walk_course.ensures.desk
 
 pub returns-clause-rest : goal.returns-clause-rest
 returns-clause-rest g c = c.in_ok-walk_course.ensures.rest
-
-pub returns-clause-adds : goal.returns-clause-adds
-returns-clause-adds g c = c.in_ok-walk_course.ensures.adds
-
-pub returns-clause-found : goal.returns-clause-found
-returns-clause-found g c = let come = c.in_ok-walk_course.ensures.come in come.come.found
 
 pub returns-in_err-outcomes-clause-counted : goal.returns-in_err-outcomes-clause-counted
 returns-in_err-outcomes-clause-counted g c = none_counted c.args.paths.now c.args.steps.now
@@ -91,3 +88,9 @@ returns-in_err-walk_course-clause-counted g c = c.walk_course.ensures.counted
 
 pub returns-clause-counted : goal.returns-clause-counted
 returns-clause-counted g c = c.in_ok-walk_course.ensures.counted
+
+pub returns-clause-behind : goal.returns-clause-behind
+returns-clause-behind g c = record {
+  found = (let come = c.in_ok-walk_course.ensures.come in come.come.found);
+  adds = c.in_ok-walk_course.ensures.adds;
+}

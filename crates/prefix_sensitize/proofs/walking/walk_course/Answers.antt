@@ -11,9 +11,9 @@ use Rattle.prefix_sensitize.proofs.walking.walk_course.Goals as goal
 
 pub loop-place-init : goal.loop-place-init
 loop-place-init g c = record {
-  rest = record { net = refl; rules = refl; ends = refl; idle = c.requires.1.1.0 };
-  desk = c.requires.1.1.1.1.0;
-  come = c.requires.1.1.1.1.1.1;
+  rest = record { net = refl; rules = refl; ends = refl; idle = c.requires.1.1.1.0 };
+  desk = c.requires.1.1.1.1.0.is_desk;
+  come = c.requires.1.1.1.1.1;
   adds = adds_none c.args.course.now.aim c.args.proofs.now.items;
   within = omega arith;
 }
@@ -22,23 +22,28 @@ pub walk_source-requires : goal.walk_source-requires
 walk_source-requires g c κs lives =
     let course = c.args.course.now in
     let rest = c.loop-place.invariant.rest in
-    let C : Circuit → Option (List LineId) → Type 0 = λ n ends. IsCourse n ends course in
-    let D : Circuit → Type 0 = λ n. IsDeskFor n c.loop-place.desk in
+    let C : Circuit → Rules → Type 0 = λ n r. IsCourse n r c.args.engine.now.ends course in
+    let E : Option (List LineId) → Type 0 = λ ends. IsCourse c.loop-place.engine.net c.loop-place.engine.rules ends course in
+    let D : Circuit → Rules → Type 0 = λ n r. IsDeskFor g.A.Algebra.algebra n r c.loop-place.desk in
     let H : Circuit → Rules → Type 0 =
     λ n rules.
     HasComeApart n rules course g.begin c.loop-place.place c.loop-place.outcomes c.loop-place.proofs.items c.loop-place.steps in (
       lives.0,
       (
-        lives.1,
+        lives.1.0,
         (
-          rest.idle,
+          lives.1.1,
           (
-            subst₂ C (sym rest.net) (sym rest.ends) c.requires.1.1.1.0,
+            rest.idle,
             (
-              subst D (sym rest.net) c.loop-place.invariant.desk,
+              record {
+                is_course = subst E (sym rest.ends) (subst₂ C (sym rest.net) (sym rest.rules) c.requires.1.1.1.1.0.is_course);
+                is_desk = subst₂ D (sym rest.net) (sym rest.rules) c.loop-place.invariant.desk;
+                room = c.requires.1.1.1.1.0.room;
+              },
               (
                 omega (arith, c.loop-place-test.true),
-                (c.requires.1.1.1.1.1.0, subst₂ H (sym rest.net) (sym rest.rules) c.loop-place.invariant.come),
+                subst₂ H (sym rest.net) (sym rest.rules) c.loop-place.invariant.come,
               ),
             ),
           ),
@@ -51,7 +56,7 @@ loop-place-preserved g c =
     let course = c.args.course.now in
     let rest = c.loop-place.invariant.rest in
     let after = c.in_ok-place.ensures in
-    let D : Circuit → Type 0 = λ n. IsDeskFor n c.walk_source.new.desk in
+    let D : Circuit → Rules → Type 0 = λ n r. IsDeskFor g.A.Algebra.algebra n r c.walk_source.new.desk in
     let H : Circuit → Rules → Type 0 =
     λ n rules.
     HasComeApart n rules course g.begin c.in_ok-place.place c.walk_source.new.outcomes c.walk_source.new.proofs.items c.walk_source.new.steps in
@@ -62,18 +67,18 @@ loop-place-preserved g c =
         ends = after.rest.ends ∙ rest.ends;
         idle = after.rest.idle;
       };
-      desk = subst D rest.net after.desk;
+      desk = subst₂ D rest.net rest.rules after.desk;
       come = subst₂ H rest.net rest.rules after.come;
       adds =
           adds_on course.aim c.args.proofs.now.items c.loop-place.proofs.items c.walk_source.new.proofs.items c.loop-place.invariant.adds
-          after.adds;
-      within = after.within;
+          after.on.adds;
+      within = after.on.within;
     }
 
 pub loop-place-smaller : goal.loop-place-smaller
 loop-place-smaller g c =
-    let on = c.in_ok-place.ensures.on in
-    let within = c.in_ok-place.ensures.within in
+    let on = c.in_ok-place.ensures.on.on in
+    let within = c.in_ok-place.ensures.on.within in
     omega (arith, on, within)
 
 pub returns-clause-come : goal.returns-clause-come

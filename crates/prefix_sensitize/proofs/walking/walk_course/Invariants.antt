@@ -12,7 +12,7 @@ ghost-walk_source g a = g.begin
 abbrev pub invariant-loop-place : goal.invariant-loop-place
 invariant-loop-place g l = record {
   rest : IsIdleAgain l.fn.engine l.engine;
-  desk : IsDeskFor l.fn.engine.net l.desk;
+  desk : IsDeskFor g.A.Algebra.algebra l.fn.engine.net l.fn.engine.rules l.desk;
   come : HasComeApart l.fn.engine.net l.fn.engine.rules l.course g.begin l.place l.outcomes l.proofs.items l.steps;
   adds : AddsProofs l.course.aim l.fn.proofs.items l.proofs.items;
   within : l.place ≤ length l.course.order.now;

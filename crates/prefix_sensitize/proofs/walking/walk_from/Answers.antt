@@ -1,7 +1,8 @@
 -- One path after another is visited, as long as they begin at the source.
-use Rattle.std.proofs.Common.{◌≡◌, ⊎_elim, ℕ, ◌<◌, ◌≤◌, true≢false, List, [], refl, sym, subst, ◌∙◌, arith}
+use Rattle.std.proofs.Common.{◌≡◌, ⊎_elim, ℕ, ◌<◌, ◌≤◌, true≢false, List, [], refl, sym, subst, subst₂, ◌∙◌, arith}
 use Rattle.std.proofs.lemmas.Bool.{cases_lt}
 use Rattle.std.proofs.lemmas.Option.{slice_get_within}
+use Rattle.pd_base.specs.declared.rules.Rules.{Rules}
 use Rattle.pd_base.specs.declared.ids.PinRef.{PinRef}
 use Rattle.netlist.specs.Circuit.{Circuit}
 use Rattle.implication.specs.Scopes.{standing}
@@ -19,7 +20,7 @@ paths-init g c =
     let course = c.args.course.now in
     let place = c.args.place in
     let old = standing c.args.scope.now in
-    let is_course = c.requires.1.1.1.1.0 in
+    let is_course = c.requires.1.1.1.1.1.0.is_course in
     let at = c.requires.1.1.1.1.1.1.0 in
     let within = slice_get_within course.order.now place at.row at.stands.is_placed in
     let P : List PinRef → Type 0 =
@@ -27,15 +28,15 @@ paths-init g c =
     record {
       scope = record { engine = refl; origin = refl };
       same = record { net = refl; rules = refl; ends = refl; beginning = refl };
-      desk = c.requires.1.1.1.1.1.0;
+      desk = c.requires.1.1.1.1.1.0.is_desk;
       come =
           subst P (sym c.new-descent.ensures)
           (record {
             source = c.args.source;
-            gone = c.requires.1.1.1.0;
+            gone = c.requires.1.1.1.1.0;
             come =
                 come_from old.net old.rules course is_course.order g.begin place c.args.outcomes.now c.args.proofs.now.items
-                c.args.steps.now c.args.source c.requires.1.1.1.1.1.1.1.1;
+                c.args.steps.now c.args.source c.requires.1.1.1.1.1.1.1;
           });
       adds = adds_none course.aim c.args.proofs.now.items;
       behind = omega arith;
@@ -48,23 +49,25 @@ visit-requires g c κs lives =
     let old = standing c.args.scope.now in
     let new = standing c.paths.scope in
     let same = c.paths.invariant.same in
-    let P : Circuit → Type 0 = λ n. IsDeskFor n c.paths.desk in (
+    let can = c.requires.1.1.1.1.1.0 in
+    let P : Circuit → Rules → Type 0 = λ n r. IsDeskFor g.A.Algebra.algebra n r c.paths.desk in (
       lives.0,
       (
-        lives.1,
+        lives.1.0,
         (
-          c.paths.invariant.scope.origin ∙ c.requires.1.1.0,
+          lives.1.1,
           (
-            same_course old new same course c.requires.1.1.1.1.0,
+            c.paths.invariant.scope.origin ∙ c.requires.1.1.1.0,
             (
-              subst P (sym same.net) c.paths.invariant.desk,
+              record {
+                is_course = same_course old new same course can.is_course;
+                is_desk = subst₂ P (sym same.net) (sym same.rules) c.paths.invariant.desk;
+                room = can.room;
+              },
               (
-                c.requires.1.1.1.1.1.1.1.0,
-                (
-                  c.paths.invariant.come,
-                  begun_at old new same course c.args.source [] c.requires.1.1.1.0 c.paths.at
-                      (c.begins_at.ensures.0 c.paths-test.true),
-                ),
+                c.paths.invariant.come,
+                begun_at old new same course c.args.source [] c.requires.1.1.1.1.0 c.paths.at
+                    (c.begins_at.ensures.0 c.paths-test.true),
               ),
             ),
           ),
@@ -76,60 +79,69 @@ pub paths-preserved : goal.paths-preserved
 paths-preserved g c =
     let before = c.paths.invariant in
     let after = c.in_ok-at.ensures in
-    let P : Circuit → Type 0 = λ n. IsDeskFor n c.visit.new.desk in
+    let P : Circuit → Rules → Type 0 = λ n r. IsDeskFor g.A.Algebra.algebra n r c.visit.new.desk in
     let low = before.behind in
-    let on = after.on in
+    let on = after.on.on in
     record {
       scope = same_scope_twice before.scope after.scope;
-      same = same_twice (standing c.args.scope.now) (standing c.paths.scope) (standing c.visit.new.scope) before.same after.same;
-      desk = subst P before.same.net after.desk;
+      same = same_twice (standing c.args.scope.now) (standing c.paths.scope) (standing c.visit.new.scope) before.same after.walked.same;
+      desk = subst₂ P before.same.net before.same.rules after.walked.is_desk;
       come = after.come;
       adds =
-          adds_on c.args.course.now.aim c.args.proofs.now.items c.paths.proofs.items c.visit.new.proofs.items before.adds after.adds;
+          adds_on c.args.course.now.aim c.args.proofs.now.items c.paths.proofs.items c.visit.new.proofs.items before.adds after.on.adds;
       behind = omega (arith, low, on);
-      within = after.within;
+      within = after.on.within;
     }
 
 pub paths-smaller : goal.paths-smaller
 paths-smaller g c =
-    let on = c.in_ok-at.ensures.on in
-    let within = c.in_ok-at.ensures.within in
+    let on = c.in_ok-at.ensures.on.on in
+    let within = c.in_ok-at.ensures.on.within in
     omega (arith, on, within)
 
 pub begins_at-requires : goal.begins_at-requires
-begins_at-requires g c = c.requires.1.1.1.1.0.order.inside
-
-pub returns-in_err-at-clause-desk : goal.returns-in_err-at-clause-desk
-returns-in_err-at-clause-desk g c =
-    let P : Circuit → Type 0 = λ n. IsDeskFor n c.visit.new.desk in
-    subst P c.paths.invariant.same.net c.visit.ensures.desk
+begins_at-requires g c = c.requires.1.1.1.1.1.0.is_course.order.inside
 
 pub returns-in_err-at-clause-scope : goal.returns-in_err-at-clause-scope
 returns-in_err-at-clause-scope g c = same_scope_twice c.paths.invariant.scope c.visit.ensures.scope
 
-pub returns-in_err-at-clause-same : goal.returns-in_err-at-clause-same
-returns-in_err-at-clause-same g c =
-    same_twice (standing c.args.scope.now) (standing c.paths.scope) (standing c.visit.new.scope) c.paths.invariant.same c.visit.ensures.same
-
 pub returns-clause-come : goal.returns-clause-come
 returns-clause-come g c =
-    come_behind (standing c.args.scope.now) (standing c.paths.scope) c.paths.invariant.same c.args.course.now c.requires.1.1.1.1.0
-    c.args.source [] c.requires.1.1.1.0 g.begin c.paths.at c.paths.descent c.paths.outcomes c.paths.proofs.items c.paths.steps
+    come_behind (standing c.args.scope.now) (standing c.paths.scope) c.paths.invariant.same c.args.course.now c.requires.1.1.1.1.1.0.is_course
+    c.args.source [] c.requires.1.1.1.1.0 g.begin c.paths.at c.paths.descent c.paths.outcomes c.paths.proofs.items c.paths.steps
     c.paths.invariant.come
     (λ at. true≢false (sym (c.begins_at.ensures.1 at) ∙ c.paths-test.false))
 
-pub returns-clause-on : goal.returns-clause-on
-returns-clause-on g c =
-    ⊎_elim (λ (less : c.args.place < c.paths.at). less)
-    (λ (not : c.paths.at ≤ c.args.place).
-    let low = c.paths.invariant.behind in
-    let same : c.args.place ≡ c.paths.at = omega (arith, not, low) in
-    let P : ℕ → Type 0 = λ n. BeginsAt c.args.course.now n c.args.source in
-    absurd (true≢false (sym (c.begins_at.ensures.1 (subst P same c.requires.1.1.1.1.1.1.0)) ∙ c.paths-test.false)))
-    (cases_lt c.args.place c.paths.at)
+pub returns-in_err-at-clause-walked : goal.returns-in_err-at-clause-walked
+returns-in_err-at-clause-walked g c = record {
+  is_desk =
+      (let P : Circuit → Rules → Type 0 = λ n r. IsDeskFor g.A.Algebra.algebra n r c.visit.new.desk in
+      subst₂ P c.paths.invariant.same.net c.paths.invariant.same.rules c.visit.ensures.walked.is_desk);
+  same =
+      (same_twice (standing c.args.scope.now) (standing c.paths.scope) (standing c.visit.new.scope) c.paths.invariant.same c.visit.ensures.walked.same);
+  counted = c.visit.ensures.walked.counted;
+}
 
-pub returns-clause-counted : goal.returns-clause-counted
-returns-clause-counted g c =
-    let new = standing c.paths.scope in
-    let come = c.paths.invariant.come in
-    all_counted new.net new.rules c.args.course.now g.begin c.paths.at c.paths.outcomes c.paths.proofs.items c.paths.steps come.come.come
+pub returns-clause-walked : goal.returns-clause-walked
+returns-clause-walked g c = record {
+  is_desk = c.paths.invariant.desk;
+  same = c.paths.invariant.same;
+  counted =
+      (let new = standing c.paths.scope in
+      let come = c.paths.invariant.come in
+      all_counted new.net new.rules c.args.course.now g.begin c.paths.at c.paths.outcomes c.paths.proofs.items c.paths.steps come.come.come);
+}
+
+pub returns-clause-on : goal.returns-clause-on
+returns-clause-on g c = record {
+  on =
+      (⊎_elim (λ (less : c.args.place < c.paths.at). less)
+      (λ (not : c.paths.at ≤ c.args.place).
+      let low = c.paths.invariant.behind in
+      let same : c.args.place ≡ c.paths.at = omega (arith, not, low) in
+      let P : ℕ → Type 0 = λ n. BeginsAt c.args.course.now n c.args.source in
+      absurd (true≢false (sym (c.begins_at.ensures.1 (subst P same c.requires.1.1.1.1.1.1.0)) ∙ c.paths-test.false)))
+      (cases_lt c.args.place c.paths.at));
+  within = c.paths.invariant.within;
+  adds = c.paths.invariant.adds;
+}

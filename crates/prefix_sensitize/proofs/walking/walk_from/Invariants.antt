@@ -14,7 +14,7 @@ abbrev pub invariant-paths : goal.invariant-paths
 invariant-paths g l = record {
   scope : IsSameScope l.fn.scope l.scope;
   same : IsSameBeginning (standing l.fn.scope) (standing l.scope);
-  desk : IsDeskFor (standing l.fn.scope).net l.desk;
+  desk : IsDeskFor g.A.Algebra.algebra (standing l.fn.scope).net (standing l.fn.scope).rules l.desk;
   come : HasComeAlong (standing l.scope) l.course g.begin l.at l.descent l.outcomes l.proofs.items l.steps;
   adds : AddsProofs l.course.aim l.fn.proofs.items l.proofs.items;
   behind : l.place ≤ l.at;

@@ -1,6 +1,12 @@
 -- A scope is opened at the source of the path at this place, and left behind the last path from it.
-use Rattle.std.proofs.Common.{ℕ, ◌+◌, ◌<◌, true≢false, List, [], get_or, Option, sym, subst, subst₂, ◌∙◌, refl, arith}
+use Rattle.std.proofs.Common.{◌≡◌, ℕ, ◌+◌, ◌<◌, true≢false, List, [], get_or, Option, sym, subst, subst₂, ◌∙◌, arith}
 use Rattle.std.proofs.lemmas.Result.{IfOk-weaker}
+use Rattle.pd_base.specs.Links.{links_of}
+use Rattle.pd_base.specs.Links.{IsLink}
+use Rattle.state_laws.proofs.Linked.{none_linked}
+use Rattle.implication.specs.Standing.{IsToldBy}
+use Rattle.implication.proofs.Told.{free_told}
+use Rattle.trees.proofs.Unlinked.{four_unlinked, no_links}
 use Rattle.pd_base.specs.declared.ids.LineId.{LineId}
 use Rattle.pd_base.specs.declared.rules.Rules.{Rules}
 use Rattle.pd_base.specs.Route.{Route}
@@ -9,7 +15,7 @@ use Rattle.implication.specs.Scopes.{standing}
 use Rattle.justify.specs.Desks.{IsDeskFor}
 use Rattle.prefix_sensitize.specs.Coming.{HasComeApart}
 use Rattle.prefix_sensitize.specs.Courses.{IsCourse}
-use Rattle.prefix_sensitize.proofs.Passing.{all_counted, come_alone, come_from, come_past}
+use Rattle.prefix_sensitize.proofs.Passing.{adds_none, all_counted, come_alone, come_from, come_past}
 use Rattle.prefix_sensitize.proofs.PathOrder.{stands_there}
 use Rattle.prefix_sensitize.proofs.walking.walk_source.Goals as goal
 
@@ -18,7 +24,7 @@ returns-then-not-course-row-clause-come g c =
     let course = c.args.course.now in
     let place = c.args.place in
     let old = c.args.engine.now in
-    let is_order = c.requires.1.1.1.0.order in
+    let is_order = c.requires.1.1.1.1.0.is_course.order in
     let source : LineId = record { 0 = 0 } in
     let none : Route = record { source = source; steps = [] } in
     let row = get_or course.order.now place 0 in
@@ -27,17 +33,32 @@ returns-then-not-course-row-clause-come g c =
     (get_or course.paths.now row none) (stands_there course.paths.now course.order.now is_order.inside place 0 none c.requires.1.1.1.1.1.0)
     (λ need. true≢false (sym need ∙ c.if-not-course-row.true)) (record { source = source; steps = [] })
     (come_from old.net old.rules course is_order g.begin place c.args.outcomes.now c.args.proofs.now.items c.args.steps.now source
-    c.requires.1.1.1.1.1.1.1))
+    c.requires.1.1.1.1.1.1))
 
 pub begin-scope-requires-clause-source : goal.begin-scope-requires-clause-source
 begin-scope-requires-clause-source g c =
     let course = c.args.course.now in
     let row = get_or course.order.now c.args.place 0 in
     let path =
-    c.requires.1.1.1.0.searchable.are_paths row c.index-course-row.result
-    (c.requires.1.1.1.0.order.inside c.args.place 0 c.requires.1.1.1.1.1.0) in
+    c.requires.1.1.1.1.0.is_course.searchable.are_paths row c.index-course-row.result
+    (c.requires.1.1.1.1.0.is_course.order.inside c.args.place 0 c.requires.1.1.1.1.1.0) in
     let P : LineId → Type 0 = λ line. line.0 < source_count c.args.engine.now.net in
     subst P (sym c.source-source.ensures) path.prefix.source
+
+pub begin-scope-requires-clause-told : goal.begin-scope-requires-clause-told
+begin-scope-requires-clause-told g c =
+    let course = c.args.course.now in
+    let row = get_or course.order.now c.args.place 0 in
+    let path =
+    c.requires.1.1.1.1.0.is_course.searchable.are_paths row c.index-course-row.result
+    (c.requires.1.1.1.1.0.is_course.order.inside c.args.place 0 c.requires.1.1.1.1.1.0) in
+    let links = links_of c.args.engine.now.rules in
+    let none : links ≡ [] = no_links c.args.engine.now.rules c.requires.1.1.1.1.0.is_course.unlinked in
+    let P : LineId → Type 0 = λ line. IsToldBy c.args.engine.now.net links c.args.engine.now.ends line.0 in
+    let from = (get_or course.paths.now row c.index-course-row.result).source.0 in
+    let free : (other : ℕ) → ¬ IsLink links from other =
+    λ other. subst (λ l. ¬ IsLink l from other) (sym none) (none_linked from other) in
+    subst P (sym c.source-source.ensures) (free_told c.args.engine.now.net links c.args.engine.now.ends from path.prefix.source free)
 
 pub walk_from-requires : goal.walk_from-requires
 walk_from-requires g c κs lives =
@@ -45,31 +66,42 @@ walk_from-requires g c κs lives =
     let place = c.args.place in
     let begun = c.begin-scope.ensures.begun in
     let row = get_or course.order.now place 0 in
-    let C : Circuit → Option (List LineId) → Type 0 = λ n ends. IsCourse n ends course in
-    let D : Circuit → Type 0 = λ n. IsDeskFor n c.args.desk.now in
+    let C : Circuit → Rules → Type 0 = λ n r. IsCourse n r c.args.engine.now.ends course in
+    let E : Option (List LineId) → Type 0 = λ ends. IsCourse (standing c.begin-scope.result).net (standing c.begin-scope.result).rules ends course in
+    let D : Circuit → Rules → Type 0 = λ n r. IsDeskFor g.A.Algebra.algebra n r c.args.desk.now in
     let H : Circuit → Rules → Type 0 =
     λ n rules. HasComeApart n rules course g.begin place c.args.outcomes.now c.args.proofs.now.items c.args.steps.now in (
       lives.0,
       (
-        lives.1,
+        lives.1.0,
         (
-          c.begin-scope.ensures.origin,
+          lives.1.1,
           (
-            record { beginning = begun.beginning; entered = begun.nothing; free = c.begin-scope.ensures.four_states refl },
+            c.begin-scope.ensures.origin,
             (
-              subst₂ C (sym begun.net) (sym begun.ends) c.requires.1.1.1.0,
+              record {
+                beginning = begun.beginning;
+                entered = begun.nothing;
+                free =
+                    c.begin-scope.ensures.four_states (no_links c.args.engine.now.rules c.requires.1.1.1.1.0.is_course.unlinked)
+                    (c.requires.1.1.1.1.0.is_desk.of_rules ∙ sym (four_unlinked c.args.engine.now.rules c.requires.1.1.1.1.0.is_course.unlinked));
+              },
               (
-                subst D (sym begun.net) c.requires.1.1.1.1.0,
+                record {
+                  is_course = subst E (sym begun.ends) (subst₂ C (sym begun.net) (sym begun.rules) c.requires.1.1.1.1.0.is_course);
+                  is_desk = subst₂ D (sym begun.net) (sym begun.rules) c.requires.1.1.1.1.0.is_desk;
+                  room = c.requires.1.1.1.1.0.room;
+                },
                 (
                   record {
                     row = row;
                     route = get_or course.paths.now row c.index-course-row.result;
                     stands =
-                        stands_there course.paths.now course.order.now c.requires.1.1.1.0.order.inside place 0 c.index-course-row.result
-                        c.requires.1.1.1.1.1.0;
+                        stands_there course.paths.now course.order.now c.requires.1.1.1.1.0.is_course.order.inside place 0
+                        c.index-course-row.result c.requires.1.1.1.1.1.0;
                     source = sym c.source-source.ensures;
                   },
-                  (c.requires.1.1.1.1.1.1.0, subst₂ H (sym begun.net) (sym begun.rules) c.requires.1.1.1.1.1.1.1),
+                  subst₂ H (sym begun.net) (sym begun.rules) c.requires.1.1.1.1.1.1,
                 ),
               ),
             ),
@@ -80,8 +112,8 @@ walk_from-requires g c κs lives =
 
 pub returns-clause-desk : goal.returns-clause-desk
 returns-clause-desk g c =
-    let D : Circuit → Type 0 = λ n. IsDeskFor n c.walk_from.new.desk in
-    subst D c.begin-scope.ensures.begun.net c.walk_from.ensures.desk
+    let D : Circuit → Rules → Type 0 = λ n r. IsDeskFor g.A.Algebra.algebra n r c.walk_from.new.desk in
+    subst₂ D c.begin-scope.ensures.begun.net c.begin-scope.ensures.begun.rules c.walk_from.ensures.walked.is_desk
 
 pub returns-clause-come : goal.returns-clause-come
 returns-clause-come g c =
@@ -101,25 +133,29 @@ returns-clause-come g c =
 pub returns-then-not-course-row-clause-counted : goal.returns-then-not-course-row-clause-counted
 returns-then-not-course-row-clause-counted g c =
     let old = c.args.engine.now in
-    let come = c.requires.1.1.1.1.1.1.1 in
+    let come = c.requires.1.1.1.1.1.1 in
     all_counted old.net old.rules c.args.course.now g.begin c.args.place c.args.outcomes.now c.args.proofs.now.items c.args.steps.now
     come.come
 
 pub bounds-course-row : goal.bounds-course-row
 bounds-course-row g c =
-    let inside = c.requires.1.1.1.0.order.inside c.args.place 0 c.requires.1.1.1.1.1.0 in omega (arith, inside, c.requires.1.1.1.0.one_each)
+    let inside = c.requires.1.1.1.1.0.is_course.order.inside c.args.place 0 c.requires.1.1.1.1.1.0 in omega (arith, inside, c.requires.1.1.1.1.0.is_course.one_each)
 
 pub bounds-course-row-2 : goal.bounds-course-row-2
-bounds-course-row-2 g c = c.requires.1.1.1.0.order.inside c.args.place 0 c.requires.1.1.1.1.1.0
+bounds-course-row-2 g c = c.requires.1.1.1.1.0.is_course.order.inside c.args.place 0 c.requires.1.1.1.1.1.0
 
 pub overflow_add-result : goal.overflow_add-result
 overflow_add-result g c =
     let place = c.requires.1.1.1.1.1.0 in
-    let few = c.requires.1.1.1.0.searchable.few in
-    omega (arith, place, c.requires.1.1.1.0.order.one_each, few)
-
-pub returns-then-not-course-row-clause-within : goal.returns-then-not-course-row-clause-within
-returns-then-not-course-row-clause-within g c = let place = c.requires.1.1.1.1.1.0 in omega (arith, place)
+    let few = c.requires.1.1.1.1.0.is_course.searchable.few in
+    omega (arith, place, c.requires.1.1.1.1.0.is_course.order.one_each, few)
 
 pub returns-then-not-course-row-clause-on : goal.returns-then-not-course-row-clause-on
-returns-then-not-course-row-clause-on g c = omega arith
+returns-then-not-course-row-clause-on g c = record {
+  on = omega arith;
+  within = (let place = c.requires.1.1.1.1.1.0 in omega (arith, place));
+  adds = adds_none c.args.course.now.aim c.args.proofs.now.items;
+}
+
+pub returns-clause-counted : goal.returns-clause-counted
+returns-clause-counted g c = c.walk_from.ensures.walked.counted

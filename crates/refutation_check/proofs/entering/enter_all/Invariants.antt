@@ -1,6 +1,6 @@
 use Rattle.std.proofs.Common.{◌≡◌}
 use Rattle.implication.specs.Scopes.{IsSameScope, standing}
-use Rattle.tree_laws.specs.Settings.{IsSameSetting}
+use Rattle.implication.specs.Settings.{IsSameSetting}
 use Rattle.refutation_check.specs.Entering.{HasEnteredTo}
 use Rattle.refutation_check.proofs.entering.enter_all.Given as goal
 
@@ -10,5 +10,5 @@ invariant-loop-pin g l = record {
   scope : IsSameScope l.fn.scope l.scope;
   setting : IsSameSetting (standing l.fn.scope) (standing l.scope);
   beginning : (standing l.scope).beginning ≡ (standing l.fn.scope).beginning;
-  entered : HasEnteredTo l.prefix l.pin-index (standing l.scope);
+  entered : HasEnteredTo g.A.Algebra.algebra l.prefix l.pin-index (standing l.scope);
 }

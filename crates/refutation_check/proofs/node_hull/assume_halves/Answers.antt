@@ -1,12 +1,14 @@
--- One half more is assumed, and at the end all are.
-use Rattle.std.proofs.Common.{◌<◌, false, List, take, get_or, sym, subst}
+use Rattle.std.proofs.Common.{◌<◌, false, List, take, get_or, sym, subst, ◌∙◌}
 use Rattle.std.proofs.lemmas.List.{take_more, take_all}
 use Rattle.netlist.specs.Circuit.{Circuit, source_count}
 use Rattle.state_laws.specs.declared.half.Half.{Half}
 use Rattle.implication.specs.Scopes.{standing}
 use Rattle.refutation_check.specs.Walks.{IsScopeAt}
-use Rattle.tree_laws.proofs.Settings.{same_itself, same_twice, same_of_extended}
+use Rattle.refutation_check.proofs.SameSettings.{all_are_told}
+use Rattle.implication.proofs.Settings.{same_itself, same_twice, same_of_extended}
 use Rattle.refutation_check.proofs.node_hull.assume_halves.Goals as goal
+
+-- One half more is assumed, and at the end all are.
 
 abbrev no_half : Half
 no_half = record { source = 0; steadiness = false; second = false }
@@ -22,6 +24,8 @@ assume_half-requires g c =
     let P : Circuit → Type 0 = λ n. (get_or c.args.halves.now c.loop-half.half-index no_half).source < source_count n in
     record {
       source = subst P (sym c.loop-half.invariant.setting.net) (c.requires.sources c.loop-half.half-index no_half c.loop-half-test.true);
+      told = all_are_told (standing c.loop-half.scope) (c.loop-half.invariant.setting.ends ∙ c.requires.all_told)
+          (get_or c.args.halves.now c.loop-half.half-index no_half).source;
     }
 
 pub loop-half-preserved : goal.loop-half-preserved
@@ -31,12 +35,12 @@ loop-half-preserved g c =
     record {
       setting = same_twice (standing c.args.scope.now) before after c.loop-half.invariant.setting
           (same_of_extended before after c.assume_half.ensures.extends);
-      below = λ target at. subst (λ (list : List Half). IsScopeAt target list after)
+      below = λ target at. subst (λ (list : List Half). IsScopeAt g.A.Algebra.algebra target list after)
           (sym (take_more halves place no_half c.loop-half-test.true))
           (c.assume_half.ensures.below target (take place halves) (c.loop-half.invariant.below target at));
     }
 
 pub returns-clause-below : goal.returns-clause-below
 returns-clause-below g c = λ target at.
-    subst (λ (list : List Half). IsScopeAt target list (standing c.loop-half.scope))
+    subst (λ (list : List Half). IsScopeAt g.A.Algebra.algebra target list (standing c.loop-half.scope))
     (take_all c.loop-half.half-index c.args.halves.now c.loop-half-test.false) (c.loop-half.invariant.below target at)

@@ -1,20 +1,24 @@
 -- The nodes are tried in preorder, with the scope at each.
-use Rattle.std.proofs.Common.{◌∙◌, List, get_or, refl, sym, subst}
+use Rattle.std.proofs.Common.{◌∙◌, ℕ, List, get_or, refl, sym, subst}
+use Rattle.std.specs.List.{All}
 use Rattle.std.proofs.lemmas.Bool.{false≢true}
-use Rattle.netlist.specs.Circuit.{Circuit, source_count}
-use Rattle.runs.specs.declared.tree.Node.{Node}
-use Rattle.runs.specs.declared.tree.Node.TheVariants.{Closed}
-use Rattle.runs.specs.Trees.{IsTree}
+use Rattle.trees.specs.declared.tree.Node.{Node}
+use Rattle.trees.specs.declared.tree.Node.TheVariants.{Closed}
+use Rattle.trees.specs.Trees.{IsTree}
 use Rattle.implication.specs.Scopes.{standing}
 use Rattle.implication.proofs.Restoring.{same_scope_twice}
-use Rattle.tree_laws.specs.Halves.{halves_of}
-use Rattle.tree_laws.specs.Faults.{IsRightInRefutation, IsFirstFaultOf}
+use Rattle.trees.specs.Halves.{halves_of}
+use Rattle.trees.specs.Faults.{RefutesAtNode, IsFirstFaultOf}
 use Rattle.refutation_check.specs.declared.answer.TreeCheck.TheVariants.{Yes}
 use Rattle.refutation_check.specs.Answers.{TellsOfNodes}
-use Rattle.refutation_check.specs.Walks.{IsOn}
-use Rattle.refutation_check.proofs.Checking.{checked_none, checked_walk, checked_right, checked_fault, checked_more, checked_all, refutes_there, refutation_on}
-use Rattle.tree_laws.proofs.Settings.{same_itself, same_twice}
+use Rattle.refutation_check.specs.Walks.{IsToldAt}
+use Rattle.refutation_check.proofs.Checking.{checked_none, checked_walk, checked_right, checked_fault, checked_more, checked_all, refutes_there, refutation_on, on_there, splits_on_any}
+use Rattle.implication.proofs.Settings.{same_itself, same_twice}
 use Rattle.refutation_check.proofs.refutation.walk_refutation.Goals as goal
+
+-- halves of any sources
+abbrev any : ℕ → Type 0
+any source = Unit {0}
 
 pub loop-place-init : goal.loop-place-init
 loop-place-init g c =
@@ -22,7 +26,7 @@ loop-place-init g c =
     record {
       scope = record { engine = refl; origin = refl };
       setting = same_itself old;
-      checked = λ target at. checked_none (IsRightInRefutation old.net old.rules target) target c.nodes-node-items.result.now old
+      checked = λ target at. checked_none g.A.Algebra.algebra (RefutesAtNode g.A.Algebra.algebra old.net old.rules target) any target c.nodes-node-items.result.now old
           c.clear.new.self.items at c.clear.ensures.items;
     }
 
@@ -30,32 +34,33 @@ pub returns-then-not-refutes_at-clause-tells : goal.returns-then-not-refutes_at-
 returns-then-not-refutes_at-clause-tells g c = λ target at.
     let old = standing c.args.scope.now in let now = standing c.loop-place.scope in
     let items = c.nodes-node-items.result.now in let place = c.loop-place.place in let inv = c.loop-place.invariant in
-    let Is = IsRightInRefutation old.net old.rules target in
+    let Is = RefutesAtNode g.A.Algebra.algebra old.net old.rules target in
     let checked = inv.checked target at in let node = get_or items place Closed in
     subst (λ (nodes : List Node). IsFirstFaultOf Is nodes place) c.nodes-node-items.ensures.nodes
-    (checked_fault Is target items place now c.loop-place.pending.items checked node Closed c.loop-place-test.true refl
+    (checked_fault g.A.Algebra.algebra Is any target items place now c.loop-place.pending.items checked node Closed c.loop-place-test.true refl
     (λ right. false≢true (sym c.if-not-refutes_at.true
-    ∙ (checked_right Is target items place now c.loop-place.pending.items checked node c.refutes_at.result
-    (refutes_there old now inv.setting node c.refutes_at.result c.refutes_at.ensures target)).1 right))
+    ∙ (checked_right g.A.Algebra.algebra Is any target items place now c.loop-place.pending.items checked node c.refutes_at.result
+    (refutes_there g.A.Algebra.algebra old now inv.setting node c.refutes_at.result c.refutes_at.ensures target)).1 right))
     (subst IsTree (sym c.nodes-node-items.ensures.nodes) c.nodes-node-items.ensures.tree))
 
 pub pass-requires-clause-walk : goal.pass-requires-clause-walk
 pass-requires-clause-walk g c =
     let old = standing c.args.scope.now in let now = standing c.loop-place.scope in
     let target = c.requires.root.target in
-    checked_walk (IsRightInRefutation old.net old.rules target) target c.nodes-node-items.result.now c.loop-place.place now
+    checked_walk g.A.Algebra.algebra (RefutesAtNode g.A.Algebra.algebra old.net old.rules target) any target c.nodes-node-items.result.now c.loop-place.place now
     c.loop-place.pending.items (c.loop-place.invariant.checked target c.requires.root.at)
 
 pub pass-requires-clause-split : goal.pass-requires-clause-split
 pass-requires-clause-split g c =
     let old = standing c.args.scope.now in let now = standing c.loop-place.scope in
     let items = c.nodes-node-items.result.now in let place = c.loop-place.place in let inv = c.loop-place.invariant in
-    let target = c.requires.root.target in let Is = IsRightInRefutation old.net old.rules target in
+    let target = c.requires.root.target in let Is = RefutesAtNode g.A.Algebra.algebra old.net old.rules target in
     let checked = inv.checked target c.requires.root.at in let node = get_or items place Closed in
-    let right = (checked_right Is target items place now c.loop-place.pending.items checked node c.refutes_at.result
-    (refutes_there old now inv.setting node c.refutes_at.result c.refutes_at.ensures target)).0 c.if-not-refutes_at.false in
-    let P : Circuit → Type 0 = λ n. IsOn (source_count n) node in
-    subst P (sym inv.setting.net) (refutation_on old.net old.rules target (halves_of checked.above) node right)
+    let right = (checked_right g.A.Algebra.algebra Is any target items place now c.loop-place.pending.items checked node c.refutes_at.result
+    (refutes_there g.A.Algebra.algebra old now inv.setting node c.refutes_at.result c.refutes_at.ensures target)).0 c.if-not-refutes_at.false in
+    on_there old now inv.setting node
+    (refutation_on g.A.Algebra.algebra old target (halves_of checked.above) node right
+    (subst (λ (nodes : List Node). All (IsToldAt old) nodes) (sym c.nodes-node-items.ensures.nodes) c.requires.splits place Closed c.loop-place-test.true))
 
 pub loop-place-preserved : goal.loop-place-preserved
 loop-place-preserved g c =
@@ -66,19 +71,19 @@ loop-place-preserved g c =
       scope = same_scope_twice inv.scope c.pass.ensures.scope;
       setting = same_twice old now next inv.setting c.pass.ensures.setting;
       checked = λ target at.
-          let Is = IsRightInRefutation old.net old.rules target in
+          let Is = RefutesAtNode g.A.Algebra.algebra old.net old.rules target in
           let checked = inv.checked target at in
-          let right = (checked_right Is target items place now c.loop-place.pending.items checked node c.refutes_at.result
-          (refutes_there old now inv.setting node c.refutes_at.result c.refutes_at.ensures target)).0 c.if-not-refutes_at.false in
-          checked_more Is target items place now c.loop-place.pending.items checked node Closed next c.pass.new.pending.items
-          c.loop-place-test.true refl right c.in_ok-pass.ensures.passes;
+          let right = (checked_right g.A.Algebra.algebra Is any target items place now c.loop-place.pending.items checked node c.refutes_at.result
+          (refutes_there g.A.Algebra.algebra old now inv.setting node c.refutes_at.result c.refutes_at.ensures target)).0 c.if-not-refutes_at.false in
+          checked_more g.A.Algebra.algebra Is any target items place now c.loop-place.pending.items checked node Closed next c.pass.new.pending.items
+          c.loop-place-test.true refl right (splits_on_any node) c.in_ok-pass.ensures.passes;
     }
 
 pub returns-clause-tells : goal.returns-clause-tells
 returns-clause-tells g c = λ target at.
     let old = standing c.args.scope.now in
-    let Is = IsRightInRefutation old.net old.rules target in
+    let Is = RefutesAtNode g.A.Algebra.algebra old.net old.rules target in
     subst (λ (nodes : List Node). TellsOfNodes Is nodes Yes) c.nodes-node-items.ensures.nodes
-    (checked_all Is target c.nodes-node-items.result.now c.loop-place.place (standing c.loop-place.scope) c.loop-place.pending.items
+    (checked_all g.A.Algebra.algebra Is any target c.nodes-node-items.result.now c.loop-place.place (standing c.loop-place.scope) c.loop-place.pending.items
     (c.loop-place.invariant.checked target at) c.loop-place-test.false
     (subst IsTree (sym c.nodes-node-items.ensures.nodes) c.nodes-node-items.ensures.tree))

@@ -1,39 +1,35 @@
--- The judge is made for the end of the prefix.
-use Rattle.std.proofs.Common.{◌≡◌, ◌↔◌, IfOk, sym, subst}
+-- What is told of the nodes tells whether the tree refutes.
+use Rattle.std.proofs.Common.{IfOk, subst}
+use Rattle.std.proofs.lemmas.Result.{IfOk-weaker}
 use Rattle.pd_base.specs.Target.{target_of}
-use Rattle.netlist.specs.Paths.{IsPrefix}
 use Rattle.state_laws.proofs.Steadied.{steadied_meets}
-use Rattle.tree_laws.specs.Refutations.{IsRefutation}
-use Rattle.refutation_check.specs.declared.answer.TreeCheck.TheVariants.{Yes}
-use Rattle.refutation_check.specs.Answers.{TellsOfRefutation}
-use Rattle.refutation_check.specs.Judges.{MadeFor}
-use Rattle.refutation_check.proofs.Checking.{told_at_end}
+use Rattle.trees.specs.Faults.{IsRightInRefutation}
+use Rattle.trees.proofs.Refuting.{refutation_excludes_path}
+use Rattle.refutation_check.specs.Answers.{TellsOfNodes, TellsOfRefutation}
+use Rattle.refutation_check.proofs.Checking.{refutation_of_nodes, refutation_exactly}
 use Rattle.refutation_check.proofs.single.check_tree.Goals as goal
-
-pub check_tree-told-requires-clause-told : goal.check_tree-told-requires-clause-told
-check_tree-told-requires-clause-told c =
-    told_at_end c.in_ok-judge.judge c.args.net.now c.args.rules.now c.end_of.result c.args.prefix.now c.in_ok-judge.ensures c.end_of.ensures.end
-
-pub check_tree-told-requires-clause-prefix : goal.check_tree-told-requires-clause-prefix
-check_tree-told-requires-clause-prefix c =
-    let P : MadeFor → Type 0 = λ m. IsPrefix m.net c.args.prefix.now in subst P (sym c.in_ok-judge.ensures) c.requires
 
 pub returns-clause-tells : goal.returns-clause-tells
 returns-clause-tells c =
-    let P : MadeFor → Type 0 = λ m. IfOk c.check_tree-told.result
-    (TellsOfRefutation m.net m.rules (target_of c.args.prefix.now c.args.dir c.args.kind) c.args.tree.now) in
-    subst P c.in_ok-judge.ensures c.check_tree-told.ensures.tells
+    let net = c.args.net.now in let rules = c.args.rules.now in
+    let target = target_of c.args.prefix.now c.args.dir c.args.kind in let tree = c.args.tree.now in
+    IfOk-weaker c.refutes_by_rules.result (TellsOfNodes (IsRightInRefutation net rules target) tree) (TellsOfRefutation net rules target tree)
+    (λ check nodes. refutation_of_nodes net rules target tree check nodes) c.refutes_by_rules.ensures
 
 pub returns-clause-exactly : goal.returns-clause-exactly
 returns-clause-exactly c =
-    let P : MadeFor → Type 0 = λ m. IfOk c.check_tree-told.result (λ check.
-    (check ≡ Yes) ↔ IsRefutation m.net m.rules (target_of c.args.prefix.now c.args.dir c.args.kind) c.args.tree.now) in
-    subst P c.in_ok-judge.ensures c.check_tree-told.ensures.exactly
+    let net = c.args.net.now in let rules = c.args.rules.now in
+    let target = target_of c.args.prefix.now c.args.dir c.args.kind in let tree = c.args.tree.now in
+    IfOk-weaker c.refutes_by_rules.result (TellsOfRefutation net rules target tree) _
+    (λ check tells. refutation_exactly net rules target tree check tells) (returns-clause-tells c)
+
+pub returns-clause-excludes : goal.returns-clause-excludes
+returns-clause-excludes c = λ yes path is_prefix of pair of_rules.
+    let net = c.args.net.now in let rules = c.args.rules.now in
+    let target = target_of c.args.prefix.now c.args.dir c.args.kind in let tree = c.args.tree.now in
+    refutation_excludes_path net c.lines.ensures.circuit rules c.requires.fit c.args.kind c.args.prefix.now path is_prefix of c.args.dir tree
+    (subst (λ result. IfOk result (TellsOfRefutation net rules target tree)) yes (returns-clause-tells c)) pair of_rules
 
 pub returns-clause-steadied : goal.returns-clause-steadied
 returns-clause-steadied c = λ pair meets.
-    steadied_meets c.args.net.now c.lines.ensures.circuit (target_of c.args.prefix.now c.args.dir c.args.kind) c.requires pair meets
-
-pub returns-in_err-judge-clause-steadied : goal.returns-in_err-judge-clause-steadied
-returns-in_err-judge-clause-steadied c = λ pair meets.
-    steadied_meets c.args.net.now c.lines.ensures.circuit (target_of c.args.prefix.now c.args.dir c.args.kind) c.requires pair meets
+    steadied_meets c.args.net.now c.lines.ensures.circuit (target_of c.args.prefix.now c.args.dir c.args.kind) c.requires.prefix pair meets

@@ -2,20 +2,21 @@
 use Rattle.std.proofs.Common.{◌↔◌, Bool, List, sym, subst}
 use Rattle.std.specs.Prelude.{IsTrue}
 use Rattle.pd_base.specs.Target.{Target}
+use Rattle.state_sets.specs.StateAlgebra.{StateAlgebra}
 use Rattle.state_laws.specs.declared.half.Half.{Half}
-use Rattle.runs.specs.declared.tree.Node.{Node}
+use Rattle.trees.specs.declared.tree.Node.{Node}
 use Rattle.implication.specs.Scopes.{standing}
 use Rattle.implication.specs.Standing.{Standing}
-use Rattle.tree_laws.specs.Faults.{IsRightInSpent}
-use Rattle.refutation_check.specs.Trials.{asked_target}
-use Rattle.refutation_check.specs.Walks.{IsScopeAt}
-use Rattle.refutation_check.proofs.Spending.{closes_told}
+use Rattle.trees.specs.Faults.{IsRightInSpent}
+use Rattle.refutation_check.specs.Trials.{asked_target, IsScopeInSupport}
+use Rattle.refutation_check.proofs.NodeLabels.{closes_told}
+use Rattle.refutation_check.proofs.Spending.{closes_by_rules}
 use Rattle.refutation_check.proofs.spent.is_right_at.Goals as goal
 
 -- what is told of a node at which the scope stands
-abbrev TellsOf : Target → Standing → Bool → Node → Type 0
-TellsOf target standing r node =
-    (halves : List Half) → IsScopeAt target halves standing → IsTrue r ↔ IsRightInSpent standing.net standing.rules target halves node
+abbrev TellsOf : StateAlgebra → Target → Standing → Bool → Node → Type 0
+TellsOf a target standing r node =
+    (halves : List Half) → IsScopeInSupport a target halves standing → IsTrue r ↔ IsRightInSpent standing.net standing.rules target halves node
 
 pub is_open-requires-clause-prefix : goal.is_open-requires-clause-prefix
 is_open-requires-clause-prefix g c = c.requires.prefix
@@ -62,18 +63,19 @@ returns-in-Steadiness-clause-room g c = c.is_due-in-Steadiness.ensures.room
 pub returns-in-Closed-clause-right : goal.returns-in-Closed-clause-right
 returns-in-Closed-clause-right g c =
     let target = asked_target c.args.asked.now in let now = standing c.args.scope.now in
-    subst (TellsOf target now c.is_some.result) (sym c.in-Closed.is)
-    (λ halves at. closes_told target halves now at c.conflict.result c.conflict.ensures.none c.conflict.ensures.some c.is_some.result c.is_some.ensures)
+    subst (TellsOf g.A.Algebra.algebra target now c.is_some.result) (sym c.in-Closed.is)
+    (λ halves within. closes_by_rules now target halves g.A.Algebra.algebra c.requires.room.made.chosen c.is_some.result
+    (closes_told g.A.Algebra.algebra target halves now within.at c.conflict.result c.conflict.ensures.none c.conflict.ensures.some c.is_some.result c.is_some.ensures))
 
 pub returns-then-is_none-clause-right : goal.returns-then-is_none-clause-right
 returns-then-is_none-clause-right g c =
-    subst (TellsOf (asked_target c.args.asked.now) (standing c.args.scope.now) c.is_open.result) (sym c.in-Waiting.is) c.is_open.ensures.open
+    subst (TellsOf g.A.Algebra.algebra (asked_target c.args.asked.now) (standing c.args.scope.now) c.is_open.result) (sym c.in-Waiting.is) c.is_open.ensures.open
 
 pub returns-in-Value-clause-right : goal.returns-in-Value-clause-right
 returns-in-Value-clause-right g c =
-    subst (TellsOf (asked_target c.args.asked.now) (standing c.args.scope.now) c.is_due.result) (sym c.in-Value.is) c.is_due.ensures.due
+    subst (TellsOf g.A.Algebra.algebra (asked_target c.args.asked.now) (standing c.args.scope.now) c.is_due.result) (sym c.in-Value.is) c.is_due.ensures.due
 
 pub returns-in-Steadiness-clause-right : goal.returns-in-Steadiness-clause-right
 returns-in-Steadiness-clause-right g c =
-    subst (TellsOf (asked_target c.args.asked.now) (standing c.args.scope.now) c.is_due-in-Steadiness.result) (sym c.in-Steadiness.is)
+    subst (TellsOf g.A.Algebra.algebra (asked_target c.args.asked.now) (standing c.args.scope.now) c.is_due-in-Steadiness.result) (sym c.in-Steadiness.is)
     c.is_due-in-Steadiness.ensures.due

@@ -1,45 +1,70 @@
 -- The scope is at the root, and the cone is that of the path's end.
-use Rattle.std.proofs.Common.{List, Option, Some, IfOk, refl, sym, ◌∙◌, subst, subst₂}
+use Rattle.std.proofs.Common.{◌<◌, Some, IfOk, refl, sym, ◌∙◌, subst, subst₂}
 use Rattle.pd_base.specs.declared.ids.LineId.{LineId}
 use Rattle.pd_base.specs.declared.rules.Rules.{Rules}
-use Rattle.netlist.specs.Circuit.{Circuit}
-use Rattle.netlist.specs.Paths.{IsPrefix, end_of}
-use Rattle.implication.specs.Standing.{IsToldBy}
-use Rattle.tree_laws.specs.Faults.{IsRightInSpent}
+use Rattle.netlist.specs.Circuit.{Circuit, source_count}
+use Rattle.netlist.specs.Paths.{IsPrefix}
+use Rattle.implication.specs.Scopes.{standing}
+use Rattle.implication.specs.Standing.{IsTold}
+use Rattle.implication.proofs.Settings.{same_twice}
+use Rattle.trees.specs.Faults.{IsRightInSpent}
 use Rattle.refutation_check.specs.Answers.{TellsOfNodes}
 use Rattle.refutation_check.specs.Trials.{asked_target}
+use Rattle.refutation_check.proofs.SameSettings.{end_told_there, begun_same, own_told}
 use Rattle.refutation_check.proofs.spent.spends.Goals as goal
 
-pub enter_all-requires-clause-prefix : goal.enter_all-requires-clause-prefix
-enter_all-requires-clause-prefix g c =
+pub begin-scope-requires-clause-source : goal.begin-scope-requires-clause-source
+begin-scope-requires-clause-source g c =
+    let P : LineId → Type 0 = λ line. line.0 < source_count c.args.engine.now.net in subst P (sym c.source.ensures) c.requires.prefix.source
+
+pub begin-scope-requires-clause-told : goal.begin-scope-requires-clause-told
+begin-scope-requires-clause-told g c =
+    let P : LineId → Type 0 = λ line. IsTold c.args.engine.now line.0 in
+    subst P (sym c.source.ensures) (own_told c.args.engine.now c.args.asked.now.path.now c.requires.prefix c.requires.told)
+
+pub enter_root-requires-clause-prefix : goal.enter_root-requires-clause-prefix
+enter_root-requires-clause-prefix g c =
     let P : Circuit → Type 0 = λ n. IsPrefix n c.args.asked.now.path.now in subst P (sym c.begin-scope.ensures.begun.net) c.requires.prefix
 
-pub enter_all-requires-clause-told : goal.enter_all-requires-clause-told
-enter_all-requires-clause-told g c =
+pub enter_root-requires-clause-told : goal.enter_root-requires-clause-told
+enter_root-requires-clause-told g c =
+    end_told_there c.args.engine.now (standing c.begin-scope.result)
+    (begun_same (record { source = c.source.result; direction = c.args.asked.now.dir; kind = c.args.asked.now.kind }) c.args.engine.now
+    (standing c.begin-scope.result) c.begin-scope.ensures.begun) c.args.asked.now.path.now c.requires.told
+
+pub enter_root-requires-clause-begun : goal.enter_root-requires-clause-begun
+enter_root-requires-clause-begun g c =
     let begun = c.begin-scope.ensures.begun in
-    let P : Circuit → Option (List LineId) → Type 0 = λ n ends. IsToldBy n ends (end_of n c.args.asked.now.path.now) in
-    subst₂ P (sym begun.net) (sym begun.ends) c.requires.told
+    record {
+      begun = record { source = c.source.result; direction = c.args.asked.now.dir; kind = c.args.asked.now.kind };
+      beginning = begun.beginning;
+      source = c.source.ensures;
+      nothing = begun.nothing;
+      left_open = c.begin-scope.ensures.open;
+      emptied = c.begin-scope.ensures.emptied;
+    }
 
 pub walk_spent-requires-clause-prefix : goal.walk_spent-requires-clause-prefix
 walk_spent-requires-clause-prefix g c =
     let P : Circuit → Type 0 = λ n. IsPrefix n c.args.asked.now.path.now in
-    subst P (sym (c.enter_all.ensures.setting.net ∙ c.begin-scope.ensures.begun.net)) c.requires.prefix
+    subst P (sym (c.enter_root.ensures.setting.net ∙ c.begin-scope.ensures.begun.net)) c.requires.prefix
 
 pub walk_spent-requires-clause-told : goal.walk_spent-requires-clause-told
 walk_spent-requires-clause-told g c =
-    let begun = c.begin-scope.ensures.begun in let setting = c.enter_all.ensures.setting in
-    let P : Circuit → Option (List LineId) → Type 0 = λ n ends. IsToldBy n ends (end_of n c.args.asked.now.path.now) in
-    subst₂ P (sym (setting.net ∙ begun.net)) (sym (setting.ends ∙ begun.ends)) c.requires.told
+    end_told_there c.args.engine.now (standing c.enter_root.new.scope)
+    (same_twice c.args.engine.now (standing c.begin-scope.result) (standing c.enter_root.new.scope)
+    (begun_same (record { source = c.source.result; direction = c.args.asked.now.dir; kind = c.args.asked.now.kind }) c.args.engine.now
+    (standing c.begin-scope.result) c.begin-scope.ensures.begun) c.enter_root.ensures.setting) c.args.asked.now.path.now c.requires.told
 
 pub walk_spent-requires-clause-root : goal.walk_spent-requires-clause-root
 walk_spent-requires-clause-root g c =
-    c.enter_all.ensures.root (asked_target c.args.asked.now) refl
+    c.enter_root.ensures.root (asked_target c.args.asked.now) refl
     (c.begin-scope.ensures.begun.beginning
     ∙ (λ i. Some (record { source = c.source.ensures i; direction = c.args.asked.now.dir; kind = c.args.asked.now.kind })))
 
 pub returns-clause-tells : goal.returns-clause-tells
 returns-clause-tells g c =
-    let begun = c.begin-scope.ensures.begun in let setting = c.enter_all.ensures.setting in
+    let begun = c.begin-scope.ensures.begun in let setting = c.enter_root.ensures.setting in
     let P : Circuit → Rules → Type 0 =
     λ n rules. IfOk c.walk_spent.result (TellsOfNodes (IsRightInSpent n rules (asked_target c.args.asked.now)) c.args.tree.now) in
     subst₂ P (setting.net ∙ begun.net) (setting.rules ∙ begun.rules) c.walk_spent.ensures.tells

@@ -1,23 +1,23 @@
 -- The nodes are tried in preorder, with the scope at each.
-use Rattle.std.proofs.Common.{◌∙◌, List, Option, get_or, refl, sym, subst, subst₂}
-use Rattle.pd_base.specs.declared.ids.LineId.{LineId}
+use Rattle.std.proofs.Common.{◌∙◌, List, get_or, refl, sym, subst, subst₂}
 use Rattle.std.proofs.lemmas.Bool.{false≢true}
-use Rattle.netlist.specs.Circuit.{Circuit, source_count}
-use Rattle.netlist.specs.Paths.{IsPrefix, end_of}
-use Rattle.runs.specs.declared.tree.Node.{Node}
-use Rattle.runs.specs.declared.tree.Node.TheVariants.{Closed}
-use Rattle.runs.specs.Trees.{IsTree}
+use Rattle.pd_base.specs.declared.rules.Rules.{Rules}
+use Rattle.netlist.specs.Circuit.{Circuit}
+use Rattle.netlist.specs.Paths.{IsPrefix}
+use Rattle.trees.specs.declared.tree.Node.{Node}
+use Rattle.trees.specs.declared.tree.Node.TheVariants.{Closed}
+use Rattle.trees.specs.Trees.{IsTree}
 use Rattle.implication.specs.Scopes.{standing}
-use Rattle.implication.specs.Standing.{IsToldBy}
 use Rattle.implication.proofs.Restoring.{same_scope_twice}
-use Rattle.tree_laws.specs.Halves.{halves_of}
-use Rattle.tree_laws.specs.Faults.{IsRightInSpent, IsFirstFaultOf}
+use Rattle.trees.specs.Halves.{halves_of}
+use Rattle.trees.specs.Faults.{IsRightInSpent, IsFirstFaultOf}
+use Rattle.trees.specs.Spent.{IsInSupport}
 use Rattle.refutation_check.specs.declared.answer.TreeCheck.TheVariants.{Yes}
 use Rattle.refutation_check.specs.Answers.{TellsOfNodes}
 use Rattle.refutation_check.specs.Trials.{asked_target, IsTrialRoomAt}
-use Rattle.refutation_check.specs.Walks.{IsOn}
-use Rattle.refutation_check.proofs.Checking.{checked_none, checked_walk, checked_right, checked_fault, checked_more, checked_all, spends_there, spent_on}
-use Rattle.tree_laws.proofs.Settings.{same_itself, same_twice}
+use Rattle.refutation_check.proofs.Checking.{checked_none, checked_walk, checked_on, checked_fault, checked_more, checked_all, spends_there, spent_splits_on, supported_on, on_there}
+use Rattle.refutation_check.proofs.SameSettings.{end_told_there}
+use Rattle.implication.proofs.Settings.{same_itself, same_twice}
 use Rattle.refutation_check.proofs.spent.walk_spent.Goals as goal
 
 pub loop-place-init : goal.loop-place-init
@@ -27,7 +27,8 @@ loop-place-init g c =
       scope = record { engine = refl; origin = refl };
       setting = same_itself old;
       room = c.requires.room;
-      checked = checked_none (IsRightInSpent old.net old.rules (asked_target c.args.asked.now)) (asked_target c.args.asked.now)
+      checked = checked_none g.A.Algebra.algebra (IsRightInSpent old.net old.rules (asked_target c.args.asked.now))
+          (IsInSupport old.net old.rules (asked_target c.args.asked.now).path) (asked_target c.args.asked.now)
           c.nodes-node-items.result.now old c.clear.new.self.items c.requires.root c.clear.ensures.items;
     }
 
@@ -39,8 +40,10 @@ returns-then-not-is_right_at-clause-setting g c = c.loop-place.invariant.setting
 
 pub returns-then-not-is_right_at-clause-room : goal.returns-then-not-is_right_at-clause-room
 returns-then-not-is_right_at-clause-room g c =
-    let P : Circuit → Type 0 = λ n. IsTrialRoomAt n (asked_target c.args.asked.now) c.is_right_at.new.room in
-    subst P c.loop-place.invariant.setting.net c.is_right_at.ensures.room
+    let setting = c.loop-place.invariant.setting in
+    let P : Circuit → Rules → Type 0 =
+    λ n rules. IsTrialRoomAt g.A.Algebra.algebra n rules (asked_target c.args.asked.now) c.is_right_at.new.room in
+    subst₂ P setting.net setting.rules c.is_right_at.ensures.room
 
 pub pass-requires-clause-begun : goal.pass-requires-clause-begun
 pass-requires-clause-begun g c = c.loop-place.invariant.scope.origin ∙ c.requires.begun
@@ -56,8 +59,10 @@ returns-in_err-pass-clause-setting g c =
 
 pub returns-in_err-pass-clause-room : goal.returns-in_err-pass-clause-room
 returns-in_err-pass-clause-room g c =
-    let P : Circuit → Type 0 = λ n. IsTrialRoomAt n (asked_target c.args.asked.now) c.is_right_at.new.room in
-    subst P c.loop-place.invariant.setting.net c.is_right_at.ensures.room
+    let setting = c.loop-place.invariant.setting in
+    let P : Circuit → Rules → Type 0 =
+    λ n rules. IsTrialRoomAt g.A.Algebra.algebra n rules (asked_target c.args.asked.now) c.is_right_at.new.room in
+    subst₂ P setting.net setting.rules c.is_right_at.ensures.room
 
 pub returns-clause-scope : goal.returns-clause-scope
 returns-clause-scope g c = c.loop-place.invariant.scope
@@ -73,12 +78,13 @@ returns-then-not-is_right_at-clause-tells g c =
     let old = standing c.args.scope.now in let now = standing c.loop-place.scope in
     let items = c.nodes-node-items.result.now in let place = c.loop-place.place in let inv = c.loop-place.invariant in
     let target = asked_target c.args.asked.now in let Is = IsRightInSpent old.net old.rules target in
+    let On = IsInSupport old.net old.rules target.path in
     let checked = inv.checked in let node = get_or items place Closed in
     subst (λ (nodes : List Node). IsFirstFaultOf Is nodes place) c.nodes-node-items.ensures.nodes
-    (checked_fault Is target items place now c.loop-place.pending.items checked node Closed c.loop-place-test.true refl
+    (checked_fault g.A.Algebra.algebra Is On target items place now c.loop-place.pending.items checked node Closed c.loop-place-test.true refl
     (λ right. false≢true (sym c.if-not-is_right_at.true
-    ∙ (checked_right Is target items place now c.loop-place.pending.items checked node c.is_right_at.result
-    (spends_there old now inv.setting node c.is_right_at.result target c.is_right_at.ensures.right)).1 right))
+    ∙ (spends_there g.A.Algebra.algebra old now inv.setting node c.is_right_at.result target (halves_of checked.above)
+    (checked_on g.A.Algebra.algebra Is On target items place now c.loop-place.pending.items checked) c.is_right_at.ensures.right checked.walks.at).1 right))
     (subst IsTree (sym c.nodes-node-items.ensures.nodes) c.nodes-node-items.ensures.tree))
 
 pub is_right_at-requires-clause-prefix : goal.is_right_at-requires-clause-prefix
@@ -88,20 +94,21 @@ is_right_at-requires-clause-prefix g c =
 
 pub is_right_at-requires-clause-told : goal.is_right_at-requires-clause-told
 is_right_at-requires-clause-told g c =
-    let setting = c.loop-place.invariant.setting in
-    let P : Circuit → Option (List LineId) → Type 0 = λ n ends. IsToldBy n ends (end_of n c.args.asked.now.path.now) in
-    subst₂ P (sym setting.net) (sym setting.ends) c.requires.told
+    end_told_there (standing c.args.scope.now) (standing c.loop-place.scope) c.loop-place.invariant.setting c.args.asked.now.path.now
+    c.requires.told
 
 pub is_right_at-requires-clause-room : goal.is_right_at-requires-clause-room
 is_right_at-requires-clause-room g c =
-    let P : Circuit → Type 0 = λ n. IsTrialRoomAt n (asked_target c.args.asked.now) c.loop-place.room in
-    subst P (sym c.loop-place.invariant.setting.net) c.loop-place.invariant.room
+    let setting = c.loop-place.invariant.setting in
+    let P : Circuit → Rules → Type 0 =
+    λ n rules. IsTrialRoomAt g.A.Algebra.algebra n rules (asked_target c.args.asked.now) c.loop-place.room in
+    subst₂ P (sym setting.net) (sym setting.rules) c.loop-place.invariant.room
 
 pub pass-requires-clause-walk : goal.pass-requires-clause-walk
 pass-requires-clause-walk g c =
     let old = standing c.args.scope.now in let now = standing c.loop-place.scope in
     let target = asked_target c.args.asked.now in
-    checked_walk (IsRightInSpent old.net old.rules target) target c.nodes-node-items.result.now c.loop-place.place now
+    checked_walk g.A.Algebra.algebra (IsRightInSpent old.net old.rules target) (IsInSupport old.net old.rules target.path) target c.nodes-node-items.result.now c.loop-place.place now
     c.loop-place.pending.items (c.loop-place.invariant.checked)
 
 pub pass-requires-clause-split : goal.pass-requires-clause-split
@@ -109,11 +116,12 @@ pass-requires-clause-split g c =
     let old = standing c.args.scope.now in let now = standing c.loop-place.scope in
     let items = c.nodes-node-items.result.now in let place = c.loop-place.place in let inv = c.loop-place.invariant in
     let target = asked_target c.args.asked.now in let Is = IsRightInSpent old.net old.rules target in
+    let On = IsInSupport old.net old.rules target.path in
     let checked = inv.checked in let node = get_or items place Closed in
-    let right = (checked_right Is target items place now c.loop-place.pending.items checked node c.is_right_at.result
-    (spends_there old now inv.setting node c.is_right_at.result target c.is_right_at.ensures.right)).0 c.if-not-is_right_at.false in
-    let P : Circuit → Type 0 = λ n. IsOn (source_count n) node in
-    subst P (sym inv.setting.net) (spent_on old.net old.rules target (halves_of checked.above) node right)
+    let right = (spends_there g.A.Algebra.algebra old now inv.setting node c.is_right_at.result target (halves_of checked.above)
+    (checked_on g.A.Algebra.algebra Is On target items place now c.loop-place.pending.items checked) c.is_right_at.ensures.right checked.walks.at).0 c.if-not-is_right_at.false in
+    on_there old now inv.setting node
+    (supported_on old target c.requires.told node (spent_splits_on old.net old.rules target (halves_of checked.above) node right))
 
 pub loop-place-preserved : goal.loop-place-preserved
 loop-place-preserved g c =
@@ -123,22 +131,27 @@ loop-place-preserved g c =
     record {
       scope = same_scope_twice inv.scope c.pass.ensures.scope;
       setting = same_twice old now next inv.setting c.pass.ensures.setting;
-      room = let P : Circuit → Type 0 = λ n. IsTrialRoomAt n (asked_target c.args.asked.now) c.is_right_at.new.room in
-          subst P inv.setting.net c.is_right_at.ensures.room;
+      room =
+          let P : Circuit → Rules → Type 0 =
+          λ n rules. IsTrialRoomAt g.A.Algebra.algebra n rules (asked_target c.args.asked.now) c.is_right_at.new.room in
+          subst₂ P inv.setting.net inv.setting.rules c.is_right_at.ensures.room;
       checked =
           let target = asked_target c.args.asked.now in let Is = IsRightInSpent old.net old.rules target in
+          let On = IsInSupport old.net old.rules target.path in
           let checked = inv.checked in
-          let right = (checked_right Is target items place now c.loop-place.pending.items checked node c.is_right_at.result
-          (spends_there old now inv.setting node c.is_right_at.result target c.is_right_at.ensures.right)).0 c.if-not-is_right_at.false in
-          checked_more Is target items place now c.loop-place.pending.items checked node Closed next c.pass.new.pending.items
-          c.loop-place-test.true refl right c.in_ok-pass.ensures.passes;
+          let right = (spends_there g.A.Algebra.algebra old now inv.setting node c.is_right_at.result target (halves_of checked.above)
+          (checked_on g.A.Algebra.algebra Is On target items place now c.loop-place.pending.items checked) c.is_right_at.ensures.right checked.walks.at).0 c.if-not-is_right_at.false in
+          checked_more g.A.Algebra.algebra Is On target items place now c.loop-place.pending.items checked node Closed next c.pass.new.pending.items
+          c.loop-place-test.true refl right (spent_splits_on old.net old.rules target (halves_of checked.above) node right)
+          c.in_ok-pass.ensures.passes;
     }
 
 pub returns-clause-tells : goal.returns-clause-tells
 returns-clause-tells g c =
     let old = standing c.args.scope.now in
     let target = asked_target c.args.asked.now in let Is = IsRightInSpent old.net old.rules target in
+    let On = IsInSupport old.net old.rules target.path in
     subst (λ (nodes : List Node). TellsOfNodes Is nodes Yes) c.nodes-node-items.ensures.nodes
-    (checked_all Is target c.nodes-node-items.result.now c.loop-place.place (standing c.loop-place.scope) c.loop-place.pending.items
+    (checked_all g.A.Algebra.algebra Is On target c.nodes-node-items.result.now c.loop-place.place (standing c.loop-place.scope) c.loop-place.pending.items
     c.loop-place.invariant.checked c.loop-place-test.false
     (subst IsTree (sym c.nodes-node-items.ensures.nodes) c.nodes-node-items.ensures.tree))

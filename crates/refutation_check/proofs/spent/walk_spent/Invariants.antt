@@ -1,6 +1,7 @@
+use Rattle.trees.specs.Spent.{IsInSupport}
 use Rattle.implication.specs.Scopes.{IsSameScope, standing}
-use Rattle.tree_laws.specs.Faults.{IsRightInSpent}
-use Rattle.tree_laws.specs.Settings.{IsSameSetting}
+use Rattle.trees.specs.Faults.{IsRightInSpent}
+use Rattle.implication.specs.Settings.{IsSameSetting}
 use Rattle.refutation_check.specs.Trials.{asked_target, IsTrialRoomAt}
 use Rattle.refutation_check.proofs.Checking.{HasChecked}
 use Rattle.refutation_check.proofs.spent.walk_spent.Given as goal
@@ -10,7 +11,8 @@ abbrev pub invariant-loop-place : goal.invariant-loop-place
 invariant-loop-place g l = record {
   scope : IsSameScope l.fn.scope l.scope;
   setting : IsSameSetting (standing l.fn.scope) (standing l.scope);
-  room : IsTrialRoomAt (standing l.fn.scope).net (asked_target l.asked) l.room;
-  checked : HasChecked (IsRightInSpent (standing l.fn.scope).net (standing l.fn.scope).rules (asked_target l.asked)) (asked_target l.asked)
+  room : IsTrialRoomAt g.A.Algebra.algebra (standing l.fn.scope).net (standing l.fn.scope).rules (asked_target l.asked) l.room;
+  checked : HasChecked g.A.Algebra.algebra (IsRightInSpent (standing l.fn.scope).net (standing l.fn.scope).rules (asked_target l.asked))
+      (IsInSupport (standing l.fn.scope).net (standing l.fn.scope).rules (asked_target l.asked).path) (asked_target l.asked)
       l.node-items l.place (standing l.scope) l.pending.items;
 }

@@ -1,10 +1,11 @@
--- The set of the half is assumed, or a conflict stands.
 use Rattle.implication.specs.Scopes.{standing}
 use Rattle.refutation_check.proofs.Walking.{at_below}
 use Rattle.refutation_check.proofs.walk.assume_half.Goals as goal
 
+-- The set of the half is assumed, or a conflict stands.
+
 pub returns-clause-below : goal.returns-clause-below
 returns-clause-below g c = λ target halves at.
-    at_below (standing c.args.scope.now) (standing c.assume.new.self) c.args.half c.half_states-states.result c.half_states-states.ensures.means
+    at_below g.A.Algebra.algebra (standing c.args.scope.now) (standing c.assume.new.self) c.args.half c.half_states-states.result c.half_states-states.ensures.means
     target halves c.assume.ensures.extends c.assume.result c.requires.source at c.assume.ensures.held c.assume.ensures.ok c.assume.ensures.err
     c.assume.ensures.open c.assume.ensures.emptied

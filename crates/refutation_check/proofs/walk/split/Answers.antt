@@ -1,10 +1,11 @@
--- The second half is put off, and the first one assumed.
 use Rattle.std.proofs.Common.{true, refl}
 use Rattle.implication.specs.Scopes.{standing}
-use Rattle.tree_laws.specs.Halves.{halves_of}
+use Rattle.trees.specs.Halves.{halves_of}
 use Rattle.refutation_check.specs.declared.walk.Pending.{Pending}
 use Rattle.refutation_check.proofs.Walking.{goes_down}
 use Rattle.refutation_check.proofs.walk.split.Goals as goal
+
+-- The second half is put off, and the first one assumed.
 
 pub returns-clause-goes : goal.returns-clause-goes
 returns-clause-goes g c = λ target above walks.
@@ -12,6 +13,6 @@ returns-clause-goes g c = λ target above walks.
       half = record { source = c.args.source; steadiness = c.args.steadiness; second = true };
       mark = c.mark-mark.result;
     } in
-    goes_down target (standing c.args.scope.now) (standing c.assume_half.new.scope) above c.args.source c.args.steadiness
-    c.args.pending.now.items c.push.new.self.items second c.requires.source refl c.mark-mark.ensures c.in_ok-push.ensures.items
+    goes_down g.A.Algebra.algebra target (standing c.args.scope.now) (standing c.assume_half.new.scope) above c.args.source c.args.steadiness
+    c.args.pending.now.items c.push.new.self.items second c.requires.source c.requires.told refl c.mark-mark.ensures c.in_ok-push.ensures.items
     c.assume_half.ensures.extends (c.assume_half.ensures.below target (halves_of above) walks.at) walks

@@ -2,6 +2,7 @@
 use Rattle.std.proofs.Common.{◌<◌, All, sym, subst}
 use Rattle.netlist.specs.Circuit.{Circuit, source_count}
 use Rattle.state_laws.specs.declared.half.Half.{Half}
+use Rattle.trees.specs.Unlinked.{IsUnlinked}
 use Rattle.search_answers.proofs.Told.{still_told}
 use Rattle.search_answers.proofs.scopes.prefixes_alike.Goals as goal
 
@@ -15,5 +16,6 @@ loop-count-preserved g c =
       idle = now.idle;
       source = subst Source (sym now.net) was.source;
       halves = subst Halves (sym now.net) was.halves;
-      told = still_told c.loop-count.engine c.scope_alike.new.engine c.args.marks.now now.net now.ends was.told;
+      told = still_told c.loop-count.engine c.scope_alike.new.engine c.args.marks.now now.net now.rules now.ends was.told;
+      unlinked = subst IsUnlinked (sym now.rules) was.unlinked;
     }

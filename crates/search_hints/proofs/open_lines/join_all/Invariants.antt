@@ -2,4 +2,4 @@ use Rattle.state_sets.specs.States.{IsWithin}
 use Rattle.search_hints.proofs.open_lines.join_all.Given as goal
 
 abbrev pub invariant-loop-line : goal.invariant-loop-line
-invariant-loop-line l = IsWithin 4 l.joined
+invariant-loop-line g l = IsWithin g.A.Algebra.algebra.count l.joined

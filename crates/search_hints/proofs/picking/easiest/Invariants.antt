@@ -5,4 +5,4 @@ use Rattle.netlist.specs.Circuit.{line_count}
 use Rattle.search_hints.proofs.picking.easiest.Given as goal
 
 abbrev pub invariant-loop-line : goal.invariant-loop-line
-invariant-loop-line l = IfSome l.best (λ cut. cut.line.0 < line_count l.sight.net.now)
+invariant-loop-line g l = IfSome l.best (λ cut. cut.line.0 < line_count l.sight.net.now)

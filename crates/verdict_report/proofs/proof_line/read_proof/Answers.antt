@@ -1,7 +1,7 @@
 -- A line without a head is that of no proof; with a head and a tree it is that of one.
 use Rattle.std.proofs.Common.{Some, List, subst, sym, arith}
-use Rattle.runs.specs.Trees.{IsTree}
-use Rattle.runs.specs.declared.tree.Node.{Node}
+use Rattle.trees.specs.Trees.{IsTree}
+use Rattle.trees.specs.declared.tree.Node.{Node}
 use Rattle.text_pieces.specs.Cuts.{words_left, words_of}
 use Rattle.text_pieces.specs.Reads.{Reads}
 use Rattle.verdict_report.specs.ProofsReading.{IsSpelledProof}

@@ -2,7 +2,7 @@
 use Rattle.std.proofs.Common.{Ok, ap, refl, subst, ◌∙◌}
 use Rattle.delay_annotation.specs.Annotation.{delays_of}
 use Rattle.claim_check.specs.Claims.{TellsOfRun}
-use Rattle.commands.specs.InputJudging as found
+use Rattle.commands.specs.Inside.InputJudging as found
 use Rattle.commands.proofs.check.judging.judge_run.Goals as goal
 
 pub returns-in-Ok-Holds-clause-good : goal.returns-in-Ok-Holds-clause-good
@@ -13,11 +13,11 @@ returns-in-Ok-Holds-clause-good c = record {
 
 pub returns-in-Ok-Fails-clause-fails : goal.returns-in-Ok-Fails-clause-fails
 returns-in-Ok-Fails-clause-fails c =
-    found.refused c.run_refusal.result refl (record {
+    found.refused c.flawed.result refl (record {
       item = c.in-Ok-Fails.item;
       flaw = c.in-Ok-Fails.flaw;
       is_first = subst
           (TellsOfRun c.args.net.now (delays_of c.args.net.now c.args.delays.now) c.args.command.now.paths c.args.command.now.budget
           c.args.run.now) c.in-Ok-Fails.field-0-is c.in-Ok-Fails.ensures.tells;
-      told = c.run_refusal.ensures;
+      is = c.flawed.ensures;
     })

@@ -1,11 +1,9 @@
 -- The first text that has not its form is told, behind those that have.
-use Rattle.std.proofs.Common.{ℕ, List, subst}
+use Rattle.std.proofs.Common.{ℕ, List, codes, subst}
 use Rattle.std.proofs.lemmas.Result.{err_from_is_err_and}
-use Rattle.calls.specs.declared.claims_reader.ClaimsReader.TheVariants.{Check}
-use Rattle.commands.specs.InputJudging.{FailsTests}
+use Rattle.commands.specs.Inside.InputJudging.{FailsProofs, FailsReport, FailsTests}
 use Rattle.commands.specs.SpelledTests.{SpellsTests}
-use Rattle.commands.specs.Checking as checking
-use Rattle.commands.specs.Checking.{FailsProofs, FailsReport}
+use Rattle.commands.specs.Inside.Checking as checking
 use Rattle.commands.specs.SpelledRuns.{SpellsReport}
 use Rattle.commands.proofs.check.spelling.run_in.Goals as goal
 
@@ -13,7 +11,7 @@ pub returns-in_err-tests-clause-fails : goal.returns-in_err-tests-clause-fails
 returns-in_err-tests-clause-fails c =
     let p = err_from_is_err_and c.from_residual.result c.from_residual.ensures.1 in
     rw (p.1, p.2) (checking.no_tests
-    (subst (λ (text : List ℕ). FailsTests Check c.args.net.now text c.in_err-tests.field-0.0) c.as_slice.ensures.value
+    (subst (λ (text : List ℕ). FailsTests (codes "check") c.args.net.now text c.in_err-tests.field-0.0) c.as_slice.ensures.value
     c.in_err-tests.ensures.fails))
 
 pub returns-in_err-paths-clause-fails : goal.returns-in_err-paths-clause-fails
@@ -21,14 +19,14 @@ returns-in_err-paths-clause-fails c =
     let p = err_from_is_err_and c.from_residual-in_err-paths.result c.from_residual-in_err-paths.ensures.1 in
     rw (p.1, p.2) (checking.no_report c.in_ok-tests.tests.items
     (subst (λ (text : List ℕ). SpellsTests c.args.net.now text c.in_ok-tests.tests.items) c.as_slice.ensures.value c.in_ok-tests.ensures.spells)
-    (subst (λ (text : List ℕ). FailsReport c.args.net.now text c.in_err-paths.field-0.0) c.as_slice-2.ensures.value
+    (subst (λ (text : List ℕ). FailsReport (codes "check") c.args.net.now text c.in_err-paths.field-0.0) c.as_slice-2.ensures.value
     c.in_err-paths.ensures.fails))
 
-pub returns-in_err-told-clause-fails : goal.returns-in_err-told-clause-fails
-returns-in_err-told-clause-fails c =
-    let p = err_from_is_err_and c.from_residual-in_err-told.result c.from_residual-in_err-told.ensures.1 in
+pub returns-in_err-ruled-clause-fails : goal.returns-in_err-ruled-clause-fails
+returns-in_err-ruled-clause-fails c =
+    let p = err_from_is_err_and c.from_residual-in_err-ruled.result c.from_residual-in_err-ruled.ensures.1 in
     rw (p.1, p.2) (checking.no_proofs c.in_ok-tests.tests.items c.in_ok-paths.paths.items
     (subst (λ (text : List ℕ). SpellsTests c.args.net.now text c.in_ok-tests.tests.items) c.as_slice.ensures.value c.in_ok-tests.ensures.spells)
     (subst (λ (text : List ℕ). SpellsReport c.args.net.now text c.in_ok-paths.paths.items) c.as_slice-2.ensures.value c.in_ok-paths.ensures.spells)
-    (subst (λ (text : List ℕ). FailsProofs c.args.net.now text c.in_err-told.field-0.0) c.as_slice-3.ensures.value
-    c.in_err-told.ensures.fails))
+    (subst (λ (text : List ℕ). FailsProofs (codes "check") c.args.net.now text c.in_err-ruled.field-0.0) c.as_slice-3.ensures.value
+    c.in_err-ruled.ensures.fails))

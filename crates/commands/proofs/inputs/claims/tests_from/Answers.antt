@@ -5,9 +5,8 @@ use Rattle.std.specs.Prelude.{Vec}
 use Rattle.std.specs.declared.alloc.Global.{Global}
 use Rattle.pd_base.specs.declared.test.Test.{Test}
 use Rattle.calls.specs.declared.role.Role.TheVariants as role
-use Rattle.text_pieces.specs.declared.limits.TheConstants.{MOST_BYTES}
-use Rattle.commands.specs.InputJudging as judging
-use Rattle.commands.specs.InputJudging.{FailsTests}
+use Rattle.commands.specs.Inside.InputJudging as judging
+use Rattle.commands.specs.Inside.InputJudging.{FailsTests}
 use Rattle.commands.specs.SpelledTests.{SpellsTests}
 use Rattle.commands.proofs.InputsJudged.{gives_from, fails_from}
 use Rattle.commands.proofs.inputs.claims.tests_from.Goals as goal
@@ -19,10 +18,10 @@ returns-in_err-text-clause-fails g c =
 
 pub returns-clause-gives : goal.returns-clause-gives
 returns-clause-gives g c =
-    gives_from MOST_BYTES c.args.name.now (λ (text : List ℕ) (tests : Vec Test Global). SpellsTests c.args.net.now text tests.items)
+    gives_from role.Tests c.args.name.now (λ (text : List ℕ) (tests : Vec Test Global). SpellsTests c.args.net.now text tests.items)
     c.in_ok-text.text _ _ _ c.as_slice.ensures.value c.in_ok-text.ensures.read c.tests_in.result c.tests_in.ensures.spells
 
 pub returns-clause-fails : goal.returns-clause-fails
 returns-clause-fails g c =
-    fails_from MOST_BYTES c.args.name.now role.Tests (FailsTests c.args.reader c.args.net.now) c.in_ok-text.text _ _ _
+    fails_from role.Tests c.args.name.now (FailsTests c.args.command.now c.args.net.now) c.in_ok-text.text _ _ _
     c.as_slice.ensures.value c.in_ok-text.ensures.read c.tests_in.result c.tests_in.ensures.fails

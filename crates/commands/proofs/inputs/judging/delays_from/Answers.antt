@@ -5,9 +5,8 @@ use Rattle.calls.specs.declared.role.Role.TheVariants as role
 use Rattle.delay_annotation.specs.Annotation.{delays_of}
 use Rattle.delay_annotation.specs.DelayFile.{HasDelays}
 use Rattle.delay_annotation.specs.declared.delays.Delays.{Delays}
-use Rattle.commands.specs.declared.inputs.judging.TheConstants.{INPUT_LIMIT}
-use Rattle.commands.specs.InputJudging as judging
-use Rattle.commands.specs.InputJudging.{FailsDelays}
+use Rattle.commands.specs.Inside.InputJudging as judging
+use Rattle.commands.specs.Inside.InputJudging.{FailsDelays}
 use Rattle.commands.proofs.InputsJudged.{gives_from, fails_from}
 use Rattle.commands.proofs.inputs.judging.delays_from.Goals as goal
 
@@ -18,10 +17,10 @@ returns-in_err-text-clause-fails g c =
 
 pub returns-clause-gives : goal.returns-clause-gives
 returns-clause-gives g c =
-    gives_from INPUT_LIMIT c.args.name.now (λ (text : List ℕ) (kept : Delays). HasDelays c.args.net.now text (delays_of c.args.net.now kept))
+    gives_from role.Delays c.args.name.now (λ (text : List ℕ) (kept : Delays). HasDelays c.args.net.now text (delays_of c.args.net.now kept))
     c.in_ok-text.text _ _ _ c.as_slice.ensures.value c.in_ok-text.ensures.read c.delays_in.result c.delays_in.ensures.delays
 
 pub returns-clause-fails : goal.returns-clause-fails
 returns-clause-fails g c =
-    fails_from INPUT_LIMIT c.args.name.now role.Delays (FailsDelays c.args.net.now) c.in_ok-text.text _ _ _ c.as_slice.ensures.value
+    fails_from role.Delays c.args.name.now (FailsDelays c.args.net.now) c.in_ok-text.text _ _ _ c.as_slice.ensures.value
     c.in_ok-text.ensures.read c.delays_in.result c.delays_in.ensures.fails

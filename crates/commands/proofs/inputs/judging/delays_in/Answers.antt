@@ -1,13 +1,11 @@
-use Rattle.std.proofs.Common.{refl, sym, ◌∙◌}
-use Rattle.commands.specs.InputJudging as judging
+-- A fault of the text ends the call so.
+use Rattle.std.proofs.Common.{sym, subst}
+use Rattle.calls.specs.declared.ending.Ending.{Ending}
+use Rattle.commands.specs.Inside.InputJudging.{FailsDelays}
+use Rattle.commands.proofs.InputFaults.{delays_judged}
 use Rattle.commands.proofs.inputs.judging.delays_in.Goals as goal
 
--- a reason that is told refuses the text
-pub returns-in-Some-clause-fails : goal.returns-in-Some-clause-fails
-returns-in-Some-clause-fails c =
-    judging.refused c.in-Some.reason refl
-    (record {
-      fault = c.in-Err.fault;
-      refused = c.in-Err.ensures.refused;
-      told = sym c.delays_reason_of.ensures ∙ c.in-Some.is;
-    })
+pub returns-in-Err-clause-fails : goal.returns-in-Err-clause-fails
+returns-in-Err-clause-fails c =
+    subst (λ (ending : Ending). FailsDelays c.args.net.now c.args.delays.now ending) (sym c.delays_ending.ensures)
+    (delays_judged c.args.net.now c.args.delays.now c.in-Err.fault c.in-Err.ensures.refused)

@@ -2,9 +2,8 @@
 use Rattle.std.proofs.lemmas.Result.{err_from_is_err_and}
 use Rattle.calls.specs.declared.role.Role.TheVariants as role
 use Rattle.bench_reader.specs.Circuits.{HasCircuit}
-use Rattle.commands.specs.declared.inputs.judging.TheConstants.{INPUT_LIMIT}
-use Rattle.commands.specs.InputJudging as judging
-use Rattle.commands.specs.InputJudging.{FailsNet}
+use Rattle.commands.specs.Inside.InputJudging as judging
+use Rattle.commands.specs.Inside.InputJudging.{FailsNet}
 use Rattle.commands.proofs.InputsJudged.{gives_from, fails_from}
 use Rattle.commands.proofs.inputs.judging.netlist_from.Goals as goal
 
@@ -15,10 +14,10 @@ returns-in_err-text-clause-fails g c =
 
 pub returns-clause-gives : goal.returns-clause-gives
 returns-clause-gives g c =
-    gives_from INPUT_LIMIT c.args.name.now HasCircuit c.in_ok-text.text _ _ _ c.as_slice.ensures.value
+    gives_from role.Net c.args.name.now HasCircuit c.in_ok-text.text _ _ _ c.as_slice.ensures.value
     c.in_ok-text.ensures.read c.netlist_of.result c.netlist_of.ensures.circuit
 
 pub returns-clause-fails : goal.returns-clause-fails
 returns-clause-fails g c =
-    fails_from INPUT_LIMIT c.args.name.now role.Net FailsNet c.in_ok-text.text _ _ _ c.as_slice.ensures.value
+    fails_from role.Net c.args.name.now FailsNet c.in_ok-text.text _ _ _ c.as_slice.ensures.value
     c.in_ok-text.ensures.read c.netlist_of.result c.netlist_of.ensures.fails

@@ -1,10 +1,11 @@
-use Rattle.std.proofs.Common.{refl, sym, ◌∙◌}
-use Rattle.commands.specs.InputJudging as judging
-use Rattle.commands.proofs.ToldReasons.{has_no_circuit}
+-- A fault of the text ends the call so.
+use Rattle.std.proofs.Common.{sym, subst}
+use Rattle.calls.specs.declared.ending.Ending.{Ending}
+use Rattle.commands.specs.Inside.InputJudging.{FailsNet}
+use Rattle.commands.proofs.InputFaults.{net_judged}
 use Rattle.commands.proofs.inputs.judging.netlist_of.Goals as goal
 
--- a reason that is told refuses the text
-pub returns-in-Some-clause-fails : goal.returns-in-Some-clause-fails
-returns-in-Some-clause-fails c =
-    judging.refused c.in-Some.reason refl
-    (has_no_circuit c.args.net.now c.in-Err.fault c.in-Some.reason c.in-Err.ensures.refused (sym c.reason_of.ensures ∙ c.in-Some.is))
+pub returns-in-Err-clause-fails : goal.returns-in-Err-clause-fails
+returns-in-Err-clause-fails c =
+    subst (λ (ending : Ending). FailsNet c.args.net.now ending) (sym c.netlist_ending.ensures)
+    (net_judged c.args.net.now c.in-Err.fault c.in-Err.ensures.refused)

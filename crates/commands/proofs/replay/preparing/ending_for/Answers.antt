@@ -1,12 +1,12 @@
--- The test and the name of its line are told.
+-- The test and the name of its line are named.
 use Rattle.std.proofs.Common.{ap, ◌∙◌}
 use Rattle.calls.specs.declared.ending.Ending.TheVariants as ended
-use Rattle.calls.specs.declared.refusal.Refusal.TheVariants as refused
-use Rattle.commands.specs.ReplayEndings as endings
+use Rattle.commands.specs.Replay.{changes_too_often}
+use Rattle.commands.specs.Inside.ReplayEndings as endings
 use Rattle.commands.proofs.replay.preparing.ending_for.Goals as goal
 
 pub returns-in-Ok : goal.returns-in-Ok
 returns-in-Ok c =
     let number = c.in-TooManyChanges.number in
     endings.told number c.in-TooManyChanges.line.0 c.in-TooManyChanges.is
-    (ap (λ name. ended.Refused (refused.TooManyChanges number name)) (c.in-Ok.ensures ∙ c.name.ensures))
+    (ap ended.Refused (c.changes_too_often.ensures ∙ ap (changes_too_often number) (c.in-Ok.ensures ∙ c.name.ensures)))

@@ -1,11 +1,12 @@
 -- A cut that takes states is noted before it is written, and the gates at the line wait.
-use Rattle.std.proofs.Common.{◌≡◌, ◌≢◌, ◌<◌, ℕ, List, length, bit_and, ap, ◌∙◌, sym, subst, arith}
+use Rattle.std.proofs.Common.{◌≡◌, ◌≢◌, ◌<◌, ℕ, List, length, bit_and, refl, ap, ◌∙◌, sym, subst, arith}
 use Rattle.netlist.specs.Circuit.{line_count}
 use Rattle.state_sets.specs.declared.state.StateSet.{StateSet}
 use Rattle.state_sets.specs.Labellings.{label_at}
 use Rattle.hulls.specs.Boards.{OnBoard}
 use Rattle.hulls.specs.Settling.{IsCutTo}
 use Rattle.hulls.proofs.BoardCuts.{room_left, cut_is, cut_to}
+use Rattle.hulls.proofs.Readers.{more_on, ties_as}
 use Rattle.hulls.proofs.board.Board.take_states.Goals as goal
 
 -- the cut takes states of the line
@@ -25,7 +26,7 @@ note-requires g c =
     let within : line < length i.labels = let r = c.requires.line in omega arith in
     let takes = takes_states i.labels line c.args.to c.get-old.result c.intersect-new.result c.get-old.ensures c.intersect-new.ensures
     (subst (Takes line c.args.to) (sym c.self.view_is) c.requires.takes) in
-    room_left g.A.Algebra.algebra.count i.labels i.trail.notes i.waiting i.trail.room c.self.invariant line within c.args.to
+    room_left g.A.Algebra.algebra.count i.labels i.trail.notes i.waiting i.links i.trail.room c.self.invariant line within c.args.to
     c.get-old.result c.intersect-new.result c.get-old.ensures c.intersect-new.ensures takes
 
 pub invariant_of-self : goal.invariant_of-self
@@ -36,9 +37,9 @@ invariant_of-self g c =
     let within : line < length i.labels = let r = c.requires.line in omega arith in
     let takes = takes_states i.labels line c.args.to c.get-old.result c.intersect-new.result c.get-old.ensures c.intersect-new.ensures
     (subst (Takes line c.args.to) (sym c.self.view_is) c.requires.takes) in
-    cut_is g.A.Algebra.algebra.count i.labels i.trail.notes i.waiting i.trail.room c.self.invariant line within c.args.to
+    cut_is g.A.Algebra.algebra.count i.labels i.trail.notes i.waiting i.links i.trail.room c.self.invariant line within c.args.to
     c.get-old.result c.intersect-new.result c.get-old.ensures c.intersect-new.ensures takes
-    c.note.new.self c.note.ensures c.wake.new.waiting c.wake.ensures.more c.cut.new.self c.cut.ensures
+    c.note.new.self c.note.ensures c.wake-2.new.waiting (more_on i.waiting c.wake.new.waiting c.wake-2.new.waiting c.wake.ensures.more c.wake-2.ensures.more) c.cut.new.self c.cut.ensures
 
 pub returns-clause-cut : goal.returns-clause-cut
 returns-clause-cut g c =
@@ -52,10 +53,14 @@ returns-clause-cut g c =
     (record {
       labels = c.cut.new.self;
       notes = c.note.new.self.notes;
-      waiting = c.wake.new.waiting.waiting;
-      inside = c.wake.new.waiting.inside;
+      waiting = c.wake-2.new.waiting.waiting;
+      inside = c.wake-2.new.waiting.inside;
+      links = i.links;
     })) c.self.view_is
-    (cut_to count i.labels i.trail.notes i.waiting i.trail.room c.self.invariant line within c.args.to
+    (cut_to count i.labels i.trail.notes i.waiting i.links i.trail.room c.self.invariant line within c.args.to
     c.get-old.result c.intersect-new.result c.get-old.ensures c.intersect-new.ensures takes
-    c.note.new.self c.note.ensures c.wake.new.waiting c.wake.ensures.more c.cut.new.self c.cut.ensures
-    c.args.net.now c.args.passed c.wake.ensures.waits)
+    c.note.new.self c.note.ensures c.wake-2.new.waiting (more_on i.waiting c.wake.new.waiting c.wake-2.new.waiting c.wake.ensures.more c.wake-2.ensures.more) c.cut.new.self c.cut.ensures
+    c.args.net.now c.args.passed
+    (λ gate within here away among. c.wake-2.ensures.more.stays (record { 0 = gate }) (c.wake.ensures.waits gate within here away among))
+    (ties_as c.args.net.now i.links i.links refl c.gates.result c.gates.ensures c.args.line
+    c.wake-2.new.waiting.waiting c.wake-2.ensures.waits))

@@ -12,6 +12,6 @@ invariant_of-self g c =
     let e : new ≡ undone (drop mark i.trail.notes) old =
     c.undo_to.ensures.values ∙ ap (undone (drop mark i.trail.notes)) c.as_mut_slice.ensures.value in
     let same : length new ≡ length old = ap length e ∙ length-undone (drop mark i.trail.notes) old in
-    undone_is g.A.Algebra.algebra.count old i.trail.notes i.waiting i.trail.room c.self.invariant mark
+    undone_is g.A.Algebra.algebra.count old i.trail.notes i.waiting i.links i.trail.room c.self.invariant mark
     (take (length old) (new ++ drop (length new) old)) (lent_back old new same ∙ e)
     c.undo_to.new.self c.undo_to.ensures.notes c.clear.new.self c.clear.ensures.waiting

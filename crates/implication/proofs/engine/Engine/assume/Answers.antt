@@ -10,35 +10,35 @@ use Rattle.implication.proofs.engine.Engine.assume.Goals as goal
 
 pub add-requires-clause-left : goal.add-requires-clause-left
 add-requires-clause-left g c =
-    left_seen g.A.Algebra.algebra c.self.invariant c.args.self.now c.self.view_is c.args.source c.requires c.index.result.now c.index.ensures
+    left_seen g.A.Algebra.algebra c.self.invariant.0 c.args.self.now c.self.view_is c.args.source c.requires.source c.index.result.now c.index.ensures
 
 pub add-requires-clause-fits : goal.add-requires-clause-fits
 add-requires-clause-fits g c =
-    assumed_fits g.A.Algebra.algebra c.self.invariant c.args.self.now c.self.view_is c.args.source c.args.to c.index.result.now
-    c.intersect-cut.result c.requires c.index.ensures c.intersect-cut.ensures (sym c.if-eq.false ∙ c.eq.ensures)
+    assumed_fits g.A.Algebra.algebra c.self.invariant.0 c.args.self.now c.self.view_is c.args.source c.args.to c.index.result.now
+    c.intersect-cut.result c.requires.source c.requires.told c.index.ensures c.intersect-cut.ensures (sym c.if-eq.false ∙ c.eq.ensures)
 
 pub returns-in-Some-clause-emptied : goal.returns-in-Some-clause-emptied
 returns-in-Some-clause-emptied g c =
-    emptied_of g.A.Algebra.algebra g.met.A.Algebra.laws c.self.invariant c.args.self.now c.self.view_is (Some c.in-Some.line) c.in-Some.is
+    emptied_of g.A.Algebra.algebra g.met.A.Algebra.laws c.self.invariant.0 c.args.self.now c.self.view_is (Some c.in-Some.line) c.in-Some.is
 
 pub returns-then-eq-clause-ok : goal.returns-then-eq-clause-ok
 returns-then-eq-clause-ok g c =
     ap (grown c.args.self.now)
     (sym (assumed_none g.A.Algebra.algebra.count c.args.self.now.assumptions c.args.source c.args.to c.index.result.now c.intersect-cut.result
-    (left_seen g.A.Algebra.algebra c.self.invariant c.args.self.now c.self.view_is c.args.source c.requires c.index.result.now c.index.ensures)
+    (left_seen g.A.Algebra.algebra c.self.invariant.0 c.args.self.now c.self.view_is c.args.source c.requires.source c.index.result.now c.index.ensures)
     c.intersect-cut.ensures (sym c.if-eq.true ∙ c.eq.ensures)))
 
 pub returns-then-eq-clause-open : goal.returns-then-eq-clause-open
 returns-then-eq-clause-open g c =
     let free : c.self.inside.conflict ≡ None = search rules in
-    open_of g.A.Algebra.algebra g.met.A.Algebra.laws c.self.invariant c.args.self.now c.self.view_is None free
+    open_of g.A.Algebra.algebra g.met.A.Algebra.laws c.self.invariant.0 c.args.self.now c.self.view_is None free
 
 pub returns-clause-ok : goal.returns-clause-ok
 returns-clause-ok g c =
     let P : List Assumption → Type 0 = λ list. OnOk c.add.result (c.add.new.self ≡ grown c.args.self.now list) in
     subst P
     (sym (assumed_more g.A.Algebra.algebra.count c.args.self.now.assumptions c.args.source c.args.to c.index.result.now c.intersect-cut.result
-    (left_seen g.A.Algebra.algebra c.self.invariant c.args.self.now c.self.view_is c.args.source c.requires c.index.result.now c.index.ensures)
+    (left_seen g.A.Algebra.algebra c.self.invariant.0 c.args.self.now c.self.view_is c.args.source c.requires.source c.index.result.now c.index.ensures)
     c.intersect-cut.ensures (sym c.if-eq.false ∙ c.eq.ensures)))
     c.add.ensures.ok
 
@@ -47,7 +47,7 @@ returns-clause-err g c = λ free.
     let P : List Assumption → Type 0 = λ list. IfErr c.add.result (λ conflict. c.add.new.self ≡ closed_at c.args.self.now list conflict.0) in
     subst P
     (sym (assumed_more g.A.Algebra.algebra.count c.args.self.now.assumptions c.args.source c.args.to c.index.result.now c.intersect-cut.result
-    (left_seen g.A.Algebra.algebra c.self.invariant c.args.self.now c.self.view_is c.args.source c.requires c.index.result.now c.index.ensures)
+    (left_seen g.A.Algebra.algebra c.self.invariant.0 c.args.self.now c.self.view_is c.args.source c.requires.source c.index.result.now c.index.ensures)
     c.intersect-cut.ensures (sym c.if-eq.false ∙ c.eq.ensures)))
     c.add.ensures.err
 

@@ -10,4 +10,4 @@ pub returns : goal.returns
 returns g c =
     let P : ℕ → Type 0 = λ count. All (λ (line : LineId). line.0 < count) c.begun_lines.result.now in
     let Q : Standing → Type 0 = λ s. P (line_count s.net) in
-    subst Q c.self.view_is (subst P (idle_on_all g.A.Algebra.algebra c.self.invariant) c.begun_lines.ensures)
+    subst Q c.self.view_is (subst P (idle_on_all g.A.Algebra.algebra c.self.invariant.0) c.begun_lines.ensures)

@@ -8,11 +8,11 @@ use Rattle.implication.proofs.engine.Engine.enter.Goals as goal
 
 pub add-requires-clause-fits : goal.add-requires-clause-fits
 add-requires-clause-fits g c =
-    entered_fits g.A.Algebra.algebra c.self.invariant c.args.self.now c.self.view_is c.args.pin c.requires.pin c.requires.told
+    entered_fits g.A.Algebra.algebra c.self.invariant.0 c.args.self.now c.self.view_is c.args.pin c.requires.pin c.requires.told
 
 pub returns-in-Some-clause-emptied : goal.returns-in-Some-clause-emptied
 returns-in-Some-clause-emptied g c =
-    emptied_of g.A.Algebra.algebra g.met.A.Algebra.laws c.self.invariant c.args.self.now c.self.view_is (Some c.in-Some.emptied) c.in-Some.is
+    emptied_of g.A.Algebra.algebra g.met.A.Algebra.laws c.self.invariant.0 c.args.self.now c.self.view_is (Some c.in-Some.emptied) c.in-Some.is
 
 pub returns-clause-extends : goal.returns-clause-extends
 returns-clause-extends g c =

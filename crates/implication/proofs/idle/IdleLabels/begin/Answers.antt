@@ -1,21 +1,21 @@
 -- The start of a scope, cut from the idle labels and narrowed, or computed forward where its source reaches, is the hull of the start.
-use Rattle.std.proofs.Common.{◌≡◌, Bool, true, bit_and, List, refl, sym, ap, ◌∙◌, subst, arith}
+use Rattle.std.proofs.Common.{◌≡◌, ◌≢◌, Bool, true, false, bit_and, List, refl, sym, ap, ◌∙◌, subst, arith}
 use Rattle.std.proofs.Math.Dec.{eqb}
-use Rattle.std.proofs.lemmas.Bool.{eqb-true}
+use Rattle.std.proofs.lemmas.Bool.{eqb-true, eq-eqb, false≢true}
 use Rattle.state_sets.specs.declared.state.StateSet.{StateSet}
 use Rattle.state_sets.specs.States.{both_sets}
 use Rattle.hulls.specs.Awaiting.{is_inside}
 use Rattle.hulls.proofs.Narrowed.{is_none, is_some}
 use Rattle.implication.specs.Idling.{StandsBy}
-use Rattle.implication.proofs.Idling.{as_many, stands_on, unlaunched_emptied, stuck_emptied, idle_ready, idle_within, cut_begun_hull, cut_begun_emptied, launched_hull, launched_some, launched_stands, launched_board}
+use Rattle.implication.proofs.Idling.{as_many, stands_on, unlaunched_emptied, stuck_emptied, idle_ready, unlinked_from, idle_within, cut_begun_hull, cut_begun_emptied, launched_hull, launched_some, launched_stands, launched_board}
 use Rattle.implication.proofs.idle.IdleLabels.begin.Goals as goal
 
 pub returns-then-eq-clause-emptied : goal.returns-then-eq-clause-emptied
 returns-then-eq-clause-emptied g c =
     let launched = c.launching_states-launched.result in (
       omega (arith, c.requires.source),
-      unlaunched_emptied g.A.Algebra.algebra c.args.net.now c.args.rules.now (is_inside c.args.board.now.inside) c.args.conditions.now.kind
-          c.args.begun.source c.args.begun.direction launched c.launching_states-launched.ensures.means
+      unlaunched_emptied g.A.Algebra.algebra c.args.net.now c.args.rules.now (is_inside c.args.board.now.inside) c.args.board.now.links
+          c.args.conditions.now.kind c.args.begun.source c.requires.source c.args.begun.direction launched c.launching_states-launched.ensures.means
           (is_none c.eq.result launched launched c.eq.ensures c.if-eq.true refl),
     )
 
@@ -23,8 +23,8 @@ pub returns-in-Some-clause-emptied : goal.returns-in-Some-clause-emptied
 returns-in-Some-clause-emptied g c =
     let stuck = c.in-Some.ensures.stuck in (
       omega (arith, stuck.0),
-      stuck_emptied g.A.Algebra.algebra c.args.net.now c.args.rules.now (is_inside c.args.board.now.inside) c.args.conditions.now.kind
-          c.args.begun.source c.args.begun.direction c.in-Some.other.0 stuck.0 stuck.1 stuck.2,
+      stuck_emptied g.A.Algebra.algebra c.args.net.now c.args.rules.now (is_inside c.args.board.now.inside) c.args.board.now.links
+          c.args.conditions.now.kind c.args.begun.source c.requires.source c.args.begun.direction c.in-Some.other.0 stuck.0 stuck.1 stuck.2,
     )
 
 pub begin_forward-requires-clause-within : goal.begin_forward-requires-clause-within
@@ -34,12 +34,23 @@ begin_forward-requires-clause-within g c =
     c.args.board.now c.requires.idle c.args.begun.source c.requires.source c.args.begun.direction launched
     c.launching_states-launched.ensures.within c.launching_states-launched.ensures.means c.in_default.ensures.none
 
+-- the label lacks states of the set, with which it has fewer in common
+not_common : (answer : Bool) (left common launched label : StateSet) → answer ≡ eqb common.0 launched.0 → answer ≡ false
+    → common.0 ≡ bit_and left.0 launched.0 → left ≡ label → both_sets label launched ≢ launched
+not_common answer left common launched label is differs cut had same =
+    false≢true (sym differs ∙ is ∙ eq-eqb common.0 launched.0 (cut ∙ ap (λ (s : StateSet). bit_and s.0 launched.0) had ∙ ap (λ (s : StateSet). s.0) same))
+
 pub returns-clause-hull : goal.returns-clause-hull
 returns-clause-hull g c =
     let launched = c.launching_states-launched.result in
     launched_hull g.A.Algebra.algebra g.met.A.Algebra.laws c.args.net.now c.stuck_source.ensures.circuit c.args.rules.now c.args.self.now
     c.args.board.now c.requires.idle c.args.begun.source c.requires.source c.args.begun.direction launched
     c.launching_states-launched.ensures.within c.launching_states-launched.ensures.means c.in_default.ensures.none
+    (unlinked_from g.A.Algebra.algebra g.met.A.Algebra.laws c.args.net.now c.stuck_source.ensures.circuit c.args.rules.now c.args.self.now
+    c.args.board.now c.requires.idle c.args.begun.source c.requires.source c.args.begun.direction launched
+    c.launching_states-launched.ensures.within c.launching_states-launched.ensures.means c.in_default.ensures.none c.requires.links
+    (not_common c.eq-2.result c.get.result c.intersect-common.result launched _ c.eq-2.ensures c.if-eq-2.false c.intersect-common.ensures
+    c.get.ensures.set))
     (is_some c.eq.result launched launched c.eq.ensures c.if-eq.false refl) c.begin_forward.new.self.reached c.begin_forward.new.board
     c.begin_forward.ensures.launched c.args.conditions.now.kind
 
@@ -49,6 +60,11 @@ returns-clause-none_empty g c =
     launched_some g.A.Algebra.algebra g.met.A.Algebra.laws c.args.net.now c.stuck_source.ensures.circuit c.args.rules.now c.args.self.now
     c.args.board.now c.requires.idle c.args.begun.source c.requires.source c.args.begun.direction launched
     c.launching_states-launched.ensures.within c.launching_states-launched.ensures.means c.in_default.ensures.none
+    (unlinked_from g.A.Algebra.algebra g.met.A.Algebra.laws c.args.net.now c.stuck_source.ensures.circuit c.args.rules.now c.args.self.now
+    c.args.board.now c.requires.idle c.args.begun.source c.requires.source c.args.begun.direction launched
+    c.launching_states-launched.ensures.within c.launching_states-launched.ensures.means c.in_default.ensures.none c.requires.links
+    (not_common c.eq-2.result c.get.result c.intersect-common.result launched _ c.eq-2.ensures c.if-eq-2.false c.intersect-common.ensures
+    c.get.ensures.set))
     (is_some c.eq.result launched launched c.eq.ensures c.if-eq.false refl) c.begin_forward.new.self.reached c.begin_forward.new.board
     c.begin_forward.ensures.launched
 
@@ -61,6 +77,11 @@ returns-clause-stands g c =
     (launched_stands g.A.Algebra.algebra g.met.A.Algebra.laws c.args.net.now c.stuck_source.ensures.circuit c.args.rules.now c.args.self.now
     c.args.board.now c.requires.idle c.args.begun.source c.requires.source c.args.begun.direction launched
     c.launching_states-launched.ensures.within c.launching_states-launched.ensures.means c.in_default.ensures.none
+    (unlinked_from g.A.Algebra.algebra g.met.A.Algebra.laws c.args.net.now c.stuck_source.ensures.circuit c.args.rules.now c.args.self.now
+    c.args.board.now c.requires.idle c.args.begun.source c.requires.source c.args.begun.direction launched
+    c.launching_states-launched.ensures.within c.launching_states-launched.ensures.means c.in_default.ensures.none c.requires.links
+    (not_common c.eq-2.result c.get.result c.intersect-common.result launched _ c.eq-2.ensures c.if-eq-2.false c.intersect-common.ensures
+    c.get.ensures.set))
     (is_some c.eq.result launched launched c.eq.ensures c.if-eq.false refl) c.begin_forward.new.self.reached c.begin_forward.new.board
     c.begin_forward.ensures.launched)
 
@@ -70,6 +91,11 @@ returns-clause-board g c =
     launched_board g.A.Algebra.algebra g.met.A.Algebra.laws c.args.net.now c.stuck_source.ensures.circuit c.args.rules.now c.args.self.now
     c.args.board.now c.requires.idle c.args.begun.source c.requires.source c.args.begun.direction launched
     c.launching_states-launched.ensures.within c.launching_states-launched.ensures.means c.in_default.ensures.none
+    (unlinked_from g.A.Algebra.algebra g.met.A.Algebra.laws c.args.net.now c.stuck_source.ensures.circuit c.args.rules.now c.args.self.now
+    c.args.board.now c.requires.idle c.args.begun.source c.requires.source c.args.begun.direction launched
+    c.launching_states-launched.ensures.within c.launching_states-launched.ensures.means c.in_default.ensures.none c.requires.links
+    (not_common c.eq-2.result c.get.result c.intersect-common.result launched _ c.eq-2.ensures c.if-eq-2.false c.intersect-common.ensures
+    c.get.ensures.set))
     (is_some c.eq.result launched launched c.eq.ensures c.if-eq.false refl) c.begin_forward.new.self.reached c.begin_forward.new.board
     c.begin_forward.ensures.launched
 
@@ -88,7 +114,7 @@ narrow_on_cut-requires-clause-ready g c =
     c.launching_states-launched.ensures.within c.launching_states-launched.ensures.means c.in_default.ensures.none
     (all_common c.eq-2.result c.get.result c.intersect-common.result launched _ c.eq-2.ensures c.if-eq-2.true c.intersect-common.ensures
     c.get.ensures.set)
-    c.args.conditions.now.kind c.args.conditions.now.steps c.requires.no_steps
+    c.args.conditions.now.kind c.args.conditions.now.steps c.requires.no_steps c.requires.links
 
 pub returns-then-eq-2-clause-hull : goal.returns-then-eq-2-clause-hull
 returns-then-eq-2-clause-hull g c =
@@ -115,11 +141,12 @@ returns-then-eq-2-clause-emptied g c =
 pub returns-then-eq-2-clause-stands : goal.returns-then-eq-2-clause-stands
 returns-then-eq-2-clause-stands g c =
     stands_on g.A.Algebra.algebra c.args.net.now c.args.rules.now c.args.self.now c.args.board.now c.narrow_on_cut.new.board
-    c.requires.idle.stands c.narrow_on_cut.ensures.follows c.narrow_on_cut.ensures.inside
+    c.requires.idle.stands c.narrow_on_cut.ensures.follows c.narrow_on_cut.ensures.inside c.narrow_on_cut.ensures.links
 
 pub returns-then-eq-2-clause-board : goal.returns-then-eq-2-clause-board
 returns-then-eq-2-clause-board g c = record {
   inside = c.narrow_on_cut.ensures.inside;
+  links = c.narrow_on_cut.ensures.links;
   lines = as_many c.args.board.now c.narrow_on_cut.new.board c.narrow_on_cut.ensures.follows;
   at_rest = c.narrow_on_cut.ensures.at_rest;
 }
@@ -128,10 +155,10 @@ pub returns-in-Some-clause-stands : goal.returns-in-Some-clause-stands
 returns-in-Some-clause-stands g c = c.requires.idle.stands
 
 pub returns-in-Some-clause-board : goal.returns-in-Some-clause-board
-returns-in-Some-clause-board g c = record { inside = refl; lines = refl; at_rest = c.requires.idle.at_rest }
+returns-in-Some-clause-board g c = record { inside = refl; links = refl; lines = refl; at_rest = c.requires.idle.at_rest }
 
 pub returns-then-eq-clause-stands : goal.returns-then-eq-clause-stands
 returns-then-eq-clause-stands g c = c.requires.idle.stands
 
 pub returns-then-eq-clause-board : goal.returns-then-eq-clause-board
-returns-then-eq-clause-board g c = record { inside = refl; lines = refl; at_rest = c.requires.idle.at_rest }
+returns-then-eq-clause-board g c = record { inside = refl; links = refl; lines = refl; at_rest = c.requires.idle.at_rest }

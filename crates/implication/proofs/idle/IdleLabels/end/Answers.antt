@@ -9,7 +9,7 @@ pub give_back-requires-clause-one_each : goal.give_back-requires-clause-one_each
 give_back-requires-clause-one_each g c =
     let stands = c.requires.stands.2 in
     ap length c.undo_to.ensures.labels
-    ∙ length-undone c.args.board.now.notes c.args.board.now.labels ∙ stands.lines ∙ sym stands.forward.labelling.one_each
+    ∙ length-undone c.args.board.now.notes c.args.board.now.labels ∙ stands.of.lines ∙ sym stands.forward.labelling.one_each
     ∙ sym (ap (λ (i : Idling). length i.labels) c.self.view_is) ∙ sym (ap length c.as_slice.ensures.value)
 
 pub returns-clause-idle : goal.returns-clause-idle

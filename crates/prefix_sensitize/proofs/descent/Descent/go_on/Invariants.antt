@@ -9,7 +9,7 @@ abbrev pub invariant-loop-count : goal.invariant-loop-count
 invariant-loop-count g l = record {
   scope : IsSameScope l.fn.scope l.scope;
   same : IsSameBeginning (standing l.fn.scope) (standing l.scope);
-  stands : IsAtPin (standing l.scope) l.self l.path l.count;
+  stands : IsAtPin g.A.Algebra.algebra (standing l.scope) l.self l.path l.count;
   farther : l.from ≤ l.count;
   counted : l.from + l.steps ≡ l.fn.steps + l.count;
 }

@@ -1,5 +1,6 @@
 -- A conflict at a pin refutes the prefix up to it, and otherwise the search on the scope is one of the whole path.
-use Rattle.std.proofs.Common.{◌≡◌, ℕ, ◌+◌, ◌<◌, ◌≤◌, length, sym, ap, subst, ◌∙◌, arith}
+use Rattle.std.proofs.Common.{◌≡◌, ℕ, ◌+◌, ◌<◌, ◌≤◌, length, sym, ap, subst, subst₂, ◌∙◌, arith}
+use Rattle.pd_base.specs.declared.rules.Rules.{Rules}
 use Rattle.netlist.specs.Circuit.{Circuit}
 use Rattle.netlist.specs.Paths.{IsPrefix, prefix_of}
 use Rattle.implication.specs.Scopes.{IsSameScope, standing}
@@ -32,8 +33,8 @@ module _ (g : Over) (c : After-go_on g) where
 pub go_on-requires-clause-along : goal.go_on-requires-clause-along
 go_on-requires-clause-along g c =
     let old = standing c.args.scope.now in
-    let along = leads_along old c.args.path.now c.args.aim c.args.self.now c.requires.gone c.requires.path c.requires.told in
-    still_along old (standing c.go_back-shared.new.scope) c.args.path.now c.go_back-shared.ensures.same along
+    let along = leads_along g.A.Algebra.algebra old c.requires.can.is_desk.of_rules c.args.path.now c.args.aim c.args.self.now c.requires.can.gone c.requires.can.is_path c.requires.can.is_told in
+    still_along g.A.Algebra.algebra old (standing c.go_back-shared.new.scope) c.args.path.now c.go_back-shared.ensures.same along
 
 pub go_on-requires-clause-at : goal.go_on-requires-clause-at
 go_on-requires-clause-at g c = c.go_back-shared.ensures.at
@@ -42,7 +43,7 @@ pub search_at-requires-clause-prefix : goal.search_at-requires-clause-prefix
 search_at-requires-clause-prefix g c =
     let same = same_on g (goal.at.search_at-requires-clause-prefix g c).After-go_on in
     let P : Circuit → Type 0 = λ net. IsPrefix net c.args.path.now in
-    subst P (sym same.net) c.requires.path.prefix
+    subst P (sym same.net) c.requires.can.is_path.prefix
 
 pub search_at-requires-clause-start : goal.search_at-requires-clause-start
 search_at-requires-clause-start g c =
@@ -50,14 +51,14 @@ search_at-requires-clause-start g c =
     let kept = c.in_ok-kept.kept in
     let long = ap length c.steps.ensures in
     let all : length path.steps ≤ kept = omega (arith, long, c.if-kept-steps.false) in
-    starts_search (standing c.args.scope.now) path c.args.aim c.args.self.now c.requires.gone (standing c.go_on.new.scope)
-    (same_on g (goal.at.search_at-requires-clause-start g c).After-go_on) c.go_on.new.self kept c.in_ok-kept.ensures.at all
+    starts_search g.A.Algebra.algebra (standing c.args.scope.now) c.requires.can.is_desk.of_rules path c.args.aim c.args.self.now c.requires.can.gone (standing c.go_on.new.scope)
+    (same_on g (goal.at.search_at-requires-clause-start g c).After-go_on) c.go_on.new.self kept c.in_ok-kept.ensures.on.at all
 
 pub search_at-requires-clause-desk : goal.search_at-requires-clause-desk
 search_at-requires-clause-desk g c =
     let same = same_on g (goal.at.search_at-requires-clause-desk g c).After-go_on in
-    let P : Circuit → Type 0 = λ net. IsDeskFor net c.args.desk.now in
-    subst P (sym same.net) c.requires.desk
+    let P : Circuit → Rules → Type 0 = λ net r. IsDeskFor g.A.Algebra.algebra net r c.args.desk.now in
+    subst₂ P (sym same.net) (sym same.rules) c.requires.can.is_desk
 
 pub returns-in_err-kept-clause-same : goal.returns-in_err-kept-clause-same
 returns-in_err-kept-clause-same g c = same_on g (goal.at.returns-in_err-kept-clause-same g c).After-go_on
@@ -67,12 +68,6 @@ returns-in_err-tree-clause-same g c = same_on g (goal.at.returns-in_err-tree-cla
 
 pub returns-then-kept-steps-clause-same : goal.returns-then-kept-steps-clause-same
 returns-then-kept-steps-clause-same g c = same_on g (goal.at.returns-then-kept-steps-clause-same g c).After-go_on
-
-pub returns-then-kept-steps-clause-gone : goal.returns-then-kept-steps-clause-gone
-returns-then-kept-steps-clause-gone g c =
-    has_gone (standing c.args.scope.now) c.args.path.now c.args.aim c.args.self.now c.requires.gone (standing c.go_on.new.scope)
-    (same_on g (goal.at.returns-then-kept-steps-clause-gone g c).After-go_on) c.go_on.new.self c.in_ok-kept.kept
-    c.in_ok-kept.ensures.at
 
 pub returns-in_err-found-clause-same : goal.returns-in_err-found-clause-same
 returns-in_err-found-clause-same g c =
@@ -84,8 +79,8 @@ returns-in_err-found-clause-same g c =
 pub returns-in_err-found-clause-desk : goal.returns-in_err-found-clause-desk
 returns-in_err-found-clause-desk g c =
     let same = same_on g (goal.at.returns-in_err-found-clause-desk g c).After-go_on in
-    let P : Circuit → Type 0 = λ net. IsDeskFor net c.search_at.new.desk in
-    subst P same.net c.search_at.ensures.desk
+    let P : Circuit → Rules → Type 0 = λ net r. IsDeskFor g.A.Algebra.algebra net r c.search_at.new.desk in
+    subst₂ P same.net same.rules c.search_at.ensures.desk
 
 pub returns-clause-same : goal.returns-clause-same
 returns-clause-same g c =
@@ -97,72 +92,8 @@ returns-clause-same g c =
 pub returns-clause-desk : goal.returns-clause-desk
 returns-clause-desk g c =
     let same = same_on g (goal.at.returns-clause-desk g c).After-go_on in
-    let P : Circuit → Type 0 = λ net. IsDeskFor net c.search_at.new.desk in
-    subst P same.net c.search_at.ensures.desk
-
-pub returns-clause-gone : goal.returns-clause-gone
-returns-clause-gone g c =
-    let restored = c.search_at.ensures.restored in
-    let gone =
-    has_gone (standing c.args.scope.now) c.args.path.now c.args.aim c.args.self.now c.requires.gone (standing c.go_on.new.scope)
-    (same_on g (goal.at.returns-clause-gone g c).After-go_on) c.go_on.new.self c.in_ok-kept.kept c.in_ok-kept.ensures.at in
-    record {
-      beginning = restored.beginning ∙ gone.beginning;
-      entered = restored.assumptions ∙ gone.entered;
-      free = restored.conflict ∙ gone.free;
-    }
-
-pub returns-then-kept-steps-clause-ended : goal.returns-then-kept-steps-clause-ended
-returns-then-kept-steps-clause-ended g c =
-    let path = c.args.path.now in
-    let old = standing c.args.scope.now in
-    let kept = c.in_ok-kept.kept in
-    let long = ap length c.steps.ensures in
-    let within : kept < length path.steps = omega (arith, long, c.if-kept-steps.true) in
-    closed_ends old path c.args.aim c.args.self.now c.requires.gone (standing c.go_on.new.scope)
-    (same_on g (goal.at.returns-then-kept-steps-clause-ended g c).After-go_on) c.go_on.new.self kept c.in_ok-kept.ensures.at
-    c.in_ok-tree.tree within
-    (still_closes old (standing c.go_back-shared.new.scope) (prefix_of (kept + 1) path) c.go_back-shared.ensures.same
-    (c.in_ok-kept.ensures.closes within))
-    c.in_ok-tree.ensures
-
-pub returns-then-kept-steps-clause-moved : goal.returns-then-kept-steps-clause-moved
-returns-then-kept-steps-clause-moved g c =
-    let path = c.args.path.now in
-    let kept = c.in_ok-kept.kept in
-    let long = ap length c.steps.ensures in
-    let within : kept < length path.steps = omega (arith, long, c.if-kept-steps.true) in
-    moved_on (standing c.args.scope.now) path c.args.aim c.args.self.now c.requires.gone (standing c.go_on.new.scope)
-    (same_on g (goal.at.returns-then-kept-steps-clause-moved g c).After-go_on) c.go_on.new.self kept c.in_ok-kept.ensures.at
-    c.go_back-shared.result c.args.steps.now c.go_on.new.steps c.go_back-shared.ensures.shared c.in_ok-kept.ensures.farther
-    c.in_ok-kept.ensures.counted c.in_ok-tree.tree within
-
-pub returns-clause-ended : goal.returns-clause-ended
-returns-clause-ended g c =
-    let path = c.args.path.now in
-    let old = standing c.args.scope.now in
-    let kept = c.in_ok-kept.kept in
-    let long = ap length c.steps.ensures in
-    let all : length path.steps ≤ kept = omega (arith, long, c.if-kept-steps.false) in
-    let P : Ended → Type 0 = λ e. IsEnded old.net old.rules c.args.aim path e in
-    subst P (sym c.ended_by.ensures)
-    (search_ends old path c.args.aim c.args.self.now c.requires.gone (standing c.go_on.new.scope)
-    (same_on g (goal.at.returns-clause-ended g c).After-go_on) c.go_on.new.self kept c.in_ok-kept.ensures.at
-    all c.in_ok-found.found c.in_ok-found.ensures.found)
-
-pub returns-clause-moved : goal.returns-clause-moved
-returns-clause-moved g c =
-    let path = c.args.path.now in
-    let kept = c.in_ok-kept.kept in
-    let long = ap length c.steps.ensures in
-    let all : length path.steps ≤ kept = omega (arith, long, c.if-kept-steps.false) in
-    let P : Ended → Type 0 =
-    λ e. (more : ℕ) × (c.go_on.new.steps ≡ c.args.steps.now + more) × HasMovedOn c.args.self.now c.go_on.new.self path e more in
-    subst P (sym c.ended_by.ensures)
-    (moved_to_end (standing c.args.scope.now) path c.args.aim c.args.self.now c.requires.gone (standing c.go_on.new.scope)
-    (same_on g (goal.at.returns-clause-moved g c).After-go_on) c.go_on.new.self kept c.in_ok-kept.ensures.at
-    c.go_back-shared.result c.args.steps.now c.go_on.new.steps c.go_back-shared.ensures.shared c.in_ok-kept.ensures.farther
-    c.in_ok-kept.ensures.counted c.in_ok-found.found all)
+    let P : Circuit → Rules → Type 0 = λ net r. IsDeskFor g.A.Algebra.algebra net r c.search_at.new.desk in
+    subst₂ P same.net same.rules c.search_at.ensures.desk
 
 pub returns-in_err-kept-clause-counted : goal.returns-in_err-kept-clause-counted
 returns-in_err-kept-clause-counted g c = counts_on g (goal.at.returns-in_err-kept-clause-counted g c).After-go_on
@@ -180,19 +111,19 @@ pub returns-clause-counted : goal.returns-clause-counted
 returns-clause-counted g c = counts_on g (goal.at.returns-clause-counted g c).After-go_on
 
 pub go_back-shared-requires-clause-entered : goal.go_back-shared-requires-clause-entered
-go_back-shared-requires-clause-entered g c = c.requires.gone.entered
+go_back-shared-requires-clause-entered g c = c.requires.can.gone.entered
 
 pub go_back-shared-requires-clause-free : goal.go_back-shared-requires-clause-free
-go_back-shared-requires-clause-free g c = c.requires.gone.free
+go_back-shared-requires-clause-free g c = c.requires.can.gone.free
 
 pub overflow_add-result : goal.overflow_add-result
-overflow_add-result g c = let room = c.requires.room in omega (arith, c.if-kept-steps.true, room, ap length c.steps.ensures)
+overflow_add-result g c = let room = c.requires.can.room in omega (arith, c.if-kept-steps.true, room, ap length c.steps.ensures)
 
 pub search_at-requires-clause-some_budget : goal.search_at-requires-clause-some_budget
-search_at-requires-clause-some_budget g c = c.requires.budget.positive
+search_at-requires-clause-some_budget g c = c.requires.can.is_budget.positive
 
 pub search_at-requires-clause-budget : goal.search_at-requires-clause-budget
-search_at-requires-clause-budget g c = c.requires.budget.within
+search_at-requires-clause-budget g c = c.requires.can.is_budget.within
 
 pub returns-in_err-kept-clause-scope : goal.returns-in_err-kept-clause-scope
 returns-in_err-kept-clause-scope g c = scope_on g (goal.at.returns-in_err-kept-clause-scope g c).After-go_on
@@ -209,3 +140,69 @@ returns-in_err-found-clause-scope g c =
 
 pub returns-clause-scope : goal.returns-clause-scope
 returns-clause-scope g c = same_scope_twice (scope_on g (goal.at.returns-clause-scope g c).After-go_on) c.search_at.ensures.scope
+
+pub returns-then-kept-steps-clause-searched : goal.returns-then-kept-steps-clause-searched
+returns-then-kept-steps-clause-searched g c = record {
+  is_ended =
+      (let path = c.args.path.now in
+      let old = standing c.args.scope.now in
+      let kept = c.in_ok-kept.kept in
+      let long = ap length c.steps.ensures in
+      let within : kept < length path.steps = omega (arith, long, c.if-kept-steps.true) in
+      closed_ends g.A.Algebra.algebra old c.requires.can.is_desk.of_rules path c.args.aim c.args.self.now c.requires.can.gone (standing c.go_on.new.scope)
+      (same_on g (goal.at.returns-then-kept-steps-clause-searched g c).After-go_on) c.go_on.new.self kept c.in_ok-kept.ensures.on.at
+      c.in_ok-tree.tree within
+      (still_closes old (standing c.go_back-shared.new.scope) (prefix_of (kept + 1) path) c.go_back-shared.ensures.same
+      (c.in_ok-kept.ensures.on.closes within))
+      c.in_ok-tree.ensures);
+  gone =
+      (has_gone g.A.Algebra.algebra (standing c.args.scope.now) c.requires.can.is_desk.of_rules c.args.path.now c.args.aim c.args.self.now c.requires.can.gone (standing c.go_on.new.scope)
+      (same_on g (goal.at.returns-then-kept-steps-clause-searched g c).After-go_on) c.go_on.new.self c.in_ok-kept.kept
+      c.in_ok-kept.ensures.on.at);
+  moved =
+      (let path = c.args.path.now in
+      let kept = c.in_ok-kept.kept in
+      let long = ap length c.steps.ensures in
+      let within : kept < length path.steps = omega (arith, long, c.if-kept-steps.true) in
+      moved_on g.A.Algebra.algebra (standing c.args.scope.now) c.requires.can.is_desk.of_rules path c.args.aim c.args.self.now c.requires.can.gone (standing c.go_on.new.scope)
+      (same_on g (goal.at.returns-then-kept-steps-clause-searched g c).After-go_on) c.go_on.new.self kept c.in_ok-kept.ensures.on.at
+      c.go_back-shared.result c.args.steps.now c.go_on.new.steps c.go_back-shared.ensures.shared c.in_ok-kept.ensures.on.farther
+      c.in_ok-kept.ensures.on.counted c.in_ok-tree.tree within);
+}
+
+pub returns-clause-searched : goal.returns-clause-searched
+returns-clause-searched g c = record {
+  is_ended =
+      (let path = c.args.path.now in
+      let old = standing c.args.scope.now in
+      let kept = c.in_ok-kept.kept in
+      let long = ap length c.steps.ensures in
+      let all : length path.steps ≤ kept = omega (arith, long, c.if-kept-steps.false) in
+      let P : Ended → Type 0 = λ e. IsEnded old.net old.rules c.args.aim path e in
+      subst P (sym c.ended_by.ensures)
+      (search_ends g.A.Algebra.algebra old c.requires.can.is_desk.of_rules path c.args.aim c.args.self.now c.requires.can.gone (standing c.go_on.new.scope)
+      (same_on g (goal.at.returns-clause-searched g c).After-go_on) c.go_on.new.self kept c.in_ok-kept.ensures.on.at
+      all c.in_ok-found.found c.in_ok-found.ensures.found));
+  gone =
+      (let restored = c.search_at.ensures.restored in
+      let gone =
+      has_gone g.A.Algebra.algebra (standing c.args.scope.now) c.requires.can.is_desk.of_rules c.args.path.now c.args.aim c.args.self.now c.requires.can.gone (standing c.go_on.new.scope)
+      (same_on g (goal.at.returns-clause-searched g c).After-go_on) c.go_on.new.self c.in_ok-kept.kept c.in_ok-kept.ensures.on.at in
+      record {
+        beginning = restored.beginning ∙ gone.beginning;
+        entered = restored.assumptions ∙ gone.entered;
+        free = restored.conflict ∙ gone.free;
+      });
+  moved =
+      (let path = c.args.path.now in
+      let kept = c.in_ok-kept.kept in
+      let long = ap length c.steps.ensures in
+      let all : length path.steps ≤ kept = omega (arith, long, c.if-kept-steps.false) in
+      let P : Ended → Type 0 =
+      λ e. (more : ℕ) × (c.go_on.new.steps ≡ c.args.steps.now + more) × HasMovedOn c.args.self.now c.go_on.new.self path e more in
+      subst P (sym c.ended_by.ensures)
+      (moved_to_end g.A.Algebra.algebra (standing c.args.scope.now) c.requires.can.is_desk.of_rules path c.args.aim c.args.self.now c.requires.can.gone (standing c.go_on.new.scope)
+      (same_on g (goal.at.returns-clause-searched g c).After-go_on) c.go_on.new.self kept c.in_ok-kept.ensures.on.at
+      c.go_back-shared.result c.args.steps.now c.go_on.new.steps c.go_back-shared.ensures.shared c.in_ok-kept.ensures.on.farther
+      c.in_ok-kept.ensures.on.counted c.in_ok-found.found all));
+}

@@ -25,7 +25,7 @@ pub returns-in_ok-test-in-Tested-clause-answered : goal.returns-in_ok-test-in-Te
 returns-in_ok-test-in-Tested-clause-answered g c =
     let asked = c.requires.0 in
     let target = target_of c.args.path.now c.args.dir Robust in
-    let P : Outcome → Type 0 = λ outcome. IsOutcome c.args.net.now g.searches.routes g.searches.proofs (c.args.number - 1) target outcome in
+    let P : Outcome → Type 0 = λ outcome. IsOutcome c.args.net.now g.searches.rules g.searches.routes g.searches.proofs (c.args.number - 1) target outcome in
     robust_answers c.args.net.now g.searches asked.are_searches c.args.number c.args.path.now asked.is_listed c.args.dir
     (written_by c.args.self.now) asked.are_written c.add_test.new.tests.items c.in-Tested.pair c.in_ok-test-in-Tested.test
     (subst P c.in-Tested.is c.requires.1.robust) c.in_ok-test-in-Tested.ensures

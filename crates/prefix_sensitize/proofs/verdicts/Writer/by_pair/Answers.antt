@@ -16,7 +16,7 @@ is_robust-requires-clause-refuted g c =
     read_excludes g.searches c.args.number robust c.args.proof has c.args.self.now.found.items writer.found c.index.result.now
     c.index.ensures c.args.net.now c.sources.ensures.circuit asked.are_searches
     (listed_path c.args.net.now g.searches asked.are_searches c.args.number c.args.path.now asked.is_listed c.args.dir)
-    (cleared c.index.result.now.spent set) c.args.pair
+    (cleared c.index.result.now.spent set) c.args.pair c.requires.1.1.of_rules
 
 pub cite-requires-clause-found : goal.cite-requires-clause-found
 cite-requires-clause-found g c =
@@ -45,7 +45,7 @@ returns-then-is_robust-clause-answered g c =
     let test = c.requires.1.1 in
     robust_answers c.args.net.now g.searches asked.are_searches c.args.number c.args.path.now asked.is_listed c.args.dir
     (written_by c.args.self.now) asked.are_written c.add_test.new.tests.items c.args.pair c.in_ok-test.test
-    (record { first_fits = test.first_fits; second_fits = test.second_fits; meets = c.is_robust.ensures.robust.0 c.if-is_robust.true })
+    (record { first_fits = test.first_fits; second_fits = test.second_fits; of_rules = test.of_rules; meets = c.is_robust.ensures.robust.0 c.if-is_robust.true })
     c.in_ok-test.ensures
 
 pub returns-clause-answered : goal.returns-clause-answered

@@ -30,7 +30,7 @@ module _ (g : Over) (c : In-Proved g) where
 pub by_pair-requires : goal.by_pair-requires
 by_pair-requires g c =
     let nonrobust = target_of c.args.path.now c.args.dir Nonrobust in
-    let P : Outcome → Type 0 = IsOutcome c.args.net.now g.searches.routes g.searches.proofs (c.args.number - 1) nonrobust in
+    let P : Outcome → Type 0 = IsOutcome c.args.net.now g.searches.rules g.searches.routes g.searches.proofs (c.args.number - 1) nonrobust in
     (c.requires.0, (c.requires.1.0, subst P c.in-Tested.is c.requires.1.1))
 
 pub cite-requires-clause-found : goal.cite-requires-clause-found

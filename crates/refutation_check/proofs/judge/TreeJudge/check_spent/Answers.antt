@@ -3,15 +3,16 @@ use Rattle.std.proofs.Common.{List, IfOk, sym, ◌∙◌, subst}
 use Rattle.std.specs.List.{Contains}
 use Rattle.std.proofs.lemmas.Bool.{false≢true}
 use Rattle.std.proofs.lemmas.Result.{IfOk-weaker}
+use Rattle.pd_base.specs.Links.{links_of}
 use Rattle.pd_base.specs.Target.{target_of}
 use Rattle.netlist.specs.Paths.{IsPrefix, end_of}
 use Rattle.implication.specs.Standing.{IsToldBy}
-use Rattle.runs.specs.declared.tree.Node.{Node}
-use Rattle.runs.specs.declared.tree.Node.TheVariants.{Waiting}
-use Rattle.tree_laws.specs.Faults.{IsRightInSpent}
-use Rattle.tree_laws.specs.Faults.IsFaultOfSpent.{other_splits, none_open}
-use Rattle.tree_laws.proofs.Bound.{spent_below_bound}
-use Rattle.tree_laws.proofs.Faults.{fault_spent_not}
+use Rattle.trees.specs.declared.tree.Node.{Node}
+use Rattle.trees.specs.declared.tree.Node.TheVariants.{Waiting}
+use Rattle.trees.specs.Faults.{IsRightInSpent}
+use Rattle.trees.specs.Faults.IsFaultOfSpent.{other_splits, none_open}
+use Rattle.trees.proofs.Bound.{spent_below_bound}
+use Rattle.trees.proofs.Faults.{fault_spent_not}
 use Rattle.refutation_check.specs.Answers.{TellsOfNodes, TellsOfSpent}
 use Rattle.refutation_check.specs.Judges.{MadeFor}
 use Rattle.refutation_check.proofs.Checking.{spent_of_nodes, spent_exactly}
@@ -19,7 +20,7 @@ use Rattle.refutation_check.proofs.judge.TreeJudge.check_spent.Goals as goal
 use Rattle.refutation_check.proofs.judge.TreeJudge.check_spent.Goals.{then-splits-budget-via-then-splits-budget, then-splits-budget-via-else-splits-budget+then-not-has_open}
 
 pub returns-then-splits-budget-clause-tells : goal.returns-then-splits-budget-clause-tells
-returns-then-splits-budget-clause-tells c =
+returns-then-splits-budget-clause-tells g c =
     elim c.then-splits-budget.branch [
       | then-splits-budget-via-then-splits-budget w ↦ other_splits (λ e. w.if-splits-budget.true (c.splits.ensures ∙ e))
       | then-splits-budget-via-else-splits-budget+then-not-has_open w ↦ none_open (λ has. false≢true (sym w.if-not-has_open.true
@@ -27,28 +28,28 @@ returns-then-splits-budget-clause-tells c =
     ]
 
 pub returns-then-splits-budget-clause-exactly : goal.returns-then-splits-budget-clause-exactly
-returns-then-splits-budget-clause-exactly c =
+returns-then-splits-budget-clause-exactly g c =
     let m = c.args.self.now in let target = target_of c.args.path.now c.args.dir c.args.kind in (
       λ e. cc,
-      λ all. absurd (fault_spent_not m.net m.rules target c.args.budget c.args.tree.now 0 (returns-then-splits-budget-clause-tells c) all),
+      λ all. absurd (fault_spent_not m.net m.rules target c.args.budget c.args.tree.now 0 (returns-then-splits-budget-clause-tells g c) all),
     )
 
 pub spends-requires-clause-idle : goal.spends-requires-clause-idle
-spends-requires-clause-idle c = c.self.invariant.idle
+spends-requires-clause-idle g c = c.self.invariant.idle
 
 pub spends-requires-clause-prefix : goal.spends-requires-clause-prefix
-spends-requires-clause-prefix c =
+spends-requires-clause-prefix g c =
     let P : MadeFor → Type 0 = λ m. IsPrefix m.net c.args.path.now in subst P (sym c.self.view_is) c.requires.prefix
 
 pub spends-requires-clause-told : goal.spends-requires-clause-told
-spends-requires-clause-told c =
-    let P : MadeFor → Type 0 = λ m. IsToldBy m.net m.ends (end_of m.net c.args.path.now) in subst P (sym c.self.view_is) c.requires.told
+spends-requires-clause-told g c =
+    let P : MadeFor → Type 0 = λ m. IsToldBy m.net (links_of m.rules) m.ends (end_of m.net c.args.path.now) in subst P (sym c.self.view_is) c.requires.told
 
 pub spends-requires-clause-room : goal.spends-requires-clause-room
-spends-requires-clause-room c = c.self.invariant.room
+spends-requires-clause-room g c = c.self.invariant.room
 
 pub returns-clause-tells : goal.returns-clause-tells
-returns-clause-tells c =
+returns-clause-tells g c =
     let i = c.self.inside in let target = target_of c.args.path.now c.args.dir c.args.kind in let tree = c.args.tree.now in
     let P : MadeFor → Type 0 = λ m. IfOk c.spends.result (TellsOfSpent m.net m.rules target c.args.budget tree) in
     subst P c.self.view_is
@@ -59,13 +60,13 @@ returns-clause-tells c =
     c.spends.ensures.tells)
 
 pub returns-clause-exactly : goal.returns-clause-exactly
-returns-clause-exactly c =
+returns-clause-exactly g c =
     let m = c.args.self.now in let target = target_of c.args.path.now c.args.dir c.args.kind in let tree = c.args.tree.now in
     IfOk-weaker c.spends.result (TellsOfSpent m.net m.rules target c.args.budget tree) _
-    (λ check tells. spent_exactly m.net m.rules target c.args.budget tree check tells) (returns-clause-tells c)
+    (λ check tells. spent_exactly m.net m.rules target c.args.budget tree check tells) (returns-clause-tells g c)
 
 pub returns-clause-bound : goal.returns-clause-bound
-returns-clause-bound c = λ yes.
+returns-clause-bound g c = λ yes.
     let m = c.args.self.now in let target = target_of c.args.path.now c.args.dir c.args.kind in let tree = c.args.tree.now in
     spent_below_bound m.net m.rules target c.args.budget tree c.requires.prefix
-    (subst (λ result. IfOk result (TellsOfSpent m.net m.rules target c.args.budget tree)) yes (returns-clause-tells c))
+    (subst (λ result. IfOk result (TellsOfSpent m.net m.rules target c.args.budget tree)) yes (returns-clause-tells g c))

@@ -3,12 +3,13 @@ use Rattle.std.proofs.Common.{◌≡◌, ◌<◌, ℕ, Bool, true, false, true�
 use Rattle.std.proofs.lemmas.List.{length-replicate}
 use Rattle.std.proofs.lemmas.List.Elements.{All-replicate}
 use Rattle.state_sets.specs.declared.state.State.{State}
-use Rattle.state_sets.specs.FourStates.{four_states}
-use Rattle.test_judging.specs.ConeStates.{AreFourStates}
+use Rattle.state_sets.specs.StateAlgebra.{StateAlgebra, HasLaws}
+use Rattle.pair_judging.specs.ConeStates.{AreStates}
 use Rattle.refutation_check.proofs.trial_states.TrialStates.new.Goals as goal
 
-some_state : 0 < four_states.count
-some_state = omega arith
+-- there is some state
+some_state : (a : StateAlgebra) → HasLaws a → 0 < a.count
+some_state a laws = let below = laws.of_within true true true in omega (arith, below)
 
 -- no flag of so many is down
 none_fresh : (count gate : ℕ) (flags : List Bool) → flags ≡ replicate count true → gate < count → get_or flags gate true ≡ false → ⊥
@@ -18,7 +19,7 @@ none_fresh count gate flags are within fresh =
     true≢false (sym (subst (λ (list : List Bool). get_or list gate true ≡ true) (sym are) up) ∙ fresh)
 
 pub returns : goal.returns
-returns c =
+returns g c =
     let zero : State = record { 0 = 0 } in
     let states = c.in_ok-states.ensures.items_if_clones_equal (λ y same. same) in
     let stale = c.in_ok-stale.ensures.items_if_clones_equal (λ y same. same) in
@@ -26,8 +27,8 @@ returns c =
       room = record {
         states = record {
           places = ap length states ∙ length-replicate c.lines.result zero ∙ c.lines.ensures.count;
-          four = subst AreFourStates (sym states)
-              (All-replicate (λ (state : State). state.0 < four_states.count) c.lines.result zero some_state);
+          below = subst (AreStates g.A.Algebra.algebra.count) (sym states)
+              (All-replicate (λ (state : State). state.0 < g.A.Algebra.algebra.count) c.lines.result zero (some_state g.A.Algebra.algebra g.met.A.Algebra.laws));
         };
         stale = ap length stale ∙ length-replicate c.gates.result true ∙ c.gates.ensures;
       };

@@ -11,17 +11,17 @@ use Rattle.refutation_check.proofs.TrialStates.{no_gate, reads_no_later}
 use Rattle.refutation_check.proofs.trial_states.TrialStates.refresh.Goals as goal
 
 pub refresh_gate-requires-clause-gate : goal.refresh_gate-requires-clause-gate
-refresh_gate-requires-clause-gate c =
+refresh_gate-requires-clause-gate g c =
     let gates = c.args.gates.now in let place = c.loop-gate.gate-index in
-    ((c.requires.gates.1.exactly (get_or gates place no_gate).0).0 (Contains-get_or gates place no_gate c.loop-gate-test.true)).0
+    ((c.requires.gates.2.exactly (get_or gates place no_gate).0).0 (Contains-get_or gates place no_gate c.loop-gate-test.true)).0
 
 pub refresh_gate-requires-clause-others : goal.refresh_gate-requires-clause-others
-refresh_gate-requires-clause-others c =
+refresh_gate-requires-clause-others g c =
     let gates = c.args.gates.now in let place = c.loop-gate.gate-index in
-    reads_no_later c.args.net.now c.lines.ensures.circuit c.requires.gates.0 gates c.requires.gates.1 place place (omega arith) c.loop-gate-test.true
+    reads_no_later c.args.net.now c.lines.ensures.circuit c.requires.gates.0 c.requires.gates.1 gates c.requires.gates.2 place place (omega arith) c.loop-gate-test.true
 
 pub loop-gate-preserved : goal.loop-gate-preserved
-loop-gate-preserved c =
+loop-gate-preserved g c =
     let net = c.args.net.now in let gates = c.args.gates.now in let place = c.loop-gate.gate-index in
     let inside = c.loop-gate-test.true in let inv = c.loop-gate.invariant in let new = c.refresh_gate.new.self in
     let line = gate_line net (get_or gates place no_gate).0 in
@@ -34,13 +34,13 @@ loop-gate-preserved c =
           get_or-take place gates k d short ∙ get_or_default gates k d no_gate (omega (arith, short, inside)) in
           c.refresh_gate.ensures.stay (get_or (take place gates) k d).0 (inv.fresh k d front)
           (subst (λ (gate : GateId). All (λ (pin : LineId). pin.0 ≢ line) (pins_at net gate.0)) (sym same)
-          (reads_no_later net c.lines.ensures.circuit c.requires.gates.0 gates c.requires.gates.1 k place (omega (arith, short)) inside)))
+          (reads_no_later net c.lines.ensures.circuit c.requires.gates.0 c.requires.gates.1 gates c.requires.gates.2 k place (omega (arith, short)) inside)))
           c.refresh_gate.ensures.fresh;
       sources = λ source within. c.refresh_gate.ensures.sources source within ∙ inv.sources source within;
     }
 
 pub returns-clause-fresh : goal.returns-clause-fresh
-returns-clause-fresh c =
+returns-clause-fresh g c =
     let inv = c.loop-gate.invariant in
     subst (λ (gates : List GateId). All (λ (gate : GateId). is_stale c.loop-gate.self gate.0 ≡ false) gates)
     (take_all c.loop-gate.gate-index c.args.gates.now c.loop-gate-test.false) inv.fresh

@@ -5,8 +5,8 @@ use Rattle.refutation_check.proofs.trial_states.TrialStates.refresh.Given as goa
 
 -- the gates before this one are not stale
 abbrev pub invariant-loop-gate : goal.invariant-loop-gate
-invariant-loop-gate l = record {
-  kept : AreTrialStates l.net l.self;
+invariant-loop-gate g l = record {
+  kept : AreTrialStates g.A.Algebra.algebra l.net l.self;
   fresh : All (λ gate. is_stale l.self gate.0 ≡ false) (take l.gate-index l.gates);
   sources : KeepsSources l.net l.initial.self l.self;
 }

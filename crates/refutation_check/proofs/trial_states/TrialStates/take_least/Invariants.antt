@@ -1,14 +1,14 @@
 use Rattle.std.proofs.Common.{take}
 use Rattle.std.specs.List.{All}
 use Rattle.state_sets.specs.Labellings.{label_at}
-use Rattle.test_judging.specs.ConeStates.{state_in}
-use Rattle.test_judging.specs.LeastStates.{IsTakenOf}
+use Rattle.pair_judging.specs.ConeStates.{state_in}
+use Rattle.pair_judging.specs.LeastStates.{IsTakenOf}
 use Rattle.refutation_check.specs.TrialStates.{AreTrialStates}
 use Rattle.refutation_check.proofs.trial_states.TrialStates.take_least.Given as goal
 
 -- the sources before this one are in their least states
 abbrev pub invariant-loop-source : goal.invariant-loop-source
-invariant-loop-source l = record {
-  kept : AreTrialStates l.net l.self;
-  taken : All (λ source. IsTakenOf (label_at l.labels source.0) (state_in l.self.states.items source.0)) (take l.source-index l.sources);
+invariant-loop-source g l = record {
+  kept : AreTrialStates g.A.Algebra.algebra l.net l.self;
+  taken : All (λ source. IsTakenOf g.A.Algebra.algebra.count (label_at l.labels source.0) (state_in l.self.states.items source.0)) (take l.source-index l.sources);
 }

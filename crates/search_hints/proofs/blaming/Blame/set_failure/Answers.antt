@@ -4,7 +4,7 @@ use Rattle.std.specs.List.{All, Contains}
 use Rattle.std.proofs.lemmas.List.Elements.{All-contains}
 use Rattle.pd_base.specs.declared.ids.LineId.{LineId}
 use Rattle.netlist.specs.Circuit.{line_count}
-use Rattle.netlist.specs.Pins.{IsInFanIn}
+use Rattle.netlist.specs.LinkedPairs.{IsSupported}
 use Rattle.search_hints.proofs.Behind.{all_of_each, failing_all}
 use Rattle.search_hints.proofs.blaming.Blame.set_failure.Goals as goal
 
@@ -20,10 +20,10 @@ returns-clause-blamed c =
     let items = c.list_open.new.list.items in
     record {
       are_sources = subst (λ (n : ℕ). All (λ (source : LineId). source.0 < n) items) c.sources.ensures.count c.list_open.ensures.sources;
-      in_fan_in = λ end here there k d inside.
-          All-contains (λ (l : LineId). IsInFanIn net end l.0) c.spread.new.found.lines (get_or items k d)
-          (c.spread.ensures.behind.in_fan_in end
-          (all_of_each (IsInFanIn net end) c.find_failing.new.found.lines
-          (λ other has. failing_all (IsInFanIn net end) c.args.line c.args.side here there other (c.find_failing.ensures.only other has))))
+      supported = λ links end here there k d inside.
+          All-contains (λ (l : LineId). IsSupported net links end l.0) c.spread.new.found.lines (get_or items k d)
+          (c.spread.ensures.behind.supported links end
+          (all_of_each (IsSupported net links end) c.find_failing.new.found.lines
+          (λ other has. failing_all (IsSupported net links end) c.args.line c.args.side here there other (c.find_failing.ensures.only other has))))
           (subst (λ (ls : List LineId). Contains ls (get_or items k d)) c.lines.ensures.lines (c.list_open.ensures.among k d inside));
     }

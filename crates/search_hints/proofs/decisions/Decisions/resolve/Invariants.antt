@@ -3,4 +3,4 @@ use Rattle.search_hints.specs.Drafts.{HasGate}
 use Rattle.search_hints.proofs.decisions.Decisions.resolve.Given as goal
 
 abbrev pub invariant-loop-conflicts : goal.invariant-loop-conflicts
-invariant-loop-conflicts l = (l.self ≡ l.initial.self) × HasGate l.region.net.now l.settled
+invariant-loop-conflicts g l = (l.self ≡ l.initial.self) × HasGate l.region.net.now l.settled

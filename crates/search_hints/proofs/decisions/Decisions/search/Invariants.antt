@@ -2,4 +2,4 @@ use Rattle.std.proofs.Common.{◌≡◌}
 use Rattle.search_hints.proofs.decisions.Decisions.search.Given as goal
 
 abbrev pub invariant-loop : goal.invariant-loop
-invariant-loop l = l.self ≡ l.initial.self
+invariant-loop g l = l.self ≡ l.initial.self

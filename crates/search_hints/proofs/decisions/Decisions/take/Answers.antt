@@ -6,18 +6,18 @@ use Rattle.search_hints.proofs.Kept.{one_decided}
 use Rattle.search_hints.proofs.decisions.Decisions.take.Goals as goal
 
 pub invariant_of-self : goal.invariant_of-self
-invariant_of-self c =
+invariant_of-self g c =
     let i = c.self.inside in
     subst (λ (made : List Decision). AreKept i.draft made i.culprits i.open_at_first.items) (sym c.in_err-push.ensures.items) c.self.invariant
 
 pub cut-requires-clause-sized : goal.cut-requires-clause-sized
-cut-requires-clause-sized c = subst (IsSizedFor c.args.region.now.net.now) (sym c.self.view_is) c.requires.sized
+cut-requires-clause-sized g c = subst (IsSizedFor c.args.region.now.net.now) (sym c.self.view_is) c.requires.sized
 
 pub cut-requires-clause-line : goal.cut-requires-clause-line
-cut-requires-clause-line c = c.requires.line
+cut-requires-clause-line g c = c.requires.line
 
 pub invariant_of-self-in_err-cut : goal.invariant_of-self-in_err-cut
-invariant_of-self-in_err-cut c =
+invariant_of-self-in_err-cut g c =
     let i = c.self.inside in
     let within : c.args.cut.line.0 < i.draft.lines =
     subst (λ (n : ℕ). c.args.cut.line.0 < n) (sym (ap (λ (s : Sizes). s.lines) c.self.view_is ∙ c.requires.sized.lines)) c.requires.line in
@@ -25,13 +25,13 @@ invariant_of-self-in_err-cut c =
     c.cut.new.self c.cut.ensures
 
 pub returns-in_err-cut-clause-same : goal.returns-in_err-cut-clause-same
-returns-in_err-cut-clause-same c = c.cut.ensures ∙ c.self.view_is
+returns-in_err-cut-clause-same g c = c.cut.ensures ∙ c.self.view_is
 
 pub settle-requires : goal.settle-requires
-settle-requires c = subst (IsSizedFor c.args.region.now.net.now) (sym (c.cut.ensures ∙ c.self.view_is)) c.requires.sized
+settle-requires g c = subst (IsSizedFor c.args.region.now.net.now) (sym (c.cut.ensures ∙ c.self.view_is)) c.requires.sized
 
 pub invariant_of-self-2 : goal.invariant_of-self-2
-invariant_of-self-2 c =
+invariant_of-self-2 g c =
     let i = c.self.inside in
     let within : c.args.cut.line.0 < i.draft.lines =
     subst (λ (n : ℕ). c.args.cut.line.0 < n) (sym (ap (λ (s : Sizes). s.lines) c.self.view_is ∙ c.requires.sized.lines)) c.requires.line in
@@ -39,7 +39,7 @@ invariant_of-self-2 c =
     c.settle.new.self (c.settle.ensures.same ∙ c.cut.ensures)
 
 pub returns-clause-same : goal.returns-clause-same
-returns-clause-same c = c.settle.ensures.same ∙ c.cut.ensures ∙ c.self.view_is
+returns-clause-same g c = c.settle.ensures.same ∙ c.cut.ensures ∙ c.self.view_is
 
 pub returns-clause-gate : goal.returns-clause-gate
-returns-clause-gate c = c.settle.ensures.gate
+returns-clause-gate g c = c.settle.ensures.gate

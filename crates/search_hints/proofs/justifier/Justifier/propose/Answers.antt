@@ -4,6 +4,6 @@ use Rattle.search_hints.proofs.Cones.{cone_in}
 use Rattle.search_hints.proofs.justifier.Justifier.propose.Goals as goal
 
 pub decide-found-requires-clause-cone : goal.decide-found-requires-clause-cone
-decide-found-requires-clause-cone c =
+decide-found-requires-clause-cone g c =
     let net = c.args.sight.now.net.now in
     cone_in net (end_of net c.args.path.now) c.args.cone.now c.requires.cone_for c.requires.cone_at

@@ -1,0 +1,79 @@
+-- The words of `gen` and of `check`: the names of five files, and how many paths and splits (this project's own).
+use Rattle.std.specs.Prelude.{ℕ, ◌*◌, ◌≤◌, leb, List, [], ◌∷◌, Option, None, Some, Result, option_and_then, slice_index_or, unwrap_or, if◌then◌else◌}
+use Rattle.pd_base.specs.declared.limits.TheConstants.{MOST_BUDGET, MOST_PATHS}
+use Rattle.command_line.specs.Scan.{Form, Texts, asked_by, value_asked}
+use Rattle.command_line.specs.Values.{number_spelled}
+use Rattle.command_line.specs.declared.forms.run.RunCommand.{RunCommand}
+use Rattle.command_line.specs.declared.forms.run.TheConstants.{MOST_PRODUCT}
+use Rattle.command_line.specs.declared.number.TheConstants.{MOST_DIGITS}
+use Rattle.command_line.specs.declared.option_name.OptionName.{OptionName}
+use Rattle.command_line.specs.declared.option_name.OptionName.TheVariants.{Paths, Budget}
+use Rattle.command_line.specs.declared.refusal.WordsRefusal.{WordsRefusal}
+use Rattle.command_line.specs.declared.refusal.WordsRefusal.TheVariants.{Product}
+
+-- What is asked for of a run: its files, how many paths are to be listed, and the budget of splits for each search. `gen` makes the run,
+-- and `check` judges the one that its files spell.
+pub record RunCall : Type 0 where
+  pub net : List ℕ
+  pub delays : List ℕ
+  pub tests : List ℕ
+  pub report : List ℕ
+  pub proofs : List ℕ
+  pub paths : ℕ
+  pub budget : ℕ
+
+-- the numbers that are asked for of a run are within their limits
+pub record HasRunNumbers (call : RunCall) : Type 0 where
+  pub some_paths : 1 ≤ call.paths
+  pub few_paths : call.paths ≤ MOST_PATHS
+  pub some_budget : 1 ≤ call.budget
+  pub small_budget : call.budget ≤ MOST_BUDGET
+  pub product : call.paths * call.budget ≤ MOST_PRODUCT
+
+-- the number that a value spells
+abbrev pub number_of : Option (List ℕ) → ℕ
+number_of value = unwrap_or (option_and_then (number_spelled MOST_DIGITS) value) 0
+
+-- the number that an option has
+abbrev pub number_asked : OptionName → Texts → ℕ
+number_asked option texts = number_of (value_asked option texts)
+
+-- why this product of paths and budget is refused
+abbrev pub product_reason : ℕ → Option WordsRefusal
+product_reason product = if leb product MOST_PRODUCT then None else Some (Product product)
+
+-- the form of the words: nothing is asked of the options before the names are compared, and then that the product is within its limit
+abbrev pub run_form : Form
+run_form = record {
+  words = record { options = Paths ∷ Budget ∷ []; positional = 5; files = 5 };
+  before_names = λ texts. None;
+  after_names = λ texts. product_reason (number_asked Paths texts * number_asked Budget texts);
+}
+
+-- what is asked for of a run by words that say this
+abbrev pub run_call : Texts → RunCall
+run_call texts = record {
+  net = slice_index_or texts.positional 0 [];
+  delays = slice_index_or texts.positional 1 [];
+  tests = slice_index_or texts.positional 2 [];
+  report = slice_index_or texts.positional 3 [];
+  proofs = slice_index_or texts.positional 4 [];
+  paths = number_asked Paths texts;
+  budget = number_asked Budget texts;
+}
+
+-- what the words behind `gen` or `check` ask for, or why they are refused
+abbrev pub asked_run : List (List ℕ) → Result RunCall WordsRefusal
+asked_run words = asked_by run_form run_call words
+
+-- what is asked for of a run, with the bytes of its names
+abbrev pub run_call_of : RunCommand → RunCall
+run_call_of command = record {
+  net = command.net.now;
+  delays = command.delays.now;
+  tests = command.tests.now;
+  report = command.report.now;
+  proofs = command.proofs.now;
+  paths = command.paths;
+  budget = command.budget;
+}

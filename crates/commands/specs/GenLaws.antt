@@ -1,0 +1,45 @@
+-- What holds of a call of `gen`, beside what holds of every call (this project's own).
+use Rattle.std.specs.Prelude.{◌≡◌, ℕ, ◌-◌, ◌^◌, ◌≤◌, List, length, Some}
+use Rattle.pd_base.specs.declared.fault.Direction.{Direction}
+use Rattle.pd_io.specs.Folder.{Folder, bytes_at}
+use Rattle.pd_io.specs.Seen.{Outside}
+use Rattle.netlist.specs.Circuit.{Circuit}
+use Rattle.netlist.specs.Waves.{Delays}
+use Rattle.bench_reader.specs.Circuits.{HasCircuit}
+use Rattle.delay_annotation.specs.DelayFile.{HasDelays}
+use Rattle.runs.specs.declared.run.ListedPath.{ListedPath}
+use Rattle.runs.specs.declared.run.Verdict.{Verdict}
+use Rattle.trees.specs.Bounds.{AreSupport}
+use Rattle.good_runs.specs.Faults.{IsFault}
+use Rattle.good_runs.specs.Truth.{IsTruth}
+use Rattle.command_line.specs.Words.{RunCall}
+use Rattle.calls.specs.declared.status.Status.{Status}
+use Rattle.calls.specs.Calls.{IsDoneOrNoMemory, NoneFailed}
+use Rattle.calls.specs.Work.{Products}
+use Rattle.commands.specs.Gen.{GivesProductsOf}
+use Rattle.commands.specs.Sizes.{HasShortTexts}
+use Rattle.commands.specs.declared.inputs.reading.TheConstants.{INPUT_LIMIT}
+
+-- NET has a circuit, DELAYS gives delays to its pins, each is within its limit, and the texts of so many paths are short
+pub record CanBeGenerated (call : RunCall) (now : Folder) : Type 0 where
+  pub circuit : Circuit
+  pub has : HasCircuit (bytes_at now.held call.net) circuit
+  pub given : Delays
+  pub gives : HasDelays circuit (bytes_at now.held call.delays) given
+  pub net_within : length (bytes_at now.held call.net) ≤ INPUT_LIMIT
+  pub delays_within : length (bytes_at now.held call.delays) ≤ INPUT_LIMIT
+  pub short : HasShortTexts call.paths circuit
+
+-- Where the budget is at least two to the power of the number of sources in the support of a fault's path, its own not counted, the
+-- fault is not aborted, and its verdict is what there is.
+abbrev pub DecidesByPower : RunCall → Circuit → Delays → Products → Type 0
+DecidesByPower call c delays products =
+    (gives : GivesProductsOf call c delays products) (number : ℕ) (listed : ListedPath) (direction : Direction) (verdict : Verdict)
+    → IsFault gives.run number listed direction verdict → (sources : List ℕ) → AreSupport c gives.run.rules listed.path sources
+    → 2 ^ (length sources - 1) ≤ call.budget → IsTruth c gives.run.rules listed.path direction verdict
+
+pub record KeepsGenLaws (call : RunCall) (status : Status) (old new : Outside) : Type 0 where
+  -- a run is generated where it can be, if nothing fails and memory suffices
+  pub complete : (now : Folder) → CanBeGenerated call now → old.files.folder ≡ Some now → NoneFailed old new → IsDoneOrNoMemory status
+  -- a great budget decides
+  pub great_budget : (c : Circuit) (delays : Delays) (products : Products) → DecidesByPower call c delays products

@@ -1,0 +1,5 @@
+-- What functions of this crate alone say of what they found so far; no public clause cites it.
+pub mod Checking
+pub mod InputJudging
+pub mod Judging
+pub mod ReplayEndings

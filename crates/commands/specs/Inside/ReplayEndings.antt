@@ -1,0 +1,31 @@
+-- How a call of `replay` ends whose text was not made (this project's own).
+use Rattle.std.specs.Prelude.{◌≡◌, ⊤, ℕ, ◌<◌, List}
+use Rattle.pd_base.specs.declared.test.Test.{Test}
+use Rattle.netlist.specs.Circuit.{Circuit, line_count}
+use Rattle.netlist.specs.Names.{name_at}
+use Rattle.netlist.specs.Waves.{Delays}
+use Rattle.calls.specs.declared.ending.Ending.{Ending}
+use Rattle.calls.specs.declared.ending.Ending.TheVariants as ended
+use Rattle.commands.specs.Replay.{changes_too_often}
+use Rattle.commands.specs.TestChanges.{IsFirstTestOver}
+use Rattle.commands.specs.declared.replay.text.ReplayTextFault.{ReplayTextFault}
+use Rattle.commands.specs.declared.replay.text.ReplayTextFault.TheVariants.{TooManyChanges, NoMemory}
+
+-- a fault of a text names a line of the circuit, if it names one
+abbrev pub NamesLine : Circuit → ReplayTextFault → Type 0
+NamesLine c (TooManyChanges number line) = line.0 < line_count c
+NamesLine c NoMemory = ⊤
+
+-- a call ends so for a fault of its text: the test and the name of the line are told, or memory ran out
+pub data EndsForFault (c : Circuit) (fault : ReplayTextFault) (ending : Ending) : Type 0 where
+  told : (number line : ℕ) → fault ≡ TooManyChanges number (record { 0 = line })
+      → ending ≡ ended.Refused (changes_too_often number (name_at c line)) → EndsForFault c fault ending
+  no_memory : ending ≡ ended.NoMemory → EndsForFault c fault ending
+
+-- there is no text of the replay of these tests
+pub data FailsReplay (c : Circuit) (delays : Delays) (tests : List Test) (ending : Ending) : Type 0 where
+  -- the lines change too often under the pair of some test, which is told
+  over : (number line : ℕ) → ending ≡ ended.Refused (changes_too_often number (name_at c line))
+      → IsFirstTestOver c delays tests number line → FailsReplay c delays tests ending
+  -- memory ran out
+  lacks_memory : ending ≡ ended.NoMemory → FailsReplay c delays tests ending

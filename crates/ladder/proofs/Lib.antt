@@ -1,0 +1,7 @@
+mod Stating
+mod Order
+mod Names
+mod Places
+mod Stages
+mod Described
+mod More

@@ -1,0 +1,12 @@
+use Rattle.std.proofs.Common.{◌≡◌, length}
+use Rattle.pair_judging.specs.ConeStates.{AreStates}
+use Rattle.pair_judging.proofs.ConePass.{AreDone}
+use Rattle.pair_judging.proofs.judging.compute_all.Given as goal
+
+-- the lines of the gates before this one are in their states
+abbrev pub invariant-loop-gate : goal.invariant-loop-gate
+invariant-loop-gate g l = record {
+  places : length l.states ≡ length l.initial.states;
+  below : AreStates g.A.Algebra.algebra.count l.states;
+  done : AreDone g.A.Algebra.algebra g.met.A.Algebra.laws l.net l.gates l.initial.states l.gate-index l.states;
+}

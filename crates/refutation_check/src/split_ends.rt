@@ -1,0 +1,123 @@
+// Trees that split linked sources outside the support of a judge's ends. A half of such a source bears on the lines inside: it cuts the
+// first value of the line to which the source is linked, which the judge's engine leaves out. So the tree is judged on an engine of its
+// own, within the end of its prefix and the sources that it splits.
+ghost use Rattle.std.specs.Prelude.{◌<◌, ◌^◌, All, IfOk, OnOk, IsTrue, length, Contains};
+ghost use Rattle.pd_base.specs.Links.{links_of};
+ghost use Rattle.netlist.specs.Circuit.{source_count, line_count};
+ghost use Rattle.netlist.specs.LinkedPairs.{FitRules};
+ghost use Rattle.netlist.specs.Paths.{IsPrefix, end_of};
+ghost use Rattle.trees.specs.Faults.{RefutesAtNode};
+ghost use Rattle.refutation_check.specs.Answers.{TellsOfNodes};
+ghost use Rattle.refutation_check.specs.SplitEnds.{IsEndAt, AddsEnds};
+ghost use Rattle.refutation_check.specs.Trials.{asked_target};
+ghost use Rattle.refutation_check.specs.Walks.{IsToldAt};
+
+use crate::TreeCheck;
+use crate::asked::Asked;
+use crate::dropping::drop_engine;
+use crate::refutation::refutes;
+use crate::walk::Pending;
+use implication::{Engine, RuledNetlist, Setting};
+use netlist::Netlist;
+use pair_judging::end_of;
+use pd_base::{LineId, OutOfMemory, Path, Rules};
+use state_sets::Algebra;
+use std::alloc::Global;
+use trees::{Node, Tree};
+
+// Whether an engine tells each source that these nodes split. Without links it tells all sources.
+pub(crate) fn tells_splits<A: Algebra, S: Setting>(engine: &Engine<A, S>, nodes: &[Node]) -> bool
+    ensures { IsTrue result → All (IsToldAt engine.now) nodes.now }
+{
+    if engine.rules().links().is_empty() {
+        return true;
+    }
+    for node in nodes {
+        if !tells_split(engine, *node) {
+            return false;
+        }
+    }
+    true
+}
+
+// Whether it tells the source that a node splits, if the node splits one.
+fn tells_split<A: Algebra, S: Setting>(engine: &Engine<A, S>, node: Node) -> bool
+    ensures { IsTrue result → IsToldAt engine.now node }
+{
+    match node {
+        Node::Closed | Node::Waiting => true,
+        Node::Value(source) | Node::Steadiness(source) => {
+            source >= engine.net().sources() || engine.tells(LineId(source))
+        }
+    }
+}
+
+// Whether each node of a tree is as a refutation asks, on an engine that is made for this tree alone.
+pub(crate) fn refutes_apart<A: Algebra>(
+    alloc: Global,
+    net: &Netlist,
+    rules: &Rules,
+    pending: &mut Vec<Pending>,
+    asked: &Asked,
+    tree: &Tree,
+) -> Result<TreeCheck, OutOfMemory>
+    requires fit { FitRules net.now rules.now }
+    requires few { length (links_of rules.now) < 2 ^ 30 }
+    requires prefix { IsPrefix net.now asked.now.path.now }
+    ensures { IfOk result (TellsOfNodes (RefutesAtNode A.algebra net.now rules.now (asked_target asked.now)) tree.now) }
+{
+    let ends = ends_of_tree(alloc, net, asked.path, tree.nodes())?;
+    let mut engine = Engine::<A, RuledNetlist>::within(
+        alloc,
+        RuledNetlist { net, rules },
+        ends.as_slice(),
+    )?;
+    let told = refutes(&mut engine, pending, asked, tree);
+    drop_engine(engine);
+    told
+}
+
+// The end of a prefix, and the sources that these nodes split.
+fn ends_of_tree(
+    alloc: Global,
+    net: &Netlist,
+    prefix: &Path,
+    nodes: &[Node],
+) -> Result<Vec<LineId>, OutOfMemory>
+    requires prefix { IsPrefix net.now prefix.now }
+    ensures lines { IfOk result (λ ends. All (λ end. end.0 < line_count net.now) ends.items) }
+    ensures end { IfOk result (λ ends. Contains ends.items (record { 0 = end_of net.now prefix.now })) }
+    ensures splits { IfOk result (λ ends. All (IsEndAt (source_count net.now) ends.items) nodes.now) }
+{
+    let mut ends = Vec::new(alloc);
+    ends.push(end_of(net, prefix))?;
+    push_splits(&mut ends, net.sources(), nodes)?;
+    Ok(ends)
+}
+
+// Adds the sources that these nodes split to the ends.
+fn push_splits(ends: &mut Vec<LineId>, sources: u32, nodes: &[Node]) -> Result<(), OutOfMemory>
+    ensures adds { AddsEnds sources ends.old.items ends.new.items }
+    ensures splits { OnOk result (All (IsEndAt sources ends.new.items) nodes.now) }
+{
+    for node in nodes {
+        push_split(ends, sources, *node)?;
+    }
+    Ok(())
+}
+
+// Adds the source that a node splits to the ends, if the node splits one.
+fn push_split(ends: &mut Vec<LineId>, sources: u32, node: Node) -> Result<(), OutOfMemory>
+    ensures adds { AddsEnds sources ends.old.items ends.new.items }
+    ensures split { OnOk result (IsEndAt sources ends.new.items node) }
+{
+    match node {
+        Node::Closed | Node::Waiting => {}
+        Node::Value(source) | Node::Steadiness(source) => {
+            if source < sources {
+                ends.push(LineId(source))?;
+            }
+        }
+    }
+    Ok(())
+}

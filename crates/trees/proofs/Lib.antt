@@ -1,0 +1,15 @@
+pub mod Forests
+pub mod Preorders
+pub mod Unlinked
+pub mod Refuting
+pub mod Products
+pub mod Weights
+pub mod Bound
+pub mod Faults
+pub mod Walks
+pub mod Growing
+pub mod Ending
+pub mod Trials
+pub mod Tried
+pub mod Trying
+pub mod LeastPairs

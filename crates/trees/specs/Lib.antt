@@ -1,0 +1,10 @@
+pub mod Trees
+pub mod Algebras
+pub mod Unlinked
+pub mod Refutations
+pub mod Spent
+pub mod Bounds
+pub mod Halves
+pub mod Faults
+pub mod Growing
+pub mod Tried
