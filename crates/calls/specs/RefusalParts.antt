@@ -1,4 +1,5 @@
--- How a refusal is kept, as its cause and text: those of the array that count, and the name behind them (this project's own).
+-- The cause and the text that a refusal's fields stand for: the text of the first `count` parts of its array, with its name behind them
+-- (this project's own).
 use Rattle.std.specs.Prelude.{ℕ, List, [], ◌++◌, take, Option, None, Some}
 use Rattle.calls.specs.declared.refusal.Refusal.TheInside.{Inside}
 use Rattle.calls.specs.CauseAndText.{CauseAndText, refusal_for}

@@ -6,7 +6,7 @@ use Rattle.pd_base.specs.declared.test.Test.{Test}
 use Rattle.netlist.specs.Circuit.{Circuit}
 use Rattle.netlist.specs.Values.{observed_values}
 use Rattle.good_runs.specs.Faults.{IsNumber}
-use Rattle.pair_judging.specs.Expected.{TellsExpected}
+use Rattle.logic_values.specs.Expected.{TellsExpected}
 use Rattle.claim_check.specs.Right.{ExpectsRight}
 
 module _ (c : Circuit) (tests : List Test) (flags : List Bool) (tells : TellsExpected c tests flags) (number : ℕ) where

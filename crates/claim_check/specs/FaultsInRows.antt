@@ -10,7 +10,7 @@ use Rattle.runs.specs.declared.run.ListedPath.{ListedPath}
 use Rattle.runs.specs.declared.run.Proof.{Proof}
 use Rattle.runs.specs.declared.run.Run.{Run}
 use Rattle.good_runs.specs.Faults.{IsAbout, routes_of, verdict_for}
-use Rattle.pair_judging.specs.Expected.{TellsExpected}
+use Rattle.logic_values.specs.Expected.{TellsExpected}
 use Rattle.pair_judging.specs.Judges.{IsJudgeOf}
 use Rattle.claim_check.specs.declared.fault.Fault.{Fault}
 use Rattle.claim_check.specs.declared.verdicts.Least.{Least}

@@ -8,7 +8,7 @@ ghost use Rattle.netlist.specs.Paths.{IsPrefix};
 ghost use Rattle.runs.specs.declared.run.Run.{Run};
 ghost use Rattle.runs.specs.Lawful.{AreLawfulTests, IsLawfulTest};
 ghost use Rattle.good_runs.specs.GoodRun.{HasNonrobustTest, HasTest, IsTestOf};
-ghost use Rattle.pair_judging.specs.Expected.{TellsExpected};
+ghost use Rattle.logic_values.specs.Expected.{TellsExpected};
 ghost use Rattle.pair_judging.specs.Judges.{IsJudgeOf};
 ghost use Rattle.claim_check.specs.Right.{ExpectsRight, HasItsTest, ItsTestExpectsRight};
 

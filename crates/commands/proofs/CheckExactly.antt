@@ -22,6 +22,7 @@ use Rattle.calls.proofs.Refusals.{has_refusal, HasRefusal}
 use Rattle.commands.specs.InputRequirements.{Requirement, WellFormed, own}
 use Rattle.commands.specs.Check.{CheckRequirement, FiveTexts, GivesCheck, GoodRun, RefusesFlawed, SpellGoodRun, check_stages, check_work, stages_read}
 use Rattle.commands.specs.CheckLaws.{KeepsCheckLaws}
+use Rattle.commands.proofs.CheckLaws.{good_run_is_accepted}
 use Rattle.commands.proofs.GenThenCheck.{accepted_behind_gen}
 use Rattle.commands.proofs.CheckStages.{accepts_good, accepts_proofs, accepts_report, accepts_tests}
 
@@ -149,6 +150,13 @@ module _ (call : RunCall) (told : Folder) (net delays tests report proofs : List
 pub check_laws : (words : List (List ℕ)) (call : RunCall) → asked_call words ≡ Ok (check call) → (status : Status) (old new : Outside)
     → Ends (check_work call) status old new → KeepsCheckLaws words call status old new
 check_laws words call is status old new ends = record {
+  complete = λ now holds told none.
+      let it = holds.spell in
+      completes (check_work call) status old new ends
+      (subst (HasAcceptedInputs (check_work call)) (sym told)
+      (good_run_is_accepted call now it.circuit it.spell.has it.delays it.spell.has_delays it.run it.spell.spells it.good holds.net_within
+      holds.delays_within holds.short
+      (record { tests_within = holds.tests_within; report_within = holds.report_within; proofs_within = holds.proofs_within }))) none;
   done_exactly = λ texts comes.
       done_exactly call comes.folder texts.net texts.delays texts.tests texts.report texts.proofs comes.read status old new ends comes.told
       comes.none_failed comes.enough;

@@ -25,13 +25,13 @@ use Rattle.commands.specs.Inside.InputJudging.{FailsDelays, FailsNet}
 use Rattle.commands.specs.Inside.InputJudging as judging
 use Rattle.commands.specs.InputRefusals.{delays_ending}
 use Rattle.commands.specs.InputRefusals as refusals
-use Rattle.commands.specs.InputRequirements.{HasNoCircuit, HasNoDelays, HasNoDelaysFor, IsOverProduct}
+use Rattle.commands.specs.InputRequirements.{LacksCircuit, HasNoDelays, HasNoDelaysFor, IsOverProduct}
 use Rattle.commands.specs.SpelledRuns.{HasMalformedProofs, HasMalformedReport, SpellsProofs, SpellsReport}
 use Rattle.commands.specs.SpelledRuns as spelled
 use Rattle.commands.specs.SpelledTests.{HasMalformedTests, IsMalformedTests, SpellsTests}
 
 -- a text that has a circuit is not refused
-pub has_a_circuit : (text : List ℕ) (c : Circuit) (refusal : Refusal) → HasCircuit text c → ¬ HasNoCircuit text refusal
+pub has_a_circuit : (text : List ℕ) (c : Circuit) (refusal : Refusal) → HasCircuit text c → ¬ LacksCircuit text refusal
 has_a_circuit text c refusal has it = circuit_not_refused text c it.fault has it.refused
 
 -- a fault of a text ends the call so

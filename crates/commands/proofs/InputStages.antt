@@ -19,7 +19,7 @@ use Rattle.commands.specs.declared.inputs.sizes.TheConstants.{MOST_PATH_TEXT, MO
 use Rattle.commands.specs.Inside.InputJudging.{FailsToGiveDelays, FailsToGiveNet, GivesDelays, GivesNet, ReadsWithin}
 use Rattle.commands.specs.Inside.InputJudging as judging
 use Rattle.commands.specs.InputRefusals.{long_path_text, long_test_text}
-use Rattle.commands.specs.InputRequirements.{HasMalformed, HasNoCircuit, HasNoDelaysFor, InputCommand, Requirement, ShortPathText, ShortTestText, SpellsCircuit, SpellsDelays, WellFormed, input_at, input_stages, net_stages, short_stages, work_on_inputs}
+use Rattle.commands.specs.InputRequirements.{HasMalformed, LacksCircuit, HasNoDelaysFor, InputCommand, Requirement, ShortPathText, ShortTestText, SpellsCircuit, SpellsDelays, WellFormed, input_at, input_stages, net_stages, short_stages, work_on_inputs}
 use Rattle.commands.specs.Sizes.{HasLongTexts, HasShortTexts, long_paths, long_tests, path_text_product, test_text_product}
 use Rattle.commands.proofs.StageReads.{accepts_size, stops_judged, stops_unwhole, then_whole}
 use Rattle.commands.proofs.InputFaults.{has_a_circuit, has_delays, is_within}
@@ -60,7 +60,7 @@ module _ (command : InputCommand) where
     net_fails ending old new (judging.not_read fails) =
         stops_unwhole command role.Net net_name ending (begun (work_on_inputs command) old) (_, place) fails
     net_fails ending old new (judging.gives_none text read fails) =
-        stops_judged command SpellsCircuit (HasNoCircuit text.items) ending
+        stops_judged command SpellsCircuit (LacksCircuit text.items) ending
         (then_whole command role.Net net_name text (begun (work_on_inputs command) old) read) (_, place) (λ refusal why. why) fails
 
   -- NET was read and judged

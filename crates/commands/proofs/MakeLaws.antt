@@ -32,7 +32,7 @@ use Rattle.trees.proofs.Unlinked.{unlinked_fit}
 use Rattle.ladder.specs.Ladder.{ladder_circuit}
 use Rattle.verdict_report.specs.LadderLine.{ladder_line}
 use Rattle.commands.specs.declared.making.TheConstants.{LADDER_BUDGET, LADDER_PATHS}
-use Rattle.commands.specs.MakeLaws.{AnswersMake, IsUntouched, KeepsMakeLaws, done, no_memory, unprinted}
+use Rattle.commands.specs.MakeLaws.{AnswersMake, TouchesNoFile, KeepsMakeLaws, done, no_memory, unprinted}
 use Rattle.commands.specs.Make.{AreUnit, GivesLadder, GivesMake, make_work}
 
 -- the line of a good run of a ladder
@@ -136,7 +136,7 @@ front_of_none (first ∷ front) rest is = absurd cc
 
 -- nothing was read, and no file written
 none_touched : (old read new : FilesSeen) (files : List Due) → files ≡ [] → Tells old.folder read.folder (AsksOnly [])
-    → read.read_faults ≡ old.read_faults → read.write_faults ≡ old.write_faults → AreWhole files read new → IsUntouched old new
+    → read.read_faults ≡ old.read_faults → read.write_faults ≡ old.write_faults → AreWhole files read new → TouchesNoFile old new
 none_touched old read new files none asked reads writes whole = record {
   told = tells_chain old.folder read.folder new.folder (λ before after. after ≡ before) (λ before after. after ≡ folder_with_all files before)
       (λ before after. after ≡ before) (asked_none old.folder read.folder [] refl asked) whole.told
@@ -147,7 +147,7 @@ none_touched old read new files none asked reads writes whole = record {
 
 -- `make` touches no file
 pub make_touches_no_file : (call : MakeCall) (ending : Ending) (old new : Seen) → Performs (make_work call) ending old new
-    → IsUntouched old.files new.files
+    → TouchesNoFile old.files new.files
 make_touches_no_file call Done old new (stopped stops same) = absurd stops
 make_touches_no_file call Done old new (wrote inputs products read passed gives writes) =
     none_touched old.files read new.files products.files (none_due call inputs products gives) passed.asked passed.only.read_faults

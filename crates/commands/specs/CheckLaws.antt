@@ -1,7 +1,8 @@
 -- What holds of a call of `check`, beside what holds of every call (this project's own).
-use Rattle.std.specs.Prelude.{◌≡◌, ◌≢◌, ◌↔◌, ℕ, List, [], ◌∷◌, Some, codes}
-use Rattle.pd_io.specs.Folder.{Folder}
+use Rattle.std.specs.Prelude.{◌≡◌, ◌≢◌, ◌≤◌, ◌↔◌, ℕ, List, [], ◌∷◌, length, Some, codes}
+use Rattle.pd_io.specs.Folder.{Folder, bytes_at}
 use Rattle.pd_io.specs.Seen.{Outside}
+use Rattle.text_pieces.specs.declared.limits.TheConstants.{MOST_BYTES}
 use Rattle.command_line.specs.Words.{RunCall}
 use Rattle.calls.specs.declared.status.Status.{Status}
 use Rattle.calls.specs.declared.status.Status.TheVariants as exit
@@ -9,6 +10,28 @@ use Rattle.calls.specs.Calls.{IsDoneOrNoMemory, NoneFailed}
 use Rattle.calls.specs.Passing.{Pass}
 use Rattle.commands.specs.Check.{FiveTexts, SpellGoodRun, check_work, stages_read}
 use Rattle.commands.specs.LaterCalls.{HaveKept, WasLeftByGen, run_names}
+use Rattle.commands.specs.Sizes.{HasShortTexts}
+use Rattle.commands.specs.declared.inputs.reading.TheConstants.{INPUT_LIMIT}
+
+-- what check reads, as it stands in a folder
+abbrev pub texts_in : RunCall → Folder → FiveTexts
+texts_in call now = record {
+  net = bytes_at now.held call.net;
+  delays = bytes_at now.held call.delays;
+  tests = bytes_at now.held call.tests;
+  report = bytes_at now.held call.report;
+  proofs = bytes_at now.held call.proofs;
+}
+
+-- the five files spell a good run of a circuit with its delays, each is within its limit, and the texts of so many paths are short
+pub record HoldsGoodRun (call : RunCall) (now : Folder) : Type 0 where
+  pub spell : SpellGoodRun call (texts_in call now)
+  pub net_within : length (bytes_at now.held call.net) ≤ INPUT_LIMIT
+  pub delays_within : length (bytes_at now.held call.delays) ≤ INPUT_LIMIT
+  pub short : HasShortTexts call.paths spell.circuit
+  pub tests_within : length (bytes_at now.held call.tests) ≤ MOST_BYTES
+  pub report_within : length (bytes_at now.held call.report) ≤ MOST_BYTES
+  pub proofs_within : length (bytes_at now.held call.proofs) ≤ MOST_BYTES
 
 -- the files tell five texts, of which all is accepted that is required before the form of the claim files; nothing failed, and memory
 -- sufficed
@@ -22,6 +45,8 @@ pub record ComesToClaims (call : RunCall) (texts : FiveTexts) (status : Status) 
 
 -- what holds of a call that these words ask for
 pub record KeepsCheckLaws (words : List (List ℕ)) (call : RunCall) (status : Status) (old new : Outside) : Type 0 where
+  -- a good run that the files hold is accepted, if nothing fails and memory suffices
+  pub complete : (now : Folder) → HoldsGoodRun call now → old.files.folder ≡ Some now → NoneFailed old new → IsDoneOrNoMemory status
   -- status 0 comes exactly where the claim files spell a good run
   pub done_exactly : (texts : FiveTexts) → ComesToClaims call texts status old new → (status ≡ exit.Done) ↔ SpellGoodRun call texts
   -- status 1 comes exactly where they spell none

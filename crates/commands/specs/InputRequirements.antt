@@ -41,7 +41,9 @@ pub data Requirement (Own : Type 0) : Type 0 where
 abbrev pub limit_of : Role → ℕ
 limit_of role.Net = INPUT_LIMIT
 limit_of role.Delays = INPUT_LIMIT
-limit_of input = MOST_BYTES
+limit_of role.Tests = MOST_BYTES
+limit_of role.Report = MOST_BYTES
+limit_of role.Proofs = MOST_BYTES
 
 -- the input before which so many were read
 abbrev pub input_at : List (List ℕ) → ℕ → List ℕ
@@ -59,7 +61,7 @@ pub record IsOverLimit (input : Role) (text : List ℕ) (refusal : Refusal) : Ty
   pub is : refusal ≡ too_long input
 
 -- the text has no circuit, and is refused so
-pub record HasNoCircuit (net : List ℕ) (refusal : Refusal) : Type 0 where
+pub record LacksCircuit (net : List ℕ) (refusal : Refusal) : Type 0 where
   pub fault : BenchFault
   pub refused : RefusesText net fault
   pub is : netlist_ending fault ≡ Refused refusal
@@ -107,7 +109,7 @@ pub record InputCommand : Type 1 where
 -- how a requirement of such a command refuses the inputs that were read so far
 abbrev pub RefusesInputs : (command : InputCommand) → Requirement command.Own → List (List ℕ) → Refusal → Type 0
 RefusesInputs command (WithinLimit input) inputs refusal = IsOverLimit input (last_input inputs) refusal
-RefusesInputs command SpellsCircuit inputs refusal = HasNoCircuit (input_at inputs 0) refusal
+RefusesInputs command SpellsCircuit inputs refusal = LacksCircuit (input_at inputs 0) refusal
 RefusesInputs command SpellsDelays inputs refusal = HasNoDelays (input_at inputs 0) (input_at inputs 1) refusal
 RefusesInputs command (ShortPathText paths) inputs refusal =
     IsOverProduct (input_at inputs 0) (path_text_product paths) MOST_PATH_TEXT long_path_text refusal

@@ -12,11 +12,11 @@ pub data AnswersMake (status : Status) : Type 0 where
   no_memory : status ≡ exit.NoMemory → AnswersMake status
 
 -- no file was touched: the folder that is told is as before, and so are the counts of failed calls
-pub record IsUntouched (old new : FilesSeen) : Type 0 where
+pub record TouchesNoFile (old new : FilesSeen) : Type 0 where
   pub told : Tells old.folder new.folder (λ before after. after ≡ before)
   pub read_faults : new.read_faults ≡ old.read_faults
   pub write_faults : new.write_faults ≡ old.write_faults
 
 pub record KeepsMakeLaws (status : Status) (old new : Outside) : Type 0 where
   pub statuses : AnswersMake status
-  pub untouched : IsUntouched old.files new.files
+  pub untouched : TouchesNoFile old.files new.files

@@ -1,11 +1,12 @@
 -- The verdicts of a good run keep their promises, under the rules of the run.
-use Rattle.std.proofs.Common.{◌≡◌, ℕ, [], inl, inr}
+use Rattle.std.proofs.Common.{◌≡◌, ℕ, [], length, inl, inr}
 use Rattle.pd_base.specs.Links.{links_of}
 use Rattle.pd_base.specs.Pair.{Vectors}
 use Rattle.pd_base.specs.Target.{Target}
 use Rattle.pd_base.specs.declared.fault.Direction.{Direction}
 use Rattle.pd_base.specs.declared.fault.Kind.TheVariants as kinds
-use Rattle.netlist.specs.Circuit.{Circuit}
+use Rattle.pd_base.specs.declared.rules.Rules.{Rules}
+use Rattle.netlist.specs.Circuit.{Circuit, source_count}
 use Rattle.netlist.specs.Conditions.{Meets}
 use Rattle.netlist.specs.Lawful.{IsCircuit}
 use Rattle.netlist.specs.LinkedPairs.{FitRules}
@@ -19,13 +20,15 @@ use Rattle.good_runs.specs.Faults.HasProof.{refuted, spent}
 use Rattle.good_runs.specs.GoodRun.{HasRobustProof, IsGoodRun}
 use Rattle.trees.proofs.Unlinked.{every_pair_is_of_rules}
 use Rattle.good_runs.specs.Promises.{AllKeepPromises, ExcludesPairs, LacksRobustTest, VerdictTells}
+use Rattle.good_runs.specs.Truth.{HasSomeTest}
 use Rattle.good_runs.proofs.Completeness.{great_budget_decides, closed_start_is_untestable, passed_trial_is_robust}
 use Rattle.good_runs.proofs.Verdicts.{cited_excludes, cited_refutes, cited_spent, nonrobust_test_shows, robust_test_shows, untestable_excludes_every_pair}
 
 module _ (c : Circuit) (circuit : IsCircuit c) (delays : Delays) (count budget : ℕ) (run : Run)
     (fit : FitRules c run.rules) (good : IsGoodRun c delays count budget run) where
   module _ (number : ℕ) (listed : ListedPath) (is_listed : IsNumber run.paths number listed) (direction : Direction) where
-    -- the robust proof of a fault tells why no robust test was found: its refutation excludes every pair, or it spent the budget
+    -- the robust proof of a fault tells why no robust test was found: its refutation excludes every pair of the rules, or it
+    -- spent the budget
     robust_proof_says : (proof : ℕ) → HasRobustProof run number direction listed.path proof
         → LacksRobustTest c budget run listed.path direction proof
     robust_proof_says proof (refuted cites) = inl (
@@ -70,3 +73,14 @@ module _ (c : Circuit) (circuit : IsCircuit c) (delays : Delays) (count budget :
 pub excludes_every_pair : (c : Circuit) (run : Run) (target : Target) → links_of run.rules ≡ [] → ExcludesPairs c run target
     → (pair : Vectors) → ¬ Meets c target pair
 excludes_every_pair c run target unlinked excludes pair = excludes pair (every_pair_is_of_rules c run.rules unlinked pair)
+
+-- And any pair that meets the conditions is a test of the rules: so a great budget tells whether there is any at all.
+pub any_pair_is_some_test : (c : Circuit) (rules : Rules) (target : Target) → links_of rules ≡ [] → (pair : Vectors)
+    → length pair.first ≡ source_count c → length pair.second ≡ source_count c → Meets c target pair → HasSomeTest c rules target
+any_pair_is_some_test c rules target unlinked pair first second meets = record {
+  pair = pair;
+  first_fits = first;
+  second_fits = second;
+  of_rules = every_pair_is_of_rules c rules unlinked pair;
+  meets = meets;
+}

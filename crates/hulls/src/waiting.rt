@@ -1,6 +1,6 @@
 // The gates and links that wait to be narrowed, first in, first out, with a flag for each, so that none is added that waits already. Only
-// those inside wait, of which there is a flag for each too. Where a link waits, a gate is to be read as the link. That no gate stands twice
-// in the queue is true, and no proof needs it.
+// those inside wait: a second flag for each says so. A link is queued under a number of its own, behind those of all gates. That nothing
+// stands twice in the queue is true, and no proof needs it.
 ghost use Rattle.std.specs.Prelude.{◌≡◌, ◌<◌, ◌∷◌, true, [], length, IfOk, IfSome, MatchOption};
 ghost use Rattle.hulls.specs.Awaiting.{is_inside, IsWoken};
 
@@ -12,7 +12,7 @@ use std::marker::Model;
 /// What waits to be narrowed: a gate by its number, or a link by its own number behind those of all gates.
 pub type Turn = GateId;
 
-/// The gates that wait, of those inside. Contracts see for each gate whether it is inside, and the gates that wait in their order.
+/// The gates and links that wait, of those inside. Contracts see for each whether it is inside, and those that wait in their order.
 #[derive(Drop)]
 pub struct Waiting {
     inside: Vec<bool>,

@@ -7,7 +7,6 @@ pub mod NarrowingOn
 pub mod Wholes
 pub mod History
 pub mod Inside
-pub mod Marking
 pub mod Spreading
 pub mod Joining
 pub mod ByLevel

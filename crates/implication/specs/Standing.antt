@@ -1,10 +1,10 @@
 -- What contracts see of an engine and of the scopes on it (this project's own).
-use Rattle.std.specs.Prelude.{◌≡◌, ⊤, ℕ, ◌<◌, ◌⊎◌, List, [], Option, Some, None, IsSome, Contains}
+use Rattle.std.specs.Prelude.{◌≡◌, ⊤, ℕ, ◌<◌, ◌⊎◌, List, [], Option, Some, None, IsSome}
 use Rattle.pd_base.specs.Links.{LinkList, links_of, IsLink}
 use Rattle.pd_base.specs.declared.ids.LineId.{LineId}
 use Rattle.pd_base.specs.declared.rules.Rules.{Rules}
 use Rattle.netlist.specs.Circuit.{Circuit, source_count, line_count}
-use Rattle.netlist.specs.LinkedPairs.{IsSupported}
+use Rattle.cones.specs.Ends.{IsBehind}
 use Rattle.state_sets.specs.declared.state.State.{State}
 use Rattle.state_sets.specs.declared.state.StateSet.{StateSet}
 use Rattle.state_sets.specs.States.{Has}
@@ -25,10 +25,6 @@ pub record Standing : Type 0 where
   pub assumptions : List Assumption
   pub conflict : Option LineId
   pub closings : ℕ
-
--- the line is in the support of one of these ends
-abbrev pub IsBehind : Circuit → LinkList → List LineId → ℕ → Type 0
-IsBehind c links ends line = (end : LineId) × Contains ends end × IsSupported c links end.0 line
 
 -- a line is told where all are, and otherwise where it is a source without a link, or in the support of one of the ends
 abbrev pub IsToldBy : Circuit → LinkList → Option (List LineId) → ℕ → Type 0

@@ -18,7 +18,7 @@ ghost use Rattle.implication.specs.Clients.{ExtendsStanding};
 ghost use Rattle.implication.specs.Kept.{IsListFrom, IsLeftBefore, AreToldGates, AreToldSources};
 
 use crate::before::Before;
-use crate::cones::{Cone, all_of, cone_of};
+use crate::engine_cone::{EngineCone, all_of, cone_of};
 use crate::making::{BoardParts, Lists};
 use crate::narrowing_on::{leave_step, narrow_on, put_back, take_from};
 use crate::{Assumption, Beginning, Conflict, Origin, Setting};
@@ -133,7 +133,7 @@ impl<A: Algebra, S: Setting> Engine<A, S> {
         alloc: Global,
         setting: S,
         ends: Option<Vec<LineId>>,
-        cone: Cone,
+        cone: EngineCone,
     ) -> Result<Engine<A, S>, OutOfMemory>
         requires told { AreToldGates (S.circuit setting) (links_of (S.rules setting)) (option_map (λ list. list.items) ends) cone.inside.items
             cone.links.items }
@@ -153,7 +153,7 @@ impl<A: Algebra, S: Setting> Engine<A, S> {
         }) }
     {
         let lists = Lists::new::<A>(alloc, setting.netlist())?;
-        let Cone {
+        let EngineCone {
             inside,
             links,
             told,

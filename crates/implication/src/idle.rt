@@ -25,8 +25,8 @@ use crate::Beginning;
 use crate::images::image;
 use crate::narrowing_on::narrow_on_cut;
 use crate::ranking::{is_by_level, rank};
-use crate::reached::ReachedLines;
 use crate::reaching::reach;
+use cones::FoundLines;
 use hulls::{Board, Conditions, NarrowScratch, launching_states, other_states};
 use netlist::Netlist;
 use pd_base::{LineId, OutOfMemory, Rules};
@@ -39,7 +39,7 @@ use std::marker::Model;
 pub(crate) struct IdleLabels {
     labels: Vec<StateSet>,
     // In the order in which the transition reaches them; none where no scope is open, or where its beginning cut labels.
-    reached: ReachedLines,
+    reached: FoundLines,
     // Room to list them by level, each with its level, where they were not reached so.
     ranked: Vec<(u32, LineId)>,
 }
@@ -52,7 +52,7 @@ impl Model for IdleLabels {
 
     ghost view = { λ i. record { labels = i.labels.items; reached = i.reached.lines } };
 
-    ghost invariant = { λ i. (i.reached.count ≡ length i.labels.items) × (length i.labels.items ≤ vec_capacity i.ranked) };
+    ghost invariant = { λ i. (i.reached.room ≡ length i.labels.items) × (length i.labels.items ≤ vec_capacity i.ranked) };
 }
 
 impl IdleLabels {
@@ -74,7 +74,7 @@ impl IdleLabels {
         let set = idle_set::<A>(rules);
         settle_idle(net, set, board, conditions, scratch);
         let labels = Vec::from_slice(alloc, board.labels())?;
-        let reached = ReachedLines::new(alloc, labels.len())?;
+        let reached = FoundLines::new(alloc, labels.len())?;
         let ranked = Vec::with_capacity(alloc, labels.len())?;
         board.undo_to(0);
         put_labels(net, labels.as_slice(), board);
@@ -320,15 +320,15 @@ fn set_to_begin<A: Algebra>(
 }
 
 // Writes the labels at the lines reached, and takes these away.
-fn give_back<A: Algebra>(labels: &[StateSet], reached: &mut ReachedLines, board: &mut Board<A>)
+fn give_back<A: Algebra>(labels: &[StateSet], reached: &mut FoundLines, board: &mut Board<A>)
     requires within { AreWithin A.algebra.count labels.now }
     requires one_each { length board.old.labels ≡ length labels.now }
-    requires count { reached.old.count ≡ length labels.now }
+    requires room { reached.old.room ≡ length labels.now }
     requires unnoted { board.old.notes ≡ [] }
     requires same { (line : LineId) → ¬ Contains reached.old.lines line → label_at board.old.labels line.0 ≡ label_at labels.now line.0 }
     ensures board { board.new ≡ record board.old { labels = labels.now } }
     ensures reached { reached.new.lines ≡ [] }
-    ensures count { reached.new.count ≡ reached.old.count }
+    ensures room { reached.new.room ≡ reached.old.room }
 {
     for line in reached.lines() {
         board.write(*line, labels[line.0 as usize]);

@@ -1,18 +1,17 @@
 //! Scopes: assumptions about a pair of vectors, made one after another and taken back exactly, and what lines may still be in.
-//! Stands on pd_base, netlist, path_laws, undo_trail, state_sets, state_laws and hulls.
+//! Stands on pd_base, netlist, path_laws, undo_trail, state_sets, state_laws, cones, hulls and trees.
 //! The layers above use the contracts of `Engine` and `Scope`; specs/Clients.antt and proofs/Restoring.antt are made for them.
 #![tactic(auto)]
 
 mod assumption;
 mod before;
-mod cones;
 mod engine;
+mod engine_cone;
 mod idle;
 mod images;
 mod making;
 mod narrowing_on;
 mod ranking;
-mod reached;
 mod reaching;
 mod scope;
 mod setting;

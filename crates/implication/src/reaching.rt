@@ -6,7 +6,7 @@ ghost use Rattle.state_laws.specs.Forward.{AreReached};
 ghost use Rattle.hulls.specs.Awaiting.{is_inside};
 ghost use Rattle.implication.specs.Reached.{HasMore, AreReadersIn};
 
-use crate::reached::ReachedLines;
+use cones::FoundLines;
 use hulls::Board;
 use netlist::Netlist;
 use pd_base::LineId;
@@ -17,19 +17,19 @@ pub(crate) fn reach<A: Algebra>(
     net: &Netlist,
     board: &Board<A>,
     source: LineId,
-    reached: &mut ReachedLines,
+    reached: &mut FoundLines,
 )
     requires source { source.0 < source_count net.now }
     requires gates { gate_count net.now ≤ length board.now.inside }
     requires none { reached.old.lines ≡ [] }
-    requires count { reached.old.count ≡ line_count net.now }
+    requires room { reached.old.room ≡ line_count net.now }
     ensures reached { AreReached net.now (is_inside board.now.inside) source.0 reached.new.lines }
     ensures inside { All (λ line. IsLineIn net.now (is_inside board.now.inside) line.0) reached.new.lines }
-    ensures count { reached.new.count ≡ line_count net.now }
+    ensures room { reached.new.room ≡ line_count net.now }
 {
     reached.add(source);
     let mut seen = 0;
-    while seen < reached.len() {
+    while seen < reached.lines().len() {
         let line = reached.lines()[seen];
         reach_readers(net, board, line, reached);
         seen += 1;
@@ -41,11 +41,11 @@ fn reach_readers<A: Algebra>(
     net: &Netlist,
     board: &Board<A>,
     line: LineId,
-    reached: &mut ReachedLines,
+    reached: &mut FoundLines,
 )
     requires line { line.0 < line_count net.now }
     requires gates { gate_count net.now ≤ length board.now.inside }
-    requires count { reached.old.count ≡ line_count net.now }
+    requires room { reached.old.room ≡ line_count net.now }
     ensures more { HasMore net.now board.now.inside reached.old reached.new }
     ensures readers { AreReadersIn net.now board.now.inside line reached.new.lines }
 {

@@ -67,7 +67,7 @@ impl<'e, A: Algebra, S: Setting> Scope<'e, A, S> {
         ensures open { IfNone (standing result).conflict (IsOpenIn A.algebra (standing result)) }
         ensures emptied { IfSome (standing result).conflict (λ line. IsEmptiedIn A.algebra (standing result) line.0) }
 
-        // with the four states none does
+        // with the four states and no links none does
         ensures four_states { links_of engine.old.rules ≡ [] → A.algebra ≡ four_states → (standing result).conflict ≡ None }
     {
         engine.begin(Beginning {

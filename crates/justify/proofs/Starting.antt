@@ -33,7 +33,7 @@ use Rattle.justify.specs.Growths.{AllowAsNodeWith, IsPlace, IsGrowing, root_plac
 use Rattle.implication.specs.Settings.{IsSameSetting}
 use Rattle.justify.specs.UnderWay.{IsUnderWay}
 use Rattle.justify.specs.Desks.{IsDeskFor, IsDesk}
-use Rattle.pair_judging.specs.KeptCones.{KeptCone, IsConeFor, IsConeAt}
+use Rattle.cones.specs.KeptCones.{KeptCone, IsConeFor, IsConeAt}
 use Rattle.justify.specs.Scoping.{IsStart, SuitsSearch}
 use Rattle.justify.proofs.Placing.{stacked_none, stacked_more}
 use Rattle.justify.proofs.Visits.{free_at, growing_same}

@@ -43,8 +43,8 @@ use Rattle.pair_judging.specs.ConeStates.{state_in, AreStates, AreSourceStates, 
 use Rattle.justify.specs.declared.desk.Desk.{Desk}
 use Rattle.justify.specs.Desks.{IsDesk, IsSameDesk, AreInSupport}
 use Rattle.search_hints.specs.Drafts.{Prepared, IsJustifierOf}
-use Rattle.pair_judging.specs.FoundLines.{HasMark}
-use Rattle.pair_judging.specs.KeptCones.{KeptCone, IsConeFor, IsConeAt}
+use Rattle.cones.specs.FoundLines.{HasMark}
+use Rattle.cones.specs.KeptCones.{KeptCone, IsConeFor, IsConeAt}
 use Rattle.pair_judging.proofs.LinkedStates.{read_keeps_links}
 use Rattle.pair_judging.specs.LeastStates.{IsTakenOf}
 use Rattle.implication.specs.NodeScopes.{beginning_of, StandsAtNode}

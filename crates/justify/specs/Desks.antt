@@ -12,7 +12,7 @@ use Rattle.trees.specs.Algebras.{algebra_of}
 use Rattle.trees.specs.Spent.{IsInSupport}
 use Rattle.justify.specs.declared.desk.Desk.{Desk}
 use Rattle.pair_judging.specs.ConeStates.{state_in, AreStates}
-use Rattle.pair_judging.specs.KeptCones.{IsConeFor, IsConeAt}
+use Rattle.cones.specs.KeptCones.{IsConeFor, IsConeAt}
 use Rattle.search_hints.specs.Drafts.{IsJustifierOf}
 
 -- The desk is made for searches with this kind of states, which is that of these rules, on this circuit, which they fit.

@@ -26,7 +26,7 @@ use Rattle.justify.specs.declared.trial.Tried.{Tried}
 use Rattle.implication.specs.NodeScopes.{beginning_of, AllowAsNode}
 use Rattle.pair_judging.specs.ConeStates.{state_in, HasLinkedStates}
 use Rattle.pair_judging.specs.LeastStates.{IsTakenOf}
-use Rattle.pair_judging.specs.FoundLines.{HasMark}
+use Rattle.cones.specs.FoundLines.{HasMark}
 use Rattle.justify.specs.Tests.{IsFitTest}
 
 -- the source is in the support of the path, and the state is the least one of its label

@@ -9,8 +9,8 @@ ghost use Rattle.pair_judging.specs.ConeStates.{AreStates};
 ghost use Rattle.justify.specs.Desks.{IsDeskFor, IsSameDesk};
 
 use crate::trial::Tried;
+use cones::Cone;
 use netlist::Netlist;
-use pair_judging::Cone;
 use pd_base::{OutOfMemory, Rules};
 use search_hints::{Blame, Justifier};
 use state_sets::{Algebra, State, StateSet, every_state};

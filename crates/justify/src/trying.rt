@@ -5,7 +5,7 @@ ghost use Rattle.netlist.specs.Circuit.{line_count};
 ghost use Rattle.pd_base.specs.Links.{links_of};
 ghost use Rattle.netlist.specs.LinkedPairs.{IsSupported};
 ghost use Rattle.netlist.specs.Paths.{IsPrefix, end_of};
-ghost use Rattle.pair_judging.specs.FoundLines.{HasMark};
+ghost use Rattle.cones.specs.FoundLines.{HasMark};
 ghost use Rattle.justify.specs.Scoping.{SuitsSearch};
 ghost use Rattle.implication.specs.Scopes.{IsSameScope, standing};
 ghost use Rattle.implication.specs.Clients.{IsRestored};

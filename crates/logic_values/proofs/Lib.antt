@@ -1,5 +1,4 @@
 pub mod PinTests
 pub mod RankPass
 mod LaneBits
-mod Marking
-mod Sweep
+mod Filling

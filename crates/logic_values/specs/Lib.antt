@@ -1,3 +1,3 @@
 pub mod Known
-pub mod Marks
 pub mod Lanes
+pub mod Expected

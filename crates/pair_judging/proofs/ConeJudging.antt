@@ -17,7 +17,7 @@ use Rattle.state_sets.specs.StateAlgebra.{StateAlgebra}
 use Rattle.state_laws.proofs.FanIns.{fan_in_in_circuit}
 use Rattle.pair_judging.specs.ConeStates.{HasConeStates}
 use Rattle.pair_judging.specs.Judged.{AreComputed}
-use Rattle.pair_judging.specs.KeptCones.{AreConeSources, AreConeGates}
+use Rattle.cones.specs.KeptCones.{AreConeSources, AreConeGates}
 use Rattle.pair_judging.specs.SourceBits.{AreTakenOf}
 
 module _ (c : Circuit) (links : LinkList) (end : ℕ) where

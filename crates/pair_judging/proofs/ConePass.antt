@@ -26,7 +26,7 @@ use Rattle.state_sets.specs.Labellings.{label_at}
 use Rattle.state_sets.specs.Narrowing.{gate_state}
 use Rattle.state_laws.proofs.PairStates.{gate_state_under}
 use Rattle.state_laws.proofs.Supports.{pin_supported}
-use Rattle.pair_judging.specs.KeptCones.{AreConeGates}
+use Rattle.cones.specs.KeptCones.{AreConeGates}
 use Rattle.pair_judging.specs.ConeStates.{state_in, HasSourceStates}
 use Rattle.pair_judging.specs.Judged.{AreComputed}
 

@@ -5,7 +5,7 @@ use Rattle.pd_base.specs.declared.ids.LineId.{LineId}
 use Rattle.netlist.specs.declared.op.Op.{Op}
 use Rattle.state_sets.specs.declared.state.State.{State}
 use Rattle.state_sets.specs.StateAlgebra.{StateAlgebra, joined}
-use Rattle.pair_judging.proofs.Spreading.{no_line}
+use Rattle.cones.proofs.Spreading.{no_line}
 
 -- one pin more
 pub joined_more : (a : StateAlgebra) (op : Op) (f : LineId → State) (pins : List LineId) (place : ℕ) → 0 < place → place ≤ length pins → (rest more : State)

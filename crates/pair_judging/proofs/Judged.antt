@@ -17,7 +17,7 @@ use Rattle.state_sets.specs.declared.state.StateSet.{StateSet}
 use Rattle.state_sets.specs.StateAlgebra.{StateAlgebra}
 use Rattle.state_laws.proofs.Linked.{linked_source}
 use Rattle.state_laws.proofs.Supports.{supported_in_circuit, linked_supported}
-use Rattle.pair_judging.specs.KeptCones.{AreConeSources, AreConeGates}
+use Rattle.cones.specs.KeptCones.{AreConeSources, AreConeGates}
 use Rattle.pair_judging.specs.ConeStates.{state_in, HasSourceStates, HasSupportStates, HasLinkedStates, HasConeStates}
 use Rattle.pair_judging.specs.Judged.{IsJudgedBy, IsJudgedAt, AreComputed, RulesOut, LinksPass, IsFailingLink}
 use Rattle.state_laws.specs.FailedTrials.{FailsTrial}

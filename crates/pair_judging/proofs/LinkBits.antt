@@ -6,7 +6,7 @@ use Rattle.std.proofs.lemmas.List.Elements.{Contains-append_left, Contains-push,
 use Rattle.pd_base.specs.Links.{LinkList, IsLink}
 use Rattle.pd_base.specs.declared.ids.LineId.{LineId}
 use Rattle.pair_judging.specs.SourceBits.{AreLinkBits}
-use Rattle.pair_judging.proofs.SourceHeads.{no_link, link_of, link_away}
+use Rattle.cones.proofs.SourceHeads.{no_link, link_of, link_away}
 
 module _ (due : ℕ → Bool) (Kept : ℕ → Type 0) (old : List Bool) where
   pub link_bits_none : AreLinkBits due [] Kept old old

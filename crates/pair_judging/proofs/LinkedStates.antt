@@ -19,7 +19,7 @@ use Rattle.state_sets.specs.declared.state.State.{State}
 use Rattle.state_sets.specs.StateAlgebra.{StateAlgebra, HasLaws}
 use Rattle.pair_judging.specs.ConeStates.{state_in, IsReadFrom, HasLinkedStates}
 use Rattle.pair_judging.specs.Judged.{LinksPass}
-use Rattle.pair_judging.proofs.Spreading.{no_line}
+use Rattle.cones.proofs.Spreading.{no_line}
 
 module _ (a : StateAlgebra) (links : LinkList) (states : List State) where
   pub pass_none : LinksPass a links [] states

@@ -18,8 +18,8 @@ use Rattle.state_laws.proofs.SourceStates.{state_read_off}
 use Rattle.pair_judging.specs.ConeStates.{state_in, IsReadFrom}
 use Rattle.pair_judging.specs.LeastStates.{IsTakenOf}
 use Rattle.pair_judging.specs.SourceBits.{first_bit, HasBitsAt, AreLinkBits}
-use Rattle.pair_judging.specs.KeptCones.{KeptCone, IsConeAt}
-use Rattle.pair_judging.proofs.Spreading.{no_line}
+use Rattle.cones.specs.KeptCones.{KeptCone, IsConeAt}
+use Rattle.cones.proofs.Spreading.{no_line}
 
 -- no state
 abbrev pub no_state : State

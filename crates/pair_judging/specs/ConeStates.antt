@@ -9,11 +9,9 @@ use Rattle.netlist.specs.Pins.{IsInFanIn}
 use Rattle.netlist.specs.LinkedPairs.{IsSupported}
 use Rattle.netlist.specs.Values.{bit_of, value}
 use Rattle.state_sets.specs.declared.state.State.{State}
-use Rattle.state_sets.specs.declared.state.StateSet.{StateSet}
 use Rattle.state_sets.specs.States.{Has}
 use Rattle.state_sets.specs.StateAlgebra.{StateAlgebra}
 use Rattle.state_sets.specs.LineStates.{state_under}
-use Rattle.state_sets.specs.Labellings.{label_at}
 
 -- the state of a line
 abbrev pub state_in : List State → ℕ → State

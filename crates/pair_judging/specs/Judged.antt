@@ -18,7 +18,7 @@ use Rattle.state_sets.specs.LineStates.{state_under}
 use Rattle.state_sets.specs.Labellings.{label_at}
 use Rattle.state_laws.specs.FailedTrials.{FailsTrial}
 use Rattle.pair_judging.specs.ConeStates.{state_in, HasSourceStates, HasSupportStates, HasLinkedStates, HasConeStates}
-use Rattle.pair_judging.specs.KeptCones.{AreConeGates}
+use Rattle.cones.specs.KeptCones.{AreConeGates}
 use Rattle.pair_judging.specs.declared.judging.Judgement.{Judgement}
 use Rattle.pair_judging.specs.declared.judging.Judgement.TheVariants.{IsTest, FailsAt}
 

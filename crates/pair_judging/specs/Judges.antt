@@ -3,7 +3,7 @@ use Rattle.std.specs.Prelude.{◌≡◌, ℕ, List, []}
 use Rattle.netlist.specs.Circuit.{Circuit}
 use Rattle.state_sets.specs.declared.state.State.{State}
 use Rattle.pair_judging.specs.ConeStates.{AreLineStates}
-use Rattle.pair_judging.specs.KeptCones.{KeptCone, IsConeFor}
+use Rattle.cones.specs.KeptCones.{KeptCone, IsConeFor}
 
 -- the cone that is kept, and a state for each line
 pub record KeptJudge : Type 0 where

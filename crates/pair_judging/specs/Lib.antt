@@ -1,11 +1,7 @@
-pub mod FoundLines
-pub mod SourceLinks
-pub mod KeptCones
 pub mod ConeStates
 pub mod LeastStates
 pub mod Taken
 pub mod SourceBits
 pub mod Judged
 pub mod Judges
-pub mod Expected
 pub mod PathEnds

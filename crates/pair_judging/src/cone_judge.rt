@@ -9,11 +9,11 @@ ghost use Rattle.state_sets.specs.FourStates.{four_states};
 ghost use Rattle.pair_judging.specs.ConeStates.{HasConeStates};
 ghost use Rattle.pair_judging.specs.Judges.{IsJudgeOf};
 
-use crate::cone::Cone;
 use crate::judging::{Judgement, compute_all};
 use crate::path_ends::end_of;
 use crate::path_states::judge_steps;
 use crate::source_bits::take_pair;
+use cones::Cone;
 use netlist::Netlist;
 use pd_base::{Direction, Kind, OutOfMemory, Pair, Path};
 use state_sets::{FourStates, State};

@@ -7,14 +7,13 @@ ghost use Rattle.pd_base.specs.Target.{target_of};
 ghost use Rattle.netlist.specs.Circuit.{HasGates, source_count, line_count};
 ghost use Rattle.netlist.specs.Lawful.{IsCircuit};
 ghost use Rattle.netlist.specs.Paths.{IsPrefix, end_of};
-ghost use Rattle.pair_judging.specs.KeptCones.{IsConeFor, IsConeAt};
+ghost use Rattle.cones.specs.KeptCones.{IsConeFor, IsConeAt};
 ghost use Rattle.pair_judging.specs.ConeStates.{state_in, AreStates, AreLineStates};
 ghost use Rattle.pair_judging.specs.Judged.{IsJudgedAt, FailsInCone, AreComputed, RulesOut, LinksPass, IsFailingLink};
 
-use crate::cone::Cone;
 use crate::gate_states::gate_state;
 use crate::path_states::judge_steps;
-use crate::source_links::SourceLinks;
+use cones::{Cone, SourceLinks};
 use netlist::Netlist;
 use pd_base::{Direction, GateId, Kind, LineId, Path};
 use state_sets::{Algebra, State, StateSet};

@@ -6,10 +6,10 @@ ghost use Rattle.netlist.specs.Values.{value};
 ghost use Rattle.state_sets.specs.StateAlgebra.{same_bit};
 ghost use Rattle.pair_judging.specs.ConeStates.{state_in, AreStates, AreSourceStates, IsReadFrom};
 ghost use Rattle.pair_judging.specs.SourceBits.{first_bit, HasBitsAt, AreLinkBits, AreTakenOf};
-ghost use Rattle.pair_judging.specs.FoundLines.{HasMark};
-ghost use Rattle.pair_judging.specs.KeptCones.{IsConeFor, IsConeAt};
+ghost use Rattle.cones.specs.FoundLines.{HasMark};
+ghost use Rattle.cones.specs.KeptCones.{IsConeFor, IsConeAt};
 
-use crate::cone::Cone;
+use cones::Cone;
 use logic_values::evaluate;
 use netlist::Netlist;
 use pd_base::{LineId, OutOfMemory, Pair};

@@ -1,5 +1,5 @@
 //! The program `pdfgen`: a path delay fault test generator whose answers are proved. It is one call of commands, whose `serve`
-//! hands the program's words, files and streams to `run`, on which all that is promised stands.
+//! hands the system's words, files and streams to `exit_code`, whose contract has all that is promised.
 #![tactic(auto)]
 
 use commands::serve;

@@ -30,7 +30,7 @@ use Rattle.good_runs.specs.GoodRun.{HasNonrobustTest, HasTest, IsGoodRun, IsVerd
 use Rattle.good_runs.specs.Shortest.{IsShortestRun}
 use Rattle.good_runs.proofs.Numbers.{all_at_number, number_in_map, number_of_place}
 use Rattle.prefix_sensitize.specs.Answers.{HasCited, IsBackedVerdict, Written}
-use Rattle.pair_judging.specs.Expected.{expecting}
+use Rattle.logic_values.specs.Expected.{expecting}
 use Rattle.prefix_sensitize.specs.Listed.{ArePathsAnswered, IsRunWith}
 use Rattle.prefix_sensitize.specs.Outcomes.{IsFoundProof}
 use Rattle.prefix_sensitize.specs.Searches.{AreSearches, Searches}

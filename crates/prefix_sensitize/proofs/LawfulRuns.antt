@@ -31,7 +31,7 @@ use Rattle.trees.specs.Spent.{IsSpentBelow}
 use Rattle.good_runs.specs.Faults.{IsNumber, routes_of}
 use Rattle.good_runs.proofs.Numbers.{all_at_number, number_of_place, number_within}
 use Rattle.prefix_sensitize.specs.Answers.{IsNumberedTest, Written}
-use Rattle.pair_judging.specs.Expected.{expecting}
+use Rattle.logic_values.specs.Expected.{expecting}
 use Rattle.prefix_sensitize.specs.Listed.{ArePathsAnswered, IsRunWith}
 use Rattle.prefix_sensitize.specs.Outcomes.{IsFoundProof}
 use Rattle.prefix_sensitize.specs.Searches.{AreSearches, Searches}

@@ -15,7 +15,7 @@ use Rattle.good_runs.specs.Faults.{IsNumber, verdict_for}
 use Rattle.prefix_sensitize.specs.declared.all_outcomes.AllOutcomes.{AllOutcomes}
 use Rattle.prefix_sensitize.specs.declared.verdicts.Writer.{Writer}
 use Rattle.prefix_sensitize.specs.Answers.{AreWritten, IsAnswered, IsBackedVerdict, IsWriterFor, Written, named_in, written_by}
-use Rattle.pair_judging.specs.Expected.{expecting}
+use Rattle.logic_values.specs.Expected.{expecting}
 use Rattle.prefix_sensitize.specs.Numbering.{AreCited}
 use Rattle.prefix_sensitize.specs.Searches.{AreBothOutcomesFrom, AreSearches, Searches}
 

@@ -12,8 +12,8 @@ ghost use Rattle.prefix_sensitize.specs.Searches.{AreBothOutcomesFrom, AreFaultO
 use crate::all_outcomes::{AllOutcomes, BothOutcomes, FaultOutcomes};
 use crate::verdicts::Writer;
 use delay_annotation::Delays;
+use logic_values::with_expected_bits;
 use netlist::Netlist;
-use pair_judging::with_expected_bits;
 use path_model::length;
 use pd_base::{Direction, Items, OutOfMemory, Path, Rules};
 use runs::{ListedPath, Run};

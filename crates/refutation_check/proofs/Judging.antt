@@ -12,7 +12,7 @@ use Rattle.netlist.specs.Paths.{IsPrefix, end_of}
 use Rattle.state_sets.specs.declared.state.State.{State}
 use Rattle.state_sets.specs.StateAlgebra.{StateAlgebra, HasLaws}
 use Rattle.pair_judging.specs.Judged.{IsJudgedBy, AreComputed, LinksPass, IsFailingLink}
-use Rattle.pair_judging.specs.KeptCones.{AreConeSources, AreConeGates}
+use Rattle.cones.specs.KeptCones.{AreConeSources, AreConeGates}
 use Rattle.pair_judging.specs.declared.judging.Judgement.TheVariants.{IsTest, FailsAt}
 use Rattle.pair_judging.proofs.Judged.{judged_at, link_fails}
 use Rattle.refutation_check.specs.declared.trial_states.TrialStates.{TrialStates}

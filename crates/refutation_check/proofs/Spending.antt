@@ -22,8 +22,8 @@ use Rattle.trees.specs.Algebras.{algebra_of}
 use Rattle.trees.specs.Spent.{IsInSupport, IsOpen, IsDue, HasInHalf}
 use Rattle.implication.specs.declared.assumption.Conflict.{Conflict}
 use Rattle.implication.specs.Standing.{Standing, IsLabels}
-use Rattle.pair_judging.specs.FoundLines.{HasMark}
-use Rattle.pair_judging.specs.KeptCones.{KeptCone, IsConeAt}
+use Rattle.cones.specs.FoundLines.{HasMark}
+use Rattle.cones.specs.KeptCones.{KeptCone, IsConeAt}
 use Rattle.refutation_check.specs.Walks.{IsScopeAt, IsNodeBy}
 use Rattle.refutation_check.proofs.Closing.{closes_at_some}
 use Rattle.refutation_check.proofs.NodeLabels.{node_of, hull_of}

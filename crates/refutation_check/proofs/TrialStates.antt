@@ -27,10 +27,10 @@ use Rattle.state_laws.proofs.PairStates.{gate_state_under}
 use Rattle.state_laws.proofs.Supports.{pin_supported}
 use Rattle.pair_judging.specs.ConeStates.{state_in}
 use Rattle.pair_judging.specs.Judged.{AreComputed}
-use Rattle.pair_judging.specs.KeptCones.{AreConeGates}
+use Rattle.cones.specs.KeptCones.{AreConeGates}
 use Rattle.pair_judging.specs.LeastStates.{IsTakenOf}
-use Rattle.pair_judging.proofs.RankedCones.{never_after}
-use Rattle.pair_judging.proofs.Spreading.{no_line}
+use Rattle.cones.proofs.RankedCones.{never_after}
+use Rattle.cones.proofs.Spreading.{no_line}
 use Rattle.refutation_check.specs.declared.trial_states.TrialStates.{TrialStates}
 use Rattle.refutation_check.specs.TrialStates.{is_stale, AreTrialStates, IsPutAt}
 

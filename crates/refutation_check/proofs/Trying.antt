@@ -31,7 +31,7 @@ use Rattle.trees.proofs.Trials.{open_fails}
 use Rattle.trees.proofs.Trying.{open_has_no_empty_set, open_if_fails}
 use Rattle.implication.specs.Standing.{Standing, IsLabels, IsTold, TellsLabels}
 use Rattle.pair_judging.specs.ConeStates.{state_in, HasSourceStates}
-use Rattle.pair_judging.specs.KeptCones.{AreConeSources}
+use Rattle.cones.specs.KeptCones.{AreConeSources}
 use Rattle.pair_judging.specs.LeastStates.{IsTakenOf}
 use Rattle.pair_judging.specs.Taken.{AreLeast}
 use Rattle.pair_judging.proofs.Taking.{least_is_taken}

@@ -62,7 +62,7 @@ abbrev pub LosesNoPair : Circuit → Rules → Target → List Half → Hull →
 LosesNoPair c rules target halves hull = LosesNone c rules target halves (found_of hull)
 
 -- singletons decide: where the hull leaves to each source in the fan-in of the path's end no state but the one under a pair, the
--- pair is a test
+-- pair meets the conditions
 abbrev pub SinglesDecide : Circuit → Rules → Target → Result (List StateSet) LineId → Type 0
 SinglesDecide c rules target (Ok labels) = (pair : Vectors) → IsGiven (algebra_of rules) c pair target.path labels → Meets c target pair
 SinglesDecide c rules target (Err line) = ⊤

@@ -18,7 +18,7 @@ use Rattle.trees.specs.Algebras.{algebra_of}
 use Rattle.trees.specs.Spent.{IsInSupport}
 use Rattle.implication.specs.Standing.{Standing}
 use Rattle.pair_judging.specs.ConeStates.{state_in, HasSourceStates, HasLinkedStates}
-use Rattle.pair_judging.specs.KeptCones.{IsConeFor, IsConeAt}
+use Rattle.cones.specs.KeptCones.{IsConeFor, IsConeAt}
 use Rattle.pair_judging.specs.LeastStates.{IsTakenOf}
 use Rattle.refutation_check.specs.declared.asked.Asked.{Asked}
 use Rattle.refutation_check.specs.declared.trial.TrialRoom.{TrialRoom}

@@ -4,7 +4,7 @@ ghost use Rattle.std.specs.Prelude.{◌≡◌, ◌≢◌, ◌<◌, ℕ, true, fa
 ghost use Rattle.pd_base.specs.Links.{LinkList};
 ghost use Rattle.pd_base.specs.declared.ids.PinRef.{PinRef};
 ghost use Rattle.netlist.specs.Circuit.{source_count, gate_count, line_count, gate_line, pins_at};
-ghost use Rattle.pair_judging.specs.KeptCones.{AreConeGates};
+ghost use Rattle.cones.specs.KeptCones.{AreConeGates};
 ghost use Rattle.pair_judging.specs.Taken.{AreLeast};
 ghost use Rattle.refutation_check.specs.TrialStates.{is_stale, AreTrialStates, AreRoomFor, IsPutAt, IsStaleOrMade, AreStaleAsRead, KeepsSources};
 

@@ -38,7 +38,7 @@ pub enum Manner<'a> {
     Planned,
     /// One call whose files are not told: what it leaves in them is what later calls find.
     Kept,
-    /// One call of which is told how many lines out has by the word at their end, same or differs.
+    /// One call, whose answer counts the lines on out that end with `same`, and those that end with `differs`.
     Counted,
     /// One over files and streams whose calls never fail.
     Unfailing,

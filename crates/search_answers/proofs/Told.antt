@@ -9,7 +9,7 @@ use Rattle.netlist.specs.Circuit.{Circuit, source_count}
 use Rattle.netlist.specs.LinkedPairs.{FitRules}
 use Rattle.netlist.specs.LinkedPairs.IsSupported.{in_fan_in}
 use Rattle.netlist.specs.Pins.{IsInFanIn}
-use Rattle.logic_values.specs.Marks.{is_marked}
+use Rattle.cones.specs.Marks.{is_marked}
 use Rattle.state_laws.proofs.Linked.{none_linked}
 use Rattle.trees.specs.Unlinked.{IsUnlinked}
 use Rattle.trees.proofs.Unlinked.{no_links, unlinked_fit}

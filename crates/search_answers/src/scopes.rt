@@ -9,8 +9,8 @@ ghost use Rattle.search_answers.specs.Told.{AreMarkedTold};
 
 use crate::entering::enter_all;
 use crate::sweeping::{Assumed, states_of, swept};
+use cones::support;
 use implication::{Engine, RuledNetlist, Scope, Setting};
-use logic_values::support;
 use netlist::Netlist;
 use pd_base::{LineId, OutOfMemory};
 use state_laws::Half;

@@ -10,10 +10,10 @@ use Rattle.netlist.specs.Lawful.{IsCircuit}
 use Rattle.netlist.specs.LinkedPairs.{IsSupported}
 use Rattle.netlist.specs.Pins.IsInFanIn.{end_itself}
 use Rattle.state_laws.proofs.FanIns.{fan_in_in_circuit}
-use Rattle.pair_judging.specs.FoundLines.{FoundSet, FindsMore, reads_of}
+use Rattle.cones.specs.FoundLines.{FoundSet, FindsMore, reads_of}
 use Rattle.search_hints.specs.Blamed.{AreBehind, IsSomeLine}
-use Rattle.pair_judging.proofs.Finding.{only_one}
-use Rattle.pair_judging.proofs.Spreading.{reads_in_fan_in, next_supported}
+use Rattle.cones.proofs.Finding.{only_one}
+use Rattle.cones.proofs.Spreading.{reads_in_fan_in, next_supported}
 
 -- what a list has, by number
 pub all_of_each : (P : ℕ → Type 0) (lines : List LineId) → ((line : ℕ) → Contains lines (record { 0 = line }) → P line) → All (λ line. P line.0) lines

@@ -2,7 +2,7 @@
 use Rattle.std.proofs.Common.{ℕ, get_or, arith}
 use Rattle.std.proofs.lemmas.List.Elements.{Contains-get_or}
 use Rattle.netlist.specs.Circuit.{Circuit}
-use Rattle.pair_judging.specs.KeptCones.{KeptCone, IsConeFor, IsConeAt}
+use Rattle.cones.specs.KeptCones.{KeptCone, IsConeFor, IsConeAt}
 use Rattle.search_hints.specs.Drafts.{IsConeIn}
 
 pub cone_in : (c : Circuit) (end : ℕ) (cone : KeptCone) → IsConeFor c cone → IsConeAt c end cone → IsConeIn c cone

@@ -5,7 +5,7 @@ use Rattle.netlist.specs.Circuit.{Circuit, gate_count, line_count, HasGates, Has
 use Rattle.netlist.specs.Lawful.{IsCircuit}
 use Rattle.netlist.specs.Levels.{greatest_level}
 use Rattle.hulls.specs.Conditions.{Entered}
-use Rattle.pair_judging.specs.KeptCones.{KeptCone}
+use Rattle.cones.specs.KeptCones.{KeptCone}
 use Rattle.search_hints.specs.declared.decisions.Decision.{Decision}
 use Rattle.search_hints.specs.declared.decisions.Next.{Next}
 use Rattle.search_hints.specs.declared.decisions.Next.TheVariants.{Nothing, Decide, GiveUp}

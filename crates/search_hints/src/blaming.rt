@@ -5,8 +5,8 @@ ghost use Rattle.std.specs.Prelude.{◌≡◌, ◌<◌, ◌≤◌, ◌⊎◌, �
 ghost use Rattle.netlist.specs.Circuit.{HasLines, line_count};
 ghost use Rattle.search_hints.specs.Blamed.{AreBlamed, AreBehind, IsSomeLine};
 
+use cones::{FoundLines, find_reads};
 use netlist::Netlist;
-use pair_judging::{FoundLines, find_reads};
 use pd_base::{LineId, OutOfMemory};
 use state_sets::StateSet;
 use std::alloc::Global;

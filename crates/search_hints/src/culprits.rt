@@ -4,8 +4,8 @@ ghost use Rattle.std.specs.Prelude.{◌≡◌, ◌<◌, All, IfOk};
 ghost use Rattle.netlist.specs.Circuit.{gate_count, line_count};
 
 use crate::changes::{Cause, Change};
+use cones::{FoundLines, find_reads};
 use netlist::Netlist;
-use pair_judging::{FoundLines, find_reads};
 use pd_base::{GateId, OutOfMemory};
 use std::alloc::Global;
 use std::marker::Model;

@@ -7,16 +7,16 @@ ghost use Rattle.std.specs.Prelude.{◌≡◌, [], length, IfOk};
 ghost use Rattle.netlist.specs.Circuit.{line_count, HasGates, HasLines};
 ghost use Rattle.netlist.specs.Paths.{IsPrefix, end_of};
 ghost use Rattle.hulls.specs.Conditions.{IsEnteredOn};
-ghost use Rattle.pair_judging.specs.KeptCones.{IsConeFor, IsConeAt};
+ghost use Rattle.cones.specs.KeptCones.{IsConeFor, IsConeAt};
 ghost use Rattle.search_hints.specs.Drafts.{IsJustifierOf, IsSizedFor, IsConeIn};
 
 use crate::decisions::{Decisions, Ended, Order};
 use crate::patience::Patience;
 use crate::picking::Sight;
 use crate::region::Region;
+use cones::Cone;
 use hulls::{Conditions, enter_all};
 use netlist::Netlist;
-use pair_judging::Cone;
 use pd_base::{Kind, OutOfMemory, Path};
 use state_sets::{Algebra, StateSet};
 use std::alloc::Global;

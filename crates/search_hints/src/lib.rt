@@ -1,6 +1,6 @@
 //! What a search tries next: a pair that is found by decisions on any line of a cone, a source at which to split the cases, and the
 //! sources to blame for a failure. Hints alone, which are tried before they are taken; so contracts say that they end, stay within their
-//! room, and name lines of the circuit. Stands on hulls and pair_judging.
+//! room, and name lines of the circuit. Stands on hulls and cones.
 //! The layer above uses `Justifier` with `Effort` and `Sight`, `follow` with `Frontier` and `Lead`, and `Blame`.
 #![tactic(auto)]
 

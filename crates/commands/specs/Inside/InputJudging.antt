@@ -14,7 +14,7 @@ use Rattle.calls.specs.declared.role.Role.{Role}
 use Rattle.calls.specs.declared.role.Role.TheVariants as role
 use Rattle.calls.specs.Inputs.{FailsToRead, ReadsInput}
 use Rattle.commands.specs.InputRefusals.{too_long}
-use Rattle.commands.specs.InputRequirements.{HasNoCircuit, HasNoDelaysFor, LacksForm, limit_of}
+use Rattle.commands.specs.InputRequirements.{LacksCircuit, HasNoDelaysFor, LacksForm, limit_of}
 use Rattle.commands.specs.SpelledRuns.{IsMalformedProofs, IsMalformedReport}
 use Rattle.commands.specs.SpelledTests.{IsMalformedTests, SpellsTests}
 
@@ -37,7 +37,7 @@ pub data FailsFor (Refuses : Refusal → Type 0) (ending : Ending) : Type 0 wher
 
 -- there is no netlist
 abbrev pub FailsNet : List ℕ → Ending → Type 0
-FailsNet net ending = FailsFor (HasNoCircuit net) ending
+FailsNet net ending = FailsFor (LacksCircuit net) ending
 
 -- there are no delays
 abbrev pub FailsDelays : Circuit → List ℕ → Ending → Type 0

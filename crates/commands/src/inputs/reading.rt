@@ -37,7 +37,7 @@ fn limit_of(role: Role) -> usize
 {
     match role {
         Role::Net | Role::Delays => INPUT_LIMIT,
-        _ => MOST_BYTES,
+        Role::Tests | Role::Report | Role::Proofs => MOST_BYTES,
     }
 }
 

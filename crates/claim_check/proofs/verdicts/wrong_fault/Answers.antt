@@ -1,7 +1,7 @@
 -- What the verdict lacks first is told.
 use Rattle.std.proofs.Common.{sym, subst, ◌∙◌}
 use Rattle.std.proofs.lemmas.Bool.{false≢true}
-use Rattle.pair_judging.specs.Expected.{TellsExpected}
+use Rattle.logic_values.specs.Expected.{TellsExpected}
 use Rattle.claim_check.proofs.VerdictFlaws.{expects_not, shares_not, tests_not, verdict_right}
 use Rattle.claim_check.proofs.verdicts.wrong_fault.Goals as goal
 

@@ -28,7 +28,7 @@ loop-line-preserved g c =
     let board = c.loop-line.board in
     let wrote : c.write.new.self.labels ≡ set board.labels line.0 (label_at labels line.0) = ap (λ (b : OnBoard). b.labels) c.write.ensures in
     let within = c.lines-line-items.ensures.in_range index (record { 0 = 0 }) c.loop-line-test.true in
-    let in_board : line.0 < length board.labels = omega (arith, within, i.one_each, c.requires.count) in
+    let in_board : line.0 < length board.labels = omega (arith, within, i.one_each, c.requires.room) in
     record {
       board = c.write.ensures
           ∙ ap (λ (b : OnBoard). let n : OnBoard = record b { labels = set board.labels line.0 (label_at labels line.0) } in n) i.board
@@ -49,8 +49,8 @@ returns-clause-board g c =
     (drop_all c.loop-line.line-index lines c.loop-line-test.false) stands in
     omega (arith, s.1))))
 
-pub returns-clause-count : goal.returns-clause-count
-returns-clause-count g c = grind (arith, common_steps)
+pub returns-clause-room : goal.returns-clause-room
+returns-clause-room g c = grind (arith, common_steps)
 
 pub returns-clause-reached : goal.returns-clause-reached
 returns-clause-reached g c = grind (arith, common_steps)

@@ -4,7 +4,7 @@ use Rattle.std.specs.Prelude.{is_some}
 use Rattle.std.proofs.lemmas.Grind.{common_steps}
 use Rattle.netlist.specs.Circuit.{Circuit, line_count}
 use Rattle.implication.specs.Scopes.{standing}
-use Rattle.pair_judging.specs.KeptCones.{IsConeFor}
+use Rattle.cones.specs.KeptCones.{IsConeFor}
 use Rattle.justify.specs.Tasks.{task_target}
 use Rattle.justify.proofs.Orders.{at_least}
 use Rattle.justify.proofs.Starting.{start_under_way, start_desk, start_suits}

@@ -5,7 +5,7 @@ use Rattle.netlist.specs.Circuit.{Circuit, line_count}
 use Rattle.netlist.specs.Paths.{IsPrefix, end_of}
 use Rattle.implication.specs.Scopes.{standing}
 use Rattle.pair_judging.specs.ConeStates.{AreStates}
-use Rattle.pair_judging.specs.KeptCones.{IsConeAt, IsConeFor}
+use Rattle.cones.specs.KeptCones.{IsConeAt, IsConeFor}
 use Rattle.search_hints.specs.Drafts.{IsJustifierOf}
 use Rattle.justify.proofs.TriedSources.{read_within, desk_again, desk_asked}
 use Rattle.justify.proofs.searching.justify_lines.Goals as goal

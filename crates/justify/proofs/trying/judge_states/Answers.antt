@@ -7,7 +7,7 @@ use Rattle.netlist.specs.Paths.{IsPrefix, end_of}
 use Rattle.state_sets.specs.declared.state.State.{State}
 use Rattle.implication.specs.Scopes.{standing}
 use Rattle.netlist.specs.LinkedPairs.{AreLinksOf}
-use Rattle.pair_judging.specs.KeptCones.{IsConeFor, IsConeAt}
+use Rattle.cones.specs.KeptCones.{IsConeFor, IsConeAt}
 use Rattle.pair_judging.specs.ConeStates.{AreStates, AreSourceStates, state_in}
 use Rattle.justify.specs.Desks.{AreInSupport}
 use Rattle.justify.specs.Tasks.{task_target}

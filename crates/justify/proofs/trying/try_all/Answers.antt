@@ -7,7 +7,7 @@ use Rattle.state_sets.specs.declared.state.State.{State}
 use Rattle.implication.specs.Scopes.{standing}
 use Rattle.justify.specs.declared.trial.Tried.{Tried}
 use Rattle.pair_judging.specs.ConeStates.{AreStates, AreSourceStates}
-use Rattle.pair_judging.specs.KeptCones.{IsConeFor}
+use Rattle.cones.specs.KeptCones.{IsConeFor}
 use Rattle.justify.specs.Tasks.{task_target}
 use Rattle.justify.specs.Trying.{CanTry, HasLeast, GivesTest}
 use Rattle.justify.proofs.TriedSources.{read_in_support, read_within, all_tried, read_at, sources_within, tried_fits, least_of_sources}

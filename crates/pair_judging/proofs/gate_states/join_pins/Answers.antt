@@ -3,7 +3,7 @@ use Rattle.std.proofs.Common.{◌<◌, ◌-◌, get_or, length, sym, subst, arit
 use Rattle.pd_base.specs.declared.ids.LineId.{LineId}
 use Rattle.state_sets.specs.declared.state.State.{State}
 use Rattle.pair_judging.specs.ConeStates.{state_in}
-use Rattle.pair_judging.proofs.Spreading.{no_line}
+use Rattle.cones.proofs.Spreading.{no_line}
 use Rattle.pair_judging.proofs.Joining.{joined_more}
 use Rattle.pair_judging.proofs.gate_states.join_pins.Goals as goal
 

@@ -5,7 +5,7 @@ use Rattle.std.proofs.lemmas.List.Elements.{All-set}
 use Rattle.state_sets.specs.declared.state.State.{State}
 use Rattle.state_sets.specs.Labellings.{label_at}
 use Rattle.pair_judging.specs.Taken.{IsTakenAsLiked}
-use Rattle.pair_judging.proofs.Spreading.{no_line}
+use Rattle.cones.proofs.Spreading.{no_line}
 use Rattle.pair_judging.proofs.Taking.{no_state, due_more, due_all}
 use Rattle.pair_judging.proofs.read_states.take_preferred.Goals as goal
 

@@ -7,7 +7,7 @@ use Rattle.netlist.specs.Circuit.{line_count}
 use Rattle.state_laws.proofs.Linked.{linked_line}
 use Rattle.pd_base.specs.Links.{LinkList}
 use Rattle.netlist.specs.Values.{value}
-use Rattle.pair_judging.specs.FoundLines.{HasMark}
+use Rattle.cones.specs.FoundLines.{HasMark}
 use Rattle.pair_judging.specs.SourceBits.{AreLinkBits}
 use Rattle.pair_judging.proofs.LinkBits.{link_bits_empty, link_bits_as}
 use Rattle.pair_judging.proofs.source_bits.link_bits.Goals as goal

@@ -6,7 +6,7 @@ use Rattle.netlist.specs.Values.{bit_of}
 use Rattle.state_sets.specs.declared.state.State.{State}
 use Rattle.state_sets.specs.StateAlgebra.{same_bit}
 use Rattle.state_laws.proofs.SourceStates.{source_state}
-use Rattle.pair_judging.proofs.Spreading.{no_line}
+use Rattle.cones.proofs.Spreading.{no_line}
 use Rattle.pair_judging.proofs.Taking.{no_state, due_more, due_all}
 use Rattle.pair_judging.proofs.source_bits.take_pair.Goals as goal
 

@@ -2,7 +2,7 @@
 use Rattle.std.proofs.Common.{◌+◌, ℕ, Bool, take, get_or, set, sym, subst}
 use Rattle.pair_judging.specs.ConeStates.{state_in}
 use Rattle.pair_judging.specs.SourceBits.{first_bit, HasBitsAt}
-use Rattle.pair_judging.proofs.Spreading.{no_line}
+use Rattle.cones.proofs.Spreading.{no_line}
 use Rattle.pair_judging.proofs.Taking.{bits_none, bits_more, bits_all}
 use Rattle.pair_judging.proofs.source_bits.write_bits.Goals as goal
 

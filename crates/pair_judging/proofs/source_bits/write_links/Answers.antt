@@ -2,9 +2,9 @@
 use Rattle.std.proofs.Common.{◌<◌, ◌+◌, ℕ, Bool, false, take, length, get_or, refl, sym, ap, subst, ◌∙◌, arith}
 use Rattle.std.proofs.lemmas.Bool.{false≢true}
 use Rattle.std.proofs.lemmas.List.{length-set}
-use Rattle.pair_judging.specs.FoundLines.{HasMark}
+use Rattle.cones.specs.FoundLines.{HasMark}
 use Rattle.pair_judging.specs.SourceBits.{AreLinkBits}
-use Rattle.pair_judging.proofs.SourceHeads.{no_link}
+use Rattle.cones.proofs.SourceHeads.{no_link}
 use Rattle.pair_judging.proofs.LinkBits.{link_bits_none, link_bits_kept, link_bits_more, link_bits_all}
 use Rattle.pair_judging.proofs.source_bits.write_links.Goals.{then-not-marks-source, else-not-marks-source}
 use Rattle.pair_judging.proofs.source_bits.write_links.Goals as goal

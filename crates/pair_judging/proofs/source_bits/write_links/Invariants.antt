@@ -1,5 +1,5 @@
 use Rattle.std.proofs.Common.{◌≡◌, take, length, false, get_or}
-use Rattle.pair_judging.specs.FoundLines.{HasMark}
+use Rattle.cones.specs.FoundLines.{HasMark}
 use Rattle.pair_judging.specs.SourceBits.{AreLinkBits}
 use Rattle.pair_judging.proofs.source_bits.write_links.Given as goal
 

@@ -7,7 +7,7 @@ use Rattle.pd_base.specs.declared.ids.LineId.{LineId}
 use Rattle.state_sets.specs.Labellings.{label_at}
 use Rattle.pair_judging.specs.ConeStates.{state_in}
 use Rattle.pair_judging.specs.LeastStates.{IsTakenOf}
-use Rattle.pair_judging.proofs.Spreading.{no_line}
+use Rattle.cones.proofs.Spreading.{no_line}
 use Rattle.refutation_check.proofs.trial.are_least.Goals as goal
 
 pub loop-source-preserved : goal.loop-source-preserved

@@ -7,7 +7,7 @@ use Rattle.pd_base.specs.declared.ids.LineId.{LineId}
 use Rattle.netlist.specs.Paths.{end_of}
 use Rattle.state_sets.specs.declared.state.State.{State}
 use Rattle.pair_judging.specs.Judged.{IsJudgedBy, LinksPass, IsFailingLink}
-use Rattle.pair_judging.specs.KeptCones.{AreConeGates}
+use Rattle.cones.specs.KeptCones.{AreConeGates}
 use Rattle.pair_judging.specs.declared.judging.Judgement.TheVariants.{IsTest, FailsAt}
 use Rattle.refutation_check.specs.TrialStates.{is_stale}
 use Rattle.refutation_check.specs.Trials.{asked_target}

@@ -8,7 +8,7 @@ use Rattle.netlist.specs.LinkedPairs.{AreLinksOf}
 use Rattle.netlist.specs.Paths.{IsPrefix, end_of}
 use Rattle.implication.specs.Scopes.{standing}
 use Rattle.implication.proofs.Told.{told_support}
-use Rattle.pair_judging.specs.KeptCones.{IsConeFor, IsConeAt}
+use Rattle.cones.specs.KeptCones.{IsConeFor, IsConeAt}
 use Rattle.refutation_check.specs.TrialStates.{AreTrialStates}
 use Rattle.refutation_check.specs.Trials.{asked_target, AreLeastOf, EachIsTest, EachFails}
 use Rattle.refutation_check.proofs.Trying.{sources_within, least_in_cone, test_not_open, failed_open}

@@ -2,9 +2,9 @@
 use Rattle.std.proofs.Common.{⊎_elim, inl, inr, ◌∷◌, [], sym, ap, subst}
 use Rattle.std.specs.List.{Contains}
 use Rattle.pd_base.specs.declared.ids.LineId.{LineId}
-use Rattle.pair_judging.specs.FoundLines.{FoundSet}
+use Rattle.cones.specs.FoundLines.{FoundSet}
 use Rattle.search_hints.specs.Blamed.{IsSomeLine}
-use Rattle.pair_judging.proofs.Finding.{only_one}
+use Rattle.cones.proofs.Finding.{only_one}
 use Rattle.search_hints.proofs.Behind.{first_only}
 use Rattle.search_hints.proofs.blaming.find_failing.Goals as goal
 

@@ -4,7 +4,7 @@ use Rattle.std.specs.List.{Contains}
 use Rattle.std.proofs.lemmas.List.{length_push}
 use Rattle.std.proofs.lemmas.List.Elements.{All-push, Contains-get_or}
 use Rattle.pd_base.specs.declared.ids.LineId.{LineId}
-use Rattle.pair_judging.proofs.Spreading.{no_line}
+use Rattle.cones.proofs.Spreading.{no_line}
 use Rattle.search_hints.proofs.blaming.list_open.Goals as goal
 use Rattle.search_hints.proofs.blaming.list_open.Goals.{then-is_open, else-is_open}
 

@@ -3,7 +3,7 @@ use Rattle.std.proofs.Common.{◌<◌, List, get_or, length, sym, ap, subst, ◌
 use Rattle.std.proofs.lemmas.Grind.{common_steps}
 use Rattle.std.proofs.lemmas.List.{get_or_default}
 use Rattle.pd_base.specs.declared.ids.LineId.{LineId}
-use Rattle.pair_judging.proofs.Spreading.{no_line}
+use Rattle.cones.proofs.Spreading.{no_line}
 use Rattle.search_hints.proofs.Behind.{behind_more}
 use Rattle.search_hints.proofs.blaming.spread.Goals as goal
 use Rattle.search_hints.proofs.blaming.spread.Goals.{then-leads_on, else-leads_on}

@@ -14,9 +14,9 @@ begin_ranked-requires-clause-in_circuit g c =
     let are = subst (AreSameByLevel net c.lines-found.result.now) (sym c.as_slice.ensures.value) c.rank.ensures.ranked in
     λ k d k_in.
     let line = get_or (lines_by_level ranked) k d in
-    let within = All-contains (λ (l : LineId). l.0 < c.reach.new.reached.count) c.lines-found.result.now line c.lines-found.ensures.in_range
+    let within = All-contains (λ (l : LineId). l.0 < c.reach.new.reached.room) c.lines-found.result.now line c.lines-found.ensures.in_range
     ((are.same line).1 (Contains-get_or (lines_by_level ranked) k d k_in)) in
-    omega (arith, within, c.reach.ensures.count)
+    omega (arith, within, c.reach.ensures.room)
 
 pub begin_ranked-requires-clause-by_level : goal.begin_ranked-requires-clause-by_level
 begin_ranked-requires-clause-by_level g c =
@@ -25,15 +25,15 @@ begin_ranked-requires-clause-by_level g c =
 
 pub is_by_level-requires : goal.is_by_level-requires
 is_by_level-requires g c =
-    subst (λ (n : ℕ). All (λ (line : LineId). line.0 < n) c.lines-found.result.now) c.reach.ensures.count c.lines-found.ensures.in_range
+    subst (λ (n : ℕ). All (λ (line : LineId). line.0 < n) c.lines-found.result.now) c.reach.ensures.room c.lines-found.ensures.in_range
 
 pub rank-requires-clause-in_circuit : goal.rank-requires-clause-in_circuit
 rank-requires-clause-in_circuit g c =
-    subst (λ (n : ℕ). All (λ (line : LineId). line.0 < n) c.lines-found.result.now) c.reach.ensures.count c.lines-found.ensures.in_range
+    subst (λ (n : ℕ). All (λ (line : LineId). line.0 < n) c.lines-found.result.now) c.reach.ensures.room c.lines-found.ensures.in_range
 
 pub begin_lines-requires-clause-in_circuit : goal.begin_lines-requires-clause-in_circuit
 begin_lines-requires-clause-in_circuit g c =
-    subst (λ (n : ℕ). All (λ (line : LineId). line.0 < n) c.lines-found.result.now) c.reach.ensures.count c.lines-found.ensures.in_range
+    subst (λ (n : ℕ). All (λ (line : LineId). line.0 < n) c.lines-found.result.now) c.reach.ensures.room c.lines-found.ensures.in_range
 
 pub begin_lines-requires-clause-one_each : goal.begin_lines-requires-clause-one_each
 begin_lines-requires-clause-one_each g c = c.requires.board.lines

@@ -12,7 +12,7 @@ use Rattle.state_sets.specs.FourStates.{four_states}
 use Rattle.pair_judging.specs.ConeStates.{AreStates, AreLineStates, HasConeStates}
 use Rattle.pair_judging.specs.Judged.{AreComputed}
 use Rattle.pair_judging.specs.Judges.{KeptJudge}
-use Rattle.pair_judging.specs.KeptCones.{IsConeAt, IsConeFor, AreConeSources, AreConeGates}
+use Rattle.cones.specs.KeptCones.{IsConeAt, IsConeFor, AreConeSources, AreConeGates}
 use Rattle.pair_judging.specs.SourceBits.{AreTakenOf}
 use Rattle.pair_judging.proofs.ConeJudging.{gates_inside, sources_below, under_pair}
 use Rattle.pair_judging.proofs.cone_judge.ConeJudge.take_states.Goals as goal

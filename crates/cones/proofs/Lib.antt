@@ -1,0 +1,10 @@
+mod Images
+pub mod Finding
+pub mod Spreading
+pub mod SourceHeads
+mod Numbers
+pub mod RankedCones
+mod ConeLists
+mod ConeScans
+mod Marking
+mod Sweep

@@ -1,0 +1,5 @@
+pub mod Marks
+pub mod FoundLines
+pub mod SourceLinks
+pub mod Ends
+pub mod KeptCones

@@ -1,7 +1,0 @@
--- The flags of the first sources are set.
-use Rattle.netlist.specs.Circuit.{source_count}
-use Rattle.implication.proofs.Inside.{AreFirstFlagged}
-use Rattle.implication.proofs.cones.flag_told.Given as goal
-
-abbrev pub invariant-loop-source : goal.invariant-loop-source
-invariant-loop-source l = AreFirstFlagged l.source (source_count l.net) l.behind l.marks l.told

@@ -1,6 +1,0 @@
-use Rattle.logic_values.proofs.Sweep.{IsSwept}
-use Rattle.logic_values.proofs.cone.support.Given as goal
-
--- the gates from this place on have had their turn
-abbrev pub invariant-loop-place : goal.invariant-loop-place
-invariant-loop-place l = IsSwept l.net l.fn.line.0 l.order l.place l.cone

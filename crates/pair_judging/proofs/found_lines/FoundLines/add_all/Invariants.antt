@@ -1,7 +1,0 @@
-use Rattle.std.proofs.Common.{take}
-use Rattle.pair_judging.specs.FoundLines.{FindsMore}
-use Rattle.pair_judging.proofs.found_lines.FoundLines.add_all.Given as goal
-
--- the lines before this one were found
-abbrev pub invariant-loop-line : goal.invariant-loop-line
-invariant-loop-line l = FindsMore (take l.line-index l.lines) l.initial.self l.self

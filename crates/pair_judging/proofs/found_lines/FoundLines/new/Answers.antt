@@ -1,7 +1,0 @@
--- No line has a mark at first.
-use Rattle.std.proofs.Common.{arith}
-use Rattle.std.proofs.lemmas.Grind.{common_steps}
-use Rattle.pair_judging.proofs.found_lines.FoundLines.new.Goals as goal
-
-pub invariant_of-result : goal.invariant_of-result
-invariant_of-result c = grind (arith, common_steps)
