@@ -182,7 +182,9 @@ impl<A: Algebra> Board<A> {
     }
 }
 
-// The gate, if its pins are found to read different lines: what narrowing it leaves, narrowing it again does not change.
+// The gate, if its pins are found to read different lines: what narrowing it leaves, narrowing it again does not change. Inlined, since each
+// narrowing of a gate asks it.
+#[inline(always)]
 fn passed_by(net: &Netlist, gate: GateId) -> Option<GateId>
     requires { gate.0 < gate_count net.now }
     ensures { IsPassed net.now gate.0 result }

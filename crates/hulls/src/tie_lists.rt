@@ -75,7 +75,8 @@ impl Ties {
     }
 
     /// Lets all links wait that have this line among their two. They are numbered on from the number of gates. Takes no memory, and
-    /// costs what there are of them.
+    /// costs what there are of them. Inlined: without links it is two comparisons.
+    #[inline(always)]
     pub(crate) fn wake(&self, waiting: &mut Waiting, gates: u32, line: LineId)
         requires room { gates + length self.now ≤ length waiting.old.inside }
         requires few { length waiting.old.inside < 2 ^ 32 }
@@ -90,6 +91,7 @@ impl Ties {
 }
 
 // Lets all links of the chain of this line wait.
+#[inline(always)]
 fn walk(chains: &Chains, waiting: &mut Waiting, gates: u32, line: LineId)
     requires room { gates + length chains.now.nexts.items ≤ length waiting.old.inside }
     requires few { length waiting.old.inside < 2 ^ 32 }

@@ -10,7 +10,9 @@ use crate::waiting::Waiting;
 use netlist::Netlist;
 use pd_base::{GateId, LineId, PinRef};
 
-// Lets all gates inside wait that have this line among theirs, but the one that is passed by. Takes no memory.
+// Lets all gates inside wait that have this line among theirs, but the one that is passed by. Takes no memory. Inlined, since each cut that
+// takes states comes here.
+#[inline(always)]
 pub(crate) fn wake(waiting: &mut Waiting, net: &Netlist, line: LineId, passed: Option<GateId>)
     requires gates { gate_count net.now ≤ length waiting.old.inside }
     requires line { line.0 < line_count net.now }
