@@ -2,7 +2,7 @@
 ghost use Rattle.std.specs.Prelude.{◌≤◌, length, IfOk, IfErr};
 ghost use Rattle.bench_reader.specs.Circuits.{HasCircuit};
 ghost use Rattle.bench_reader.specs.Refusals.{MayRefuseText};
-ghost use Rattle.bench_reader.specs.declared.statements.TheConstants.{MOST_BYTES};
+ghost use Rattle.pd_base.specs.declared.limits.TheConstants.{MOST_BYTES};
 
 use crate::BenchFault;
 use crate::statements::read_statements;

@@ -1,5 +1,6 @@
 // A text is read line by line into a list of statements.
 ghost use Rattle.std.specs.Prelude.{◌≡◌, ◌<◌, ◌≤◌, [], ◌∷◌, ◌++◌, length, OnOk, IfErr};
+ghost use Rattle.pd_base.specs.declared.limits.TheConstants.{MOST_BYTES};
 ghost use Rattle.netlist.specs.declared.limits.TheConstants.{MOST_STATEMENTS};
 ghost use Rattle.netlist.specs.NameTexts.{bytes_of};
 ghost use Rattle.netlist.specs.Statements.{IsStatement, numbered};
@@ -14,9 +15,6 @@ use crate::statement::Statement;
 use crate::token::Token;
 use net_builder::RawNet;
 use std::alloc::Global;
-
-/// The most bytes of a text.
-pub const MOST_BYTES: usize = 268_435_456;
 
 // The statements of a text, or the first line that is refused. `NoMemory` may come in place of either.
 pub(crate) fn read_statements(alloc: Global, bytes: &[u8]) -> Result<RawNet, BenchFault>

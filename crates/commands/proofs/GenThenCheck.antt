@@ -6,7 +6,7 @@ use Rattle.netlist.specs.Lawful.{IsCircuit}
 use Rattle.bench_reader.specs.Circuits.{HasCircuit}
 use Rattle.bench_reader.proofs.LawfulCircuits.{is_circuit}
 use Rattle.delay_annotation.specs.DelayFile.{HasDelays}
-use Rattle.text_pieces.specs.declared.limits.TheConstants.{MOST_BYTES}
+use Rattle.pd_base.specs.declared.limits.TheConstants.{MOST_BYTES}
 use Rattle.pattern_writer.specs.TestsText.{tests_text}
 use Rattle.verdict_report.specs.ProofsText.{proofs_text}
 use Rattle.verdict_report.specs.ReportText.{report_text}

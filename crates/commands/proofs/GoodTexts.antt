@@ -4,7 +4,7 @@ use Rattle.std.specs.List.{AllByRecursion}
 use Rattle.std.proofs.lemmas.Bool.{cases_Bool}
 use Rattle.std.proofs.lemmas.List.{length-map}
 use Rattle.std.proofs.lemmas.List.Elements.{All-from_recursion, recursion_from_All}
-use Rattle.pd_base.specs.declared.limits.TheConstants.{MOST_PATHS}
+use Rattle.pd_base.specs.declared.limits.TheConstants.{MOST_BYTES, MOST_PATHS}
 use Rattle.netlist.specs.Circuit.{Circuit}
 use Rattle.netlist.specs.Lawful.{IsCircuit}
 use Rattle.netlist.specs.Levels.{greatest_level}
@@ -21,7 +21,6 @@ use Rattle.trees.specs.Trees.{split_count, IsTree}
 use Rattle.good_runs.specs.Faults.{routes_of}
 use Rattle.good_runs.specs.GoodRun.{IsGoodRefutation, IsGoodRun, IsGoodSpent}
 use Rattle.good_runs.proofs.FirstOnce.{few_first}
-use Rattle.text_pieces.specs.declared.limits.TheConstants.{MOST_BYTES}
 use Rattle.pattern_writer.specs.TestsText.{tests_text}
 use Rattle.verdict_report.specs.ProofsReading.{AreSpelledProofs}
 use Rattle.verdict_report.specs.ProofsText.{proofs_text}

@@ -5,7 +5,7 @@ use Rattle.std.proofs.lemmas.Fmt.{length-decimal-le}
 use Rattle.std.proofs.lemmas.List.Elements.{recursion_from_All}
 use Rattle.std.proofs.lemmas.List.Sums.{sum_by-cons}
 use Rattle.std.proofs.lemmas.Nat.{mul-le}
-use Rattle.pd_base.specs.declared.limits.TheConstants.{MOST_PATHS}
+use Rattle.pd_base.specs.declared.limits.TheConstants.{MOST_BYTES, MOST_PATHS}
 use Rattle.pd_base.specs.declared.rules.Rules.{Rules}
 use Rattle.pd_base.specs.declared.rules.Rules.TheVariants.{One, Two, Linked}
 use Rattle.netlist.specs.Circuit.{Circuit, source_count}
@@ -16,7 +16,6 @@ use Rattle.trees.specs.declared.tree.Node.TheVariants.{Closed, Waiting, Value, S
 use Rattle.runs.specs.Lawful.{IsLawfulProof, IsOnSource}
 use Rattle.trees.specs.Trees.{is_split, split_count, IsTree}
 use Rattle.trees.proofs.Ending.{nodes_and_splits}
-use Rattle.text_pieces.specs.declared.limits.TheConstants.{MOST_BYTES}
 use Rattle.text_pieces.specs.Tokens.{direction_word, kind_word, line, space}
 use Rattle.text_pieces.specs.LineFiles.{lines_text}
 use Rattle.verdict_report.specs.ProofsText.{claim_word, node_text, proof_text, proofs_form, proofs_text, version_line}

@@ -5,7 +5,7 @@ use Rattle.std.proofs.lemmas.Fmt.{length-decimal-le}
 use Rattle.std.proofs.lemmas.List.Elements.{recursion_from_All}
 use Rattle.std.proofs.lemmas.Nat.{mul-le}
 use Rattle.pd_base.specs.declared.ids.PinRef.{PinRef}
-use Rattle.pd_base.specs.declared.limits.TheConstants.{MOST_PATHS}
+use Rattle.pd_base.specs.declared.limits.TheConstants.{MOST_BYTES, MOST_PATHS}
 use Rattle.netlist.specs.Circuit.{Circuit, gate_at, gate_line}
 use Rattle.netlist.specs.Lawful.{IsCircuit}
 use Rattle.netlist.specs.Levels.{greatest_level}
@@ -17,7 +17,6 @@ use Rattle.runs.specs.declared.run.ListedPath.{ListedPath}
 use Rattle.runs.specs.declared.run.Verdict.{Verdict}
 use Rattle.runs.specs.declared.run.Verdict.TheVariants.{Robust, Nonrobust, Untestable, Aborted}
 use Rattle.runs.specs.Lawful.{IsNameable, Named, named_with}
-use Rattle.text_pieces.specs.declared.limits.TheConstants.{MOST_BYTES}
 use Rattle.text_pieces.specs.Tokens.{comma, direction_word, line, space}
 use Rattle.text_pieces.specs.LineFiles.{lines_text}
 use Rattle.verdict_report.specs.ReportForm.{due_direction, line_fields, lines_told, report_form, report_headings, report_start, state_with, HasSmallNumbers, IsSpelledReport, ReportLine, ReportState}

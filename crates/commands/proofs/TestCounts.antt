@@ -3,7 +3,7 @@ use Rattle.std.proofs.Common.{ℕ, ◌<◌, ◌≤◌, ◌^◌, List, [], ◌∷
 use Rattle.std.proofs.lemmas.List.{length-append}
 use Rattle.pd_base.specs.declared.test.Test.{Test}
 use Rattle.netlist.specs.Circuit.{Circuit}
-use Rattle.text_pieces.specs.declared.limits.TheConstants.{MOST_BYTES}
+use Rattle.pd_base.specs.declared.limits.TheConstants.{MOST_BYTES}
 use Rattle.text_pieces.specs.LineFiles.{Form, headed, lines_text}
 use Rattle.text_pieces.specs.Tokens.{line, line_feed}
 use Rattle.pattern_writer.specs.TestsText.{tests_form, tests_headings}

@@ -7,7 +7,7 @@ use Rattle.std.proofs.lemmas.List.{length-map}
 use Rattle.std.proofs.lemmas.List.Elements.{recursion_from_All}
 use Rattle.std.proofs.lemmas.Nat.{mul-le}
 use Rattle.pd_base.specs.declared.ids.LineId.{LineId}
-use Rattle.pd_base.specs.declared.limits.TheConstants.{MOST_PATHS}
+use Rattle.pd_base.specs.declared.limits.TheConstants.{MOST_BYTES, MOST_PATHS}
 use Rattle.pd_base.specs.declared.test.Test.{Test}
 use Rattle.netlist.specs.declared.limits.TheConstants.{MOST_LINES, MOST_NAME_BYTES}
 use Rattle.netlist.specs.Circuit.{Circuit, source_count, observed_lines}
@@ -15,7 +15,6 @@ use Rattle.netlist.specs.Lawful.{IsCircuit}
 use Rattle.netlist.specs.Names.{name_at}
 use Rattle.netlist.proofs.CircuitLines.{observed_in_circuit, observed_once}
 use Rattle.runs.specs.Lawful.{AreLawfulTests, IsLawfulTest}
-use Rattle.text_pieces.specs.declared.limits.TheConstants.{MOST_BYTES}
 use Rattle.text_pieces.specs.Tokens.{after_space, digit, digits, direction_word, kind_word, line, space}
 use Rattle.text_pieces.specs.LineFiles.{lines_text}
 use Rattle.pattern_writer.specs.TestsText.{names_text, observed_names, test_text, tests_form, tests_headings, tests_text}

@@ -2,7 +2,7 @@
 use Rattle.std.specs.Prelude.{◌≡◌, ◌≢◌, ◌≤◌, ◌↔◌, ℕ, List, [], ◌∷◌, length, Some, codes}
 use Rattle.pd_io.specs.Folder.{Folder, bytes_at}
 use Rattle.pd_io.specs.Seen.{Outside}
-use Rattle.text_pieces.specs.declared.limits.TheConstants.{MOST_BYTES}
+use Rattle.pd_base.specs.declared.limits.TheConstants.{MOST_BYTES}
 use Rattle.command_line.specs.Words.{RunCall}
 use Rattle.calls.specs.declared.status.Status.{Status}
 use Rattle.calls.specs.declared.status.Status.TheVariants as exit

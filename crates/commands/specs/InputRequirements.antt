@@ -7,7 +7,7 @@ use Rattle.bench_reader.specs.Refusals.{RefusesText}
 use Rattle.bench_reader.specs.declared.fault.BenchFault.{BenchFault}
 use Rattle.delay_annotation.specs.DelayFile.{RefusesDelays}
 use Rattle.delay_annotation.specs.declared.fault.DelayFault.{DelayFault}
-use Rattle.text_pieces.specs.declared.limits.TheConstants.{MOST_BYTES}
+use Rattle.pd_base.specs.declared.limits.TheConstants.{MOST_BYTES}
 use Rattle.calls.specs.declared.ending.Ending.TheVariants.{Refused}
 use Rattle.calls.specs.declared.refusal.Refusal.{Refusal}
 use Rattle.calls.specs.declared.role.Role.{Role}

@@ -5,7 +5,7 @@ use Rattle.pd_io.specs.Folder.{Folder, bytes_at}
 use Rattle.pd_io.specs.Seen.{Outside}
 use Rattle.netlist.specs.Circuit.{Circuit}
 use Rattle.netlist.specs.Waves.{Delays}
-use Rattle.text_pieces.specs.declared.limits.TheConstants.{MOST_BYTES}
+use Rattle.pd_base.specs.declared.limits.TheConstants.{MOST_BYTES}
 use Rattle.command_line.specs.Words.{ReplayCall, RunCall}
 use Rattle.calls.specs.declared.status.Status.{Status}
 use Rattle.calls.specs.Calls.{IsDoneOrNoMemory, NoneFailed}

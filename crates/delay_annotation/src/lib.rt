@@ -17,4 +17,4 @@ mod settling;
 pub use delays::{Delays, MOST_DELAY, UNIT_DELAY};
 pub use fault::DelayFault;
 pub use field::{MOST_NUMBER_DIGITS, MOST_PIN_DIGITS};
-pub use reading::{MOST_BYTES, read_delays};
+pub use reading::read_delays;

@@ -1,5 +1,6 @@
 // From the bytes of a delay file to the delays.
 ghost use Rattle.std.specs.Prelude.{◌≤◌, [], length, IfErr, IfOk};
+ghost use Rattle.pd_base.specs.declared.limits.TheConstants.{MOST_BYTES};
 ghost use Rattle.delay_annotation.specs.Annotation.{delays_of, Fits};
 ghost use Rattle.delay_annotation.specs.DelayFile.{HasDelays, RefusesDelays};
 ghost use Rattle.delay_annotation.specs.LastRows.{HasRoomForRows, KeepsLast};
@@ -10,9 +11,6 @@ use crate::settling::settle;
 use crate::{DelayFault, Delays};
 use netlist::Netlist;
 use std::alloc::Global;
-
-/// The most bytes of a delay file.
-pub const MOST_BYTES: usize = 268_435_456;
 
 /// Reads a delay file. The delays are those of the file exactly where it has some; else it is refused, at its first row that is,
 /// by the first reason of that row in the order of `DelayFault`. A refusal asks nothing of the rows behind that one.

@@ -4,7 +4,7 @@ ghost use Rattle.csv.specs.Records.{fields_of};
 ghost use Rattle.delay_annotation.specs.Rows.{AreTitles, IsSetting, RefusesRow};
 ghost use Rattle.delay_annotation.specs.LastRows.{HasRoomForRows, KeepsLast};
 ghost use Rattle.delay_annotation.specs.Taking.{RefusesTaken, Takes, TakesRow};
-ghost use Rattle.delay_annotation.specs.declared.reading.TheConstants.{MOST_BYTES};
+ghost use Rattle.pd_base.specs.declared.limits.TheConstants.{MOST_BYTES};
 
 use crate::fault::{DelayFault, at_row};
 use crate::last::LastRows;

@@ -2,14 +2,14 @@
 ghost use Rattle.std.specs.Prelude.{◌≡◌, ◌≤◌, length, IfOk};
 ghost use Rattle.pattern_writer.specs.TestsReading.{HeadingsAnswer, TestLinesAnswer, TestsAnswer};
 ghost use Rattle.pattern_writer.specs.declared.tests_reading.TestsFault.TheVariants.{NoMemory};
-ghost use Rattle.text_pieces.specs.declared.limits.TheConstants.{MOST_BYTES};
+ghost use Rattle.pd_base.specs.declared.limits.TheConstants.{MOST_BYTES};
 
 use crate::test_line::read_test;
 use crate::tests_file::{push_observed, push_sources};
 use netlist::Netlist;
 use pd_base::{OutOfMemory, Test};
 use std::alloc::{AllocFailed, Global};
-use text_pieces::{MOST_BYTES, split_line, text_behind};
+use text_pieces::{split_line, text_behind};
 
 /// Why a tests file was not read.
 #[derive(Clone, Copy, Debug, PartialEq, Eq)]

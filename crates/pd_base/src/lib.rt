@@ -22,7 +22,7 @@ pub use fault::{Direction, Kind};
 pub use flat_lists::FlatLists;
 pub use ids::{GateId, LineId, PinRef};
 pub use items::Items;
-pub use limits::{MOST_BUDGET, MOST_PATHS, MOST_STAGES};
+pub use limits::{MOST_BUDGET, MOST_BYTES, MOST_PATHS, MOST_STAGES};
 pub use links::Links;
 pub use memory::OutOfMemory;
 pub use pair::Pair;

@@ -1,25 +1,26 @@
 -- The limits as numbers (this project's own; docs/formats.md lists them).
 use Rattle.std.proofs.Common.{◌≡◌, Some, codes, pos, refl}
-use Rattle.pd_base.specs.declared.limits.TheConstants.{MOST_BUDGET, MOST_PATHS, MOST_STAGES}
+use Rattle.pd_base.specs.declared.limits.TheConstants.{MOST_BUDGET, MOST_BYTES, MOST_PATHS, MOST_STAGES}
 use Rattle.command_line.specs.declared.number.TheConstants.{MOST_DIGITS}
 use Rattle.command_line.specs.Options.{option_entry}
 use Rattle.command_line.specs.declared.forms.make.TheConstants.{MOST_STAGES_DIGITS}
 use Rattle.command_line.specs.declared.forms.run.TheConstants.{MOST_PRODUCT}
 use Rattle.command_line.specs.declared.option_name.OptionName.TheVariants.{Budget, Paths}
 use Rattle.command_line.specs.declared.time.TheConstants.{MOST_TIME, MOST_TIME_DIGITS}
-use Rattle.text_pieces.specs.declared.limits.TheConstants.{MOST_BYTES as MOST_CLAIM_BYTES}
 use Rattle.pd_io.specs.declared.named.TheConstants.{MOST_AT_ONCE}
 use Rattle.netlist.specs.declared.limits.TheConstants.{MOST_LINES, MOST_PINS, MOST_FAN_IN, MOST_LEVELS, MOST_NAME_BYTES, MOST_STATEMENTS}
-use Rattle.bench_reader.specs.declared.statements.TheConstants.{MOST_BYTES as MOST_NETLIST_BYTES}
 use Rattle.delay_annotation.specs.declared.delays.TheConstants.{MOST_DELAY, UNIT_DELAY}
 use Rattle.delay_annotation.specs.declared.field.TheConstants.{MOST_PIN_DIGITS, MOST_NUMBER_DIGITS}
-use Rattle.delay_annotation.specs.declared.reading.TheConstants.{MOST_BYTES as MOST_DELAY_FILE_BYTES}
 use Rattle.delay_replay.specs.declared.gate.TheConstants.{MOST_CHANGES}
 use Rattle.delay_replay.specs.declared.line_waves.TheConstants.{MOST_CHANGES_OF_ALL}
 use Rattle.delay_replay.specs.declared.wave.TheConstants.{LATEST_CHANGE}
 use Rattle.commands.specs.declared.inputs.reading.TheConstants.{INPUT_LIMIT}
 use Rattle.commands.specs.declared.making.TheConstants.{LADDER_BUDGET, LADDER_PATHS}
 use Rattle.commands.specs.declared.inputs.sizes.TheConstants.{MOST_PATH_TEXT, MOST_TEST_TEXT, STEP_BYTES}
+
+-- of texts that are read
+most_bytes : MOST_BYTES ≡ 268435456
+most_bytes = refl
 
 -- of circuits
 most_lines : MOST_LINES ≡ 262144
@@ -40,9 +41,6 @@ most_name_bytes = refl
 most_statements : MOST_STATEMENTS ≡ 2147483647
 most_statements = refl
 
-most_netlist_bytes : MOST_NETLIST_BYTES ≡ 268435456
-most_netlist_bytes = refl
-
 -- of delays
 most_delay : MOST_DELAY ≡ 1000000
 most_delay = refl
@@ -55,9 +53,6 @@ most_pin_digits = refl
 
 most_number_digits : MOST_NUMBER_DIGITS ≡ 7
 most_number_digits = refl
-
-most_delay_file_bytes : MOST_DELAY_FILE_BYTES ≡ 268435456
-most_delay_file_bytes = refl
 
 -- of replays
 most_changes : MOST_CHANGES ≡ 65536
@@ -111,9 +106,6 @@ step_bytes : STEP_BYTES ≡ 6
 step_bytes = refl
 
 -- of the files of a run, read back
-most_claim_bytes : MOST_CLAIM_BYTES ≡ 268435456
-most_claim_bytes = refl
-
 -- of ladders
 most_stages : MOST_STAGES ≡ 1000
 most_stages = refl

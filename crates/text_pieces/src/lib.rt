@@ -7,14 +7,12 @@
 
 mod bits;
 mod cutting;
-mod limits;
 mod number;
 mod pieces;
 mod words;
 
 pub use bits::read_bits;
 pub use cutting::{cut, cut_last, next_word, split_line, text_behind};
-pub use limits::MOST_BYTES;
 pub use number::{is_number, read_long, read_number};
 pub use pieces::{direction_word, kind_word, push_spaced, push_spaced_digits, push_spaced_number};
 pub use words::{read_direction, read_kind};

@@ -1,7 +1,7 @@
 // The proofs file, read: its version, and then line by line its proofs. One line is read in proof_line.rt.
 ghost use Rattle.std.specs.Prelude.{◌≡◌, ◌≤◌, length, option_map, IfSome};
 ghost use Rattle.text_pieces.specs.Reads.{Reads};
-ghost use Rattle.text_pieces.specs.declared.limits.TheConstants.{MOST_BYTES};
+ghost use Rattle.pd_base.specs.declared.limits.TheConstants.{MOST_BYTES};
 ghost use Rattle.trees.specs.Unlinked.{IsUnlinked};
 ghost use Rattle.verdict_report.specs.ProofsText.{version_of};
 ghost use Rattle.verdict_report.specs.ProofsReading.{ProofLinesAnswer, ProofsAnswer, version_at_front, version_lent};
@@ -13,7 +13,7 @@ use netlist::Netlist;
 use pd_base::Rules;
 use runs::Proof;
 use std::alloc::Global;
-use text_pieces::{MOST_BYTES, split_line, text_behind};
+use text_pieces::{split_line, text_behind};
 
 /// The version of a proofs file, 1 under rules One and 2 under rules Two, and the proofs whose file these bytes are: lawful ones of
 /// this circuit, each in its one spelling. `Malformed` exactly where there are none such, with the first line that lacks its form

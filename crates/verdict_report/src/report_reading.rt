@@ -1,6 +1,6 @@
 // The report, read: the row of the columns' names, and then path by path its two lines, each of which is read in report_lines.rt.
 ghost use Rattle.std.specs.Prelude.{◌≡◌, ◌≤◌, length};
-ghost use Rattle.text_pieces.specs.declared.limits.TheConstants.{MOST_BYTES};
+ghost use Rattle.pd_base.specs.declared.limits.TheConstants.{MOST_BYTES};
 ghost use Rattle.verdict_report.specs.ReportReading.{PathLinesAnswer, ReportAnswer};
 
 use crate::TextFault;
@@ -10,7 +10,7 @@ use crate::report_verdicts::{NamedSoFar, named_with};
 use netlist::Netlist;
 use runs::{ListedPath, Verdict};
 use std::alloc::Global;
-use text_pieces::{MOST_BYTES, split_line, text_behind};
+use text_pieces::{split_line, text_behind};
 
 /// The listed paths whose report these bytes are: lawful ones of this circuit, each in its one spelling. `Malformed` exactly where there
 /// are none such, with the first line that lacks its form given the lines before it, unless memory runs out first.

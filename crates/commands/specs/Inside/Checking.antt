@@ -13,7 +13,7 @@ use Rattle.claim_check.specs.declared.claim.Claim.TheVariants.{Fails}
 use Rattle.claim_check.specs.declared.claim.Reason.{Reason}
 use Rattle.bench_reader.specs.Circuits.{HasCircuit}
 use Rattle.delay_annotation.specs.DelayFile.{HasDelays}
-use Rattle.text_pieces.specs.declared.limits.TheConstants.{MOST_BYTES}
+use Rattle.pd_base.specs.declared.limits.TheConstants.{MOST_BYTES}
 use Rattle.command_line.specs.Words.{RunCall}
 use Rattle.calls.specs.declared.ending.Ending.{Ending}
 use Rattle.calls.specs.declared.refusal.Refusal.{Refusal}

@@ -3,7 +3,7 @@
 ghost use Rattle.std.specs.Prelude.{◌≡◌, ◌≤◌, length, IfOk, IfErr};
 ghost use Rattle.pd_base.specs.declared.rules.Rules.{Rules};
 ghost use Rattle.pd_io.specs.Seen.{files_seen};
-ghost use Rattle.text_pieces.specs.declared.limits.TheConstants.{MOST_BYTES};
+ghost use Rattle.pd_base.specs.declared.limits.TheConstants.{MOST_BYTES};
 ghost use Rattle.trees.specs.Unlinked.{IsUnlinked};
 ghost use Rattle.verdict_report.specs.ProofsText.{version_of};
 ghost use Rattle.commands.specs.Inside.InputJudging.{FailsProofs, FailsReport, FailsTests, FailsToGiveTests, GivesTests};

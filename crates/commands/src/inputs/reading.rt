@@ -6,9 +6,9 @@ ghost use Rattle.commands.specs.InputRefusals.{too_long};
 ghost use Rattle.commands.specs.InputRequirements.{limit_of};
 
 use calls::{Cause, Ending, Part, Refusal, Role, read_input};
+use pd_base::MOST_BYTES;
 use pd_io::Files;
 use std::alloc::Global;
-use text_pieces::MOST_BYTES;
 
 /// How many bytes NET and DELAYS may have.
 pub const INPUT_LIMIT: usize = 33_554_432;
