@@ -21,9 +21,15 @@ pub no_number : (most : ℕ) (text : List ℕ) (i : ℕ) → i < length text →
     → (number : ℕ) → ¬ SpellsNumber most text number
 no_number most text i within other number is = other (digit_at text i is.digits within)
 
--- six digits spell less than a million
-pub six_digits : (text : List ℕ) (i : ℕ) → i ≤ 6 → AllDigits 10 (take i text) → digits_value 10 (take i text) < 1000000
-six_digits text i few digits = digits_value_short numerals (take i text) 6 digits (omega (arith, length-take i text))
+-- nine digits spell less than a thousand million
+pub nine_digits : (text : List ℕ) (i : ℕ) → i ≤ 9 → AllDigits 10 (take i text) → digits_value 10 (take i text) < 1000000000
+nine_digits text i few digits = digits_value_short numerals (take i text) 9 digits (omega (arith, length-take i text))
+
+-- a number of at most nine digits is below that, too
+pub short_number : (most : ℕ) (text : List ℕ) (number : ℕ) → most ≤ 9 → SpellsNumber most text number → number < 1000000000
+short_number most text number few is =
+    let below = digits_value_short numerals text 9 is.digits (let short = is.few_digits in omega arith) in
+    let value = is.value in omega arith
 
 -- one digit more is read
 pub next_digit : (text : List ℕ) (i number digit : ℕ) → i < length text → AllDigits 10 (take i text)

@@ -7,7 +7,7 @@ use Rattle.netlist.specs.Pins.{IsPin}
 use Rattle.delay_annotation.specs.declared.setting.Pins.{Pins}
 use Rattle.delay_annotation.specs.declared.setting.Pins.TheVariants as pins
 use Rattle.delay_annotation.specs.declared.setting.Setting.{Setting}
-use Rattle.delay_annotation.specs.DelayFile.{delay_by, is_among}
+use Rattle.delay_annotation.specs.DelayFile.{delays_by, is_among}
 use Rattle.delay_annotation.specs.LastRows.{KeepsLast, is_all, is_numbered, is_of_gate, is_one, last_for}
 use Rattle.delay_annotation.specs.declared.last.LastRows.{LastRows}
 use Rattle.delay_annotation.proofs.LastOf.{last_row-delay, last_row-joined, last_row-same}
@@ -27,7 +27,7 @@ among_by_form pin (pins.One own) = refl
 
 -- the latest of the last rows of the four forms gives the pin's delay
 pub last_for_pin : (c : Circuit) (kept : LastRows) (settings : List Setting) (pin : PinRef) → KeepsLast c kept settings
-    → IsPin c pin → pin.pin < MOST_FAN_IN → (last_for c kept pin).delay ≡ delay_by settings pin
+    → IsPin c pin → pin.pin < MOST_FAN_IN → (last_for c kept pin).delays ≡ delays_by settings pin
 last_for_pin c kept settings pin keeps is below =
     last_row-delay (λ own. is_among own pin) settings (last_for c kept pin)
     (last_row-same (λ own. by_gate own || by_number own) (λ own. is_among own pin) (among_by_form pin) settings

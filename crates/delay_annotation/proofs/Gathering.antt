@@ -9,8 +9,9 @@ use Rattle.csv.specs.declared.reader.Trim.TheVariants as trim
 use Rattle.csv.specs.declared.parser.State.TheVariants as st
 use Rattle.csv.proofs.ReadFacts.{rows-end, rows-more}
 use Rattle.netlist.specs.Circuit.{Circuit}
-use Rattle.delay_annotation.specs.DelayFile.{AreAllRows, AreFirstRows, RefusesDelays, Row}
-use Rattle.delay_annotation.specs.DelayFile.RefusesDelays.{no_memory, no_row, row_refused}
+use Rattle.delay_annotation.specs.DelayFile.{AreAllRows, AreFirstRows, RefusesFile, Row}
+use Rattle.delay_annotation.specs.DelayFile.RefusesFile.{no_memory, no_row, row_refused}
+use Rattle.delay_annotation.specs.declared.setting.Columns.{Columns}
 use Rattle.delay_annotation.specs.LastRows.{HasRoomForRows}
 use Rattle.delay_annotation.specs.Taking.{AreTaken, IsFileTaken, RefusesTaken, TakesRow}
 use Rattle.delay_annotation.specs.declared.fault.DelayFault.{DelayFault}
@@ -76,22 +77,22 @@ has_read_all bytes rows a b has read = (
 )
 
 -- the rows so far were read and taken, and this is their number
-pub record HasTaken (c : Circuit) (bytes : List ℕ) (reader : BytesReader) (number : ℕ) (kept : LastRows) : Type 0 where
+pub record HasTaken (c : Circuit) (columns : Columns) (bytes : List ℕ) (reader : BytesReader) (number : ℕ) (kept : LastRows) : Type 0 where
   pub places : HasRoomForRows c kept
   pub rows : List Row
   pub read : HasRead bytes rows reader
-  pub taken : AreTaken c rows kept
+  pub taken : AreTaken c columns rows kept
   pub count : number ≡ length rows
 
-module _ (c : Circuit) (bytes : List ℕ) (a b : BytesReader) (number : ℕ) (kept : LastRows)
-    (has : HasTaken c bytes a number kept) where
+module _ (c : Circuit) (columns : Columns) (bytes : List ℕ) (a b : BytesReader) (number : ℕ) (kept : LastRows)
+    (has : HasTaken c columns bytes a number kept) where
   -- there are no more than bytes
   pub few_taken : number ≤ length bytes
   few_taken = omega (arith, has.count, few_rows bytes has.rows (read_first bytes has.rows a has.read))
 
   -- one row more is taken
   pub taken_more : (row : Row) (new : LastRows) → ReadRecord (λ (s : Bor (List ℕ)). Some s.now) a b true row → b.first ≡ true
-      → HasRoomForRows c new → TakesRow c (number + 1) row kept new → HasTaken c bytes b (number + 1) new
+      → HasRoomForRows c new → TakesRow c columns (number + 1) row kept new → HasTaken c columns bytes b (number + 1) new
   taken_more row new read first places takes = record {
     places = places;
     rows = has.rows ++ row ∷ [];
@@ -102,22 +103,22 @@ module _ (c : Circuit) (bytes : List ℕ) (a b : BytesReader) (number : ℕ) (ke
 
   -- a row is refused
   pub taken_refused : (row : Row) (why : DelayFault) → ReadRecord (λ (s : Bor (List ℕ)). Some s.now) a b true row
-      → b.first ≡ true → RefusesTaken c (number + 1) row kept why → RefusesDelays c bytes why
+      → b.first ≡ true → RefusesTaken c columns (number + 1) row kept why → RefusesFile c columns bytes why
   taken_refused row why read first refuses =
       row_refused has.rows row
       (read_first bytes (has.rows ++ row ∷ []) b (has_read_more bytes has.rows row a b has.read read first))
-      (taken_passed c has.rows kept has.taken) (refuses has.rows (ap (λ n. n + 1) has.count) has.taken)
+      (taken_passed c columns has.rows kept has.taken) (refuses has.rows (ap (λ n. n + 1) has.count) has.taken)
 
   -- the file has no row
-  pub none_taken : number ≡ 0 → ReadRecord (λ (s : Bor (List ℕ)). Some s.now) a b false [] → RefusesDelays c bytes fault.Header
+  pub none_taken : number ≡ 0 → ReadRecord (λ (s : Bor (List ℕ)). Some s.now) a b false [] → RefusesFile c columns bytes fault.Header
   none_taken none read = by has.rows (has_read_all bytes has.rows a b has.read read) (omega (arith, has.count))
     where
-      by : (rows : List Row) → AreAllRows bytes rows → length rows ≡ 0 → RefusesDelays c bytes fault.Header
+      by : (rows : List Row) → AreAllRows bytes rows → length rows ≡ 0 → RefusesFile c columns bytes fault.Header
       by [] all empty = no_row all refl
       by (row ∷ rows) all empty = absurd (omega arith)
 
   -- all rows are taken
-  pub all_taken : number ≢ 0 → ReadRecord (λ (s : Bor (List ℕ)). Some s.now) a b false [] → IsFileTaken c bytes kept
+  pub all_taken : number ≢ 0 → ReadRecord (λ (s : Bor (List ℕ)). Some s.now) a b false [] → IsFileTaken c columns bytes kept
   all_taken some read = record {
     rows = has.rows;
     all_rows = has_read_all bytes has.rows a b has.read read;
@@ -128,15 +129,15 @@ module _ (c : Circuit) (bytes : List ℕ) (a b : BytesReader) (number : ℕ) (ke
   -- what csv read is one row more, where it is taken
   pub read_taken : (left : ℕ) (read : Result Record Error) (new : LastRows)
       → RowStep (λ (s : Bor (List ℕ)). Some s.now) a b left (Some read) → HasRoomForRows c new
-      → MatchResult read (λ row. TakesRow c (number + 1) (fields_of row) kept new) (λ _. ⊥)
-      → (0 < left) × HasTaken c bytes b (number + 1) new
+      → MatchResult read (λ row. TakesRow c columns (number + 1) (fields_of row) kept new) (λ _. ⊥)
+      → (0 < left) × HasTaken c columns bytes b (number + 1) new
   read_taken left (Ok row) new step places takes = (step.2, taken_more (fields_of row) new step.0 step.1 places takes)
   read_taken left (Err fault) new step places takes = absurd takes
 
   -- and the file is refused, where it is not
   pub read_refused : (left : ℕ) (read : Result Record Error) (why : DelayFault)
       → RowStep (λ (s : Bor (List ℕ)). Some s.now) a b left (Some read)
-      → MatchResult read (λ row. RefusesTaken c (number + 1) (fields_of row) kept why) (λ _. why ≡ fault.NoMemory)
-      → RefusesDelays c bytes why
+      → MatchResult read (λ row. RefusesTaken c columns (number + 1) (fields_of row) kept why) (λ _. why ≡ fault.NoMemory)
+      → RefusesFile c columns bytes why
   read_refused left (Ok row) why step refuses = taken_refused (fields_of row) why step.0 step.1 refuses
   read_refused left (Err error) why step refuses = no_memory refuses

@@ -1,18 +1,18 @@
--- The last setting that passes a test, as it is kept: one setting more, two tests at once, and its delay.
+-- The last setting that passes a test, as it is kept: one setting more, two tests at once, and its delays.
 use Rattle.std.proofs.Common.{◌≡◌, ⊎_elim, ℕ, zero, suc, ◌+◌, ◌<◌, ◌≤◌, ◌||◌, Bool, true, false, cond, List, [], ◌∷◌, ◌++◌, length, map, filter, refl, sym, ap, ap₂, ◌∙◌, arith}
 use Rattle.std.proofs.lemmas.Bool.{cases_lt, lt-ltb, le-ltb}
 use Rattle.std.proofs.lemmas.List.{get_or_append_left, get_or_push, length_push}
-use Rattle.delay_annotation.specs.declared.delays.TheConstants.{UNIT_DELAY}
+use Rattle.delay_annotation.specs.declared.setting.EdgeDelays.{EdgeDelays}
 use Rattle.delay_annotation.specs.declared.setting.Pins.{Pins}
 use Rattle.delay_annotation.specs.declared.setting.Setting.{Setting}
-use Rattle.delay_annotation.specs.DelayFile.{last_or}
+use Rattle.delay_annotation.specs.DelayFile.{last_or, unit_delays}
 use Rattle.delay_annotation.specs.LastRows.{IsLastRow, NonePassesFrom, first_number, later, no_setting, setting_in}
 use Rattle.delay_annotation.specs.LastRows.IsLastRow.{none_passes, last_passes}
 use Rattle.delay_annotation.specs.declared.last.KeptRow.{KeptRow}
 
 -- a setting as it is kept
 abbrev pub entry : ℕ → Setting → KeptRow
-entry number setting = record { row = number; delay = setting.delay }
+entry number setting = record { row = number; delays = setting.delays }
 
 module _ (test : Pins → Bool) (settings : List Setting) (setting : Setting) where
   -- whether a setting passes
@@ -125,27 +125,27 @@ module _ (p q : Pins → Bool) (settings : List Setting) where
       (cases_lt i j)
 
 -- the delays of the settings that pass
-abbrev pub delays_by : (Pins → Bool) → List Setting → List ℕ
-delays_by test settings = map (λ setting. setting.delay) (filter (λ setting. test setting.pins) settings)
+abbrev pub delays_of_passing : (Pins → Bool) → List Setting → List EdgeDelays
+delays_of_passing test settings = map (λ setting. setting.delays) (filter (λ setting. test setting.pins) settings)
 
 -- where none passes there are none
-no_delays : (test : Pins → Bool) (settings : List Setting) → NonePassesFrom test settings 0 → delays_by test settings ≡ []
+no_delays : (test : Pins → Bool) (settings : List Setting) → NonePassesFrom test settings 0 → delays_of_passing test settings ≡ []
 no_delays test [] none = refl
 no_delays test (setting ∷ settings) none =
-    ap (λ b. map (λ (s : Setting). s.delay) (cond b (setting ∷ rest) rest)) (none 0 (omega arith) (omega arith))
+    ap (λ b. map (λ (s : Setting). s.delays) (cond b (setting ∷ rest) rest)) (none 0 (omega arith) (omega arith))
     ∙ no_delays test settings (λ other from within. none (suc other) (omega arith) (omega arith))
   where
     rest : List Setting
     rest = filter (λ s. test s.pins) settings
 
 -- and the last of them is that of the last setting that passes
-last_given : (test : Pins → Bool) (settings : List Setting) (place none : ℕ) → place < length settings
+last_given : (test : Pins → Bool) (settings : List Setting) (place : ℕ) (none : EdgeDelays) → place < length settings
     → test (setting_in settings place).pins ≡ true → NonePassesFrom test settings (place + 1)
-    → last_or none (delays_by test settings) ≡ (setting_in settings place).delay
+    → last_or none (delays_of_passing test settings) ≡ (setting_in settings place).delays
 last_given test [] place none within passes after = absurd (omega arith)
 last_given test (setting ∷ settings) zero none within passes after =
-    ap (λ b. last_or none (map (λ (s : Setting). s.delay) (cond b (setting ∷ rest) rest))) passes
-    ∙ ap (last_or setting.delay) (no_delays test settings (λ other from inside. after (suc other) (omega arith) (omega arith)))
+    ap (λ b. last_or none (map (λ (s : Setting). s.delays) (cond b (setting ∷ rest) rest))) passes
+    ∙ ap (last_or setting.delays) (no_delays test settings (λ other from inside. after (suc other) (omega arith) (omega arith)))
   where
     rest : List Setting
     rest = filter (λ s. test s.pins) settings
@@ -156,15 +156,15 @@ last_given test (setting ∷ settings) (suc place) none within passes after =
     rest : List Setting
     rest = filter (λ s. test s.pins) settings
 
-    by : (b : Bool) → ((before : ℕ) → last_or before (delays_by test settings) ≡ (setting_in settings place).delay)
-        → last_or none (map (λ (s : Setting). s.delay) (cond b (setting ∷ rest) rest)) ≡ (setting_in settings place).delay
-    by true more = more setting.delay
+    by : (b : Bool) → ((before : EdgeDelays) → last_or before (delays_of_passing test settings) ≡ (setting_in settings place).delays)
+        → last_or none (map (λ (s : Setting). s.delays) (cond b (setting ∷ rest) rest)) ≡ (setting_in settings place).delays
+    by true more = more setting.delays
     by false more = more none
 
 -- so the delay that is kept is the last one that the settings give
 pub last_row-delay : (test : Pins → Bool) (settings : List Setting) (kept : KeptRow) → IsLastRow test settings kept
-    → kept.delay ≡ last_or UNIT_DELAY (delays_by test settings)
+    → kept.delays ≡ last_or unit_delays (delays_of_passing test settings)
 last_row-delay test settings kept (none_passes is none) =
-    ap (λ (e : KeptRow). e.delay) is ∙ ap (last_or UNIT_DELAY) (sym (no_delays test settings none))
+    ap (λ (e : KeptRow). e.delays) is ∙ ap (last_or unit_delays) (sym (no_delays test settings none))
 last_row-delay test settings kept (last_passes place within passes none is) =
-    ap (λ (e : KeptRow). e.delay) is ∙ sym (last_given test settings place UNIT_DELAY within passes none)
+    ap (λ (e : KeptRow). e.delays) is ∙ sym (last_given test settings place unit_delays within passes none)

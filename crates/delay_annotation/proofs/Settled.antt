@@ -1,6 +1,7 @@
 -- Pins that are settled: pin by pin at a gate, then gate by gate.
 use Rattle.std.proofs.Common.{◌≡◌, ⊎_elim, ℕ, ◌+◌, ◌<◌, ◌≤◌, List, [], ◌∷◌, length, refl, sym, ap, subst, ◌∙◌, arith}
 use Rattle.std.proofs.lemmas.Bool.{cases_eq}
+use Rattle.pd_base.specs.declared.fault.Direction.{Direction}
 use Rattle.pd_base.specs.declared.ids.PinRef.{PinRef}
 use Rattle.netlist.specs.Circuit.{Circuit, gate_count, kind_at, pins_at}
 use Rattle.netlist.specs.Lawful.{IsCircuit, IsFanIn}
@@ -9,7 +10,8 @@ use Rattle.netlist.specs.declared.kind.GateKind.TheVariants.{And, Nand, Or, Nor,
 use Rattle.netlist.specs.declared.limits.TheConstants.{MOST_FAN_IN}
 use Rattle.netlist.proofs.PinRow.{pin_on_line}
 use Rattle.delay_annotation.specs.Annotation.{SetsDelay, delays_of}
-use Rattle.delay_annotation.specs.DelayFile.{AreAllRows, HasDelays, Row}
+use Rattle.delay_annotation.specs.DelayFile.{AreAllRows, HasDelaysOn, Row, delay_on}
+use Rattle.delay_annotation.specs.declared.setting.Columns.{Columns}
 use Rattle.delay_annotation.specs.LastRows.{last_for}
 use Rattle.delay_annotation.specs.Settling.{GatesHaveLastDelays, HasLastDelays, SettlesGate, SettlesPins}
 use Rattle.delay_annotation.specs.Taking.{AreTaken, IsFileTaken}
@@ -34,22 +36,22 @@ pins_fit c circuit gate within = few_pins (kind_at c gate) (length (pins_at c ga
 same_pin : (a b : PinRef) → a.gate.0 ≡ b.gate.0 → a.pin ≡ b.pin → a ≡ b
 same_pin a b gates numbers = λ i. record { gate = record { 0 = gates i }; pin = numbers i }
 
-module _ (c : Circuit) (kept : LastRows) where
+module _ (c : Circuit) (kept : LastRows) (direction : Direction) where
   -- before the first pin none is settled
-  pub none_settled : (gate : ℕ) (delays : List ℕ) → SettlesPins c kept gate 0 delays delays
+  pub none_settled : (gate : ℕ) (delays : List ℕ) → SettlesPins c kept direction gate 0 delays delays
   none_settled gate delays = record {
     own = λ pin is at below. absurd (omega arith);
     others = λ pin is other. refl;
   }
 
   -- one pin more is
-  pub pin_settled : (own : PinRef) (delay : ℕ) (old delays new : List ℕ) → delay ≡ (last_for c kept own).delay
-      → SettlesPins c kept own.gate.0 own.pin old delays → SetsDelay c delays new own delay
-      → SettlesPins c kept own.gate.0 (own.pin + 1) old new
+  pub pin_settled : (own : PinRef) (delay : ℕ) (old delays new : List ℕ) → delay ≡ delay_on direction (last_for c kept own).delays
+      → SettlesPins c kept direction own.gate.0 own.pin old delays → SetsDelay c delays new own delay
+      → SettlesPins c kept direction own.gate.0 (own.pin + 1) old new
   pin_settled own delay old delays new is_last settles changes = record {
     own = λ pin is at below. ⊎_elim
         (λ same. let this = same_pin pin own at same in
-        subst (λ p. delays_of c new p ≡ (last_for c kept p).delay) (sym this) (changes.changed ∙ is_last))
+        subst (λ p. delays_of c new p ≡ delay_on direction (last_for c kept p).delays) (sym this) (changes.changed ∙ is_last))
         (λ differs. changes.others pin is (λ same. differs (ap (λ (p : PinRef). p.pin) same))
         ∙ settles.own pin is at (omega arith))
         (cases_eq pin.pin own.pin);
@@ -58,12 +60,12 @@ module _ (c : Circuit) (kept : LastRows) where
   }
 
   -- before the first gate none is settled
-  pub no_gate_settled : (delays : List ℕ) → GatesHaveLastDelays c kept 0 delays
+  pub no_gate_settled : (delays : List ℕ) → GatesHaveLastDelays c kept direction 0 delays
   no_gate_settled delays pin is below = absurd (omega arith)
 
   -- one gate more is
-  pub gate_settled : (gate : ℕ) (old new : List ℕ) → GatesHaveLastDelays c kept gate old → SettlesGate c kept gate old new
-      → GatesHaveLastDelays c kept (gate + 1) new
+  pub gate_settled : (gate : ℕ) (old new : List ℕ) → GatesHaveLastDelays c kept direction gate old → SettlesGate c kept direction gate old new
+      → GatesHaveLastDelays c kept direction (gate + 1) new
   gate_settled gate old new settled settles pin is below =
       ⊎_elim
       (λ same. settles.own pin is same (subst (λ g. pin.pin < length (pins_at c g)) same is.in_gate))
@@ -71,17 +73,17 @@ module _ (c : Circuit) (kept : LastRows) where
       (cases_eq pin.gate.0 gate)
 
   -- after the last gate each pin has the delay of the last setting for it
-  pub all_settled : (delays : List ℕ) → IsCircuit c → GatesHaveLastDelays c kept (gate_count c) delays → HasLastDelays c kept delays
+  pub all_settled : (delays : List ℕ) → IsCircuit c → GatesHaveLastDelays c kept direction (gate_count c) delays → HasLastDelays c kept direction delays
   all_settled delays circuit settled settings keeps pin is =
       let few = pins_fit c circuit pin.gate.0 is.in_circuit in
-      settled pin is is.in_circuit ∙ last_for_pin c kept settings pin keeps is (omega (arith, few, is.in_gate))
+      settled pin is is.in_circuit ∙ ap (delay_on direction) (last_for_pin c kept settings pin keeps is (omega (arith, few, is.in_gate)))
 
   -- so where all rows were taken these are the delays of the file
-  pub delays_had : (bytes : List ℕ) (delays : List ℕ) → IsFileTaken c bytes kept → HasLastDelays c kept delays
-      → HasDelays c bytes (delays_of c delays)
-  delays_had bytes delays taken last = by taken.rows taken.all_rows taken.some taken.taken
+  pub delays_had : (columns : Columns) (bytes : List ℕ) (delays : List ℕ) → IsFileTaken c columns bytes kept → HasLastDelays c kept direction delays
+      → HasDelaysOn c columns direction bytes (delays_of c delays)
+  delays_had columns bytes delays taken last = by taken.rows taken.all_rows taken.some taken.taken
     where
-      by : (rows : List Row) → AreAllRows bytes rows → 0 < length rows → AreTaken c rows kept → HasDelays c bytes (delays_of c delays)
+      by : (rows : List Row) → AreAllRows bytes rows → 0 < length rows → AreTaken c columns rows kept → HasDelaysOn c columns direction bytes (delays_of c delays)
       by [] all some rows_taken = absurd (omega arith)
       by (titles ∷ rows) all some (are_titles, settings, accepted, keeps) = record {
         titles = titles;

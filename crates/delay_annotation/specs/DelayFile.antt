@@ -1,15 +1,20 @@
 -- Delay files: which delays a file gives the pins of a circuit, and for which first row it gives none (this project's own
 -- format). The rows are the records that csv reads, so blank lines are skipped and not counted.
-use Rattle.std.specs.Prelude.{◌≡◌, ⊤, ℕ, ◌+◌, ◌==◌, ◌&&◌, Bool, true, List, [], ◌∷◌, ◌++◌, length, map, filter}
+use Rattle.std.specs.Prelude.{◌≡◌, ⊤, ℕ, ◌+◌, ◌==◌, ◌&&◌, Bool, true, false, List, [], ◌∷◌, ◌++◌, length, map, filter}
 use Rattle.csv.specs.Reading.{AreRecords, Reached, default_config, strip_bom}
 use Rattle.csv.specs.declared.parser.State.{State}
 use Rattle.csv.specs.declared.parser.State.TheVariants as state
+use Rattle.pd_base.specs.declared.fault.Direction.{Direction}
+use Rattle.pd_base.specs.declared.fault.Direction.TheVariants.{Rise, Fall}
 use Rattle.pd_base.specs.declared.ids.PinRef.{PinRef}
 use Rattle.netlist.specs.Circuit.{Circuit}
 use Rattle.netlist.specs.Pins.{IsPinOn}
 use Rattle.netlist.specs.Waves.{Delays}
 use Rattle.delay_annotation.specs.declared.delays.TheConstants.{UNIT_DELAY}
 use Rattle.delay_annotation.specs.Rows.{AreTitles, IsSetting, RefusesRow}
+use Rattle.delay_annotation.specs.declared.setting.Columns.{Columns}
+use Rattle.delay_annotation.specs.declared.setting.Columns.TheVariants as columns
+use Rattle.delay_annotation.specs.declared.setting.EdgeDelays.{EdgeDelays}
 use Rattle.delay_annotation.specs.declared.setting.Pins.{Pins}
 use Rattle.delay_annotation.specs.declared.setting.Pins.TheVariants as pins
 use Rattle.delay_annotation.specs.declared.setting.RowFault.{RowFault}
@@ -38,41 +43,60 @@ is_among (pins.OfGate gate) pin = pin.gate.0 == gate.0
 is_among (pins.Numbered number) pin = pin.pin == number
 is_among (pins.One own) pin = (pin.gate.0 == own.gate.0) && (pin.pin == own.pin)
 
+-- what a pin has that no row means: the delay 1
+abbrev pub unit_delays : EdgeDelays
+unit_delays = record { rise = UNIT_DELAY; fall = UNIT_DELAY }
+
+-- what a pin takes to show a rise of its line, or a fall
+abbrev pub delay_on : Direction → EdgeDelays → ℕ
+delay_on Rise delays = delays.rise
+delay_on Fall delays = delays.fall
+
 -- the delays that these settings give a pin, in order
-abbrev pub delays_given : List Setting → PinRef → List ℕ
-delays_given settings pin = map (λ setting. setting.delay) (filter (λ setting. is_among setting.pins pin) settings)
+abbrev pub delays_given : List Setting → PinRef → List EdgeDelays
+delays_given settings pin = map (λ setting. setting.delays) (filter (λ setting. is_among setting.pins pin) settings)
 
 -- the last item of a list, or this one where there is none
-abbrev pub last_or : ℕ → List ℕ → ℕ
+abbrev pub last_or : EdgeDelays → List EdgeDelays → EdgeDelays
 last_or none [] = none
 last_or none (item ∷ items) = last_or item items
 
--- the delay of a pin by these settings: that of the last one for it, and 1 where there is none
-abbrev pub delay_by : List Setting → PinRef → ℕ
-delay_by settings pin = last_or UNIT_DELAY (delays_given settings pin)
+-- the delays of a pin by these settings: those of the last one for it, and 1 where there is none
+abbrev pub delays_by : List Setting → PinRef → EdgeDelays
+delays_by settings pin = last_or unit_delays (delays_given settings pin)
 
 -- each of the rows is accepted, and says what stands at its place
-abbrev pub AreSettings : Circuit → List Row → List Setting → Type 0
-AreSettings c [] [] = ⊤
-AreSettings c [] (setting ∷ settings) = ⊥
-AreSettings c (row ∷ rows) [] = ⊥
-AreSettings c (row ∷ rows) (setting ∷ settings) = IsSetting c row setting × AreSettings c rows settings
+abbrev pub AreSettings : Circuit → Columns → List Row → List Setting → Type 0
+AreSettings c columns [] [] = ⊤
+AreSettings c columns [] (setting ∷ settings) = ⊥
+AreSettings c columns (row ∷ rows) [] = ⊥
+AreSettings c columns (row ∷ rows) (setting ∷ settings) = IsSetting c columns row setting × AreSettings c columns rows settings
 
--- The file has these delays: it has the titles, and accepted rows behind them, and each pin that reads a line has the delay of
--- the last row for it.
-pub record HasDelays (c : Circuit) (bytes : List ℕ) (delays : Delays) : Type 0 where
+-- The file has these delays of all pins for rises, or for falls: it has the titles, and accepted rows behind them, and each pin that
+-- reads a line has the delay of the last row for it.
+pub record HasDelaysOn (c : Circuit) (columns : Columns) (direction : Direction) (bytes : List ℕ) (delays : Delays) : Type 0 where
   pub titles : Row
   pub rows : List Row
   pub settings : List Setting
   pub all_rows : AreAllRows bytes (titles ∷ rows)
-  pub are_titles : AreTitles titles
-  pub accepted : AreSettings c rows settings
-  pub each : (pin : PinRef) (line : ℕ) → IsPinOn c pin line → delays pin ≡ delay_by settings pin
+  pub are_titles : AreTitles columns titles
+  pub accepted : AreSettings c columns rows settings
+  pub each : (pin : PinRef) (line : ℕ) → IsPinOn c pin line → delays pin ≡ delay_on direction (delays_by settings pin)
+
+-- the file has one delay for each pin, and these are the delays: those of rises, which are those of falls
+abbrev pub HasDelays : Circuit → List ℕ → Delays → Type 0
+HasDelays c bytes delays = HasDelaysOn c columns.Delay Rise bytes delays
+
+-- the file has a rise and a fall delay for each pin, and these are the delays
+abbrev pub HasRiseFall : Circuit → List ℕ → (PinRef → Bool → ℕ) → Type 0
+HasRiseFall c bytes delays =
+    HasDelaysOn c columns.RiseAndFall Rise bytes (λ pin. delays pin true)
+    × HasDelaysOn c columns.RiseAndFall Fall bytes (λ pin. delays pin false)
 
 -- the rows pass: there are none, or the titles and accepted rows behind them
-abbrev pub ArePassed : Circuit → List Row → Type 0
-ArePassed c [] = ⊤
-ArePassed c (titles ∷ rows) = AreTitles titles × (settings : List Setting) × AreSettings c rows settings
+abbrev pub ArePassed : Circuit → Columns → List Row → Type 0
+ArePassed c columns [] = ⊤
+ArePassed c columns (titles ∷ rows) = AreTitles columns titles × (settings : List Setting) × AreSettings c columns rows settings
 
 -- the fault of a row, with the row's number
 abbrev pub at_row : RowFault → ℕ → DelayFault
@@ -83,15 +107,23 @@ at_row row_fault.BadNumber number = fault.BadNumber number
 
 -- why the row behind these is refused: the first row is not that of the titles; a later one has a fault, and its number is one
 -- more than there are rows before it
-abbrev pub RefusesNext : Circuit → List Row → Row → DelayFault → Type 0
-RefusesNext c [] row why = (why ≡ fault.Header) × ¬ AreTitles row
-RefusesNext c (titles ∷ rows) row why =
-    (own : RowFault) × RefusesRow c row own × (why ≡ at_row own (length (titles ∷ rows) + 1))
+abbrev pub RefusesNext : Circuit → Columns → List Row → Row → DelayFault → Type 0
+RefusesNext c columns [] row why = (why ≡ fault.Header) × ¬ AreTitles columns row
+RefusesNext c columns (titles ∷ rows) row why =
+    (own : RowFault) × RefusesRow c columns row own × (why ≡ at_row own (length (titles ∷ rows) + 1))
 
 -- Why the file is refused: it has no row; the rows before some row pass and this one is refused; or, with no claim on the
 -- file, memory ran out.
-pub data RefusesDelays (c : Circuit) (bytes : List ℕ) (why : DelayFault) : Type 0 where
-  no_row : AreAllRows bytes [] → why ≡ fault.Header → RefusesDelays c bytes why
-  row_refused : (before : List Row) (row : Row) → AreFirstRows bytes (before ++ row ∷ []) → ArePassed c before
-      → RefusesNext c before row why → RefusesDelays c bytes why
-  no_memory : why ≡ fault.NoMemory → RefusesDelays c bytes why
+pub data RefusesFile (c : Circuit) (columns : Columns) (bytes : List ℕ) (why : DelayFault) : Type 0 where
+  no_row : AreAllRows bytes [] → why ≡ fault.Header → RefusesFile c columns bytes why
+  row_refused : (before : List Row) (row : Row) → AreFirstRows bytes (before ++ row ∷ []) → ArePassed c columns before
+      → RefusesNext c columns before row why → RefusesFile c columns bytes why
+  no_memory : why ≡ fault.NoMemory → RefusesFile c columns bytes why
+
+-- why a file with one delay for each pin is refused
+abbrev pub RefusesDelays : Circuit → List ℕ → DelayFault → Type 0
+RefusesDelays c bytes why = RefusesFile c columns.Delay bytes why
+
+-- why a file with two is
+abbrev pub RefusesRiseFall : Circuit → List ℕ → DelayFault → Type 0
+RefusesRiseFall c bytes why = RefusesFile c columns.RiseAndFall bytes why

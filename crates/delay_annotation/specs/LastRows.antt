@@ -4,16 +4,18 @@ use Rattle.pd_base.specs.declared.ids.PinRef.{PinRef}
 use Rattle.netlist.specs.Circuit.{Circuit, gate_count}
 use Rattle.netlist.specs.Pins.{IsPin, pin_place_in, pin_total}
 use Rattle.netlist.specs.declared.limits.TheConstants.{MOST_FAN_IN}
-use Rattle.delay_annotation.specs.declared.delays.TheConstants.{MOST_DELAY, UNIT_DELAY}
+use Rattle.delay_annotation.specs.declared.delays.TheConstants.{MOST_DELAY}
+use Rattle.delay_annotation.specs.declared.setting.EdgeDelays.{EdgeDelays}
 use Rattle.delay_annotation.specs.declared.setting.Pins.{Pins}
 use Rattle.delay_annotation.specs.declared.setting.Pins.TheVariants as pins
 use Rattle.delay_annotation.specs.declared.setting.Setting.{Setting}
+use Rattle.delay_annotation.specs.DelayFile.{unit_delays}
 use Rattle.delay_annotation.specs.declared.last.KeptRow.{KeptRow}
 use Rattle.delay_annotation.specs.declared.last.LastRows.{LastRows}
 
 -- what is kept where there was no row
 abbrev pub no_row_yet : KeptRow
-no_row_yet = record { row = 0; delay = UNIT_DELAY }
+no_row_yet = record { row = 0; delays = unit_delays }
 
 -- the number of the first row behind the titles
 abbrev pub first_number : ℕ
@@ -21,7 +23,7 @@ first_number = 2
 
 -- what is read past the last setting
 abbrev pub no_setting : Setting
-no_setting = record { pins = pins.All; delay = UNIT_DELAY }
+no_setting = record { pins = pins.All; delays = unit_delays }
 
 -- the setting at this place among those behind the titles
 abbrev pub setting_in : List Setting → ℕ → Setting
@@ -32,12 +34,12 @@ abbrev pub NonePassesFrom : (Pins → Bool) → List Setting → ℕ → Type 0
 NonePassesFrom test settings place =
     (other : ℕ) → place ≤ other → other < length settings → test (setting_in settings other).pins ≡ false
 
--- what is kept of the last of these settings that passes a test: the number of its row, and its delay
+-- what is kept of the last of these settings that passes a test: the number of its row, and its delays
 pub data IsLastRow (test : Pins → Bool) (settings : List Setting) (kept : KeptRow) : Type 0 where
   none_passes : kept ≡ no_row_yet → NonePassesFrom test settings 0 → IsLastRow test settings kept
   last_passes : (place : ℕ) → place < length settings → test (setting_in settings place).pins ≡ true
       → NonePassesFrom test settings (place + 1)
-      → kept ≡ record { row = first_number + place; delay = (setting_in settings place).delay }
+      → kept ≡ record { row = first_number + place; delays = (setting_in settings place).delays }
       → IsLastRow test settings kept
 
 -- the form `*,*`
@@ -68,15 +70,19 @@ is_one pin (pins.OfGate gate) = false
 is_one pin (pins.Numbered number) = false
 is_one pin (pins.One own) = (pin.gate.0 == own.gate.0) && (pin.pin == own.pin)
 
+-- neither delay is over the greatest
+abbrev pub AreWithin : EdgeDelays → Type 0
+AreWithin delays = (delays.rise ≤ MOST_DELAY) × (delays.fall ≤ MOST_DELAY)
+
 -- there is a place for each row that a circuit accepts, and no delay is over the greatest
 pub record HasRoomForRows (c : Circuit) (kept : LastRows) : Type 0 where
   pub each_gate : length kept.gates.items ≡ gate_count c
   pub each_number : length kept.numbers.items ≡ MOST_FAN_IN
   pub each_pin : length kept.pins.items ≡ pin_total c
-  pub all_bounded : kept.all.delay ≤ MOST_DELAY
-  pub gates_bounded : All (λ entry. entry.delay ≤ MOST_DELAY) kept.gates.items
-  pub numbers_bounded : All (λ entry. entry.delay ≤ MOST_DELAY) kept.numbers.items
-  pub pins_bounded : All (λ entry. entry.delay ≤ MOST_DELAY) kept.pins.items
+  pub all_bounded : AreWithin kept.all.delays
+  pub gates_bounded : All (λ entry. AreWithin entry.delays) kept.gates.items
+  pub numbers_bounded : All (λ entry. AreWithin entry.delays) kept.numbers.items
+  pub pins_bounded : All (λ entry. AreWithin entry.delays) kept.pins.items
 
 -- of these settings the last of each form is kept
 pub record KeepsLast (c : Circuit) (kept : LastRows) (settings : List Setting) : Type 0 where

@@ -3,5 +3,6 @@ pub mod Fields
 pub mod Rows
 pub mod DelayFile
 pub mod LastRows
+pub mod RiseFall
 pub mod Settling
 pub mod Taking

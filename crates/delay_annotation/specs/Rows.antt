@@ -8,6 +8,9 @@ use Rattle.netlist.specs.declared.limits.TheConstants.{MOST_FAN_IN}
 use Rattle.delay_annotation.specs.declared.delays.TheConstants.{MOST_DELAY}
 use Rattle.delay_annotation.specs.Fields.{SpellsNumber, star, trimmed}
 use Rattle.delay_annotation.specs.declared.field.TheConstants.{MOST_PIN_DIGITS, MOST_NUMBER_DIGITS}
+use Rattle.delay_annotation.specs.declared.setting.Columns.{Columns}
+use Rattle.delay_annotation.specs.declared.setting.Columns.TheVariants as columns
+use Rattle.delay_annotation.specs.declared.setting.EdgeDelays.{EdgeDelays}
 use Rattle.delay_annotation.specs.declared.setting.Gates.{Gates}
 use Rattle.delay_annotation.specs.declared.setting.Gates.TheVariants as gates
 use Rattle.delay_annotation.specs.declared.setting.Pins.{Pins}
@@ -16,9 +19,14 @@ use Rattle.delay_annotation.specs.declared.setting.RowFault.{RowFault}
 use Rattle.delay_annotation.specs.declared.setting.RowFault.TheVariants as fault
 use Rattle.delay_annotation.specs.declared.setting.Setting.{Setting}
 
+-- the titles: which numbers stand behind gate and pin
+abbrev pub titles : Columns → List (List ℕ)
+titles columns.Delay = codes "gate" ∷ codes "pin" ∷ codes "delay" ∷ []
+titles columns.RiseAndFall = codes "gate" ∷ codes "pin" ∷ codes "rise" ∷ codes "fall" ∷ []
+
 -- the row is that of the titles
-abbrev pub AreTitles : List (List ℕ) → Type 0
-AreTitles row = map trimmed row ≡ codes "gate" ∷ codes "pin" ∷ codes "delay" ∷ []
+abbrev pub AreTitles : Columns → List (List ℕ) → Type 0
+AreTitles columns row = map trimmed row ≡ titles columns
 
 -- the text is the name of this gate, and not the star, which a gate may be called too
 pub record NamesGate (c : Circuit) (text : List ℕ) (gate : ℕ) : Type 0 where
@@ -55,25 +63,45 @@ pub record IsDelay (text : List ℕ) (delay : ℕ) : Type 0 where
   pub number : SpellsNumber MOST_NUMBER_DIGITS text delay
   pub within : delay ≤ MOST_DELAY
 
+-- the fields behind gate and pin are these delays: one of a rise as of a fall, or one of each
+pub data SayDelays : Columns → List (List ℕ) → EdgeDelays → Type 0 where
+  one : (field : List ℕ) (delay : ℕ) → IsDelay (trimmed field) delay
+      → SayDelays columns.Delay (field ∷ []) (record { rise = delay; fall = delay })
+  two : (rise_field fall_field : List ℕ) (rise fall : ℕ) → IsDelay (trimmed rise_field) rise → IsDelay (trimmed fall_field) fall
+      → SayDelays columns.RiseAndFall (rise_field ∷ fall_field ∷ []) (record { rise = rise; fall = fall })
+
+-- the row has these fields, as many as there are titles
+pub record HasFields (columns : Columns) (row : List (List ℕ)) (gate pin : List ℕ) (numbers : List (List ℕ)) : Type 0 where
+  pub fields : row ≡ gate ∷ pin ∷ numbers
+  pub many : length row ≡ length (titles columns)
+
+-- the first two fields of a row mean these pins
+pub record IsPlace (c : Circuit) (gate pin : List ℕ) (pins : Pins) : Type 0 where
+  pub gates : Gates
+  pub means_gates : MeansGates c (trimmed gate) gates
+  pub means_pins : MeansPins c (trimmed pin) gates pins
+
+-- they mean no pins, for the first reason that applies: the first means no gates; the second means no pins there
+pub data RefusesPlace (c : Circuit) (gate pin : List ℕ) : RowFault → Type 0 where
+  no_gates : ((meant : Gates) → ¬ MeansGates c (trimmed gate) meant) → RefusesPlace c gate pin fault.UnknownGate
+  no_pins : (meant : Gates) → MeansGates c (trimmed gate) meant → ((pins : Pins) → ¬ MeansPins c (trimmed pin) meant pins)
+      → RefusesPlace c gate pin fault.BadPin
+
 -- the row is accepted, and says this
-pub record IsSetting (c : Circuit) (row : List (List ℕ)) (setting : Setting) : Type 0 where
+pub record IsSetting (c : Circuit) (columns : Columns) (row : List (List ℕ)) (setting : Setting) : Type 0 where
   pub gate_field : List ℕ
   pub pin_field : List ℕ
-  pub delay_field : List ℕ
-  pub fields : row ≡ gate_field ∷ pin_field ∷ delay_field ∷ []
-  pub gates : Gates
-  pub means_gates : MeansGates c (trimmed gate_field) gates
-  pub means_pins : MeansPins c (trimmed pin_field) gates setting.pins
-  pub delay : IsDelay (trimmed delay_field) setting.delay
+  pub number_fields : List (List ℕ)
+  pub fields : HasFields columns row gate_field pin_field number_fields
+  pub place : IsPlace c gate_field pin_field setting.pins
+  pub delays : SayDelays columns number_fields setting.delays
 
--- The row is refused, for the first reason that applies: it has not three fields; the first means no gates; the second means
--- no pins there; the third is no delay.
-pub data RefusesRow (c : Circuit) (row : List (List ℕ)) : RowFault → Type 0 where
-  other_count : length row ≢ 3 → RefusesRow c row fault.Fields
-  no_gates : (gate pin delay : List ℕ) → row ≡ gate ∷ pin ∷ delay ∷ []
-      → ((meant : Gates) → ¬ MeansGates c (trimmed gate) meant) → RefusesRow c row fault.UnknownGate
-  no_pins : (gate pin delay : List ℕ) → row ≡ gate ∷ pin ∷ delay ∷ [] → (meant : Gates) → MeansGates c (trimmed gate) meant
-      → ((pins : Pins) → ¬ MeansPins c (trimmed pin) meant pins) → RefusesRow c row fault.BadPin
-  no_delay : (gate pin delay : List ℕ) → row ≡ gate ∷ pin ∷ delay ∷ [] → (meant : Gates) → MeansGates c (trimmed gate) meant
-      → (pins : Pins) → MeansPins c (trimmed pin) meant pins → ((number : ℕ) → ¬ IsDelay (trimmed delay) number)
-      → RefusesRow c row fault.BadNumber
+-- The row is refused, for the first reason that applies: it has not as many fields as the titles; the first two mean no pins; those
+-- behind them are no delays.
+pub data RefusesRow (c : Circuit) (columns : Columns) (row : List (List ℕ)) : RowFault → Type 0 where
+  other_count : length row ≢ length (titles columns) → RefusesRow c columns row fault.Fields
+  no_place : (gate pin : List ℕ) (numbers : List (List ℕ)) (why : RowFault) → HasFields columns row gate pin numbers
+      → RefusesPlace c gate pin why → RefusesRow c columns row why
+  no_delays : (gate pin : List ℕ) (numbers : List (List ℕ)) → HasFields columns row gate pin numbers
+      → (pins : Pins) → IsPlace c gate pin pins → ((delays : EdgeDelays) → ¬ SayDelays columns numbers delays)
+      → RefusesRow c columns row fault.BadNumber

@@ -3,10 +3,10 @@ ghost use Rattle.std.specs.Prelude.{◌≡◌, ◌<◌, ◌≤◌, ℕ, length, 
 ghost use Rattle.pd_base.specs.declared.ids.PinRef.{PinRef};
 ghost use Rattle.netlist.specs.Circuit.{gate_count, pins_at};
 ghost use Rattle.netlist.specs.Pins.{IsPinOn};
-ghost use Rattle.delay_annotation.specs.Annotation.{delays_of, SetsDelay, Fits};
+ghost use Rattle.delay_annotation.specs.Annotation.{ArePinDelays, delays_of, SetsDelay, Fits};
 
 use netlist::Netlist;
-use pd_base::{OutOfMemory, PinRef};
+use pd_base::{GateId, OutOfMemory, PinRef};
 use std::alloc::Global;
 use std::marker::Model;
 
@@ -50,6 +50,19 @@ impl Delays {
         ensures bounded { result ≤ MOST_DELAY }
     {
         self.by_place[net.pin_place(pin)]
+    }
+
+    /// The delays of the pins of a gate, from pin 0 on, in delay units.
+    pub fn of_gate(&self, net: &Netlist, gate: GateId) -> &[u32]
+        requires fits { Fits net.now self.now }
+        requires gate { gate.0 < gate_count net.now }
+        ensures { ArePinDelays net.now self.now gate.0 result.now }
+    {
+        // A netlist knows itself as a circuit, whose gates have a pin 0.
+        let within = gate.0 < net.lines();
+        prove!(within);
+        let first = net.pin_place(PinRef { gate, pin: 0 });
+        &self.by_place[first..first + net.pins(gate).len()]
     }
 
     /// Gives a pin this delay, in delay units. All other pins keep theirs.

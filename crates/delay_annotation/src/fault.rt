@@ -10,11 +10,12 @@ use thiserror::Error;
 /// that is refused is named, by the first of its faults in the order of this list. `NoMemory` stands beside them.
 #[derive(Clone, Copy, Debug, PartialEq, Eq, Error)]
 pub enum DelayFault {
-    /// There is no row, or the first is not that of the titles `gate`, `pin`, `delay`.
+    /// There is no row, or the first is not that of the titles: `gate`, `pin`, `delay`, or of two delays `gate`, `pin`, `rise`,
+    /// `fall`.
     #[error("no titles")]
     Header,
-    /// The row has not three fields.
-    #[error("not three fields")]
+    /// The row has not three fields, or of two delays four.
+    #[error("another number of fields")]
     Fields(u32),
     /// The first field is neither `*` nor the name of a gate.
     #[error("an unknown gate")]
@@ -23,7 +24,7 @@ pub enum DelayFault {
     /// is named, else below 1,024.
     #[error("no pin")]
     BadPin(u32),
-    /// The third field is no number of one to seven digits, or one above 1,000,000.
+    /// The third field is no number of one to seven digits, or one above 1,000,000; or of two delays the fourth.
     #[error("no delay")]
     BadNumber(u32),
     /// Memory ran out.

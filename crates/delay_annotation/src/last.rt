@@ -3,25 +3,29 @@
 ghost use Rattle.std.specs.Prelude.{◌≡◌, ◌<◌, ◌≤◌, [], IfOk, length};
 ghost use Rattle.netlist.specs.Circuit.{gate_count, pins_at};
 ghost use Rattle.delay_annotation.specs.declared.delays.TheConstants.{MOST_DELAY};
+ghost use Rattle.delay_annotation.specs.DelayFile.{delay_on};
 ghost use Rattle.delay_annotation.specs.LastRows.{later};
 
 use crate::UNIT_DELAY;
-use crate::setting::{Pins, Setting};
+use crate::setting::{EdgeDelays, Pins, Setting};
 use netlist::{MOST_FAN_IN, Netlist};
-use pd_base::{OutOfMemory, PinRef};
+use pd_base::{Direction, OutOfMemory, PinRef};
 use std::alloc::Global;
 
-/// A row as it is kept: its number, from 1, and its delay. The number is 0 where there was no row.
+/// A row as it is kept: its number, from 1, and its delays. The number is 0 where there was no row.
 #[derive(Clone, Copy)]
 pub(crate) struct KeptRow {
     pub row: u32,
-    pub delay: u32,
+    pub delays: EdgeDelays,
 }
 
 // What is kept where there was no row: each pin has the delay 1 then.
 const NO_ROW_YET: KeptRow = KeptRow {
     row: 0,
-    delay: UNIT_DELAY,
+    delays: EdgeDelays {
+        rise: UNIT_DELAY,
+        fall: UNIT_DELAY,
+    },
 };
 
 /// The last row of each form: of `*,*`, of `GATE,*` by gate, of `*,PIN` by the pin's number, of `GATE,PIN` by pin.
@@ -34,7 +38,7 @@ pub(crate) struct LastRows {
 }
 
 impl LastRows {
-    ghost use Rattle.delay_annotation.specs.LastRows.{last_for, AreOfCircuit, HasRoomForRows, KeepsLast, TakesSetting};
+    ghost use Rattle.delay_annotation.specs.LastRows.{last_for, AreOfCircuit, AreWithin, HasRoomForRows, KeepsLast, TakesSetting};
 
     /// No row was there yet.
     pub(crate) fn new(alloc: Global, net: &Netlist) -> Result<LastRows, OutOfMemory>
@@ -53,12 +57,14 @@ impl LastRows {
     pub(crate) fn take(&mut self, net: &Netlist, row: u32, setting: Setting)
         requires places { HasRoomForRows net.now self.old }
         requires pins { AreOfCircuit net.now setting.pins }
-        requires bounded { setting.delay ≤ MOST_DELAY }
+        requires bounded { AreWithin setting.delays }
         ensures places { HasRoomForRows net.now self.new }
         ensures takes { TakesSetting net.now row setting self.old self.new }
     {
-        let delay = setting.delay;
-        let entry = KeptRow { row, delay };
+        let entry = KeptRow {
+            row,
+            delays: setting.delays,
+        };
         match setting.pins {
             Pins::All => self.all = entry,
             Pins::OfGate(gate) => self.gates[gate.0 as usize] = entry,
@@ -70,19 +76,23 @@ impl LastRows {
         }
     }
 
-    /// The delay of a pin by the last row for it.
-    pub(crate) fn delay(&self, net: &Netlist, pin: PinRef) -> u32
+    /// What a pin takes to show a rise, or a fall, by the last row for it.
+    pub(crate) fn delay(&self, net: &Netlist, pin: PinRef, direction: Direction) -> u32
         requires places { HasRoomForRows net.now self.now }
         requires gate { pin.gate.0 < gate_count net.now }
         requires pin { pin.pin < length (pins_at net.now pin.gate.0) }
         requires number { pin.pin < MOST_FAN_IN }
-        ensures delay { result ≡ (last_for net.now self.now pin).delay }
+        ensures delay { result ≡ delay_on direction (last_for net.now self.now pin).delays }
         ensures bounded { result ≤ MOST_DELAY }
     {
         let of_gate = later(self.all, self.gates[pin.gate.0 as usize]);
         let place = net.pin_place(pin);
         let of_pin = later(self.numbers[pin.pin as usize], self.pins[place]);
-        later(of_gate, of_pin).delay
+        let last = later(of_gate, of_pin).delays;
+        match direction {
+            Direction::Rise => last.rise,
+            Direction::Fall => last.fall,
+        }
     }
 }
 

@@ -1,36 +1,85 @@
-// From the three fields of a row to what it says.
+// From the fields of a row to what it says: the pins that it means, and the numbers behind them.
 ghost use Rattle.std.specs.Prelude.{◌↔◌, ℕ, [], ◌∷◌, IsTrue, MatchOption, MatchResult};
-ghost use Rattle.delay_annotation.specs.Rows.{AreInCircuit, AreTitles, IsDelay, IsPinBelow, IsSetting, MeansGates, MeansPins, RefusesRow};
+ghost use Rattle.delay_annotation.specs.Rows.{AreInCircuit, AreTitles, IsDelay, IsPinBelow, IsPlace, IsSetting, MeansGates, MeansPins, RefusesPlace, RefusesRow};
+ghost use Rattle.delay_annotation.specs.declared.setting.Columns.TheVariants.{Delay, RiseAndFall};
 ghost use Rattle.delay_annotation.specs.declared.setting.Gates.{Gates};
 ghost use Rattle.delay_annotation.specs.declared.setting.Pins.{Pins};
 
 use crate::MOST_DELAY;
 use crate::field::{MOST_NUMBER_DIGITS, MOST_PIN_DIGITS, number, trimmed};
-use crate::setting::{Gates, Pins, RowFault, Setting};
+use crate::setting::{EdgeDelays, Gates, Pins, RowFault, Setting};
 use netlist::{MOST_FAN_IN, Netlist};
 use pd_base::PinRef;
 
 // The text that means all.
 const STAR: &[u8] = b"*";
 
-/// Whether three fields are the titles of a delay file: `gate`, `pin`, `delay`.
+/// Whether three fields are the titles of a delay file with one delay: `gate`, `pin`, `delay`.
 pub(crate) fn are_titles(gate: &[u8], pin: &[u8], delay: &[u8]) -> bool
-    ensures { IsTrue result ↔ AreTitles (gate.now ∷ pin.now ∷ delay.now ∷ []) }
+    ensures { IsTrue result ↔ AreTitles Delay (gate.now ∷ pin.now ∷ delay.now ∷ []) }
 {
     trimmed(gate) == b"gate".as_slice()
         && trimmed(pin) == b"pin".as_slice()
         && trimmed(delay) == b"delay".as_slice()
 }
 
-/// Reads a row of three fields. It is refused exactly where it says nothing, by the first reason that applies.
+/// Whether four fields are the titles of a delay file with two delays: `gate`, `pin`, `rise`, `fall`.
+pub(crate) fn are_four_titles(gate: &[u8], pin: &[u8], rise: &[u8], fall: &[u8]) -> bool
+    ensures { IsTrue result ↔ AreTitles RiseAndFall (gate.now ∷ pin.now ∷ rise.now ∷ fall.now ∷ []) }
+{
+    trimmed(gate) == b"gate".as_slice()
+        && trimmed(pin) == b"pin".as_slice()
+        && trimmed(rise) == b"rise".as_slice()
+        && trimmed(fall) == b"fall".as_slice()
+}
+
+/// Reads a row of three fields, whose delay is that of a rise as of a fall. It is refused exactly where it says nothing, by the
+/// first reason that applies.
 pub(crate) fn read_row(
     net: &Netlist,
     gate: &[u8],
     pin: &[u8],
     delay: &[u8],
 ) -> Result<Setting, RowFault>
-    ensures { MatchResult result (IsSetting net.now (gate.now ∷ pin.now ∷ delay.now ∷ []))
-        (RefusesRow net.now (gate.now ∷ pin.now ∷ delay.now ∷ [])) }
+    ensures { MatchResult result (IsSetting net.now Delay (gate.now ∷ pin.now ∷ delay.now ∷ []))
+        (RefusesRow net.now Delay (gate.now ∷ pin.now ∷ delay.now ∷ [])) }
+{
+    let pins = read_place(net, gate, pin)?;
+    let Some(delay) = read_delay(trimmed(delay)) else {
+        return Err(RowFault::BadNumber);
+    };
+    let delays = EdgeDelays {
+        rise: delay,
+        fall: delay,
+    };
+    Ok(Setting { pins, delays })
+}
+
+/// Reads a row of four fields. It is refused exactly where it says nothing, by the first reason that applies.
+pub(crate) fn read_row_of_four(
+    net: &Netlist,
+    gate: &[u8],
+    pin: &[u8],
+    rise: &[u8],
+    fall: &[u8],
+) -> Result<Setting, RowFault>
+    ensures { MatchResult result (IsSetting net.now RiseAndFall (gate.now ∷ pin.now ∷ rise.now ∷ fall.now ∷ []))
+        (RefusesRow net.now RiseAndFall (gate.now ∷ pin.now ∷ rise.now ∷ fall.now ∷ [])) }
+{
+    let pins = read_place(net, gate, pin)?;
+    let Some(rise) = read_delay(trimmed(rise)) else {
+        return Err(RowFault::BadNumber);
+    };
+    let Some(fall) = read_delay(trimmed(fall)) else {
+        return Err(RowFault::BadNumber);
+    };
+    let delays = EdgeDelays { rise, fall };
+    Ok(Setting { pins, delays })
+}
+
+// The pins that the first two fields of a row mean.
+fn read_place(net: &Netlist, gate: &[u8], pin: &[u8]) -> Result<Pins, RowFault>
+    ensures { MatchResult result (IsPlace net.now gate.now pin.now) (RefusesPlace net.now gate.now pin.now) }
 {
     let Some(gates) = read_gates(net, trimmed(gate)) else {
         return Err(RowFault::UnknownGate);
@@ -38,10 +87,7 @@ pub(crate) fn read_row(
     let Some(pins) = read_pins(net, gates, trimmed(pin)) else {
         return Err(RowFault::BadPin);
     };
-    let Some(delay) = read_delay(trimmed(delay)) else {
-        return Err(RowFault::BadNumber);
-    };
-    Ok(Setting { pins, delay })
+    Ok(pins)
 }
 
 // The gates that a text means.

@@ -23,25 +23,43 @@ pub(crate) enum Pins {
     One(PinRef),
 }
 
-/// A row of a delay file: these pins have this delay, in delay units.
+/// Which numbers the rows of a delay file have behind gate and pin.
+#[derive(Clone, Copy)]
+pub(crate) enum Columns {
+    /// One delay, of a rise as of a fall.
+    Delay,
+    /// A rise delay, then a fall delay.
+    RiseAndFall,
+}
+
+/// What a row gives a pin: what the pin takes to show a rise of its line, and a fall, in delay units.
+#[derive(Clone, Copy)]
+pub(crate) struct EdgeDelays {
+    /// The rise delay.
+    pub rise: u32,
+    /// The fall delay.
+    pub fall: u32,
+}
+
+/// A row of a delay file: these pins have these delays.
 #[derive(Clone, Copy)]
 pub(crate) struct Setting {
     /// The pins.
     pub pins: Pins,
-    /// The delay.
-    pub delay: u32,
+    /// The delays.
+    pub delays: EdgeDelays,
 }
 
 /// Why a row behind the titles is refused: the first of these that is true of it.
 #[derive(Clone, Copy)]
 pub(crate) enum RowFault {
-    /// It has not three fields.
+    /// It has not as many fields as the titles.
     Fields,
     /// The first field is neither `*` nor the name of a gate.
     UnknownGate,
     /// The second field is neither `*` nor the number of a pin, in one to four digits: below the number of pins of a gate that
     /// is named, else below 1,024.
     BadPin,
-    /// The third field is no number of one to seven digits, or one above 1,000,000.
+    /// A field behind these is no number of one to seven digits, or one above 1,000,000.
     BadNumber,
 }

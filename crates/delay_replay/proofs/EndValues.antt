@@ -17,7 +17,7 @@ use Rattle.netlist.specs.Lawful.{IsCircuit}
 use Rattle.netlist.specs.Greatest.{greatest}
 use Rattle.netlist.specs.Levels.{level}
 use Rattle.netlist.specs.Values.{bit_of, gate_value, value}
-use Rattle.netlist.specs.Waves.{Delays, Wave, source_wave, pin_values, delay_copy, wave_of}
+use Rattle.netlist.specs.Waves.{Delays, Wave, PinCopy, source_wave, pin_values, delay_copy, wave_under, wave_of}
 use Rattle.netlist.proofs.Evaluation.{line_induction, value_at_source, value_at_gate}
 use Rattle.path_laws.proofs.RelatedValues.{values_related_anywhere}
 use Rattle.path_laws.proofs.StepCounts.{no_higher_level}
@@ -47,23 +47,40 @@ pub late_choice : (first last : Bool) → IsLateFrom 0 (λ time. if int_lt time 
 late_choice first last time from =
     let test : int_lt time (pos 0) ≡ false = grind (arith, ints) in ap (λ bit. if bit then first else last) test
 
-module _ (delays : Delays) where
+module _ (delays : Delays) (c : Circuit) (is : IsCircuit c) where
+  -- at a gate the latest change is the greatest of its pins' lines, each with the pin's delay
+  pub latest_at_gate : (gate : ℕ) → gate < gate_count c → latest_change c delays (gate_line c gate)
+      ≡ greatest (delayed delays gate 0 (map (λ pin. latest_change c delays pin.0) (pins_at c gate)))
+  latest_at_gate gate within =
+      value_at_gate c (λ source. 0) (λ gate times. greatest (delayed delays gate 0 times))
+      is.reads_lines is.loop_free gate within
+
+-- what a pin makes of a wave has the wave's first value before time 0, too
+abbrev pub StaysEarly : PinCopy → Type 0
+StaysEarly copy = (pin : PinRef) (wave : Wave) (first : Bool) → IsEarly wave first → IsEarly (copy pin wave) first
+
+-- and its last value, once this delay has passed
+abbrev pub SettlesBy : PinCopy → Delays → Type 0
+SettlesBy copy delays =
+    (pin : PinRef) (wave : Wave) (last : Bool) (bound : ℕ) → IsLateFrom bound wave last → IsLateFrom (bound + delays pin) (copy pin wave) last
+
+module _ (copy : PinCopy) (stays : StaysEarly copy) (delays : Delays) (settles : SettlesBy copy delays) where
   -- where all pins' lines have their first values before time 0, so have their pins
   early_pins : (gate pin : ℕ) (waves : List Wave) (values : List Bool) → AllZip IsEarly waves values
-      → (time : ℤ) → time <ℤ pos 0 → pin_values (delay_copy delays) gate pin waves time ≡ values
+      → (time : ℤ) → time <ℤ pos 0 → pin_values copy gate pin waves time ≡ values
   early_pins gate pin [] [] all time below = refl
   early_pins gate pin [] (first ∷ values) all time below = absurd all
   early_pins gate pin (wave ∷ waves) [] all time below = absurd all
   early_pins gate pin (wave ∷ waves) (first ∷ values) all time below =
       let own : PinRef = record { gate = record { 0 = gate }; pin = pin } in
-      ap₂ (λ (v : Bool) vs. v ∷ vs) (all.0 (time -ℤ pos (delays own)) (omega (arith, ints)))
+      ap₂ (λ (v : Bool) vs. v ∷ vs) (stays own wave first all.0 time below)
       (early_pins gate (pin + 1) waves values all.1 time below)
 
   -- before time 0 a line has its value under the first vector
-  pub wave_early : (c : Circuit) (pair : Vectors) (line : ℕ) → IsEarly (wave_of c pair delays line) (value c pair.first line)
-  wave_early c pair =
+  pub copies_early : (c : Circuit) (pair : Vectors) (line : ℕ) → IsEarly (wave_under copy c pair line) (value c pair.first line)
+  copies_early c pair =
       values_related_anywhere c IsEarly
-      (source_wave pair) (λ gate waves time. gate_value (kind_at c gate) (pin_values (delay_copy delays) gate 0 waves time))
+      (source_wave pair) (λ gate waves time. gate_value (kind_at c gate) (pin_values copy gate 0 waves time))
       (bit_of pair.first) (λ gate values. gate_value (kind_at c gate) values)
       (λ source. early_choice (bit_of pair.first source) (bit_of pair.second source))
       (λ gate waves values all time below. ap (gate_value (kind_at c gate)) (early_pins gate 0 waves values all time below))
@@ -72,32 +89,25 @@ module _ (delays : Delays) where
   late_pins : (wave : ℕ → Wave) (last : ℕ → Bool) (bound : ℕ → ℕ) (gate pin : ℕ) (lines : List LineId)
       → All (λ line. IsLateFrom (bound line.0) (wave line.0) (last line.0)) lines
       → (time : ℤ) → pos (greatest (delayed delays gate pin (map (λ line. bound line.0) lines))) ≤ℤ time
-      → pin_values (delay_copy delays) gate pin (map (λ line. wave line.0) lines) time ≡ map (λ line. last line.0) lines
+      → pin_values copy gate pin (map (λ line. wave line.0) lines) time ≡ map (λ line. last line.0) lines
   late_pins wave last bound gate pin [] all time from = refl
   late_pins wave last bound gate pin (line ∷ lines) all time from =
       let P : LineId → Type 0 = λ (l : LineId). IsLateFrom (bound l.0) (wave l.0) (last l.0) in
       let own : PinRef = record { gate = record { 0 = gate }; pin = pin } in
-      ap₂ (λ (v : Bool) vs. v ∷ vs) (All-head P line lines all (time -ℤ pos (delays own)) (omega (arith, ints)))
+      ap₂ (λ (v : Bool) vs. v ∷ vs) (settles own (wave line.0) (last line.0) (bound line.0) (All-head P line lines all) time (omega (arith, ints)))
       (late_pins wave last bound gate (pin + 1) lines (All-tail P line lines all) time (omega (arith, ints)))
 
   module _ (c : Circuit) (is : IsCircuit c) where
-    -- at a gate the latest change is the greatest of its pins' lines, each with the pin's delay
-    pub latest_at_gate : (gate : ℕ) → gate < gate_count c → latest_change c delays (gate_line c gate)
-        ≡ greatest (delayed delays gate 0 (map (λ pin. latest_change c delays pin.0) (pins_at c gate)))
-    latest_at_gate gate within =
-        value_at_gate c (λ source. 0) (λ gate times. greatest (delayed delays gate 0 times))
-        is.reads_lines is.loop_free gate within
-
     module _ (pair : Vectors) where
       -- the wave of a line has its value under the second vector from the latest change on
       abbrev EndsWell : ℕ → Type 0
-      EndsWell line = IsLateFrom (latest_change c delays line) (wave_of c pair delays line) (value c pair.second line)
+      EndsWell line = IsLateFrom (latest_change c delays line) (wave_under copy c pair line) (value c pair.second line)
 
       ends_at_source : (line : ℕ) → line < source_count c → EndsWell line
       ends_at_source line source time from =
           let none = value_at_source c (λ source. 0) (λ gate times. greatest (delayed delays gate 0 times)) line source in
           ap (λ (wave : Wave). wave time) (value_at_source c (source_wave pair)
-          (λ gate waves time. gate_value (kind_at c gate) (pin_values (delay_copy delays) gate 0 waves time)) line source)
+          (λ gate waves time. gate_value (kind_at c gate) (pin_values copy gate 0 waves time)) line source)
           ∙ late_choice (bit_of pair.first line) (bit_of pair.second line) time (subst (λ n. pos n ≤ℤ time) none from)
           ∙ sym (value_at_source c (bit_of pair.second) (λ gate values. gate_value (kind_at c gate) values) line source)
 
@@ -105,16 +115,32 @@ module _ (delays : Delays) where
           → EndsWell (gate_line c gate)
       ends_at_gate gate within pins time from =
           ap (λ (wave : Wave). wave time) (value_at_gate c (source_wave pair)
-          (λ gate waves time. gate_value (kind_at c gate) (pin_values (delay_copy delays) gate 0 waves time))
+          (λ gate waves time. gate_value (kind_at c gate) (pin_values copy gate 0 waves time))
           is.reads_lines is.loop_free gate within)
           ∙ ap (gate_value (kind_at c gate))
-          (late_pins (wave_of c pair delays) (value c pair.second) (latest_change c delays) gate 0 (pins_at c gate) pins time
-          (subst (λ n. pos n ≤ℤ time) (latest_at_gate gate within) from))
+          (late_pins (wave_under copy c pair) (value c pair.second) (latest_change c delays) gate 0 (pins_at c gate) pins time
+          (subst (λ n. pos n ≤ℤ time) (latest_at_gate delays c is gate within) from))
           ∙ sym (value_at_gate c (bit_of pair.second) (λ gate values. gate_value (kind_at c gate) values)
           is.reads_lines is.loop_free gate within)
 
-      pub wave_late : (line : ℕ) → line < line_count c → EndsWell line
-      wave_late = line_induction c is.reads_lines EndsWell ends_at_source ends_at_gate is.loop_free
+      pub copies_late : (line : ℕ) → line < line_count c → EndsWell line
+      copies_late = line_induction c is.reads_lines EndsWell ends_at_source ends_at_gate is.loop_free
+
+-- a delay has these two laws
+delay_stays : (delays : Delays) → StaysEarly (delay_copy delays)
+delay_stays delays pin wave first early time below = early (time -ℤ pos (delays pin)) (omega (arith, ints))
+
+delay_settles : (delays : Delays) → SettlesBy (delay_copy delays) delays
+delay_settles delays pin wave last bound late time from = late (time -ℤ pos (delays pin)) (omega (arith, ints))
+
+-- before time 0 a line has its value under the first vector
+pub wave_early : (delays : Delays) (c : Circuit) (pair : Vectors) (line : ℕ) → IsEarly (wave_of c pair delays line) (value c pair.first line)
+wave_early delays = copies_early (delay_copy delays) (delay_stays delays) delays (delay_settles delays)
+
+-- from its latest change on it has its value under the second
+pub wave_late : (delays : Delays) (c : Circuit) → IsCircuit c → (pair : Vectors) (line : ℕ) → line < line_count c
+    → IsLateFrom (latest_change c delays line) (wave_of c pair delays line) (value c pair.second line)
+wave_late delays = copies_late (delay_copy delays) (delay_stays delays) delays (delay_settles delays)
 
 -- a wave with one value before time 0 and another from a bound on goes from the one to the other between
 pub goes_between : (wave : Wave) (first last : Bool) (bound : ℕ) (changes : Changes) → IsEarly wave first

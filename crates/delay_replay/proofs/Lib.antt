@@ -3,10 +3,11 @@ pub mod PinCounts
 pub mod GatePins
 pub mod Merging
 pub mod NextChanges
+pub mod LaterCopies
 pub mod Turning
 mod BackwardSteps
 mod ChangeCounts
-mod EndValues
+pub mod EndValues
 mod PrefixLengths
 mod Replaying
 mod Sampling

@@ -101,8 +101,8 @@ module _ (waves : List Changes) (values : ℤ → List Bool) (kind : GateKind) (
       each_left : All (IsPinChange waves) new
       each_left =
           passed_each waves soonest old new passes (IsPinChange waves) merged.each
-          (next_each waves soonest.line soonest.behind soonest.delay soonest.rises
-          (passed_one waves soonest old new passes (IsPinChange waves) merged.each).line passes.next passes.is)
+          (next_each waves soonest.pin soonest.behind soonest.rises
+          (passed_one waves soonest old new passes (IsPinChange waves) merged.each).pin passes.next passes.is)
 
       -- a change that others of the same time follow
       pub passed : (IsBeforeAll soonest.time new → ⊥) → IsMerged waves values kind pins counted new wave

@@ -1,5 +1,5 @@
 -- What a pin shows by its next change, and how many pins are 1 once that change has come.
-use Rattle.std.proofs.Common.{◌≡◌, ℕ, suc, ◌+◌, ◌<◌, ◌≤◌, ℤ, pos, ◌+ℤ◌, ◌-ℤ◌, ◌<ℤ◌, ◌≤ℤ◌, Bool, true, false, not, cond, List, [], ◌∷◌, ◌++◌}
+use Rattle.std.proofs.Common.{◌≡◌, ℕ, suc, ◌+◌, ◌<◌, ◌≤◌, ℤ, pos, ◌<ℤ◌, ◌≤ℤ◌, Bool, true, false, not, cond, List, [], ◌∷◌, ◌++◌}
 use Rattle.std.proofs.Common.{Option, None, Some, option_to_list, map, drop, length, get_or, refl, ap, ap₂, sym, subst, add-zero, ◌∙◌}
 use Rattle.std.proofs.Common.{arith, drop_of_length-le}
 use Rattle.std.specs.Int.RustNames.{int_le}
@@ -10,10 +10,9 @@ use Rattle.std.proofs.lemmas.List.Elements.{All-nil, All-cons, All-head, All-tai
 use Rattle.std.proofs.lemmas.List.Sorted.{All-permutation, sum_by-IsPermutation, sum_by_popped}
 use Rattle.std.proofs.lemmas.List.Sums.{sum_by-cons, sum_by-append}
 use Rattle.netlist.specs.Values.{parity}
-use Rattle.pd_base.specs.declared.ids.LineId.{LineId}
 use Rattle.delay_replay.specs.declared.pin_changes.PinChange.{PinChange}
-use Rattle.delay_replay.specs.Changes.{Changes, wave_at}
-use Rattle.delay_replay.specs.PinChanges.{one, ones, line_changes, turned_by, behind, shown, IsPinChange, IsChangeAt, IsNextOrNone}
+use Rattle.delay_replay.specs.Changes.{Changes}
+use Rattle.delay_replay.specs.PinChanges.{one, ones, copy_at, turned_by, behind, shown, IsPinChange, IsChangeAt, IsNextOrNone}
 use Rattle.delay_replay.specs.PinChanges.{IsBeforeAll, AreCounted, AreAmong, PassesChange}
 use Rattle.delay_replay.proofs.PinCounts.{twice}
 use Rattle.delay_replay.proofs.Turning.{come, not_come, unturned, parity_none}
@@ -21,23 +20,23 @@ use Rattle.delay_replay.proofs.Turning.{come, not_come, unturned, parity_none}
 module _ (waves : List Changes) (next : PinChange) (time : ℤ) where
   -- how many of the changes behind it have come
   abbrev odd : Bool
-  odd = parity (map (λ change. int_le (change +ℤ pos next.delay) time) (behind waves next))
+  odd = parity (map (λ change. int_le change time) (behind waves next))
 
   -- until its next change a pin shows the value that it has until then
   pub shown_until : IsPinChange waves next → time <ℤ next.time → shown waves next time ≡ not next.rises
   shown_until is before =
       ap₂ (λ has rest. cond (not next.rises) (not (cond has (not rest) rest)) (cond has (not rest) rest))
       (not_come next.time time before)
-      (parity_none (λ change. int_le (change +ℤ pos next.delay) time) (behind waves next)
-      (λ k d inside. not_come (get_or (behind waves next) k d +ℤ pos next.delay) time
-      (later (get_or (behind waves next) k d +ℤ pos next.delay) (is.first k d inside))))
+      (parity_none (λ change. int_le change time) (behind waves next)
+      (λ k d inside. not_come (get_or (behind waves next) k d) time
+      (later (get_or (behind waves next) k d) (is.first k d inside))))
       ∙ unturned (not next.rises)
     where
       later : (a : ℤ) → next.time <ℤ a → time <ℤ a
       later a e = omega (arith, ints)
 
   -- from it on a pin shows the other value, turned by the changes behind it
-  pub shown_from : next.time ≤ℤ time → shown waves next time ≡ turned_by next.rises (behind waves next) next.delay time
+  pub shown_from : next.time ≤ℤ time → shown waves next time ≡ turned_by next.rises (behind waves next) time
   shown_from has =
       ap (λ has. cond (not next.rises) (not (cond has (not odd) odd)) (cond has (not odd) odd)) (come next.time time has)
       ∙ turned next.rises odd
@@ -49,44 +48,28 @@ module _ (waves : List Changes) (next : PinChange) (time : ℤ) where
       turned false true = refl
       turned false false = refl
 
--- what a pin shows of its line's wave, by all of the line's changes
-pub turned_by_all : (changes : Changes) (delay : ℕ) (time : ℤ)
-    → wave_at changes (time -ℤ pos delay) ≡ turned_by changes.before (drop 0 changes.times) delay time
-turned_by_all changes delay time = ap (λ odd. cond changes.before (not odd) odd) (later changes.times)
-  where
-    same : (change : ℤ) → int_le change (time -ℤ pos delay) ≡ int_le (change +ℤ pos delay) time
-    same change = grind (arith, ints)
+module _ (waves : List Changes) (pin : ℕ) (place : ℕ) (until : Bool) where
+  -- a value at a time, turned by a change and by those behind it
+  abbrev turned_at : ℤ → Bool → ℤ → List ℤ → Bool
+  turned_at time value change times = parity (value ∷ int_le change time ∷ map (λ other. int_le other time) times)
 
-    later : (times : List ℤ) → parity (map (λ change. int_le change (time -ℤ pos delay)) times)
-        ≡ parity (map (λ change. int_le (change +ℤ pos delay) time) times)
-    later [] = refl
-    later (change ∷ rest) = ap₂ (λ first odd. cond first (not odd) odd) (same change) (later rest)
-
-module _ (waves : List Changes) (read : LineId) (place delay : ℕ) (until : Bool) where
-  -- a value at a time, turned by a change and by those behind it, which come later by a delay
-  abbrev turned_at : ℤ → Bool → ℤ → ℕ → List ℤ → Bool
-  turned_at time value change later times =
-      parity (value ∷ int_le change time ∷ map (λ other. int_le (other +ℤ pos later) time) times)
-
-  -- what the next change of a pin shows is what its line's changes from there on show
-  shown_next : (next : PinChange) → IsChangeAt (line_changes waves read.0) read place delay until next → (time : ℤ)
-      → turned_by until (drop place (line_changes waves read.0).times) delay time ≡ shown waves next time
+  -- what the next change of a pin shows is what its changes from there on show
+  shown_next : (next : PinChange) → IsChangeAt (copy_at waves pin) pin place until next → (time : ℤ)
+      → turned_by until (drop place (copy_at waves pin).times) time ≡ shown waves next time
   shown_next next is time =
-      ap (λ (times : List ℤ). turned_by until times delay time) (drop_more (line_changes waves read.0).times place (pos 0) is.inside)
-      ∙ ap₂ (λ value at. turned_at time value at delay (drop (place + 1) (line_changes waves read.0).times))
+      ap (λ (times : List ℤ). turned_by until times time) (drop_more (copy_at waves pin).times place (pos 0) is.inside)
+      ∙ ap₂ (λ value at. turned_at time value at (drop (place + 1) (copy_at waves pin).times))
       (sym (twice until) ∙ ap not (sym is.rises)) (sym is.time)
-      ∙ ap₂ (λ later from. turned_at time (not next.rises) next.time later (drop from (line_changes waves read.0).times))
-      (sym is.delay) (sym is.behind)
-      ∙ ap (λ (line : LineId). turned_at time (not next.rises) next.time next.delay (drop next.behind (line_changes waves line.0).times))
-      (sym is.line)
+      ∙ ap₂ (λ from own. turned_at time (not next.rises) next.time (drop from (copy_at waves own).times))
+      (sym is.behind) (sym is.pin)
 
   -- a pin counts by its next change as it counts by its line's changes from there on
-  pub next_counts : (next : Option PinChange) → IsNextOrNone (line_changes waves read.0) read place delay until next → (time : ℤ)
-      → one (turned_by until (drop place (line_changes waves read.0).times) delay time)
+  pub next_counts : (next : Option PinChange) → IsNextOrNone (copy_at waves pin) pin place until next → (time : ℤ)
+      → one (turned_by until (drop place (copy_at waves pin).times) time)
       + sum_by (λ n. one (not n.rises)) (option_to_list next)
       ≡ one until + sum_by (λ n. one (shown waves n time)) (option_to_list next)
   next_counts None none time =
-      ap (λ (times : List ℤ). one (turned_by until times delay time) + 0) (drop_of_length-le (line_changes waves read.0).times none)
+      ap (λ (times : List ℤ). one (turned_by until times time) + 0) (drop_of_length-le (copy_at waves pin).times none)
       ∙ ap (λ value. one value + 0) (unturned until)
   next_counts (Some next) is time =
       sums _ _ _ _ (ap one (shown_next next is time)) (ap one (ap not is.rises ∙ twice until))
@@ -95,7 +78,7 @@ module _ (waves : List Changes) (read : LineId) (place delay : ℕ) (until : Boo
       sums a b c d e f = omega arith
 
   -- of the pin's values before and behind its next change each counts once at most
-  pub next_among : (next : Option PinChange) → IsNextOrNone (line_changes waves read.0) read place delay until next
+  pub next_among : (next : Option PinChange) → IsNextOrNone (copy_at waves pin) pin place until next
       → (sum_by (λ n. one (not n.rises)) (option_to_list next) ≤ one until)
       × (sum_by (λ n. one n.rises) (option_to_list next) ≤ one (not until))
   next_among None none = (omega arith, omega arith)
@@ -108,30 +91,29 @@ module _ (waves : List Changes) (read : LineId) (place delay : ℕ) (until : Boo
       same a b e = omega arith
 
   -- the next change of a pin comes before those behind it, and not before the one in front of it
-  pub next_each : read.0 < length waves → (next : Option PinChange)
-      → IsNextOrNone (line_changes waves read.0) read place delay until next → All (IsPinChange waves) (option_to_list next)
+  pub next_each : pin < length waves → (next : Option PinChange)
+      → IsNextOrNone (copy_at waves pin) pin place until next → All (IsPinChange waves) (option_to_list next)
   next_each inside None none = All-nil (IsPinChange waves)
   next_each inside (Some next) is =
       All-cons (IsPinChange waves) next [] (record {
-        line = subst (λ (line : LineId). line.0 < length waves) (sym is.line) inside;
-        first = subst (λ (line : LineId). All (λ change. next.time <ℤ (change +ℤ pos next.delay))
-            (drop next.behind (line_changes waves line.0).times)) (sym is.line)
-            (subst (λ from. All (λ change. next.time <ℤ (change +ℤ pos next.delay)) (drop from times)) (sym is.behind)
+        pin = subst (λ own. own < length waves) (sym is.pin) inside;
+        first = subst (λ own. All (λ change. next.time <ℤ change) (drop next.behind (copy_at waves own).times)) (sym is.pin)
+            (subst (λ from. All (λ change. next.time <ℤ change) (drop from times)) (sym is.behind)
             (λ k d within. later (get_or times place d) (get_or times (place + 1 + k) d) _
             (is.rising place (place + 1 + k) d (omega arith) (omega (arith, length-drop (place + 1) times)))
-            (is.time ∙ ap₂ (λ at later. at +ℤ pos later) (get_or_default times place (pos 0) d is.inside) (sym is.delay))
+            (is.time ∙ get_or_default times place (pos 0) d is.inside)
             (get_or-drop (place + 1) times k d)));
       }) (All-nil (IsPinChange waves))
     where
       times : List ℤ
-      times = (line_changes waves read.0).times
+      times = (copy_at waves pin).times
 
-      later : (a b e : ℤ) → a <ℤ b → next.time ≡ a +ℤ pos next.delay → e ≡ b → next.time <ℤ (e +ℤ pos next.delay)
+      later : (a b e : ℤ) → a <ℤ b → next.time ≡ a → e ≡ b → next.time <ℤ e
       later a b e less at is = omega (arith, ints)
 
 -- the next change of a pin comes no sooner than the one that it follows
 pub next_later : (waves : List Changes) (soonest : PinChange) → IsPinChange waves soonest → (next : Option PinChange)
-    → IsNextOrNone (line_changes waves soonest.line.0) soonest.line soonest.behind soonest.delay soonest.rises next
+    → IsNextOrNone (copy_at waves soonest.pin) soonest.pin soonest.behind soonest.rises next
     → All (λ other. soonest.time ≤ℤ other.time) (option_to_list next)
 next_later waves soonest each None none = All-nil (λ other. soonest.time ≤ℤ other.time)
 next_later waves soonest each (Some next) is =
@@ -142,9 +124,9 @@ next_later waves soonest each (Some next) is =
     (All-nil (λ other. soonest.time ≤ℤ other.time))
   where
     times : List ℤ
-    times = (line_changes waves soonest.line.0).times
+    times = (copy_at waves soonest.pin).times
 
-    later : (a b : ℤ) → soonest.time <ℤ (a +ℤ pos soonest.delay) → a ≡ b → next.time ≡ b +ℤ pos soonest.delay → soonest.time ≤ℤ next.time
+    later : (a b : ℤ) → soonest.time <ℤ a → a ≡ b → next.time ≡ b → soonest.time ≤ℤ next.time
     later a b less same at = omega (arith, ints)
 
 -- how many changes are still to come
@@ -153,14 +135,13 @@ still_to_come waves nexts = sum_by (λ next. suc (length (behind waves next))) n
 
 -- behind a change there is one fewer than behind the one in front of it
 next_fewer : (waves : List Changes) (soonest : PinChange) (next : Option PinChange)
-    → IsNextOrNone (line_changes waves soonest.line.0) soonest.line soonest.behind soonest.delay soonest.rises next
+    → IsNextOrNone (copy_at waves soonest.pin) soonest.pin soonest.behind soonest.rises next
     → still_to_come waves (option_to_list next) ≤ length (behind waves soonest)
 next_fewer waves soonest None none = omega arith
 next_fewer waves soonest (Some next) is =
     one_fewer (length (behind waves next)) (length (behind waves soonest))
-    (ap length (drop_more (line_changes waves soonest.line.0).times soonest.behind (pos 0) is.inside)
-    ∙ ap (λ from. suc (length (drop from (line_changes waves soonest.line.0).times))) (sym is.behind)
-    ∙ ap (λ (line : LineId). suc (length (drop next.behind (line_changes waves line.0).times))) (sym is.line))
+    (ap length (drop_more (copy_at waves soonest.pin).times soonest.behind (pos 0) is.inside)
+    ∙ ap₂ (λ from own. suc (length (drop from (copy_at waves own).times))) (sym is.behind) (sym is.pin))
   where
     one_fewer : (n m : ℕ) → m ≡ suc n → 0 + suc n ≤ m
     one_fewer n m e = omega arith
@@ -200,7 +181,7 @@ module _ (waves : List Changes) (soonest : PinChange) (old new : List PinChange)
     pub passed_counted : (values : List Bool) (time : ℤ) → soonest.time ≤ℤ time → AreCounted waves values count old time
         → AreCounted waves values counted new time
     passed_counted values time has are =
-        let from = next_counts waves soonest.line soonest.behind soonest.delay soonest.rises passes.next passes.is time in
+        let from = next_counts waves soonest.pin soonest.behind soonest.rises passes.next passes.is time in
         let here = ap one (shown_from waves soonest time has) in
         sums _ _ _ _ _ _ _ _ _ _ _ _ _ are (was (λ n. one (not n.rises))) (was (λ n. one (shown waves n time)))
         (now (λ n. one (not n.rises))) (now (λ n. one (shown waves n time))) here from counts
@@ -214,7 +195,7 @@ module _ (waves : List Changes) (soonest : PinChange) (old new : List PinChange)
     -- likewise its bounds
     pub passed_among : (pins : ℕ) → AreAmong pins count old → AreAmong pins counted new
     passed_among pins among =
-        let next = next_among waves soonest.line soonest.behind soonest.delay soonest.rises passes.next passes.is in record {
+        let next = next_among waves soonest.pin soonest.behind soonest.rises passes.next passes.is in record {
           least = omega (arith, among.least, was (λ n. one (not n.rises)), now (λ n. one (not n.rises)), next.0, counts);
           most = omega (arith, among.most, was (λ n. one n.rises), now (λ n. one n.rises), next.1, counts);
         }

@@ -18,9 +18,10 @@ use Rattle.netlist.specs.Lawful.{IsCircuit}
 use Rattle.netlist.specs.Levels.{IsRankOrder, IsDriven, ReadsEarlier}
 use Rattle.netlist.specs.Levels.IsDriven.{by_source, by_gate}
 use Rattle.netlist.specs.Values.{bit_of, gate_value, value}
-use Rattle.netlist.specs.Waves.{Delays, Wave, source_wave, pin_values, delay_copy, wave_of}
+use Rattle.netlist.specs.Waves.{Delays, Wave, PinCopy, source_wave, pin_values, delay_copy, wave_under, wave_of}
 use Rattle.netlist.proofs.Evaluation.{map_agree, gate_line_of, value_at_gate}
 use Rattle.path_laws.proofs.GateValues.{wave_of_source}
+use Rattle.delay_annotation.specs.Annotation.{Fits, delays_of}
 use Rattle.delay_annotation.specs.declared.delays.TheConstants.{MOST_DELAY}
 use Rattle.delay_replay.specs.declared.gate.TheConstants.{MOST_CHANGES}
 use Rattle.delay_replay.specs.Changes.{Changes, AreChangesOf, ChangesOver, IsBounded}
@@ -30,12 +31,12 @@ use Rattle.delay_replay.specs.declared.line_waves.TheConstants.{MOST_CHANGES_OF_
 use Rattle.delay_replay.specs.declared.line_waves.ReplayFault.{ReplayFault}
 use Rattle.delay_replay.specs.declared.line_waves.ReplayFault.TheVariants.{TooManyChanges, NoMemory}
 use Rattle.delay_replay.specs.LatestChange.{latest_change}
-use Rattle.delay_replay.specs.LineWaves.{AreWavesOf, GoesBetween, kept_wave, no_changes}
-use Rattle.delay_replay.specs.ChangeLimits.{HaveChanges, HasFewChanges, IsFirstTooMuch, IsTooMuch, NoneTooMuch, RefusesReplay, ranked_lines}
+use Rattle.delay_replay.specs.LineWaves.{AreLineWaves, GoesBetween, kept_wave, no_changes}
+use Rattle.delay_replay.specs.ChangeLimits.{HaveChanges, HasFewOf, IsFirstOf, IsTooMuch, NoneTooMuch, RefusesWaves, ranked_lines}
 use Rattle.delay_replay.specs.ChangeLimits.IsTooMuch.{by_itself, together}
 use Rattle.delay_replay.specs.ReplayTurns.{AreSourceWaves, AddsWaves, IsOver, RefusesGate}
 use Rattle.delay_replay.specs.ReplayTurns.IsOver.{by_itself as over_by_itself, together as over_together}
-use Rattle.delay_replay.proofs.EndValues.{early_choice, late_choice, wave_early, wave_late, goes_between, one_change, latest_small}
+use Rattle.delay_replay.proofs.EndValues.{early_choice, late_choice, wave_early, wave_late, goes_between, one_change, latest_small, small_delay}
 use Rattle.delay_replay.proofs.ChangeCounts.{none_too_much, one_line_more, zip_from_places}
 
 -- the wave of a source changes at time 0 at most
@@ -73,24 +74,24 @@ still_bounded changes are i d within =
     let upto = (goes.between i d within).to_bound in
     omega (arith, ints)
 
-module _ (c : Circuit) (pair : Vectors) (delays : Delays) where
+module _ (c : Circuit) (pair : Vectors) (copy : PinCopy) where
   -- The sources and these gates have their waves, each line of them has few changes by itself, and together they have so many,
   -- which are few.
   pub record IsReplayed (gates : List GateId) (waves : List Changes) (total : ℕ) : Type 0 where
     pub one_each : length waves ≡ line_count c
     pub bounded : All IsBounded waves
-    pub each : (line : ℕ) → IsDriven c gates line → AreChangesOf (wave_of c pair delays line) (kept_wave waves line)
-    pub few : All (λ line. ChangesOver (wave_of c pair delays line) MOST_CHANGES → ⊥) (ranked_lines c gates)
-    pub counted : HaveChanges (wave_of c pair delays) (ranked_lines c gates) total
+    pub each : (line : ℕ) → IsDriven c gates line → AreChangesOf (wave_under copy c pair line) (kept_wave waves line)
+    pub few : All (λ line. ChangesOver (wave_under copy c pair line) MOST_CHANGES → ⊥) (ranked_lines c gates)
+    pub counted : HaveChanges (wave_under copy c pair) (ranked_lines c gates) total
     pub upto : total ≤ MOST_CHANGES_OF_ALL
 
   module _ (is : IsCircuit c) (sources : List Changes) (are : AreSourceWaves c pair sources) where
     -- each source's wave is its line's
     source_wave_of : (source : ℕ) → source < source_count c
-        → AreChangesOf (wave_of c pair delays source) (kept_wave sources source)
+        → AreChangesOf (wave_under copy c pair source) (kept_wave sources source)
     source_wave_of source within =
-        shows_same (source_wave pair source) (wave_of c pair delays source) (kept_wave sources source)
-        (λ time. sym (wave_of_source (delay_copy delays) c pair source within time)) (are.each source within)
+        shows_same (source_wave pair source) (wave_under copy c pair source) (kept_wave sources source)
+        (λ time. sym (wave_of_source copy c pair source within time)) (are.each source within)
 
     -- a source's wave changes once at most
     once : (source : ℕ) → source < source_count c → length (kept_wave sources source).times ≤ 1
@@ -118,10 +119,10 @@ module _ (c : Circuit) (pair : Vectors) (delays : Delays) where
     source_at place d within = omega (arith, get_or-range_with_len 0 (source_count c) place d within)
 
     module _ (waves : List Changes) (adds : AddsWaves (gate_count c) sources waves) where
-      begun_each : (line : ℕ) → IsDriven c [] line → AreChangesOf (wave_of c pair delays line) (kept_wave waves line)
+      begun_each : (line : ℕ) → IsDriven c [] line → AreChangesOf (wave_under copy c pair line) (kept_wave waves line)
       begun_each line (by_gate gate (place, within, at) own) = absurd (omega arith)
       begun_each line (by_source source) =
-          subst (λ own. AreChangesOf (wave_of c pair delays line) own)
+          subst (λ own. AreChangesOf (wave_under copy c pair line) own)
           (sym (ap (λ all. kept_wave all line) adds.behind
           ∙ get_or_append_left sources adds.added no_changes line (omega (arith, are.one_each))))
           (source_wave_of line source)
@@ -133,21 +134,21 @@ module _ (c : Circuit) (pair : Vectors) (delays : Delays) where
         bounded = subst (All IsBounded) (sym adds.behind)
             (All-append IsBounded sources adds.added sources_bounded adds.bounded);
         each = begun_each;
-        few = subst (All (λ line. ChangesOver (wave_of c pair delays line) MOST_CHANGES → ⊥)) sources_alone
+        few = subst (All (λ line. ChangesOver (wave_under copy c pair line) MOST_CHANGES → ⊥)) sources_alone
             (λ place d within.
             let inside : place < source_count c = omega (arith, length-range_with_len 0 (source_count c)) in
-            subst (λ line. ChangesOver (wave_of c pair delays line) MOST_CHANGES → ⊥) (source_at place d inside)
-            (not_over (wave_of c pair delays place) (kept_wave sources place) MOST_CHANGES (source_wave_of place inside)
+            subst (λ line. ChangesOver (wave_under copy c pair line) MOST_CHANGES → ⊥) (source_at place d inside)
+            (not_over (wave_under copy c pair place) (kept_wave sources place) MOST_CHANGES (source_wave_of place inside)
             (omega (arith, once place inside))));
         counted = record {
           changes = sources;
-          each = subst (λ lines. AllZip (λ line own. AreChangesOf (wave_of c pair delays line) own) lines sources) sources_alone
-              (zip_from_places (λ line own. AreChangesOf (wave_of c pair delays line) own)
+          each = subst (λ lines. AllZip (λ line own. AreChangesOf (wave_under copy c pair line) own) lines sources) sources_alone
+              (zip_from_places (λ line own. AreChangesOf (wave_under copy c pair line) own)
               (range_with_len 0 (source_count c)) sources (length-range_with_len 0 (source_count c) ∙ sym are.one_each)
               (λ place d e within.
               let inside : place < source_count c = omega (arith, length-range_with_len 0 (source_count c)) in
-              subst (λ line. AreChangesOf (wave_of c pair delays line) (get_or sources place e)) (source_at place d inside)
-              (subst (λ own. AreChangesOf (wave_of c pair delays place) own)
+              subst (λ line. AreChangesOf (wave_under copy c pair line) (get_or sources place e)) (source_at place d inside)
+              (subst (λ own. AreChangesOf (wave_under copy c pair place) own)
               (get_or_default sources place no_changes e (omega (arith, are.one_each))) (source_wave_of place inside))));
           sum = sym sum;
         };
@@ -162,30 +163,15 @@ module _ (c : Circuit) (pair : Vectors) (delays : Delays) where
       ∙ sym (append_assoc (range_with_len 0 (source_count c)) (map (λ (g : GateId). gate_line c g.0) gates)
       (gate_line c gate.0 ∷ []))
 
-  -- a wave of a line goes from its value under the first vector to its value under the second
-  pub line_goes : IsCircuit c → (line : ℕ) → line < line_count c → (changes : Changes)
-      → AreChangesOf (wave_of c pair delays line) changes
-      → GoesBetween (value c pair.first line) (value c pair.second line) (latest_change c delays line) changes
-  line_goes is line within changes =
-      goes_between (wave_of c pair delays line) (value c pair.first line) (value c pair.second line)
-      (latest_change c delays line) changes (wave_early delays c pair line) (wave_late delays c is pair line within)
-
-  module _ (is : IsCircuit c) (small : (pin : PinRef) → delays pin ≤ MOST_DELAY) where
-    -- and is bounded where the delays are
-    line_bounded : (line : ℕ) → line < line_count c → (changes : Changes) → AreChangesOf (wave_of c pair delays line) changes
-        → IsBounded changes
-    line_bounded line within changes are i d inside =
-        let upto = ((line_goes is line within changes are).between i d inside).to_bound in
-        let latest = latest_small c is delays small line within in
-        omega (arith, ints)
-
+  module _ (is : IsCircuit c)
+      (small : (line : ℕ) → line < line_count c → (changes : Changes) → AreChangesOf (wave_under copy c pair line) changes → IsBounded changes) where
     module _ (order : List GateId) (ranked : IsRankOrder c order) (earlier : ReadsEarlier c order) where
       -- after the last turn each line has its wave
       pub all_waves : (place : ℕ) → length order ≤ place → (waves : List Changes) (total : ℕ)
-          → IsReplayed (take place order) waves total → AreWavesOf c pair delays waves
+          → IsReplayed (take place order) waves total → AreLineWaves c (wave_under copy c pair) waves
       all_waves place last waves total replayed = record { one_each = replayed.one_each; each = at_line }
         where
-          at_line : (line : ℕ) → line < line_count c → AreChangesOf (wave_of c pair delays line) (kept_wave waves line)
+          at_line : (line : ℕ) → line < line_count c → AreChangesOf (wave_under copy c pair line) (kept_wave waves line)
           at_line line within =
               ⊎_elim (λ source. replayed.each line (by_source source))
               (λ above.
@@ -197,12 +183,12 @@ module _ (c : Circuit) (pair : Vectors) (delays : Delays) where
 
       -- and no line is too much
       pub all_few : (place : ℕ) → length order ≤ place → (waves : List Changes) (total : ℕ)
-          → IsReplayed (take place order) waves total → HasFewChanges c pair delays
+          → IsReplayed (take place order) waves total → HasFewOf c (wave_under copy c pair)
       all_few place last waves total replayed = record {
         order = order;
         ranked = ranked;
-        none = subst (λ gates. NoneTooMuch (wave_of c pair delays) (ranked_lines c gates)) (take_all place order last)
-            (none_too_much (wave_of c pair delays) (ranked_lines c (take place order)) total replayed.few replayed.counted
+        none = subst (λ gates. NoneTooMuch (wave_under copy c pair) (ranked_lines c gates)) (take_all place order last)
+            (none_too_much (wave_under copy c pair) (ranked_lines c (take place order)) total replayed.few replayed.counted
             replayed.upto);
       }
 
@@ -224,7 +210,7 @@ module _ (c : Circuit) (pair : Vectors) (delays : Delays) where
 
         module _ (waves : List Changes) (total : ℕ) (replayed : IsReplayed (take place order) waves total) where
           -- the waves of its pins' lines are there
-          pins_shown : All (λ pin. line_wave waves pin.0 ≡ wave_of c pair delays pin.0) (pins_at c gate.0)
+          pins_shown : All (λ pin. line_wave waves pin.0 ≡ wave_under copy c pair pin.0) (pins_at c gate.0)
           pins_shown k d within =
               let pin = get_or (pins_at c gate.0) k d in
               let are = replayed.each pin.0
@@ -232,28 +218,28 @@ module _ (c : Circuit) (pair : Vectors) (delays : Delays) where
               λ i time. are.shows time i
 
           -- so what the gate makes of them is the wave of its line
-          turn_wave : (time : ℤ) → gate_wave (delay_copy delays) c gate.0 (line_wave waves) time
-              ≡ wave_of c pair delays own_line time
+          turn_wave : (time : ℤ) → gate_wave copy c gate.0 (line_wave waves) time
+              ≡ wave_under copy c pair own_line time
           turn_wave time =
-              ap (λ (waves : List Wave). gate_value (kind_at c gate.0) (pin_values (delay_copy delays) gate.0 0 waves time))
-              (map_agree (λ pin. line_wave waves pin.0) (λ pin. wave_of c pair delays pin.0) (pins_at c gate.0) pins_shown)
+              ap (λ (waves : List Wave). gate_value (kind_at c gate.0) (pin_values copy gate.0 0 waves time))
+              (map_agree (λ pin. line_wave waves pin.0) (λ pin. wave_under copy c pair pin.0) (pins_at c gate.0) pins_shown)
               ∙ sym (ap (λ (wave : Wave). wave time) (value_at_gate c (source_wave pair)
-              (λ gate waves time. gate_value (kind_at c gate) (pin_values (delay_copy delays) gate 0 waves time))
+              (λ gate waves time. gate_value (kind_at c gate) (pin_values copy gate 0 waves time))
               is.reads_lines is.loop_free gate.0 in_circuit))
 
-          module _ (own : Changes) (are : AreChangesOf (gate_wave (delay_copy delays) c gate.0 (line_wave waves)) own) where
-            own_are : AreChangesOf (wave_of c pair delays own_line) own
-            own_are = shows_same _ (wave_of c pair delays own_line) own turn_wave are
+          module _ (own : Changes) (are : AreChangesOf (gate_wave copy c gate.0 (line_wave waves)) own) where
+            own_are : AreChangesOf (wave_under copy c pair own_line) own
+            own_are = shows_same _ (wave_under copy c pair own_line) own turn_wave are
 
             -- once it is put there, each line of a source or of one of the gates up to this one has its wave
             turned_each : (line : ℕ) → IsDriven c (take (place + 1) order) line
-                → AreChangesOf (wave_of c pair delays line) (kept_wave (set waves own_line own) line)
+                → AreChangesOf (wave_under copy c pair line) (kept_wave (set waves own_line own) line)
             turned_each line driven =
                 ⊎_elim
-                (λ same. subst (λ l. AreChangesOf (wave_of c pair delays l) (kept_wave (set waves own_line own) l)) (sym same)
-                (subst (λ ch. AreChangesOf (wave_of c pair delays own_line) ch)
+                (λ same. subst (λ l. AreChangesOf (wave_under copy c pair l) (kept_wave (set waves own_line own) l)) (sym same)
+                (subst (λ ch. AreChangesOf (wave_under copy c pair own_line) ch)
                 (sym (get_or-set_same waves own_line own no_changes (omega (arith, replayed.one_each, in_circuit)))) own_are))
-                (λ differs. subst (λ ch. AreChangesOf (wave_of c pair delays line) ch)
+                (λ differs. subst (λ ch. AreChangesOf (wave_under copy c pair line) ch)
                 (sym (get_or-set_other waves own_line line own no_changes differs))
                 (replayed.each line (before differs driven)))
                 (cases_eq line own_line)
@@ -273,13 +259,13 @@ module _ (c : Circuit) (pair : Vectors) (delays : Delays) where
             turned few upto = record {
               one_each = length-set waves own_line own ∙ replayed.one_each;
               bounded = All-set IsBounded waves own_line own
-                  (line_bounded own_line (omega (arith, in_circuit)) own own_are) replayed.bounded;
+                  (small own_line (omega (arith, in_circuit)) own own_are) replayed.bounded;
               each = turned_each;
-              few = subst (All (λ line. ChangesOver (wave_of c pair delays line) MOST_CHANGES → ⊥)) (sym turn_more)
-                  (All-push (λ line. ChangesOver (wave_of c pair delays line) MOST_CHANGES → ⊥)
-                  (ranked_lines c (take place order)) own_line replayed.few (not_over (wave_of c pair delays own_line) own MOST_CHANGES own_are few));
-              counted = subst (λ lines. HaveChanges (wave_of c pair delays) lines (total + length own.times)) (sym turn_more)
-                  (one_line_more (wave_of c pair delays) (ranked_lines c (take place order)) own_line total own replayed.counted
+              few = subst (All (λ line. ChangesOver (wave_under copy c pair line) MOST_CHANGES → ⊥)) (sym turn_more)
+                  (All-push (λ line. ChangesOver (wave_under copy c pair line) MOST_CHANGES → ⊥)
+                  (ranked_lines c (take place order)) own_line replayed.few (not_over (wave_under copy c pair own_line) own MOST_CHANGES own_are few));
+              counted = subst (λ lines. HaveChanges (wave_under copy c pair) lines (total + length own.times)) (sym turn_more)
+                  (one_line_more (wave_under copy c pair) (ranked_lines c (take place order)) own_line total own replayed.counted
                   own_are);
               upto = upto;
             }
@@ -297,31 +283,53 @@ module _ (c : Circuit) (pair : Vectors) (delays : Delays) where
               ∙ ap (map (λ (g : GateId). gate_line c g.0)) (take-append-drop place order))
 
           -- so it is the first one that is too much, where it is
-          first_too_much : IsTooMuch (wave_of c pair delays) (ranked_lines c (take place order)) own_line
-              → IsFirstTooMuch c pair delays own_line
+          first_too_much : IsTooMuch (wave_under copy c pair) (ranked_lines c (take place order)) own_line
+              → IsFirstOf c (wave_under copy c pair) own_line
           first_too_much much = record {
             order = order;
             ranked = ranked;
             earlier = ranked_lines c (take place order);
             later = map (λ g. gate_line c g.0) (drop (place + 1) order);
             place = turn_place;
-            none_before = none_too_much (wave_of c pair delays) (ranked_lines c (take place order)) total replayed.few
+            none_before = none_too_much (wave_under copy c pair) (ranked_lines c (take place order)) total replayed.few
                 replayed.counted replayed.upto;
             too_much = much;
           }
 
-          over_much : IsOver (gate_wave (delay_copy delays) c gate.0 (line_wave waves)) total
-              → IsTooMuch (wave_of c pair delays) (ranked_lines c (take place order)) own_line
-          over_much (over_by_itself over) = by_itself (over_same _ (wave_of c pair delays own_line) MOST_CHANGES turn_wave over)
+          over_much : IsOver (gate_wave copy c gate.0 (line_wave waves)) total
+              → IsTooMuch (wave_under copy c pair) (ranked_lines c (take place order)) own_line
+          over_much (over_by_itself over) = by_itself (over_same _ (wave_under copy c pair own_line) MOST_CHANGES turn_wave over)
           over_much (over_together own are more) =
               together (total + length own.times)
-              (one_line_more (wave_of c pair delays) (ranked_lines c (take place order)) own_line total own replayed.counted
-              (shows_same _ (wave_of c pair delays own_line) own turn_wave are)) more
+              (one_line_more (wave_under copy c pair) (ranked_lines c (take place order)) own_line total own replayed.counted
+              (shows_same _ (wave_under copy c pair own_line) own turn_wave are)) more
 
           -- a turn that is refused refuses the replay
           pub turn_refused : (fault : ReplayFault)
-              → RefusesGate (gate_wave (delay_copy delays) c gate.0 (line_wave waves)) own_line total fault
-              → RefusesReplay c pair delays fault
+              → RefusesGate (gate_wave copy c gate.0 (line_wave waves)) own_line total fault
+              → RefusesWaves c (wave_under copy c pair) fault
           turn_refused NoMemory refuses = tt
           turn_refused (TooManyChanges line) refuses =
-              subst (IsFirstTooMuch c pair delays) (sym refuses.0) (first_too_much (over_much refuses.1))
+              subst (IsFirstOf c (wave_under copy c pair)) (sym refuses.0) (first_too_much (over_much refuses.1))
+
+module _ (c : Circuit) (pair : Vectors) (delays : Delays) (is : IsCircuit c) where
+  -- a wave of a line goes from its value under the first vector to its value under the second
+  pub line_goes : (line : ℕ) → line < line_count c → (changes : Changes)
+      → AreChangesOf (wave_of c pair delays line) changes
+      → GoesBetween (value c pair.first line) (value c pair.second line) (latest_change c delays line) changes
+  line_goes line within changes =
+      goes_between (wave_of c pair delays line) (value c pair.first line) (value c pair.second line)
+      (latest_change c delays line) changes (wave_early delays c pair line) (wave_late delays c is pair line within)
+
+  -- and is bounded where the delays are
+  pub line_bounded : ((pin : PinRef) → delays pin ≤ MOST_DELAY) → (line : ℕ) → line < line_count c → (changes : Changes)
+      → AreChangesOf (wave_of c pair delays line) changes → IsBounded changes
+  line_bounded small line within changes are i d inside =
+      let upto = ((line_goes line within changes are).between i d inside).to_bound in
+      let latest = latest_small c is delays small line within in
+      omega (arith, ints)
+
+-- so the waves of a delay model of one delay are bounded
+pub delays_bounded : (kept : List ℕ) (c : Circuit) → IsCircuit c → Fits c kept → (pair : Vectors) (line : ℕ) → line < line_count c
+    → (changes : Changes) → AreChangesOf (wave_under (delay_copy (delays_of c kept)) c pair line) changes → IsBounded changes
+delays_bounded kept c is fits pair = line_bounded c pair (delays_of c kept) is (small_delay c kept fits)

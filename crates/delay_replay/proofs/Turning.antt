@@ -164,7 +164,7 @@ alike false true is = cc
 alike false false is = refl
 
 -- changes that come before a time have come from that time on
-come_from : (times : List ℤ) (time other : ℤ) → All (λ change. change <ℤ time) times → time ≤ℤ other
+pub come_from : (times : List ℤ) (time other : ℤ) → All (λ change. change <ℤ time) times → time ≤ℤ other
     → All (λ change. change ≤ℤ other) times
 come_from times time other earlier from k d within = through (get_or times k d) (earlier k d within) from
   where

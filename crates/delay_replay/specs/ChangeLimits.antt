@@ -34,23 +34,33 @@ abbrev pub NoneTooMuch : (ℕ → Wave) → List ℕ → Type 0
 NoneTooMuch wave lines =
     (earlier : List ℕ) (line : ℕ) (later : List ℕ) → earlier ++ line ∷ later ≡ lines → ¬ IsTooMuch wave earlier line
 
--- in rank order no line of the circuit is too much
-pub record HasFewChanges (c : Circuit) (pair : Vectors) (delays : Delays) : Type 0 where
+-- in rank order no line of the circuit is too much, where the lines have these waves
+pub record HasFewOf (c : Circuit) (wave : ℕ → Wave) : Type 0 where
   pub order : List GateId
   pub ranked : IsRankOrder c order
-  pub none : NoneTooMuch (wave_of c pair delays) (ranked_lines c order)
+  pub none : NoneTooMuch wave (ranked_lines c order)
 
 -- this is the first line of the circuit, in rank order, that is too much
-pub record IsFirstTooMuch (c : Circuit) (pair : Vectors) (delays : Delays) (line : ℕ) : Type 0 where
+pub record IsFirstOf (c : Circuit) (wave : ℕ → Wave) (line : ℕ) : Type 0 where
   pub order : List GateId
   pub ranked : IsRankOrder c order
   pub earlier : List ℕ
   pub later : List ℕ
   pub place : earlier ++ line ∷ later ≡ ranked_lines c order
-  pub none_before : NoneTooMuch (wave_of c pair delays) earlier
-  pub too_much : IsTooMuch (wave_of c pair delays) earlier line
+  pub none_before : NoneTooMuch wave earlier
+  pub too_much : IsTooMuch wave earlier line
 
 -- a replay is refused only at that line, or for want of memory
+abbrev pub RefusesWaves : Circuit → (ℕ → Wave) → ReplayFault → Type 0
+RefusesWaves c wave (TooManyChanges line) = IsFirstOf c wave line.0
+RefusesWaves c wave NoMemory = ⊤
+
+-- the same, where each pin has one delay
+abbrev pub HasFewChanges : Circuit → Vectors → Delays → Type 0
+HasFewChanges c pair delays = HasFewOf c (wave_of c pair delays)
+
+abbrev pub IsFirstTooMuch : Circuit → Vectors → Delays → ℕ → Type 0
+IsFirstTooMuch c pair delays = IsFirstOf c (wave_of c pair delays)
+
 abbrev pub RefusesReplay : Circuit → Vectors → Delays → ReplayFault → Type 0
-RefusesReplay c pair delays (TooManyChanges line) = IsFirstTooMuch c pair delays line.0
-RefusesReplay c pair delays NoMemory = ⊤
+RefusesReplay c pair delays = RefusesWaves c (wave_of c pair delays)

@@ -1,6 +1,7 @@
 pub mod Changes
 pub mod GateWaves
 pub mod PinChanges
+pub mod PinCopies
 pub mod AddedChanges
 pub mod ChangeLimits
 pub mod LatestChange

@@ -4,8 +4,8 @@ use Rattle.std.specs.Prelude.{◌≡◌, ℕ, ◌<◌, ℤ, pos, ◌<ℤ◌, ◌
 use Rattle.pd_base.specs.Pair.{Vectors}
 use Rattle.netlist.specs.Circuit.{Circuit, line_count}
 use Rattle.netlist.specs.Values.{value}
-use Rattle.netlist.specs.Waves.{Delays, wave_of}
-use Rattle.delay_replay.specs.Changes.{Changes, AreChangesOf, wave_at}
+use Rattle.netlist.specs.Waves.{Delays, Wave, wave_of}
+use Rattle.delay_replay.specs.Changes.{Changes, AreChangesOf, IsBounded, wave_at}
 use Rattle.delay_replay.specs.LatestChange.{latest_change}
 
 -- what is read where there is no line
@@ -16,10 +16,18 @@ no_changes = record { before = false; times = [] }
 abbrev pub kept_wave : List Changes → ℕ → Changes
 kept_wave waves line = slice_index_or waves line no_changes
 
--- these are the waves of all lines under a pair and a delay assignment
-pub record AreWavesOf (c : Circuit) (pair : Vectors) (delays : Delays) (waves : List Changes) : Type 0 where
+-- these are the waves of all lines
+pub record AreLineWaves (c : Circuit) (wave : ℕ → Wave) (waves : List Changes) : Type 0 where
   pub one_each : length waves ≡ line_count c
-  pub each : (line : ℕ) → line < line_count c → AreChangesOf (wave_of c pair delays line) (kept_wave waves line)
+  pub each : (line : ℕ) → line < line_count c → AreChangesOf (wave line) (kept_wave waves line)
+
+-- no line has a wave that changes too late to be copied
+abbrev pub AreLinesBounded : Circuit → (ℕ → Wave) → Type 0
+AreLinesBounded c wave = (line : ℕ) → line < line_count c → (changes : Changes) → AreChangesOf (wave line) changes → IsBounded changes
+
+-- these are the waves of all lines under a pair and a delay assignment
+abbrev pub AreWavesOf : Circuit → Vectors → Delays → List Changes → Type 0
+AreWavesOf c pair delays = AreLineWaves c (wave_of c pair delays)
 
 -- the wave has this value behind all its changes
 abbrev pub EndsAt : Changes → Bool → Type 0

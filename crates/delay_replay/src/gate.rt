@@ -2,15 +2,19 @@
 // taken together, and a change of the gate's value is counted before it is kept.
 ghost use Rattle.std.specs.Prelude.{◌≡◌, ◌<◌, ◌≤◌, length, All, IfOk, IfErr};
 ghost use Rattle.netlist.specs.Circuit.{gate_count, line_count};
+ghost use Rattle.netlist.specs.Lawful.{IsFanIn};
 ghost use Rattle.delay_annotation.specs.Annotation.{Fits};
 ghost use Rattle.delay_replay.specs.Changes.{IsBounded, ChangesOver, AreChangesOf};
 ghost use Rattle.delay_replay.specs.GateWaves.{RefusesWave, delayed_gate_wave};
+ghost use Rattle.delay_replay.specs.PinCopies.{merged_wave};
 
 use crate::Wave;
+use crate::delay_model::DelayModel;
 use crate::pin_changes::{PinWaves, is_before_all, pass, pin_waves};
+use crate::pin_copies::{LaterWaves, PinCopies};
 use crate::pin_count::{counted, value_of_count};
 use delay_annotation::Delays;
-use netlist::Netlist;
+use netlist::{GateKind, Netlist};
 use pd_base::{GateId, OutOfMemory};
 use std::alloc::{AllocFailed, Global};
 
@@ -67,16 +71,52 @@ pub fn gate_wave(
 {
     let lines = net.lines() as usize;
     prove!(waves.len() == lines);
-    let kind = net.kind(gate);
-    let pins = net.pins(gate).len();
+    let copies = LaterWaves {
+        delays: delays.of_gate(net, gate),
+        lines: net.pins(gate),
+        waves,
+    };
+    merge(alloc, net.kind(gate), &copies)
+}
+
+impl DelayModel for Delays {
+    ghost use Rattle.netlist.specs.Waves.{delay_copy};
+    ghost use Rattle.delay_annotation.specs.Annotation.{Fits, delays_of};
+
+    ghost fits = { λ d c. Fits c d };
+
+    ghost copy = { λ d c. delay_copy (delays_of c d) };
+
+    fn wave_of_gate(
+        &self,
+        alloc: Global,
+        net: &Netlist,
+        gate: GateId,
+        waves: &[Wave],
+    ) -> Result<Wave, WaveFault> {
+        gate_wave(alloc, net, self, gate, waves)
+    }
+}
+
+/// The wave of a gate of this kind out of what its pins see, in one pass over their changes. Refused with `TooMany` where it has
+/// more changes than `MOST_CHANGES`.
+pub fn merge<P: PinCopies>(alloc: Global, kind: GateKind, copies: &P) -> Result<Wave, WaveFault>
+    requires can { P.can_read copies.now }
+    requires fan_in { IsFanIn kind (length (P.copies copies.now)) }
+    ensures wave { IfOk result (AreChangesOf (merged_wave kind (P.copies copies.now))) }
+    ensures few { IfOk result (λ wave. length wave.times ≤ MOST_CHANGES) }
+    ensures not_over { IfOk result (λ wave. ¬ ChangesOver (merged_wave kind (P.copies copies.now)) MOST_CHANGES) }
+    ensures refused { IfErr result (RefusesWave (merged_wave kind (P.copies copies.now))) }
+{
+    let pins = copies.pins();
     let PinWaves {
         mut ones,
         mut nexts,
-    } = pin_waves(alloc, net, delays, gate, waves)?;
+    } = pin_waves(alloc, copies)?;
     let mut wave = Wave::constant(alloc, value_of_count(kind, pins, ones));
     while let Some(soonest) = nexts.peek() {
         let passed = *soonest;
-        pass(waves, &mut nexts, passed);
+        pass(copies, &mut nexts, passed);
         ones = counted(ones, passed.rises);
         if is_before_all(passed.time, &nexts) {
             wave.turn(passed.time, value_of_count(kind, pins, ones))?;

@@ -2,17 +2,18 @@
 // lines that a gate reads are there when its turn comes. What is read of the waves is in settling.rt.
 ghost use Rattle.std.specs.Prelude.{◌≡◌, ◌+◌, ◌*◌, ◌^◌, ◌<◌, ◌≤◌, length, sum_by, All, IfOk, IfErr, OnOk};
 ghost use Rattle.netlist.specs.Circuit.{source_count, gate_count, gate_line, line_count};
+ghost use Rattle.netlist.specs.Waves.{wave_under};
 ghost use Rattle.netlist.specs.declared.limits.TheConstants.{MOST_LEVELS};
 ghost use Rattle.delay_annotation.specs.Annotation.{delays_of, Fits};
 ghost use Rattle.delay_annotation.specs.declared.delays.TheConstants.{MOST_DELAY};
 ghost use Rattle.delay_replay.specs.Changes.{AreChangesOf, IsBounded};
-ghost use Rattle.delay_replay.specs.GateWaves.{delayed_gate_wave};
+ghost use Rattle.delay_replay.specs.GateWaves.{gate_wave, line_wave};
 ghost use Rattle.delay_replay.specs.LatestChange.{AreGreatestLengths, ComeBy};
-ghost use Rattle.delay_replay.specs.LineWaves.{AreWavesOf, GoBetweenValues};
-ghost use Rattle.delay_replay.specs.ChangeLimits.{HasFewChanges, RefusesReplay};
+ghost use Rattle.delay_replay.specs.LineWaves.{AreLineWaves, AreLinesBounded, AreWavesOf, GoBetweenValues};
+ghost use Rattle.delay_replay.specs.ChangeLimits.{HasFewChanges, HasFewOf, RefusesReplay, RefusesWaves};
 ghost use Rattle.delay_replay.specs.ReplayTurns.{AreSourceWaves, AddsWaves, RefusesGate};
 
-use crate::{MOST_CHANGES, Wave, WaveFault, gate_wave, source_wave};
+use crate::{DelayModel, MOST_CHANGES, Wave, WaveFault, source_wave};
 use delay_annotation::Delays;
 use netlist::Netlist;
 use pd_base::{GateId, LineId, OutOfMemory, Pair};
@@ -65,6 +66,27 @@ pub fn replay(
     // A netlist knows itself as a circuit.
     let one_each = pair.first().len() == net.sources() as usize;
     prove!(one_each);
+    replay_with(alloc, net, delays, pair)
+}
+
+/// The waves of all lines under a pair of vectors by any delay model, one per line by line number. Refused as `replay` is.
+pub fn replay_with<M: DelayModel>(
+    alloc: Global,
+    net: &Netlist,
+    delays: &M,
+    pair: &Pair,
+) -> Result<Vec<Wave>, ReplayFault>
+    requires fits { M.fits delays.now net.now }
+    requires bits { length pair.now.first ≡ source_count net.now }
+    requires bounded { AreLinesBounded net.now (wave_under (M.copy delays.now net.now) net.now pair.now) }
+    ensures waves { IfOk result (λ waves. AreLineWaves net.now (wave_under (M.copy delays.now net.now) net.now pair.now) waves.items) }
+    ensures bounded { IfOk result (λ waves. All IsBounded waves.items) }
+    ensures few { IfOk result (λ waves. HasFewOf net.now (wave_under (M.copy delays.now net.now) net.now pair.now)) }
+    ensures refused { IfErr result (RefusesWaves net.now (wave_under (M.copy delays.now net.now) net.now pair.now)) }
+{
+    // A netlist knows itself as a circuit.
+    let one_each = pair.first().len() == net.sources() as usize;
+    prove!(one_each);
     let mut waves = source_waves(alloc, net, pair)?;
     let mut total = change_total(&waves);
     add_still_waves(alloc, net.gates(), &mut waves)?;
@@ -113,27 +135,27 @@ fn add_still_waves(alloc: Global, gates: u32, waves: &mut Vec<Wave>) -> Result<(
 }
 
 // The wave of the gate whose turn it is, where the lines before it have so many changes together.
-fn next_wave(
+fn next_wave<M: DelayModel>(
     alloc: Global,
     net: &Netlist,
-    delays: &Delays,
+    delays: &M,
     gate: GateId,
     waves: &[Wave],
     total: usize,
 ) -> Result<Wave, ReplayFault>
-    requires fits { Fits net.now delays.now }
+    requires fits { M.fits delays.now net.now }
     requires gate { gate.0 < gate_count net.now }
     requires one_each { length waves.now ≡ line_count net.now }
     requires bounded { All IsBounded waves.now }
     requires total { total ≤ MOST_CHANGES_OF_ALL }
-    ensures wave { IfOk result (AreChangesOf (delayed_gate_wave net.now delays.now gate.0 waves.now)) }
+    ensures wave { IfOk result (AreChangesOf (gate_wave (M.copy delays.now net.now) net.now gate.0 (line_wave waves.now))) }
     ensures few { IfOk result (λ wave. length wave.times ≤ MOST_CHANGES) }
     ensures few_of_all { IfOk result (λ wave. total + length wave.times ≤ MOST_CHANGES_OF_ALL) }
     ensures refused { IfErr result (RefusesGate
-        (delayed_gate_wave net.now delays.now gate.0 waves.now) (gate_line net.now gate.0) total) }
+        (gate_wave (M.copy delays.now net.now) net.now gate.0 (line_wave waves.now)) (gate_line net.now gate.0) total) }
 {
     let line = net.line_of(gate);
-    let wave = match gate_wave(alloc, net, delays, gate, waves) {
+    let wave = match delays.wave_of_gate(alloc, net, gate, waves) {
         Ok(wave) => wave,
         Err(WaveFault::TooMany) => return Err(ReplayFault::TooManyChanges(line)),
         Err(WaveFault::NoMemory) => return Err(ReplayFault::NoMemory),

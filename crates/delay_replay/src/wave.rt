@@ -31,6 +31,18 @@ impl Model for Wave {
 }
 
 impl Wave {
+    /// The wave with this value before all changes, and with changes at these times, each later than the one before. Takes no
+    /// memory.
+    pub fn new(before: bool, changes: Vec<i64>) -> Wave
+        requires { AreTimesRising changes.items }
+        ensures { result ≡ record { before = before; times = changes.items } }
+    {
+        Wave {
+            before,
+            times: changes,
+        }
+    }
+
     // The wave that has this value at all times.
     pub(crate) fn constant(alloc: Global, value: bool) -> Wave
         ensures { result ≡ record { before = value; times = [] } }

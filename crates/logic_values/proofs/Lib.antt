@@ -1,4 +1,4 @@
 pub mod PinTests
 pub mod RankPass
-mod LaneBits
+pub mod LaneBits
 mod Filling

@@ -58,7 +58,7 @@ module _ {V : Type 0} (c : Circuit) (base : ℕ → V) (step : ℕ → List V �
           (earlier place gate (slice_get-get_or order place (record { 0 = 0 }) inside) k d within)
 
       -- so the step on what is read there gives the value of the gate's line
-      own_value : step gate.0 (map (λ pin. read pin.0) (pins_at c gate.0)) ≡ value_of c base step own_line
+      pub own_value : step gate.0 (map (λ pin. read pin.0) (pins_at c gate.0)) ≡ value_of c base step own_line
       own_value =
           ap (step gate.0)
           (map_agree (λ pin. read pin.0) (λ pin. value_of c base step pin.0) (pins_at c gate.0) at_pins)

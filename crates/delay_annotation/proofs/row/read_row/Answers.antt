@@ -1,28 +1,28 @@
--- The first of the three fields that means nothing is the reason.
-use Rattle.std.proofs.Common.{ℕ, refl, subst}
-use Rattle.delay_annotation.specs.Rows.{IsDelay, MeansGates, MeansPins}
-use Rattle.delay_annotation.specs.Rows.RefusesRow.{no_gates, no_pins, no_delay}
-use Rattle.delay_annotation.specs.declared.setting.Gates.{Gates}
-use Rattle.delay_annotation.specs.declared.setting.Pins.{Pins}
+-- The place of the row and its delay, or the first of them that means nothing.
+use Rattle.std.proofs.Common.{ℕ, [], ◌∷◌, refl, subst}
+use Rattle.std.proofs.lemmas.Result.{err_from_is_err_and}
+use Rattle.delay_annotation.specs.Rows.{IsDelay}
+use Rattle.delay_annotation.specs.Rows.RefusesRow.{no_place, no_delays}
+use Rattle.delay_annotation.specs.Rows.SayDelays.{one}
+use Rattle.delay_annotation.proofs.Fields.{no_one_delay}
 use Rattle.delay_annotation.proofs.row.read_row.Goals as goal
+
+pub returns-in_err-pins : goal.returns-in_err-pins
+returns-in_err-pins c =
+    let answer = err_from_is_err_and c.from_residual.result c.from_residual.ensures.1 in
+    rw (answer.1, answer.2) (no_place _ _ _ _ (record { fields = refl; many = refl }) c.in_err-pins.ensures)
 
 pub returns-in_default : goal.returns-in_default
 returns-in_default c =
-    let net = c.args.net.now in
-    no_gates _ _ _ refl (subst (λ text. (meant : Gates) → ¬ MeansGates net text meant) c.trimmed.ensures c.in_default.ensures)
+    no_delays _ _ _ (record { fields = refl; many = refl }) c.in_ok-pins.pins c.in_ok-pins.ensures
+    (no_one_delay c.args.delay.now (subst (λ text. (number : ℕ) → ¬ IsDelay text number) c.trimmed.ensures c.in_default.ensures))
 
-pub returns-in_default-read_pins : goal.returns-in_default-read_pins
-returns-in_default-read_pins c =
-    let net = c.args.net.now in
-    let meant = c.in-Some.gates in
-    no_pins _ _ _ refl meant (subst (λ text. MeansGates net text meant) c.trimmed.ensures c.in-Some.ensures)
-    (subst (λ text. (pins : Pins) → ¬ MeansPins net text meant pins) c.trimmed-2.ensures c.in_default-read_pins.ensures)
-
-pub returns-in_default-read_delay : goal.returns-in_default-read_delay
-returns-in_default-read_delay c =
-    let net = c.args.net.now in
-    let meant = c.in-Some.gates in
-    let pins = c.in-Some-read_pins.pins in
-    no_delay _ _ _ refl meant (subst (λ text. MeansGates net text meant) c.trimmed.ensures c.in-Some.ensures)
-    pins (subst (λ text. MeansPins net text meant pins) c.trimmed-2.ensures c.in-Some-read_pins.ensures)
-    (subst (λ text. (number : ℕ) → ¬ IsDelay text number) c.trimmed-3.ensures c.in_default-read_delay.ensures)
+pub returns : goal.returns
+returns c = record {
+  gate_field = c.args.gate.now;
+  pin_field = c.args.pin.now;
+  number_fields = c.args.delay.now ∷ [];
+  fields = record { fields = refl; many = refl };
+  place = c.in_ok-pins.ensures;
+  delays = one c.args.delay.now c.in-Some.delay (subst (λ text. IsDelay text c.in-Some.delay) c.trimmed.ensures c.in-Some.ensures);
+}

@@ -27,7 +27,7 @@ loop-row-init c =
 
 pub overflow_add-number : goal.overflow_add-number
 overflow_add-number c =
-    let few = few_taken c.args.net.now c.args.bytes.now c.loop-row.row-iterator.rdr c.next.new.self.rdr c.loop-row.number
+    let few = few_taken c.args.net.now c.args.columns c.args.bytes.now c.loop-row.row-iterator.rdr c.next.new.self.rdr c.loop-row.number
     c.loop-row.kept c.loop-row.invariant.has in
     omega (arith, few, c.requires.short)
 
@@ -39,7 +39,7 @@ returns-in_err-take_read-clause-takes c =
     let inv = c.loop-row.invariant in
     let step = rw c.in-Some.is at ((c.next.ensures.steps inv.goes_on inv.has.read.trim).0 inv.has.read.ready) in
     let answer = err_from_is_err_and c.from_residual.result c.from_residual.ensures.1 in
-    rw (answer.1, answer.2) (read_refused c.args.net.now c.args.bytes.now c.loop-row.row-iterator.rdr c.next.new.self.rdr
+    rw (answer.1, answer.2) (read_refused c.args.net.now c.args.columns c.args.bytes.now c.loop-row.row-iterator.rdr c.next.new.self.rdr
     c.loop-row.number c.loop-row.kept inv.has c.next.new.self.left c.in-Some.row c.in_err-take_read.field-0.0 step
     c.in_err-take_read.ensures.err)
 
@@ -47,7 +47,7 @@ pub loop-row-preserved : goal.loop-row-preserved
 loop-row-preserved c =
     let inv = c.loop-row.invariant in
     let step = rw c.in-Some.is at ((c.next.ensures.steps inv.goes_on inv.has.read.trim).0 inv.has.read.ready) in
-    let more = read_taken c.args.net.now c.args.bytes.now c.loop-row.row-iterator.rdr c.next.new.self.rdr c.loop-row.number
+    let more = read_taken c.args.net.now c.args.columns c.args.bytes.now c.loop-row.row-iterator.rdr c.next.new.self.rdr c.loop-row.number
     c.loop-row.kept inv.has c.next.new.self.left c.in-Some.row c.take_read.new.kept step c.take_read.ensures.places c.in_ok-take_read.ensures.ok in
     record { goes_on = more.0; has = more.1 }
 
@@ -58,7 +58,7 @@ pub returns-then-number-eq0-clause-takes : goal.returns-then-number-eq0-clause-t
 returns-then-number-eq0-clause-takes c =
     let inv = c.loop-row.invariant in
     let step = rw c.in-None.is at ((c.next.ensures.steps inv.goes_on inv.has.read.trim).0 inv.has.read.ready) in
-    none_taken c.args.net.now c.args.bytes.now c.loop-row.row-iterator.rdr c.next.new.self.rdr c.loop-row.number
+    none_taken c.args.net.now c.args.columns c.args.bytes.now c.loop-row.row-iterator.rdr c.next.new.self.rdr c.loop-row.number
     c.loop-row.kept inv.has c.if-number-eq0.true step
 
 pub returns-clause-places : goal.returns-clause-places
@@ -68,5 +68,5 @@ pub returns-clause-takes : goal.returns-clause-takes
 returns-clause-takes c =
     let inv = c.loop-row.invariant in
     let step = rw c.in-None.is at ((c.next.ensures.steps inv.goes_on inv.has.read.trim).0 inv.has.read.ready) in
-    all_taken c.args.net.now c.args.bytes.now c.loop-row.row-iterator.rdr c.next.new.self.rdr c.loop-row.number
+    all_taken c.args.net.now c.args.columns c.args.bytes.now c.loop-row.row-iterator.rdr c.next.new.self.rdr c.loop-row.number
     c.loop-row.kept inv.has c.if-number-eq0.false step

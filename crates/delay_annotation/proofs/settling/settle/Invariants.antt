@@ -6,5 +6,5 @@ use Rattle.delay_annotation.proofs.settling.settle.Given as goal
 abbrev pub invariant-loop-gate : goal.invariant-loop-gate
 invariant-loop-gate l = record {
   fits : Fits l.net l.delays;
-  settled : GatesHaveLastDelays l.net l.kept l.gate l.delays;
+  settled : GatesHaveLastDelays l.net l.kept l.direction l.gate l.delays;
 }

@@ -8,7 +8,7 @@ use Rattle.delay_annotation.proofs.settling.settle_gate.Goals as goal
 pub loop-pin-init : goal.loop-pin-init
 loop-pin-init c = record {
   fits = c.requires.fits;
-  settles = none_settled c.args.net.now c.args.kept.now c.args.gate.0 c.args.delays.now;
+  settles = none_settled c.args.net.now c.args.kept.now c.args.direction c.args.gate.0 c.args.delays.now;
 }
 
 pub set-requires-clause-fits : goal.set-requires-clause-fits
@@ -17,7 +17,7 @@ set-requires-clause-fits c = c.loop-pin.invariant.fits
 pub loop-pin-preserved : goal.loop-pin-preserved
 loop-pin-preserved c = record {
   fits = c.set.ensures.fits;
-  settles = pin_settled c.args.net.now c.args.kept.now (record { gate = c.args.gate; pin = c.loop-pin.pin }) c.delay.result
+  settles = pin_settled c.args.net.now c.args.kept.now c.args.direction (record { gate = c.args.gate; pin = c.loop-pin.pin }) c.delay.result
       c.args.delays.now c.loop-pin.delays c.set.new.self c.delay.ensures.delay c.loop-pin.invariant.settles
       c.set.ensures.changes;
 }
@@ -28,5 +28,5 @@ returns-clause-fits c = c.loop-pin.invariant.fits
 pub returns-clause-settles : goal.returns-clause-settles
 returns-clause-settles c =
     let count = ap (λ (lines : List LineId). length lines) c.pins.ensures.pins in
-    subst (λ n. SettlesPins c.args.net.now c.args.kept.now c.args.gate.0 n c.args.delays.now c.loop-pin.delays)
+    subst (λ n. SettlesPins c.args.net.now c.args.kept.now c.args.direction c.args.gate.0 n c.args.delays.now c.loop-pin.delays)
     (omega arith) c.loop-pin.invariant.settles

@@ -1,186 +1,56 @@
--- The pass begins with the pins' first values, each turn of the loop passes one change, and at its end the wave is the gate's.
-use Rattle.std.proofs.Common.{◌≡◌, ℕ, ◌<◌, ◌≤◌, ℤ, ◌<ℤ◌, List, true, not, get_or, length, map, refl, sum_by, ap, sym, subst, ⊎_elim, ◌∙◌, arith, heap_items, rules, SFits, to_z, of_z, w64}
-use Rattle.std.proofs.lemmas.Int.{to_z-of_z}
-use Rattle.std.proofs.lemmas.List.Sums.{get_or-le-sum_by}
-use Rattle.std.proofs.lemmas.Bool.{cases_lt, false≢true}
-use Rattle.std.proofs.lemmas.Result.{err_from_is_err_and}
+-- What is merged is the gate's wave.
+use Rattle.std.proofs.Common.{◌≡◌, ℤ, List, length, sym, subst, ap, ◌∙◌, arith}
+use Rattle.std.proofs.lemmas.Result.{IfOk-weaker, IfErr-weaker}
 use Rattle.pd_base.specs.declared.ids.LineId.{LineId}
+use Rattle.netlist.specs.declared.kind.GateKind.{GateKind}
+use Rattle.netlist.specs.Lawful.{IsFanIn}
 use Rattle.netlist.specs.Circuit.{kind_at, pins_at}
-use Rattle.netlist.specs.Waves.{delay_copy, pin_values}
-use Rattle.delay_annotation.specs.Annotation.{delays_of}
 use Rattle.delay_replay.specs.declared.gate.TheConstants.{MOST_CHANGES}
-use Rattle.delay_replay.specs.Changes.{Changes}
-use Rattle.delay_replay.specs.GateWaves.{gate_wave, line_wave}
-use Rattle.delay_replay.specs.declared.pin_changes.PinChange.{PinChange}
-use Rattle.delay_replay.specs.PinChanges.{one, AreAmong, IsBeforeAll}
-use Rattle.delay_replay.specs.AddedChanges.{IsTurned}
-use Rattle.delay_replay.proofs.ChangeTimes.{not_over}
-use Rattle.delay_replay.proofs.GatePins.{value_told}
-use Rattle.delay_replay.proofs.Merging.{IsMerged, begun, ended, passed, turned, refused, no_later}
-use Rattle.delay_replay.proofs.NextChanges.{passed_fewer}
+use Rattle.delay_replay.specs.GateWaves.{delayed_gate_wave}
+use Rattle.delay_replay.specs.PinCopies.{copies_of_lines, merged_wave}
+use Rattle.delay_replay.proofs.ChangeTimes.{over_same, shows_same}
+use Rattle.delay_replay.proofs.LaterCopies.{few_by_fan_in, length-copies, merged_is_delayed, refuses_same}
 use Rattle.delay_replay.proofs.gate.gate_wave.Goals as goal
 
-pub loop-soonest-init : goal.loop-soonest-init
-loop-soonest-init c =
+pub merge-requires-clause-fan_in : goal.merge-requires-clause-fan_in
+merge-requires-clause-fan_in c =
     let net = c.args.net.now in
     let gate = c.args.gate.0 in
-    let waves = c.args.waves.now in
-    let copy = delay_copy (delays_of c.args.net.now c.args.delays.now) in
-    let pins = length c.pins-pins.result.now in
-    let many : pins ≡ length (pins_at net gate) = ap (λ (lines : List LineId). length lines) c.pins-pins.ensures.pins in
-    let count = c.in_ok-ones.field-0.ones in
-    let nexts = heap_items c.in_ok-ones.field-0.nexts in
-    let value = c.value_of_count.result in record {
-      order = c.in_ok-ones.ensures.order;
-      merged = subst (λ (wave : Changes). IsMerged waves (pin_values copy gate 0 (map (λ line. line_wave waves line.0) (pins_at net gate))) (kind_at net gate) pins count nexts wave)
-          (sym c.constant-wave.ensures)
-          (begun waves (pin_values copy gate 0 (map (λ line. line_wave waves line.0) (pins_at net gate))) (kind_at net gate) pins count nexts value
-          (subst (λ n. AreAmong n count nexts) (sym many) c.in_ok-ones.ensures.among)
-          c.in_ok-ones.ensures.each c.in_ok-ones.ensures.counted
-          (value_told net c.lines-lines.ensures.circuit copy gate c.requires.gate (line_wave waves) c.kind-kind.result pins count value
-          c.kind-kind.ensures many c.value_of_count.ensures));
+    let lines = c.pins.result.now in
+    let read = ap (λ (all : List LineId). length all) c.pins.ensures.pins in
+    let one_each : length c.of_gate.result.now ≡ length lines = c.of_gate.ensures.one_each ∙ sym read in
+    let many : length (pins_at net gate) ≡ length (copies_of_lines c.of_gate.result.now lines c.args.waves.now) =
+    sym (length-copies c.of_gate.result.now lines c.args.waves.now one_each ∙ read) in
+    subst (λ n. IsFanIn c.kind.result n) many
+    (subst (λ (kind : GateKind). IsFanIn kind (length (pins_at net gate))) (sym c.kind.ensures) (c.lines-lines.ensures.circuit.fan_in gate c.requires.gate))
+
+pub merge-requires-clause-can : goal.merge-requires-clause-can
+merge-requires-clause-can c =
+    let read = ap (λ (all : List LineId). length all) c.pins.ensures.pins in
+    let few = few_by_fan_in (kind_at c.args.net.now c.args.gate.0) _ (c.lines-lines.ensures.circuit.fan_in c.args.gate.0 c.requires.gate) in record {
+      one_each = c.of_gate.ensures.one_each ∙ sym read;
+      few = omega (arith, read, few);
+      have_waves = λ k d within. omega (arith, c.pins.ensures.in_circuit k d within, c.requires.one_each);
+      bounded = c.requires.bounded;
     }
 
--- fewer changes are still to come, whether the gate changes or not
-pub loop-soonest-smaller : goal.loop-soonest-smaller
-loop-soonest-smaller c =
-    passed_fewer c.args.waves.now c.in-Some.soonest.now (heap_items c.loop-soonest.nexts) (heap_items c.pass.new.nexts) c.pass.ensures.passes
-
-pub loop-soonest-smaller-in-Continue-branch-2 : goal.loop-soonest-smaller-in-Continue-branch-2
-loop-soonest-smaller-in-Continue-branch-2 c =
-    passed_fewer c.args.waves.now c.in-Some.soonest.now (heap_items c.loop-soonest.nexts) (heap_items c.pass.new.nexts) c.pass.ensures.passes
-
-pub loop-soonest-preserved : goal.loop-soonest-preserved
-loop-soonest-preserved c =
-    let net = c.args.net.now in
-    let gate = c.args.gate.0 in
-    let waves = c.args.waves.now in
-    let soonest = c.in-Some.soonest.now in
-    let old = heap_items c.loop-soonest.nexts in
-    let new = heap_items c.pass.new.nexts in
-    let first = no_later soonest old (c.in-Some.ensures.greatest c.loop-soonest.invariant.order) in
-    let fits : SFits w64 soonest.time = search rules in record {
-      order = c.pass.ensures.order c.loop-soonest.invariant.order;
-      merged = passed waves (pin_values (delay_copy (delays_of c.args.net.now c.args.delays.now)) gate 0 (map (λ line. line_wave waves line.0) (pins_at net gate)))
-          (kind_at net gate) (length c.pins-pins.result.now) c.loop-soonest.ones old c.loop-soonest.wave c.loop-soonest.invariant.merged
-          soonest first new c.pass.ensures.passes c.counted-ones.result c.counted-ones.ensures
-          (λ before. false≢true (sym c.if-is_before_all.false
-          ∙ subst (λ (time : ℤ). IsBeforeAll time new → c.is_before_all.result ≡ true) (to_z-of_z w64 soonest.time fits) c.is_before_all.ensures.1 before));
-    }
-
-pub loop-soonest-preserved-in-Continue-branch-2 : goal.loop-soonest-preserved-in-Continue-branch-2
-loop-soonest-preserved-in-Continue-branch-2 c =
-    let net = c.args.net.now in
-    let gate = c.args.gate.0 in
-    let waves = c.args.waves.now in
-    let copy = delay_copy (delays_of c.args.net.now c.args.delays.now) in
-    let pins = length c.pins-pins.result.now in
-    let many : pins ≡ length (pins_at net gate) = ap (λ (lines : List LineId). length lines) c.pins-pins.ensures.pins in
-    let soonest = c.in-Some.soonest.now in
-    let old = heap_items c.loop-soonest.nexts in
-    let new = heap_items c.pass.new.nexts in
-    let first = no_later soonest old (c.in-Some.ensures.greatest c.loop-soonest.invariant.order) in
-    let value = c.value_of_count-then-is_before_all.result in
-    let fits : SFits w64 soonest.time = search rules in
-    let same : to_z w64 (of_z w64 soonest.time) ≡ soonest.time = to_z-of_z w64 soonest.time fits in record {
-      order = c.pass.ensures.order c.loop-soonest.invariant.order;
-      merged = turned waves (pin_values copy gate 0 (map (λ line. line_wave waves line.0) (pins_at net gate)))
-          (kind_at net gate) pins c.loop-soonest.ones old c.loop-soonest.wave c.loop-soonest.invariant.merged
-          soonest first new c.pass.ensures.passes c.counted-ones.result c.counted-ones.ensures
-          (subst (λ (time : ℤ). IsBeforeAll time new) same (c.is_before_all.ensures.0 c.if-is_before_all.true)) value
-          (value_told net c.lines-lines.ensures.circuit copy gate c.requires.gate (line_wave waves) c.kind-kind.result pins c.counted-ones.result value
-          c.kind-kind.ensures many c.value_of_count-then-is_before_all.ensures)
-          c.turn.new.self
-          (subst (λ (time : ℤ). IsTurned c.loop-soonest.wave c.turn.new.self time value) same c.in_ok-turn.ensures.turned);
-    }
-
-pub returns-in_err-turn-clause-refused : goal.returns-in_err-turn-clause-refused
-returns-in_err-turn-clause-refused c =
-    let net = c.args.net.now in
-    let gate = c.args.gate.0 in
-    let waves = c.args.waves.now in
-    let copy = delay_copy (delays_of c.args.net.now c.args.delays.now) in
-    let pins = length c.pins-pins.result.now in
-    let many : pins ≡ length (pins_at net gate) = ap (λ (lines : List LineId). length lines) c.pins-pins.ensures.pins in
-    let soonest = c.in-Some.soonest.now in
-    let old = heap_items c.loop-soonest.nexts in
-    let new = heap_items c.pass.new.nexts in
-    let first = no_later soonest old (c.in-Some.ensures.greatest c.loop-soonest.invariant.order) in
-    let value = c.value_of_count-then-is_before_all.result in
-    let fits : SFits w64 soonest.time = search rules in
-    let same : to_z w64 (of_z w64 soonest.time) ≡ soonest.time = to_z-of_z w64 soonest.time fits in
-    let p = err_from_is_err_and c.from_residual-in_err-turn.result c.from_residual-in_err-turn.ensures.1 in
-    rw (p.1, p.2)
-    (refused waves (pin_values copy gate 0 (map (λ line. line_wave waves line.0) (pins_at net gate)))
-    (kind_at net gate) pins c.loop-soonest.ones old c.loop-soonest.wave c.loop-soonest.invariant.merged
-    soonest first new c.pass.ensures.passes c.counted-ones.result c.counted-ones.ensures
-    (subst (λ (time : ℤ). IsBeforeAll time new) same (c.is_before_all.ensures.0 c.if-is_before_all.true)) value
-    (value_told net c.lines-lines.ensures.circuit copy gate c.requires.gate (line_wave waves) c.kind-kind.result pins c.counted-ones.result value
-    c.kind-kind.ensures many c.value_of_count-then-is_before_all.ensures)
-    c.in_err-turn.field-0.0 c.in_err-turn.ensures.refused)
-
-pub returns-clause-not_over : goal.returns-clause-not_over
-returns-clause-not_over c =
-    let net = c.args.net.now in
-    let gate = c.args.gate.0 in
-    let waves = c.args.waves.now in
-    let copy = delay_copy (delays_of c.args.net.now c.args.delays.now) in
-    let pins = length c.pins-pins.result.now in
-    let nexts = heap_items c.loop-soonest.nexts in
-    let merged = c.loop-soonest.invariant.merged in
-    let empty : length nexts ≡ 0 =
-    ⊎_elim (λ some. absurd (false≢true (c.in_default.ensures.variant.1 some))) (λ none. omega (arith, none, c.loop-soonest.nexts.data.ok.0))
-    (cases_lt 0 c.loop-soonest.nexts.data.len) in
-    not_over (gate_wave copy net gate (line_wave waves)) c.loop-soonest.wave MOST_CHANGES
-    (ended waves (pin_values copy gate 0 (map (λ line. line_wave waves line.0) (pins_at net gate))) (kind_at net gate) pins
-    c.loop-soonest.ones nexts c.loop-soonest.wave merged empty)
-    merged.few
-
-pub is_before_all-requires : goal.is_before_all-requires
-is_before_all-requires c = c.pass.ensures.order c.loop-soonest.invariant.order
-
-pub returns-clause-few : goal.returns-clause-few
-returns-clause-few c = c.loop-soonest.invariant.merged.few
+-- the wave that is merged and the gate's, at each time
+same : (c : goal.After-merge) (time : ℤ)
+    → merged_wave c.kind.result (copies_of_lines c.of_gate.result.now c.pins.result.now c.args.waves.now) time
+    ≡ delayed_gate_wave c.args.net.now c.args.delays.now c.args.gate.0 c.args.waves.now time
+same c time =
+    ap (λ (kind : GateKind). merged_wave kind (copies_of_lines c.of_gate.result.now c.pins.result.now c.args.waves.now) time) c.kind.ensures
+    ∙ ap (λ (lines : List LineId). merged_wave (kind_at c.args.net.now c.args.gate.0) (copies_of_lines c.of_gate.result.now lines c.args.waves.now) time) c.pins.ensures.pins
+    ∙ merged_is_delayed c.args.net.now c.args.delays.now c.args.gate.0 c.of_gate.result.now c.args.waves.now c.of_gate.ensures time
 
 pub returns-clause-wave : goal.returns-clause-wave
 returns-clause-wave c =
-    let net = c.args.net.now in
-    let gate = c.args.gate.0 in
-    let waves = c.args.waves.now in
-    let copy = delay_copy (delays_of c.args.net.now c.args.delays.now) in
-    let nexts = heap_items c.loop-soonest.nexts in
-    let empty : length nexts ≡ 0 =
-    ⊎_elim (λ some. absurd (false≢true (c.in_default.ensures.variant.1 some))) (λ none. omega (arith, none, c.loop-soonest.nexts.data.ok.0))
-    (cases_lt 0 c.loop-soonest.nexts.data.len) in
-    ended waves (pin_values copy gate 0 (map (λ line. line_wave waves line.0) (pins_at net gate))) (kind_at net gate)
-    (length c.pins-pins.result.now) c.loop-soonest.ones nexts c.loop-soonest.wave c.loop-soonest.invariant.merged empty
+    IfOk-weaker c.merge.result _ _ (λ wave are. shows_same _ _ wave (same c) are) c.merge.ensures.wave
 
-pub turn-requires : goal.turn-requires
-turn-requires c =
-    let soonest = c.in-Some.soonest.now in
-    let times = c.loop-soonest.wave.times in
-    let some : 0 < length (heap_items c.loop-soonest.nexts) = omega (arith, c.in-Some.ensures.variant.0 refl, c.loop-soonest.nexts.data.ok.0) in
-    let fits : SFits w64 soonest.time = search rules in
-    λ k d within.
-    subst (λ (time : ℤ). get_or times k d <ℤ time) (sym (to_z-of_z w64 soonest.time fits))
-    (subst (λ (next : PinChange). get_or times k d <ℤ next.time) (sym c.in-Some.ensures.lookup)
-    (c.loop-soonest.invariant.merged.within k d within 0 soonest some))
+pub returns-clause-not_over : goal.returns-clause-not_over
+returns-clause-not_over c =
+    IfOk-weaker c.merge.result _ _ (λ wave few over. few (over_same _ _ MOST_CHANGES (λ time. sym (same c time)) over)) c.merge.ensures.not_over
 
-pub pass-requires-clause-line : goal.pass-requires-clause-line
-pass-requires-clause-line c =
-    let some : 0 < length (heap_items c.loop-soonest.nexts) = omega (arith, c.in-Some.ensures.variant.0 refl, c.loop-soonest.nexts.data.ok.0) in
-    subst (λ (next : PinChange). next.line.0 < length c.args.waves.now) (sym c.in-Some.ensures.lookup)
-    (c.loop-soonest.invariant.merged.each 0 c.in-Some.soonest.now some).line
-
-pub pass-requires-clause-soonest : goal.pass-requires-clause-soonest
-pass-requires-clause-soonest c = c.in-Some.ensures.lookup
-
-pub counted-ones-requires-clause-some : goal.counted-ones-requires-clause-some
-counted-ones-requires-clause-some c =
-    let soonest = c.in-Some.soonest.now in
-    let nexts = heap_items c.loop-soonest.nexts in
-    let some : 0 < length nexts = omega (arith, c.in-Some.ensures.variant.0 refl, c.loop-soonest.nexts.data.ok.0) in
-    let falls : PinChange → ℕ = λ next. one (not next.rises) in
-    let here : falls soonest ≤ sum_by falls nexts =
-    subst (λ (next : PinChange). falls next ≤ sum_by falls nexts) (sym c.in-Some.ensures.lookup) (get_or-le-sum_by falls nexts 0 soonest some) in
-    omega (arith, here, c.loop-soonest.invariant.merged.among.least)
+pub returns-clause-refused : goal.returns-clause-refused
+returns-clause-refused c =
+    IfErr-weaker c.merge.result _ _ (λ fault refuses. refuses_same _ _ (same c) fault refuses) c.merge.ensures.refused

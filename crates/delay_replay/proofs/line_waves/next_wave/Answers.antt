@@ -7,7 +7,7 @@ use Rattle.delay_replay.specs.ReplayTurns.IsOver.{together}
 use Rattle.delay_replay.proofs.line_waves.next_wave.Goals as goal
 
 pub returns-then-over-clause-refused : goal.returns-then-over-clause-refused
-returns-then-over-clause-refused c =
+returns-then-over-clause-refused g c =
     let same = ap length c.changes.ensures.times in
     let test = c.if-over.true in
     let more : MOST_CHANGES_OF_ALL < c.args.total + length c.changes.result.now = grind (arith, nat_tests) in

@@ -1,111 +1,31 @@
--- The replay of the sources, of each gate, and what is known behind the last one.
-use Rattle.std.proofs.Common.{◌+◌, length, get_or, set, take, sum_by, sym, ap, subst, subst₂, ◌∙◌, arith}
-use Rattle.std.proofs.lemmas.Result.{err_from_is_err_and}
-use Rattle.pd_base.specs.declared.ids.LineId.{LineId}
-use Rattle.netlist.specs.Circuit.{gate_line}
-use Rattle.netlist.specs.Waves.{delay_copy}
-use Rattle.delay_replay.specs.Changes.{Changes, AreChangesOf}
-use Rattle.delay_replay.specs.GateWaves.{gate_wave, line_wave}
+-- What is known of waves of one delay beside what every replay gives.
+use Rattle.std.proofs.lemmas.Result.{IfOk-weaker}
 use Rattle.delay_annotation.specs.Annotation.{delays_of}
-use Rattle.delay_replay.specs.ReplayTurns.{AddsWaves, RefusesGate}
 use Rattle.delay_replay.proofs.EndValues.{latest_small, small_delay}
 use Rattle.delay_replay.proofs.PrefixLengths.{latest_is_greatest}
-use Rattle.delay_replay.proofs.Replaying.{IsReplayed, all_few, all_waves, begun, few_source_changes, line_goes, turn_refused, turned}
+use Rattle.delay_replay.proofs.Replaying.{delays_bounded, line_goes}
 use Rattle.delay_replay.proofs.line_waves.replay.Goals as goal
 
-pub returns-in_err-waves-clause-refused : goal.returns-in_err-waves-clause-refused
-returns-in_err-waves-clause-refused c =
-    let answer = err_from_is_err_and c.from_residual.result c.from_residual.ensures.1 in rw (answer.1, answer.2) tt
-
-pub returns-in_err-add_still_waves-clause-refused :
-    goal.returns-in_err-add_still_waves-clause-refused
-returns-in_err-add_still_waves-clause-refused c =
-    let left = c.from_residual-in_err-add_still_waves in
-    let answer = err_from_is_err_and left.result left.ensures.1 in
-    rw (answer.1, answer.2) tt
-
-pub change_total-total-requires : goal.change_total-total-requires
-change_total-total-requires c =
-    let few = few_source_changes c.args.net.now c.args.pair.now (delays_of c.args.net.now c.args.delays.now) c.sources.ensures.circuit
-    c.in_ok-waves.waves.items c.in_ok-waves.ensures in
-    let same = ap (sum_by (λ (own : Changes). length own.times)) c.deref.ensures.value in
-    let lines = c.sources.ensures.circuit.few_lines in
-    omega arith
-
-pub loop-gate-init : goal.loop-gate-init
-loop-gate-init c =
-    begun c.args.net.now c.args.pair.now (delays_of c.args.net.now c.args.delays.now) c.sources.ensures.circuit
-    c.in_ok-waves.waves.items c.in_ok-waves.ensures c.add_still_waves.new.waves.items
-    (subst (λ gates. AddsWaves gates c.in_ok-waves.waves.items c.add_still_waves.new.waves.items) c.gates.ensures
-    c.in_ok-add_still_waves.ensures)
-    c.change_total-total.result
-    (c.change_total-total.ensures ∙ ap (sum_by (λ (own : Changes). length own.times)) c.deref.ensures.value)
-
-pub returns-in_err-wave-clause-refused : goal.returns-in_err-wave-clause-refused
-returns-in_err-wave-clause-refused c =
-    let net = c.args.net.now in
-    let delays = delays_of c.args.net.now c.args.delays.now in
-    let order = c.order-gate-items in
-    let place = c.loop-gate.gate-index in
-    let fault = c.in_err-wave.field-0.0 in
-    let gate = (get_or order.result.now place (record { 0 = 0 })).0 in
-    let answer = err_from_is_err_and c.from_residual-in_err-wave.result c.from_residual-in_err-wave.ensures.1 in
-    rw (answer.1, answer.2) (turn_refused net c.args.pair.now delays c.sources.ensures.circuit
-    (small_delay net c.args.delays.now c.requires.fits) order.result.now order.ensures.rank order.ensures.reads
-    place c.loop-gate-test.true c.loop-gate.waves.items c.loop-gate.total c.loop-gate.invariant fault
-    (subst (λ waves. RefusesGate (gate_wave (delay_copy delays) net gate (line_wave waves)) (gate_line net gate) c.loop-gate.total
-    fault) c.deref-in-loop-gate.ensures.value c.in_err-wave.ensures.refused))
-
-pub loop-gate-preserved : goal.loop-gate-preserved
-loop-gate-preserved c =
-    let net = c.args.net.now in
-    let pair = c.args.pair.now in
-    let delays = delays_of c.args.net.now c.args.delays.now in
-    let order = c.order-gate-items in
-    let place = c.loop-gate.gate-index in
-    let wave = c.in_ok-wave.wave in
-    let gate = (get_or order.result.now place (record { 0 = 0 })).0 in
-    let more = turned net pair delays c.sources.ensures.circuit
-    (small_delay net c.args.delays.now c.requires.fits) order.result.now order.ensures.rank order.ensures.reads
-    place c.loop-gate-test.true c.loop-gate.waves.items c.loop-gate.total c.loop-gate.invariant wave
-    (subst (λ waves. AreChangesOf (gate_wave (delay_copy delays) net gate (line_wave waves)) wave)
-    c.deref-in-loop-gate.ensures.value c.in_ok-wave.ensures.wave)
-    c.in_ok-wave.ensures.few c.in_ok-wave.ensures.few_of_all in
-    subst₂ (λ line count. IsReplayed net pair delays (take (place + 1) order.result.now)
-    (set c.loop-gate.waves.items line wave) (c.loop-gate.total + count))
-    (ap (λ (l : LineId). l.0) (sym c.line_of.ensures.line)) (ap length (sym c.changes.ensures.times)) more
-
-pub returns-clause-waves : goal.returns-clause-waves
-returns-clause-waves c =
-    let net = c.args.net.now in
-    let order = c.order-gate-items in
-    all_waves net c.args.pair.now (delays_of c.args.net.now c.args.delays.now) c.sources.ensures.circuit
-    (small_delay net c.args.delays.now c.requires.fits) order.result.now order.ensures.rank order.ensures.reads
-    c.loop-gate.gate-index c.loop-gate-test.false c.loop-gate.waves.items c.loop-gate.total c.loop-gate.invariant
+pub replay_with-requires-clause-bounded : goal.replay_with-requires-clause-bounded
+replay_with-requires-clause-bounded c =
+    delays_bounded c.args.delays.now c.args.net.now c.sources.ensures.circuit c.requires.fits c.args.pair.now
 
 pub returns-clause-values : goal.returns-clause-values
 returns-clause-values c =
-    let net = c.args.net.now in
-    let order = c.order-gate-items in
-    let waves = all_waves net c.args.pair.now (delays_of c.args.net.now c.args.delays.now) c.sources.ensures.circuit
-    (small_delay net c.args.delays.now c.requires.fits) order.result.now order.ensures.rank order.ensures.reads
-    c.loop-gate.gate-index c.loop-gate-test.false c.loop-gate.waves.items c.loop-gate.total c.loop-gate.invariant in
-    λ line within. line_goes net c.args.pair.now (delays_of c.args.net.now c.args.delays.now) c.sources.ensures.circuit line within _
-    (waves.each line within)
+    IfOk-weaker c.replay_with.result _ _
+    (λ waves are line within. line_goes c.args.net.now c.args.pair.now (delays_of c.args.net.now c.args.delays.now) c.sources.ensures.circuit line within _
+    (are.each line within))
+    c.replay_with.ensures.waves
 
 pub returns-clause-latest : goal.returns-clause-latest
 returns-clause-latest c =
-    latest_small c.args.net.now c.sources.ensures.circuit (delays_of c.args.net.now c.args.delays.now)
-    (small_delay c.args.net.now c.args.delays.now c.requires.fits)
-
-pub returns-clause-few : goal.returns-clause-few
-returns-clause-few c =
-    let net = c.args.net.now in
-    let order = c.order-gate-items in
-    all_few net c.args.pair.now (delays_of c.args.net.now c.args.delays.now) c.sources.ensures.circuit
-    (small_delay net c.args.delays.now c.requires.fits) order.result.now order.ensures.rank order.ensures.reads
-    c.loop-gate.gate-index c.loop-gate-test.false c.loop-gate.waves.items c.loop-gate.total c.loop-gate.invariant
+    IfOk-weaker c.replay_with.result _ _
+    (λ waves are. latest_small c.args.net.now c.sources.ensures.circuit (delays_of c.args.net.now c.args.delays.now)
+    (small_delay c.args.net.now c.args.delays.now c.requires.fits))
+    c.replay_with.ensures.waves
 
 pub returns-clause-greatest : goal.returns-clause-greatest
 returns-clause-greatest c =
-    latest_is_greatest (delays_of c.args.net.now c.args.delays.now) c.args.net.now c.sources.ensures.circuit
+    IfOk-weaker c.replay_with.result _ _
+    (λ waves are. latest_is_greatest (delays_of c.args.net.now c.args.delays.now) c.args.net.now c.sources.ensures.circuit)
+    c.replay_with.ensures.waves

@@ -3,9 +3,8 @@ use Rattle.std.proofs.Common.{◌≤◌, All, length, refl, sym, ap, subst, ◌�
 use Rattle.std.proofs.lemmas.List.{length-replicate}
 use Rattle.std.proofs.lemmas.List.Elements.{All-replicate}
 use Rattle.netlist.specs.declared.limits.TheConstants.{MOST_FAN_IN}
-use Rattle.delay_annotation.specs.declared.delays.TheConstants.{MOST_DELAY}
 use Rattle.delay_annotation.specs.declared.last.KeptRow.{KeptRow}
-use Rattle.delay_annotation.specs.LastRows.{no_row_yet}
+use Rattle.delay_annotation.specs.LastRows.{AreWithin, no_row_yet}
 use Rattle.delay_annotation.proofs.Keeping.{nothing_kept}
 use Rattle.delay_annotation.proofs.last.LastRows.new.Goals as goal
 
@@ -18,8 +17,8 @@ returns-clause-none c =
 
 pub returns-clause-places : goal.returns-clause-places
 returns-clause-places c =
-    let IsBounded : KeptRow → Type 0 = λ entry. entry.delay ≤ MOST_DELAY in
-    let one : IsBounded no_row_yet = omega arith in
+    let IsBounded : KeptRow → Type 0 = λ entry. AreWithin entry.delays in
+    let one : IsBounded no_row_yet = (omega arith, omega arith) in
     let gates = c.in_ok-vec.ensures.items_if_clones_equal (λ y same. same) in
     let numbers = c.in_ok-vec-2.ensures.items_if_clones_equal (λ y same. same) in
     let pins = c.in_ok-vec-3.ensures.items_if_clones_equal (λ y same. same) in

@@ -1,6 +1,6 @@
 use Rattle.std.proofs.Common.{◌≡◌, take}
 use Rattle.std.specs.Str.Parse.{AllDigits, digits_value}
-use Rattle.delay_annotation.proofs.field.number.Given as goal
+use Rattle.delay_annotation.proofs.field.long_number.Given as goal
 
 -- the bytes so far are digits, and spell `number`
 abbrev pub invariant-loop-byte : goal.invariant-loop-byte

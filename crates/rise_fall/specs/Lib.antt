@@ -1,0 +1,4 @@
+pub mod Waves
+pub mod Moving
+pub mod GateCopies
+pub mod Showing

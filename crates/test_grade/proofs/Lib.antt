@@ -1,0 +1,7 @@
+pub mod Blocks
+mod Counting
+mod GradedPaths
+mod GradedSides
+mod KnownLanes
+mod Picking
+mod Served

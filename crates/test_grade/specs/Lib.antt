@@ -1,0 +1,4 @@
+pub mod Compact
+pub mod Compacted
+pub mod Lines
+pub mod Serving
