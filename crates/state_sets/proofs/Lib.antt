@@ -1,7 +1,6 @@
-pub mod FourJoins
-pub mod FourSets
+pub mod FourTables
 pub mod NumberTables
-pub mod SixJoins
-pub mod SixSets
+pub mod OpTables
+pub mod SixTables
 pub mod UnitedSets
 pub mod SixFirst

@@ -5,6 +5,7 @@ pub mod Hulls
 pub mod Labellings
 pub mod LineStates
 pub mod Narrowing
+pub mod OpTables
 pub mod SixLaws
 pub mod SixStates
 pub mod Starts

@@ -1,5 +1,5 @@
 // The four states of the project's definitions: steady or not, with the value under the second vector.
-ghost use Rattle.std.specs.Prelude.{◌≡◌, ◌<◌, ◌+◌, ◌*◌, length, slice_index_or, not, refl};
+ghost use Rattle.std.specs.Prelude.{◌≡◌, not, refl};
 ghost use Rattle.state_sets.specs.FourStates.{four_states, four_state, four_last};
 ghost use Rattle.state_sets.specs.FourLaws.{four_laws};
 
@@ -7,6 +7,7 @@ use crate::four_tables::{
     AND_SETS, AND_STATES, AND_SUPPORTS, INVERTED_SETS, OR_SETS, OR_STATES, OR_SUPPORTS, XOR_SETS,
     XOR_STATES, XOR_SUPPORTS,
 };
+use crate::op_tables::{number_at, table_of};
 use crate::{Algebra, State, StateSet};
 use netlist::{Op, SideCondition};
 
@@ -22,11 +23,8 @@ impl Algebra for FourStates {
     ghost algebra = { four_states };
 
     fn join(op: Op, a: State, b: State) -> State {
-        match op {
-            Op::And => state_in(&AND_STATES, a, b),
-            Op::Or => state_in(&OR_STATES, a, b),
-            Op::Xor => state_in(&XOR_STATES, a, b),
-        }
+        let table = table_of(op, &AND_STATES, &OR_STATES, &XOR_STATES);
+        State(number_at(table, 4, a.0, b.0))
     }
 
     fn unit(op: Op) -> State {
@@ -61,19 +59,13 @@ impl Algebra for FourStates {
     }
 
     fn join_sets(op: Op, a: StateSet, b: StateSet) -> StateSet {
-        match op {
-            Op::And => set_in(&AND_SETS, a, b),
-            Op::Or => set_in(&OR_SETS, a, b),
-            Op::Xor => set_in(&XOR_SETS, a, b),
-        }
+        let table = table_of(op, &AND_SETS, &OR_SETS, &XOR_SETS);
+        StateSet(number_at(table, 16, a.0, b.0))
     }
 
     fn supporting(op: Op, rest: StateSet, target: StateSet) -> StateSet {
-        match op {
-            Op::And => set_in(&AND_SUPPORTS, rest, target),
-            Op::Or => set_in(&OR_SUPPORTS, rest, target),
-            Op::Xor => set_in(&XOR_SUPPORTS, rest, target),
-        }
+        let table = table_of(op, &AND_SUPPORTS, &OR_SUPPORTS, &XOR_SUPPORTS);
+        StateSet(number_at(table, 16, rest.0, target.0))
     }
 
     fn invert_set(set: StateSet) -> StateSet {
@@ -117,24 +109,4 @@ fn state_of(steady: bool, last: bool) -> State
         (false, false) => State(2),
         (false, true) => State(3),
     }
-}
-
-// The state that a table has for two states.
-fn state_in(table: &[u8], a: State, b: State) -> State
-    requires first { a.0 < 4 }
-    requires second { b.0 < 4 }
-    requires places { length table.now ≡ 16 }
-    ensures { result.0 ≡ slice_index_or table.now (a.0 * 4 + b.0) 0 }
-{
-    State(table[(a.0 as usize) * 4 + b.0 as usize])
-}
-
-// The set that a table has for two sets.
-fn set_in(table: &[u8], a: StateSet, b: StateSet) -> StateSet
-    requires first { a.0 < 16 }
-    requires second { b.0 < 16 }
-    requires places { length table.now ≡ 256 }
-    ensures { result.0 ≡ slice_index_or table.now (a.0 * 16 + b.0) 0 }
-{
-    StateSet(table[(a.0 as usize) * 16 + b.0 as usize])
 }

@@ -9,6 +9,7 @@ mod four_states;
 mod four_tables;
 mod labels;
 mod narrowed;
+mod op_tables;
 mod six_states;
 mod six_tables;
 mod state;

@@ -1,8 +1,9 @@
 // The six states of the project's definitions: steady, or not steady with the values under both vectors.
-ghost use Rattle.std.specs.Prelude.{◌≡◌, ◌<◌, ◌+◌, ◌*◌, length, slice_index_or, not, refl};
+ghost use Rattle.std.specs.Prelude.{◌≡◌, not, refl};
 ghost use Rattle.state_sets.specs.SixStates.{six_states, six_state, six_first, six_last};
 ghost use Rattle.state_sets.specs.SixLaws.{six_laws};
 
+use crate::op_tables::{number_at, table_of};
 use crate::six_tables::{
     AND_SETS, AND_STATES, AND_SUPPORTS, INVERTED_SETS, OR_SETS, OR_STATES, OR_SUPPORTS, XOR_SETS,
     XOR_STATES, XOR_SUPPORTS,
@@ -23,11 +24,8 @@ impl Algebra for SixStates {
     ghost algebra = { six_states };
 
     fn join(op: Op, a: State, b: State) -> State {
-        match op {
-            Op::And => state_in(&AND_STATES, a, b),
-            Op::Or => state_in(&OR_STATES, a, b),
-            Op::Xor => state_in(&XOR_STATES, a, b),
-        }
+        let table = table_of(op, &AND_STATES, &OR_STATES, &XOR_STATES);
+        State(number_at(table, 6, a.0, b.0))
     }
 
     fn unit(op: Op) -> State {
@@ -62,19 +60,13 @@ impl Algebra for SixStates {
     }
 
     fn join_sets(op: Op, a: StateSet, b: StateSet) -> StateSet {
-        match op {
-            Op::And => set_in(&AND_SETS, a, b),
-            Op::Or => set_in(&OR_SETS, a, b),
-            Op::Xor => set_in(&XOR_SETS, a, b),
-        }
+        let table = table_of(op, &AND_SETS, &OR_SETS, &XOR_SETS);
+        StateSet(number_at(table, 64, a.0, b.0))
     }
 
     fn supporting(op: Op, rest: StateSet, target: StateSet) -> StateSet {
-        match op {
-            Op::And => set_in(&AND_SUPPORTS, rest, target),
-            Op::Or => set_in(&OR_SUPPORTS, rest, target),
-            Op::Xor => set_in(&XOR_SUPPORTS, rest, target),
-        }
+        let table = table_of(op, &AND_SUPPORTS, &OR_SUPPORTS, &XOR_SUPPORTS);
+        StateSet(number_at(table, 64, rest.0, target.0))
     }
 
     fn invert_set(set: StateSet) -> StateSet {
@@ -127,24 +119,4 @@ fn state_of(steady: bool, first: bool, last: bool) -> State
         (false, true, false) => State(4),
         (false, true, true) => State(5),
     }
-}
-
-// The state that a table has for two states.
-fn state_in(table: &[u8], a: State, b: State) -> State
-    requires first { a.0 < 6 }
-    requires second { b.0 < 6 }
-    requires places { length table.now ≡ 36 }
-    ensures { result.0 ≡ slice_index_or table.now (a.0 * 6 + b.0) 0 }
-{
-    State(table[(a.0 as usize) * 6 + b.0 as usize])
-}
-
-// The set that a table has for two sets.
-fn set_in(table: &[u8], a: StateSet, b: StateSet) -> StateSet
-    requires first { a.0 < 64 }
-    requires second { b.0 < 64 }
-    requires places { length table.now ≡ 4096 }
-    ensures { result.0 ≡ slice_index_or table.now (a.0 * 64 + b.0) 0 }
-{
-    StateSet(table[(a.0 as usize) * 64 + b.0 as usize])
 }

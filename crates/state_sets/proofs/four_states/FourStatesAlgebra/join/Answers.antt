@@ -1,22 +1,14 @@
 -- The state read from the table of the operation is the join.
-use Rattle.std.proofs.Common.{◌≡◌, sym, subst}
-use Rattle.netlist.specs.declared.op.Op.{Op}
-use Rattle.netlist.specs.declared.op.Op.TheVariants.{And, Or, Xor}
 use Rattle.state_sets.specs.FourStates.{four_states}
-use Rattle.state_sets.proofs.FourJoins.{is_join}
+use Rattle.state_sets.specs.FourLaws.{four_laws}
+use Rattle.state_sets.proofs.OpTables.{states_place, is_join}
+use Rattle.state_sets.proofs.FourTables.{four_tables, four_tables_are}
 use Rattle.state_sets.proofs.four_states.FourStatesAlgebra.join.Goals as goal
 
-pub returns-in-And : goal.returns-in-And
-returns-in-And c =
-    subst (λ (op : Op). c.state_in.result ≡ four_states.join op c.args.a c.args.b) (sym c.in-And.is)
-    (is_join And c.args.a c.args.b c.state_in.result c.requires.first c.requires.second c.state_in.ensures)
+pub number_at-requires : goal.number_at-requires
+number_at-requires c = states_place four_states four_laws four_tables four_tables_are c.args.op c.args.a c.args.b c.requires.first c.requires.second c.table_of-table.result.now c.table_of-table.ensures
 
-pub returns-in-Or : goal.returns-in-Or
-returns-in-Or c =
-    subst (λ (op : Op). c.state_in-in-Or.result ≡ four_states.join op c.args.a c.args.b) (sym c.in-Or.is)
-    (is_join Or c.args.a c.args.b c.state_in-in-Or.result c.requires.first c.requires.second c.state_in-in-Or.ensures)
-
-pub returns-in-Xor : goal.returns-in-Xor
-returns-in-Xor c =
-    subst (λ (op : Op). c.state_in-in-Xor.result ≡ four_states.join op c.args.a c.args.b) (sym c.in-Xor.is)
-    (is_join Xor c.args.a c.args.b c.state_in-in-Xor.result c.requires.first c.requires.second c.state_in-in-Xor.ensures)
+pub returns : goal.returns
+returns c =
+    is_join four_states four_laws four_tables four_tables_are c.args.op c.args.a c.args.b c.requires.first c.requires.second c.table_of-table.result.now c.table_of-table.ensures
+    c.number_at.result c.number_at.ensures

@@ -1,35 +1,19 @@
--- The set read from the table of the operation is within the four states, and has exactly the joins.
-use Rattle.std.proofs.Common.{sym, subst}
-use Rattle.netlist.specs.declared.op.Op.{Op}
-use Rattle.netlist.specs.declared.op.Op.TheVariants.{And, Or, Xor}
-use Rattle.state_sets.specs.StateSets.{AreJoins}
+-- The set read from the table of the operation has exactly the joins.
 use Rattle.state_sets.specs.FourStates.{four_states}
-use Rattle.state_sets.proofs.FourSets.{joins_within, are_joins}
+use Rattle.state_sets.specs.FourLaws.{four_laws}
+use Rattle.state_sets.proofs.OpTables.{joins_place, joins_within, are_joins}
+use Rattle.state_sets.proofs.FourTables.{four_tables, four_tables_are}
 use Rattle.state_sets.proofs.four_states.FourStatesAlgebra.join_sets.Goals as goal
 
-pub returns-in-And-clause-within : goal.returns-in-And-clause-within
-returns-in-And-clause-within c =
-    joins_within And c.args.a c.args.b c.requires.first c.requires.second c.set_in.result c.set_in.ensures
+pub number_at-requires : goal.number_at-requires
+number_at-requires c = joins_place four_states four_laws four_tables four_tables_are c.args.op c.args.a c.args.b c.requires.first c.requires.second c.table_of-table.result.now c.table_of-table.ensures
 
-pub returns-in-And-clause-joins : goal.returns-in-And-clause-joins
-returns-in-And-clause-joins c =
-    subst (λ (op : Op). AreJoins four_states op c.args.a c.args.b c.set_in.result) (sym c.in-And.is)
-    (are_joins And c.args.a c.args.b c.requires.first c.requires.second c.set_in.result c.set_in.ensures)
+pub returns-clause-within : goal.returns-clause-within
+returns-clause-within c =
+    joins_within four_states four_laws four_tables four_tables_are c.args.op c.args.a c.args.b c.requires.first c.requires.second c.table_of-table.result.now c.table_of-table.ensures
+    c.number_at.result c.number_at.ensures
 
-pub returns-in-Or-clause-within : goal.returns-in-Or-clause-within
-returns-in-Or-clause-within c =
-    joins_within Or c.args.a c.args.b c.requires.first c.requires.second c.set_in-in-Or.result c.set_in-in-Or.ensures
-
-pub returns-in-Or-clause-joins : goal.returns-in-Or-clause-joins
-returns-in-Or-clause-joins c =
-    subst (λ (op : Op). AreJoins four_states op c.args.a c.args.b c.set_in-in-Or.result) (sym c.in-Or.is)
-    (are_joins Or c.args.a c.args.b c.requires.first c.requires.second c.set_in-in-Or.result c.set_in-in-Or.ensures)
-
-pub returns-in-Xor-clause-within : goal.returns-in-Xor-clause-within
-returns-in-Xor-clause-within c =
-    joins_within Xor c.args.a c.args.b c.requires.first c.requires.second c.set_in-in-Xor.result c.set_in-in-Xor.ensures
-
-pub returns-in-Xor-clause-joins : goal.returns-in-Xor-clause-joins
-returns-in-Xor-clause-joins c =
-    subst (λ (op : Op). AreJoins four_states op c.args.a c.args.b c.set_in-in-Xor.result) (sym c.in-Xor.is)
-    (are_joins Xor c.args.a c.args.b c.requires.first c.requires.second c.set_in-in-Xor.result c.set_in-in-Xor.ensures)
+pub returns-clause-joins : goal.returns-clause-joins
+returns-clause-joins c =
+    are_joins four_states four_laws four_tables four_tables_are c.args.op c.args.a c.args.b c.requires.first c.requires.second c.table_of-table.result.now c.table_of-table.ensures
+    c.number_at.result c.number_at.ensures

@@ -1,35 +1,20 @@
--- The set read from the table of the operation is within the four states, and has exactly the states that support the target.
-use Rattle.std.proofs.Common.{sym, subst}
-use Rattle.netlist.specs.declared.op.Op.{Op}
-use Rattle.netlist.specs.declared.op.Op.TheVariants.{And, Or, Xor}
-use Rattle.state_sets.specs.StateSets.{AreSupporting}
+-- The set read from the table of the operation has exactly the states that support the target.
 use Rattle.state_sets.specs.FourStates.{four_states}
-use Rattle.state_sets.proofs.FourSets.{supports_within, are_supporting}
+use Rattle.state_sets.specs.FourLaws.{four_laws}
+use Rattle.state_sets.proofs.OpTables.{supports_place, supports_within, are_supporting}
+use Rattle.state_sets.proofs.FourTables.{four_tables, four_tables_are}
 use Rattle.state_sets.proofs.four_states.FourStatesAlgebra.supporting.Goals as goal
 
-pub returns-in-And-clause-within : goal.returns-in-And-clause-within
-returns-in-And-clause-within c =
-    supports_within And c.args.rest c.args.target c.requires.rest c.requires.target c.set_in.result c.set_in.ensures
+pub number_at-requires : goal.number_at-requires
+number_at-requires c =
+    supports_place four_states four_laws four_tables four_tables_are c.args.op c.args.rest c.args.target c.requires.rest c.requires.target c.table_of-table.result.now c.table_of-table.ensures
 
-pub returns-in-And-clause-supports : goal.returns-in-And-clause-supports
-returns-in-And-clause-supports c =
-    subst (λ (op : Op). AreSupporting four_states op c.args.rest c.args.target c.set_in.result) (sym c.in-And.is)
-    (are_supporting And c.args.rest c.args.target c.requires.rest c.requires.target c.set_in.result c.set_in.ensures)
+pub returns-clause-within : goal.returns-clause-within
+returns-clause-within c =
+    supports_within four_states four_laws four_tables four_tables_are c.args.op c.args.rest c.args.target c.requires.rest c.requires.target c.table_of-table.result.now
+    c.table_of-table.ensures c.number_at.result c.number_at.ensures
 
-pub returns-in-Or-clause-within : goal.returns-in-Or-clause-within
-returns-in-Or-clause-within c =
-    supports_within Or c.args.rest c.args.target c.requires.rest c.requires.target c.set_in-in-Or.result c.set_in-in-Or.ensures
-
-pub returns-in-Or-clause-supports : goal.returns-in-Or-clause-supports
-returns-in-Or-clause-supports c =
-    subst (λ (op : Op). AreSupporting four_states op c.args.rest c.args.target c.set_in-in-Or.result) (sym c.in-Or.is)
-    (are_supporting Or c.args.rest c.args.target c.requires.rest c.requires.target c.set_in-in-Or.result c.set_in-in-Or.ensures)
-
-pub returns-in-Xor-clause-within : goal.returns-in-Xor-clause-within
-returns-in-Xor-clause-within c =
-    supports_within Xor c.args.rest c.args.target c.requires.rest c.requires.target c.set_in-in-Xor.result c.set_in-in-Xor.ensures
-
-pub returns-in-Xor-clause-supports : goal.returns-in-Xor-clause-supports
-returns-in-Xor-clause-supports c =
-    subst (λ (op : Op). AreSupporting four_states op c.args.rest c.args.target c.set_in-in-Xor.result) (sym c.in-Xor.is)
-    (are_supporting Xor c.args.rest c.args.target c.requires.rest c.requires.target c.set_in-in-Xor.result c.set_in-in-Xor.ensures)
+pub returns-clause-supports : goal.returns-clause-supports
+returns-clause-supports c =
+    are_supporting four_states four_laws four_tables four_tables_are c.args.op c.args.rest c.args.target c.requires.rest c.requires.target c.table_of-table.result.now
+    c.table_of-table.ensures c.number_at.result c.number_at.ensures
