@@ -1,5 +1,5 @@
 -- A search whose tree is whole: what it answers, and how many conflicts were counted.
-use Rattle.std.proofs.Common.{◌≡◌, ℕ, ◌+◌, ◌-◌, ◌*◌, ◌<◌, ◌≤◌, ◌^◌, inl, inr, ⊎_elim, List, [], ◌∷◌, length, map, Option, Some, None, Result, Ok, Err, sym, ap, ◌∙◌, subst, arith}
+use Rattle.std.proofs.Common.{◌≡◌, ℕ, ◌+◌, ◌-◌, ◌*◌, ◌<◌, ◌≤◌, ◌^◌, inl, inr, ⊎_elim, List, [], ◌∷◌, length, map, Option, Some, None, Result, Ok, Err, true, refl, sym, ap, ◌∙◌, subst, arith}
 use Rattle.std.specs.Prelude.{IfOk, IfSome, IfNone, count_by}
 use Rattle.std.proofs.lemmas.Bool.{cases_lt}
 use Rattle.std.proofs.lemmas.List.Sums.{count_by-le-length}
@@ -23,7 +23,7 @@ use Rattle.justify.specs.declared.answer.Found.TheVariants.{Test, Refuted, Spent
 use Rattle.justify.specs.declared.growing.Growth.{Growth}
 use Rattle.justify.specs.declared.task.Task.{Task}
 use Rattle.justify.specs.Answers.{IsFound, HasCounted, CountsConflicts, IsOutcomeOf, IsTestFor, is_closed}
-use Rattle.justify.specs.Ends.{IsEnd, IsAnswerOf, IsReplacedBy}
+use Rattle.justify.specs.Ends.{IsEnd, IsAnswerOf, IsReplacedBy, is_spent}
 use Rattle.justify.specs.Growths.{DueTree, IsGrowing}
 use Rattle.justify.specs.Searches.{IsGrowthOf}
 use Rattle.justify.specs.Tasks.{task_target}
@@ -94,6 +94,39 @@ counts_same budget (Refuted tree) old new last same counts = ⊎_elim
 counts_same budget (Spent tree) old new last same counts = ⊎_elim
     (λ (so_many : old.closings + (2 * budget + 1) ≤ new.closings). inl (omega (arith, so_many, same)))
     (λ (all : 2 ^ 64 - 1 ≤ new.closings). inr (omega (arith, all, same))) counts
+
+-- the count alone matters, and one that has not fallen before
+pub counts_after : {E : Type 0} (budget : ℕ) (old new last : Standing) → last.closings ≡ new.closings → (ended : Result Found E)
+    → IfOk ended (λ found. CountsConflicts budget found old new) → IfOk ended (λ found. CountsConflicts budget found old last)
+counts_after budget old new last same (Err error) counts = tt
+counts_after budget old new last same (Ok found) counts = counts_same budget found old new last same counts
+
+counted_before : (n : ℕ) (first old new : Standing) → first.closings ≤ old.closings → HasCounted n old new → HasCounted n first new
+counted_before n first old new later counted = ⊎_elim
+    (λ (so_many : old.closings + n ≤ new.closings). inl (omega (arith, so_many, later)))
+    (λ (all : 2 ^ 64 - 1 ≤ new.closings). inr all) counted
+
+pub counts_before : {E : Type 0} (budget : ℕ) (first old new : Standing) → first.closings ≤ old.closings → (ended : Result Found E)
+    → IfOk ended (λ found. CountsConflicts budget found old new) → IfOk ended (λ found. CountsConflicts budget found first new)
+counts_before budget first old new later (Err error) counts = tt
+counts_before budget first old new later (Ok (Test pair)) counts = tt
+counts_before budget first old new later (Ok (Refuted tree)) counts = counted_before (count_by is_closed tree) first old new later counts
+counts_before budget first old new later (Ok (Spent tree)) counts = counted_before (2 * budget + 1) first old new later counts
+
+-- a tree with fewer splits than the budget is an answer where it did not spend them
+module _ (splits budget : ℕ) where
+  pub turn_found : (c : Circuit) (rules : Rules) (target : Target) → splits ≤ budget → (found : Found) → (is_spent found ≡ true → splits ≡ budget)
+      → IsFound c rules target splits found → IsFound c rules target budget found
+  turn_found c rules target few (Test pair) same is = is
+  turn_found c rules target few (Refuted tree) same is = (is.0, let within = is.1 in omega (arith, within, few))
+  turn_found c rules target few (Spent tree) same is = let P : ℕ → Type 0 = λ n. IsSpent c rules target n tree in subst P (same refl) is
+
+  pub turn_counts : (found : Found) → (is_spent found ≡ true → splits ≡ budget) → (old new : Standing)
+      → CountsConflicts splits found old new → CountsConflicts budget found old new
+  turn_counts (Test pair) same old new counts = tt
+  turn_counts (Refuted tree) same old new counts = counts
+  turn_counts (Spent tree) same old new counts =
+      let P : ℕ → Type 0 = λ n. HasCounted (2 * n + 1) old new in subst P (same refl) counts
 
 -- the answer of a growth
 module _ (a : StateAlgebra) (task : Task) (old new : Standing) (growth : Growth) where

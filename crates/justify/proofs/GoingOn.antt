@@ -1,7 +1,7 @@
 -- A visit of a place: how the search goes on where the place is shut out, and where a trial has failed there.
 use Rattle.std.proofs.Common.{◌≡◌, ℕ, ◌<◌, ◌≤◌, List, [], ◌∷◌, ◌++◌, length, take, reverse, Option, Some, None, Result, Ok, Err, refl, sym}
 use Rattle.std.proofs.Common.{ap, ◌∙◌, subst}
-use Rattle.std.specs.Prelude.{IfOk}
+use Rattle.std.specs.Prelude.{IfOk, IsSome, is_some}
 use Rattle.std.proofs.lemmas.List.{length_push, length-take}
 use Rattle.pd_base.specs.Pair.{Vectors}
 use Rattle.pd_base.specs.Target.{Target}
@@ -37,6 +37,17 @@ use Rattle.justify.proofs.Placing.{IsNext, next_place}
 use Rattle.justify.proofs.Visits.{growing_same, shut_under_way, shut_growing, entered_at_node, last_under_way, extended_growing}
 use Rattle.justify.proofs.Visits.{extended_by_one, extended_left}
 
+-- the search goes on with another desk that serves
+pub other_desk : (a : StateAlgebra) (task : Task) (standing : Standing) (desk later : Desk) (places : List Place) (growth : Growth)
+    → IsSearching a task standing desk places growth → IsDesk a standing.net standing.rules task.path.now later
+    → IsSearching a task standing later places growth
+other_desk a task standing desk later places growth searching serves = record {
+  suits = searching.suits;
+  under_way = searching.under_way;
+  serves = serves;
+  growing = searching.growing;
+}
+
 module _ (a : StateAlgebra) (task : Task) (old : Standing) (desk : Desk) (growth : Growth) (place : Place)
     (searching : IsSearching a task old desk (place ∷ reverse growth.places.items) growth) where
   abbrev target : Target
@@ -64,6 +75,9 @@ module _ (a : StateAlgebra) (task : Task) (old : Standing) (desk : Desk) (growth
 
   pub next_within : IsWithin a.count place.set
   next_within = next.here.within
+
+  pub next_begun : IsSome old.beginning
+  next_begun = ap is_some searching.under_way.beginning
 
   pub next_open : IsOpenIn a (back_at old place.mark.at)
   next_open =

@@ -1,5 +1,5 @@
 -- A scope that is restored stands at the same node: what holds of the one standing holds of the other.
-use Rattle.std.proofs.Common.{◌≡◌, ℕ, List, Option, Some, None, Result, Ok, Err, sym, ap, ◌∙◌, subst}
+use Rattle.std.proofs.Common.{◌≡◌, ℕ, List, Option, Some, None, Result, Ok, Err, refl, sym, ap, ◌∙◌, subst}
 use Rattle.std.specs.Prelude.{IfOk}
 use Rattle.pd_base.specs.Pair.{Vectors}
 use Rattle.pd_base.specs.Target.{Target}
@@ -15,12 +15,13 @@ use Rattle.implication.specs.declared.assumption.Beginning.{Beginning}
 use Rattle.implication.specs.declared.assumption.Assumption.{Assumption}
 use Rattle.implication.specs.Assumptions.{entered_pins}
 use Rattle.implication.specs.Clients.{IsRestored}
-use Rattle.implication.specs.Standing.{Standing, IsHullFrom, IsLabels, IsOpenFrom}
+use Rattle.implication.specs.Standing.{Standing, IsHullFrom, IsLabels, IsOpenFrom, IsOpenIn}
 use Rattle.implication.specs.NodeScopes.{StandsAtNode, AllowAsNode}
+use Rattle.justify.specs.Scoping.{IsStart}
 use Rattle.justify.specs.Tests.{IsFitTest}
 use Rattle.justify.specs.Trying.{HasFailed, IsTrialOf, HasLeast, IsSingle}
 use Rattle.implication.proofs.ScopeLabels.{there_too}
-use Rattle.justify.proofs.Orders.{no_less}
+use Rattle.justify.proofs.Orders.{at_least, no_less}
 use Rattle.justify.proofs.Resting.{counted_before}
 
 -- the same circuit, rules, beginning, assumptions and conflict
@@ -60,6 +61,35 @@ restored_trans first middle last one two = record {
   later = no_less first.closings middle.closings last.closings one.later two.later;
 }
 
+-- what nothing was done to is restored
+pub restored_itself : (standing : Standing) → IsRestored standing standing
+restored_itself standing = record {
+  net = refl;
+  rules = refl;
+  ends = refl;
+  beginning = refl;
+  assumptions = refl;
+  conflict = refl;
+  later = at_least standing.closings standing.closings refl;
+}
+
+-- a search can start again where the scope was restored
+pub start_restored : (target : Target) (first last : Standing) → IsRestored first last → IsStart target first → IsStart target last
+start_restored target first last restored start = record {
+  beginning = restored.beginning ∙ start.beginning;
+  entered = restored.assumptions ∙ start.entered;
+  free = restored.conflict ∙ start.free;
+}
+
+-- and no line is left without a state there
+pub open_stays : (a : StateAlgebra) (first last : Standing) → IsSameNode first last → IsOpenIn a first → IsOpenIn a last
+open_stays a first last same left_open =
+    let P : Circuit → Rules → Type 0 = λ c rules. IsOpenFrom a c rules first.beginning first.assumptions in
+    let Q : Option Beginning → Type 0 = λ o. IsOpenFrom a last.net last.rules o first.assumptions in
+    let R : List Assumption → Type 0 = λ list. IsOpenFrom a last.net last.rules last.beginning list in
+    subst R (sym same.assumptions) (subst Q (sym same.beginning)
+    (there_too P first.net last.net first.rules last.rules (sym same.net) (sym same.rules) left_open))
+
 module _ (a : StateAlgebra) (target : Target) (first last : Standing) (same : IsSameNode first last) where
   -- the labels are the same
   pub same_labels : (labels : List StateSet) → IsLabels a first labels → IsLabels a last labels
@@ -96,12 +126,7 @@ module _ (a : StateAlgebra) (target : Target) (first last : Standing) (same : Is
     beginning = same.beginning ∙ node.beginning;
     entered = ap entered_pins same.assumptions ∙ node.entered;
     free = same.conflict ∙ node.free;
-    left_open =
-        let P : Circuit → Rules → Type 0 = λ c rules. IsOpenFrom a c rules first.beginning first.assumptions in
-        let Q : Option Beginning → Type 0 = λ o. IsOpenFrom a last.net last.rules o first.assumptions in
-        let R : List Assumption → Type 0 = λ list. IsOpenFrom a last.net last.rules last.beginning list in
-        subst R (sym same.assumptions) (subst Q (sym same.beginning)
-        (there_too P first.net last.net first.rules last.rules (sym same.net) (sym same.rules) node.left_open));
+    left_open = open_stays a first last same node.left_open;
   }
 
 -- least states stay the least ones

@@ -1,5 +1,5 @@
 -- What a search ends with, in words that are spoken inside this crate alone (this project's own).
-use Rattle.std.specs.Prelude.{◌≡◌, List, Option, Some, None, Result, Ok, Err}
+use Rattle.std.specs.Prelude.{◌≡◌, Bool, true, false, List, Option, Some, None, Result, Ok, Err}
 use Rattle.std.specs.List.{Contains}
 use Rattle.pd_base.specs.Pair.{Vectors}
 use Rattle.trees.specs.declared.tree.Node.{Node}
@@ -12,6 +12,12 @@ abbrev pub IsEnd : List Node → Found → Type 0
 IsEnd nodes (Test pair) = ⊥
 IsEnd nodes (Refuted tree) = (tree ≡ nodes) × (Contains nodes Waiting → ⊥)
 IsEnd nodes (Spent tree) = (tree ≡ nodes) × Contains nodes Waiting
+
+-- whether it is a tree that spent its splits
+abbrev pub is_spent : Found → Bool
+is_spent (Test pair) = false
+is_spent (Refuted tree) = false
+is_spent (Spent tree) = true
 
 -- the test that a growth found, or the tree of these nodes where it found none
 abbrev pub IsAnswerOf : {E : Type 0} → Result (Option Vectors) E → List Node → Found → Type 0

@@ -1,9 +1,9 @@
 -- The growth of a tree on a scope, in words that are spoken inside this crate alone (this project's own).
-use Rattle.std.specs.Prelude.{◌≡◌, ℕ, ◌+◌, ◌<◌, ◌≤◌, ◌↔◌, Bool, true, false, List, [], ◌∷◌, ◌++◌, length, take, map, All, AllPairs, Contains}
+use Rattle.std.specs.Prelude.{◌≡◌, ℕ, ◌+◌, ◌<◌, ◌≤◌, ◌↔◌, Bool, true, false, List, [], ◌∷◌, ◌++◌, length, take, map, All, AllPairs, Contains, None, IsSome}
 use Rattle.pd_base.specs.Target.{Target}
 use Rattle.pd_base.specs.declared.ids.LineId.{LineId}
 use Rattle.pd_base.specs.declared.rules.Rules.{Rules}
-use Rattle.netlist.specs.Circuit.{Circuit}
+use Rattle.netlist.specs.Circuit.{Circuit, source_count}
 use Rattle.state_sets.specs.declared.state.State.{State}
 use Rattle.state_sets.specs.declared.state.StateSet.{StateSet}
 use Rattle.state_sets.specs.States.{Has, IsWithin, all_states}
@@ -19,7 +19,7 @@ use Rattle.trees.specs.Growing.{split_node, Grows}
 use Rattle.implication.specs.declared.assumption.Assumption.{Assumption}
 use Rattle.implication.specs.declared.scope.ScopeMark.{ScopeMark}
 use Rattle.implication.specs.Assumptions.{entered_pins, MayUnder, ClosesUnder}
-use Rattle.implication.specs.Standing.{Standing, IsOpenIn, IsEmptiedIn}
+use Rattle.implication.specs.Standing.{Standing, IsTold, IsOpenIn, IsEmptiedIn}
 use Rattle.implication.specs.Moves.{with_assumed, grown, back_at, risen}
 use Rattle.implication.specs.NodeScopes.{beginning_of, AllowSame}
 use Rattle.justify.specs.declared.choosing.Split.{Split}
@@ -103,6 +103,17 @@ pub record IsGrowing (a : StateAlgebra) (c : Circuit) (rules : Rules) (target : 
   pub counted : split_count nodes ≡ splits
   pub within : splits ≤ budget
   pub waits : Contains nodes Waiting → splits ≡ budget
+
+-- a scope that may go back to this length, where no conflict stands, can go back to the mark of the place and assume its set there
+pub record CanEnter (a : StateAlgebra) (start : ℕ) (place : Place) (standing : Standing) : Type 0 where
+  pub late : start ≤ place.mark.at
+  pub reached : place.mark.at ≤ length standing.assumptions
+  pub is_source : place.source.0 < source_count standing.net
+  pub told : IsTold standing place.source.0
+  pub within : IsWithin a.count place.set
+  pub begun : IsSome standing.beginning
+  pub free : standing.conflict ≡ None
+  pub left_open : IsOpenIn a (back_at standing place.mark.at)
 
 -- the scope went back to the mark of the place and assumed its set, and each line has some state left
 pub record IsEntered (a : StateAlgebra) (place : Place) (old new : Standing) : Type 0 where

@@ -4,6 +4,7 @@ use Rattle.std.specs.Prelude.{◌≡◌, ◌+◌, ◌*◌, ◌-◌, ◌≤◌, L
 use Rattle.pd_base.specs.Pair.{Vectors}
 use Rattle.state_sets.specs.StateAlgebra.{StateAlgebra}
 use Rattle.trees.specs.declared.tree.Node.TheVariants.{Closed}
+use Rattle.implication.specs.Clients.{IsRestored}
 use Rattle.implication.specs.Moves.{risen}
 use Rattle.implication.specs.Standing.{Standing}
 use Rattle.justify.specs.declared.desk.Desk.{Desk}
@@ -34,6 +35,11 @@ pub record SearchGoesOn (a : StateAlgebra) (task : Task) (old new : Standing) (d
   pub under_way : IsUnderWay (task_target task) new
   pub serves : IsDesk a new.net new.rules task.path.now desk
   pub later : old.closings ≤ new.closings
+
+-- the scope is as it was, but for conflicts that were counted, and the desk is still the path's
+pub record LeavesSearch (a : StateAlgebra) (task : Task) (old new : Standing) (desk : Desk) : Type 0 where
+  pub restored : IsRestored old new
+  pub serves : IsDesk a old.net old.rules task.path.now desk
 
 -- the tree has one node more, a conflict was counted, and less is left to do
 pub record AddsNode (a : StateAlgebra) (task : Task) (old new : Standing) (before after : Growth) : Type 0 where

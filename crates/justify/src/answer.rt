@@ -1,4 +1,7 @@
 // What a search ends with.
+ghost use Rattle.std.specs.Prelude.{◌≡◌};
+ghost use Rattle.justify.specs.Ends.{is_spent};
+
 use pd_base::Pair;
 use trees::Tree;
 
@@ -19,8 +22,10 @@ impl Found {
         matches!(self, Found::Refuted(_))
     }
 
-    // Whether the budget was spent.
-    pub(crate) fn is_spent(&self) -> bool {
+    // Whether it is a tree that spent its splits.
+    pub(crate) fn is_spent(&self) -> bool
+        ensures { result ≡ is_spent self.now }
+    {
         matches!(self, Found::Spent(_))
     }
 }

@@ -1,26 +1,30 @@
-// The way of a scope from one place of a tree to the next.
-ghost use Rattle.std.specs.Prelude.{◌≡◌, ◌<◌, ◌≤◌, false, None, IsSome, IsTrue, length};
-ghost use Rattle.netlist.specs.Circuit.{source_count};
-ghost use Rattle.state_sets.specs.States.{IsWithin};
-ghost use Rattle.implication.specs.Standing.{IsOpenIn, IsTold};
-ghost use Rattle.implication.specs.Moves.{back_at, start_at};
+// The way of a scope from one place of a tree to the next. A conflict that comes there makes sources heavier, where a tree goes by weights.
+ghost use Rattle.std.specs.Prelude.{◌≡◌, ◌<◌, ◌≤◌, false, IsTrue, length};
+ghost use Rattle.netlist.specs.Circuit.{line_count};
+ghost use Rattle.netlist.specs.Paths.{IsPrefix};
+ghost use Rattle.implication.specs.Moves.{start_at};
 ghost use Rattle.implication.specs.Scopes.{IsSameScope, standing};
-ghost use Rattle.justify.specs.Growths.{IsEntered, IsShut};
+ghost use Rattle.justify.specs.Desks.{IsDesk};
+ghost use Rattle.justify.specs.Growths.{CanEnter, IsEntered, IsShut};
 
+use crate::desk::Desk;
 use crate::growing::Place;
+use crate::task::{Splitting, Task};
 use implication::{Scope, Setting};
+use search_hints::Sight;
 use state_sets::Algebra;
 
 // Goes back to the mark of a place, and assumes its set. Where a conflict comes, that is taken back.
-pub(crate) fn enter<A: Algebra, S: Setting>(scope: &mut Scope<A, S>, place: Place) -> bool
-    requires start { start_at scope.old.origin ≤ place.mark.at }
-    requires now { place.mark.at ≤ length (standing scope.old).assumptions }
-    requires source { place.source.0 < source_count (standing scope.old).net }
-    requires told { IsTold (standing scope.old) place.source.0 }
-    requires set { IsWithin A.algebra.count place.set }
-    requires begun { IsSome (standing scope.old).beginning }
-    requires free { (standing scope.old).conflict ≡ None }
-    requires left_open { IsOpenIn A.algebra (back_at (standing scope.old) place.mark.at) }
+pub(crate) fn enter<A: Algebra, S: Setting>(
+    scope: &mut Scope<A, S>,
+    task: &Task,
+    desk: &mut Desk,
+    place: Place,
+) -> bool
+    requires can { CanEnter A.algebra (start_at scope.old.origin) place (standing scope.old) }
+    requires prefix { IsPrefix (standing scope.old).net task.now.path.now }
+    requires desk { IsDesk A.algebra (standing scope.old).net (standing scope.old).rules task.now.path.now desk.old }
+    ensures desk { IsDesk A.algebra (standing scope.old).net (standing scope.old).rules task.now.path.now desk.new }
     ensures scope { IsSameScope scope.old scope.new }
     ensures entered { IsTrue result → IsEntered A.algebra place (standing scope.old) (standing scope.new) }
     ensures later { (standing scope.old).closings ≤ (standing scope.new).closings }
@@ -30,6 +34,25 @@ pub(crate) fn enter<A: Algebra, S: Setting>(scope: &mut Scope<A, S>, place: Plac
     if scope.assume(place.source, place.set).is_ok() {
         return true;
     }
+    weigh(scope, task, desk);
     scope.back_to(place.mark);
     false
+}
+
+// Makes the sources heavier on which the conflict rests that stands, where the tree goes by weights.
+fn weigh<A: Algebra, S: Setting>(scope: &Scope<A, S>, task: &Task, desk: &mut Desk)
+    requires prefix { IsPrefix (standing scope.now).net task.now.path.now }
+    requires desk { IsDesk A.algebra (standing scope.now).net (standing scope.now).rules task.now.path.now desk.old }
+    ensures { IsDesk A.algebra (standing scope.now).net (standing scope.now).rules task.now.path.now desk.new }
+{
+    if task.splitting == Splitting::ByBacktrace {
+        return;
+    }
+    let sight = Sight {
+        net: scope.net(),
+        labels: scope.labels(),
+        liked: desk.liked.as_slice(),
+    };
+    desk.justifier
+        .weigh::<A>(&sight, scope.changes(), &desk.cone, task.path, task.kind);
 }

@@ -1,5 +1,5 @@
 // The search itself: depth first, one node after another in preorder, each with its assumptions on the scope.
-ghost use Rattle.std.specs.Prelude.{◌≡◌, ◌<◌, ◌≤◌, [], All, IfOk, IfSome, IsTrue, length, reverse};
+ghost use Rattle.std.specs.Prelude.{◌≡◌, ◌<◌, ◌≤◌, [], true, false, All, IfOk, IfSome, IsTrue, length, reverse};
 ghost use Rattle.pd_base.specs.Target.{target_of};
 ghost use Rattle.pd_base.specs.declared.limits.TheConstants.{MOST_BUDGET};
 ghost use Rattle.netlist.specs.Paths.{IsPrefix};
@@ -10,8 +10,9 @@ ghost use Rattle.implication.specs.Scopes.{IsSameScope, standing};
 ghost use Rattle.implication.specs.Clients.{IsRestored};
 ghost use Rattle.justify.specs.Answers.{IsFound, CountsConflicts, IsOutcomeOf};
 ghost use Rattle.justify.specs.Desks.{IsDeskFor, IsDesk};
+ghost use Rattle.justify.specs.Ends.{is_spent};
 ghost use Rattle.justify.specs.Scoping.{IsStart, SuitsSearch};
-ghost use Rattle.justify.specs.Searches.{IsSearching, SearchGoesOn, IsGrowthOf};
+ghost use Rattle.justify.specs.Searches.{IsSearching, SearchGoesOn, LeavesSearch, IsGrowthOf};
 ghost use Rattle.justify.specs.Tasks.{task_target};
 ghost use Rattle.justify.specs.Tests.{IsFitTest};
 ghost use Rattle.trees.specs.Unlinked.{IsUnlinked};
@@ -20,7 +21,7 @@ use crate::Found;
 use crate::desk::Desk;
 use crate::ending::{answer, or_test};
 use crate::growing::Growth;
-use crate::task::Task;
+use crate::task::{Splitting, Task};
 use crate::trying::judge_states;
 use crate::visiting::visit;
 use implication::{Scope, Setting};
@@ -92,14 +93,13 @@ pub fn search_at<A: Algebra, S: Setting>(
         dir,
         kind,
         budget,
+        splitting: Splitting::ByBacktrace,
     };
-    let mark = scope.mark();
     let ended = find(alloc, scope, &task, desk);
-    scope.back_to(mark);
     conclude(alloc, scope, &task, desk, ended)
 }
 
-// The same, and leaves what was assumed.
+// The same, but for what is looked for where the budget of a nonrobust search was spent.
 fn find<A: Algebra, S: Setting>(
     alloc: Global,
     scope: &mut Scope<A, S>,
@@ -112,14 +112,17 @@ fn find<A: Algebra, S: Setting>(
     requires budget { task.now.budget ≤ MOST_BUDGET }
     requires desk { IsDeskFor A.algebra (standing scope.old).net (standing scope.old).rules desk.old }
     ensures scope { IsSameScope scope.old scope.new }
-    ensures goes_on { SearchGoesOn A.algebra task.now (standing scope.old) (standing scope.new) desk.new }
+    ensures left { LeavesSearch A.algebra task.now (standing scope.old) (standing scope.new) desk.new }
     ensures found { IfOk result (IsFound (standing scope.old).net (standing scope.old).rules (task_target task.now) task.now.budget) }
     ensures counted { IfOk result (λ found. CountsConflicts task.now.budget found (standing scope.old) (standing scope.new)) }
 {
     desk.cone.set_end(scope.net(), scope.last_line());
     match propose(alloc, scope, task, desk)? {
-        Some(pair) => Ok(Found::Test(pair)),
-        None => split_cases(alloc, scope, task, desk),
+        Some(pair) => {
+            desk.justifier.learn_tree(task.kind, false);
+            Ok(Found::Test(pair))
+        }
+        None => split_in_turns(alloc, scope, task, desk),
     }
 }
 
@@ -237,8 +240,87 @@ fn are_source_states<A: Algebra>(sources: &[LineId], states: &[State]) -> bool
     true
 }
 
-// Grows a tree of cases from its root, until a test is found or the tree is whole.
+// Grows two trees in turn: one by weights that has few splits, and where it spent them and more are left of the budget, one by backtrace
+// that may have the whole budget. What the first one came to is dropped then.
+fn split_in_turns<A: Algebra, S: Setting>(
+    alloc: Global,
+    scope: &mut Scope<A, S>,
+    task: &Task,
+    desk: &mut Desk,
+) -> Result<Found, OutOfMemory>
+    requires suits { SuitsSearch A.algebra (task_target task.now) (standing scope.old) }
+    requires start { IsStart (task_target task.now) (standing scope.old) }
+    requires left_open { IsOpenIn A.algebra (standing scope.old) }
+    requires budget { task.now.budget ≤ MOST_BUDGET }
+    requires desk { IsDesk A.algebra (standing scope.old).net (standing scope.old).rules task.now.path.now desk.old }
+    ensures scope { IsSameScope scope.old scope.new }
+    ensures left { LeavesSearch A.algebra task.now (standing scope.old) (standing scope.new) desk.new }
+    ensures found { IfOk result (IsFound (standing scope.old).net (standing scope.old).rules (task_target task.now) task.now.budget) }
+    ensures counted { IfOk result (λ found. CountsConflicts task.now.budget found (standing scope.old) (standing scope.new)) }
+{
+    let splits = splits_by_weight(task, desk);
+    let first = Task {
+        path: task.path,
+        dir: task.dir,
+        kind: task.kind,
+        budget: splits,
+        splitting: Splitting::ByWeight,
+    };
+    desk.justifier
+        .begin_tree(&desk.cone, scope.labels(), scope.changes().len());
+    let found = split_cases(alloc, scope, &first, desk)?;
+    desk.justifier.learn_tree(task.kind, found.is_spent());
+    if is_dropped(&found, splits, task.budget) {
+        return split_cases(alloc, scope, task, desk);
+    }
+    Ok(found)
+}
+
+// How many splits the tree by weights may have: so many as pay, as far as the budget goes.
+fn splits_by_weight(task: &Task, desk: &Desk) -> u32
+    ensures { result ≤ task.now.budget }
+{
+    let most = desk.justifier.splits_by_weight(task.kind);
+    if most < task.budget {
+        most
+    } else {
+        task.budget
+    }
+}
+
+// Whether a tree is dropped that was to have so many splits: it spent them, and more are left of the budget.
+fn is_dropped(found: &Found, splits: u32, budget: u32) -> bool
+    requires { splits ≤ budget }
+    ensures { result ≡ false → is_spent found.now ≡ true → splits ≡ budget }
+{
+    found.is_spent() && splits < budget
+}
+
+// Grows a tree of cases from its root, until a test is found or the tree is whole, and goes back to the root.
 fn split_cases<A: Algebra, S: Setting>(
+    alloc: Global,
+    scope: &mut Scope<A, S>,
+    task: &Task,
+    desk: &mut Desk,
+) -> Result<Found, OutOfMemory>
+    requires suits { SuitsSearch A.algebra (task_target task.now) (standing scope.old) }
+    requires start { IsStart (task_target task.now) (standing scope.old) }
+    requires left_open { IsOpenIn A.algebra (standing scope.old) }
+    requires budget { task.now.budget ≤ MOST_BUDGET }
+    requires desk { IsDesk A.algebra (standing scope.old).net (standing scope.old).rules task.now.path.now desk.old }
+    ensures scope { IsSameScope scope.old scope.new }
+    ensures left { LeavesSearch A.algebra task.now (standing scope.old) (standing scope.new) desk.new }
+    ensures found { IfOk result (IsFound (standing scope.old).net (standing scope.old).rules (task_target task.now) task.now.budget) }
+    ensures counted { IfOk result (λ found. CountsConflicts task.now.budget found (standing scope.old) (standing scope.new)) }
+{
+    let mark = scope.mark();
+    let ended = grow_tree(alloc, scope, task, desk);
+    scope.back_to(mark);
+    ended
+}
+
+// The same, and leaves what was assumed.
+fn grow_tree<A: Algebra, S: Setting>(
     alloc: Global,
     scope: &mut Scope<A, S>,
     task: &Task,

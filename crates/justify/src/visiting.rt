@@ -16,7 +16,7 @@ use crate::choosing::choose;
 use crate::desk::Desk;
 use crate::entering::enter;
 use crate::growing::{Growth, Place};
-use crate::task::Task;
+use crate::task::{Splitting, Task};
 use crate::trying::try_node;
 use implication::{Scope, Setting};
 use pd_base::{OutOfMemory, Pair};
@@ -43,7 +43,7 @@ pub(crate) fn visit<A: Algebra, S: Setting>(
     ensures goes_on { SearchGoesOn A.algebra task.now (standing scope.old) (standing scope.new) desk.new }
     ensures answer { IfOk result (IsVisit A.algebra task.now (standing scope.old) (standing scope.new) growth.old growth.new) }
 {
-    if enter(scope, place) {
+    if enter(scope, task, desk, place) {
         visit_node(alloc, scope, task, desk, growth, place.frontier)
     } else {
         add_closed(growth)
@@ -105,12 +105,32 @@ fn extend<A: Algebra, S: Setting>(
         growth.nodes.push(Node::Waiting)?;
         return Ok(());
     }
-    let lead = lead_from(scope, task, desk.liked.as_slice(), frontier);
+    let lead = lead_at(scope, task, desk, frontier);
     let Some(split) = choose(scope, task, desk, lead.source) else {
         unreachable!()
     };
     growth.split::<A>(split, scope.mark(), lead.frontier)?;
     Ok(())
+}
+
+// Where to split: at the heaviest source, where the tree goes by weights and one has a weight, else at the one that is led to.
+fn lead_at<A: Algebra, S: Setting>(
+    scope: &Scope<A, S>,
+    task: &Task,
+    desk: &Desk,
+    frontier: Frontier,
+) -> Lead
+    requires { length desk.now.liked.items ≡ line_count (standing scope.now).net }
+{
+    if task.splitting == Splitting::ByWeight {
+        let source = desk
+            .justifier
+            .heaviest::<A>(desk.cone.sources(), scope.labels());
+        if source.is_some() {
+            return Lead { source, frontier };
+        }
+    }
+    lead_from(scope, task, desk.liked.as_slice(), frontier)
 }
 
 // Where to split: the source that is led to from what is still open.

@@ -5,6 +5,7 @@ ghost use Rattle.std.specs.Prelude.{◌≡◌, ◌<◌, ◌≤◌, ◌⊎◌, �
 ghost use Rattle.netlist.specs.Circuit.{HasLines, line_count};
 ghost use Rattle.search_hints.specs.Blamed.{AreBlamed, AreBehind, IsSomeLine};
 
+use crate::picking::has_two;
 use cones::{FoundLines, find_reads};
 use netlist::Netlist;
 use pd_base::{LineId, OutOfMemory};
@@ -132,9 +133,4 @@ fn is_open(line: LineId, sources: u32, set: StateSet) -> bool
 // Whether the search goes on behind the line at this place: it does behind the first ones, whatever their labels are.
 fn leads_on(place: usize, first: usize, set: StateSet) -> bool {
     place < first || has_two(set)
-}
-
-// Whether a set has more than one state.
-fn has_two(set: StateSet) -> bool {
-    set.0 & set.0.wrapping_sub(1) != 0
 }

@@ -84,9 +84,7 @@ impl Culprits {
         if gate.0 >= net.gates() {
             return;
         }
-        let line = net.line_of(gate);
-        self.matters.add(line);
-        find_reads(net, line, &mut self.matters);
+        add_lines(net, gate, &mut self.matters);
     }
 
     // The conflict rests on the decision at a place, if there is one.
@@ -119,6 +117,17 @@ impl Culprits {
         }
         Ok(())
     }
+}
+
+// Adds the lines of a gate: its own, and those that it reads.
+pub(crate) fn add_lines(net: &Netlist, gate: GateId, found: &mut FoundLines)
+    requires gate { gate.0 < gate_count net.now }
+    requires room { found.old.room ≡ line_count net.now }
+    ensures { found.new.room ≡ found.old.room }
+{
+    let line = net.line_of(gate);
+    found.add(line);
+    find_reads(net, line, found);
 }
 
 // So many flags, all of them down.

@@ -3,7 +3,7 @@
 // that are not met, then the lines that its decisions changed and that are not justified, then those that were not justified at the
 // beginning; it brings a pin to what would justify them, narrows, and at a conflict goes back to the last decision on which the conflict
 // rests. It is tried with the lowest levels first, and once more with the highest first where the conflicts ran out.
-ghost use Rattle.std.specs.Prelude.{◌≡◌, [], length, IfOk};
+ghost use Rattle.std.specs.Prelude.{◌≡◌, ◌<◌, [], length, All, IfOk};
 ghost use Rattle.netlist.specs.Circuit.{line_count, HasGates, HasLines};
 ghost use Rattle.netlist.specs.Paths.{IsPrefix, end_of};
 ghost use Rattle.hulls.specs.Conditions.{IsEnteredOn};
@@ -11,19 +11,28 @@ ghost use Rattle.cones.specs.KeptCones.{IsConeFor, IsConeAt};
 ghost use Rattle.search_hints.specs.Drafts.{IsJustifierOf, IsSizedFor, IsConeIn};
 
 use crate::decisions::{Decisions, Ended, Order};
+use crate::grounds::Grounds;
 use crate::patience::Patience;
 use crate::picking::Sight;
 use crate::region::Region;
+use crate::weights::Weights;
 use cones::Cone;
 use hulls::{Conditions, enter_all};
 use netlist::Netlist;
-use pd_base::{Kind, OutOfMemory, Path};
+use pd_base::{Kind, LineId, OutOfMemory, Path};
 use state_sets::{Algebra, StateSet};
 use std::alloc::Global;
 use std::marker::Model;
+use undo_trail::Note;
 
 // The most conflicts in one order where a budget was spent.
 const MOST_CONFLICTS: u32 = 300;
+// The most conflicts of a proposal in one order before any split.
+const FIRST_CONFLICTS: u32 = 20;
+// The most splits of a tree by weights, and where that is halved the least.
+const MOST_SPLITS: u32 = 100;
+
+const LEAST_SPLITS: u32 = 6;
 
 /// How much is tried.
 #[derive(Clone, Copy)]
@@ -40,15 +49,21 @@ pub enum Effort {
 pub struct Justifier {
     conditions: Conditions,
     decisions: Decisions,
-    patience: Patience,
+    grounds: Grounds,
+    weights: Weights,
+    for_proposals: Patience,
+    for_trees: Patience,
 }
 
 impl Model for Justifier {
+    ghost use Rattle.std.specs.Prelude.{◌≡◌};
     ghost use Rattle.search_hints.specs.Drafts.{Prepared};
 
     ghost Value = { Prepared };
 
     ghost view = { λ j. record { entered = j.conditions; sizes = j.decisions } };
+
+    ghost invariant = { λ j. j.grounds ≡ j.decisions.lines };
 }
 
 impl Justifier {
@@ -57,11 +72,16 @@ impl Justifier {
         ensures { IfOk result (IsJustifierOf net.now) }
     {
         let conditions = Conditions::new(alloc, net, Kind::Robust)?;
+        let weights = Weights::new(alloc, net)?;
+        let grounds = Grounds::new(alloc, net)?;
         let decisions = Decisions::new::<A>(alloc, net)?;
         Ok(Justifier {
             conditions,
             decisions,
-            patience: Patience::new(),
+            grounds,
+            weights,
+            for_proposals: Patience::new(FIRST_CONFLICTS, 0),
+            for_trees: Patience::new(MOST_SPLITS, LEAST_SPLITS),
         })
     }
 
@@ -69,7 +89,75 @@ impl Justifier {
     pub fn learn(&mut self, kind: Kind, is_refuted: bool)
         ensures { self.new ≡ self.old }
     {
-        self.patience.learn(kind, is_refuted);
+        self.for_proposals.learn(kind, is_refuted);
+    }
+
+    /// Learns from a search for tests of a kind whether it spent the splits of its tree by weights.
+    pub fn learn_tree(&mut self, kind: Kind, is_spent: bool)
+        ensures { self.new ≡ self.old }
+    {
+        self.for_trees.learn(kind, is_spent);
+    }
+
+    /// How many splits a tree by weights may have in a search for tests of a kind.
+    pub fn splits_by_weight(&self, kind: Kind) -> u32 {
+        self.for_trees.limit(kind)
+    }
+
+    /// A tree by weights begins: the lines of the cone have these labels, and so many changes were noted.
+    pub fn begin_tree(&mut self, cone: &Cone, labels: &[StateSet], changes: usize)
+        ensures { self.new ≡ self.old }
+    {
+        self.grounds.begin(cone.lines(), labels, changes);
+    }
+
+    /// Makes the sources heavier on which a conflict rests, of those that were assumed since the tree began: `changes` are all that led to
+    /// the labels that are seen, and the last one left its line no state. The cone is that of the path's end, and the conditions are those
+    /// of the kind at the path's gates. This costs the changes since the tree began, and takes no memory.
+    pub fn weigh<A: Algebra>(
+        &mut self,
+        sight: &Sight,
+        changes: &[Note<StateSet>],
+        cone: &Cone,
+        path: &Path,
+        kind: Kind,
+    )
+        requires of { IsJustifierOf sight.now.net.now self.old }
+        requires changes { All (λ change. change.index < line_count sight.now.net.now) changes.now }
+        requires cone_for { IsConeFor sight.now.net.now cone.now }
+        requires cone_at { IsConeAt sight.now.net.now (end_of sight.now.net.now path.now) cone.now }
+        requires prefix { IsPrefix sight.now.net.now path.now }
+        ensures { IsJustifierOf sight.now.net.now self.new }
+    {
+        self.conditions.set_kind(kind);
+        enter_all(&mut self.conditions, sight.net, path);
+        self.trace::<A>(sight, changes, cone);
+        leave_all(&mut self.conditions);
+        self.weights.grow();
+    }
+
+    // The same where the conditions are entered.
+    fn trace<A: Algebra>(&mut self, sight: &Sight, changes: &[Note<StateSet>], cone: &Cone)
+        requires sizes { IsSizedFor sight.now.net.now self.old.sizes }
+        requires changes { All (λ change. change.index < line_count sight.now.net.now) changes.now }
+        requires cone { IsConeIn sight.now.net.now cone.now }
+        requires entered { IsEnteredOn sight.now.net.now self.old.entered }
+        ensures { self.new ≡ self.old }
+    {
+        let region = Region {
+            net: sight.net,
+            conditions: &self.conditions,
+            marks: cone.marks(),
+            sources: cone.sources(),
+            liked: sight.liked,
+        };
+        self.grounds
+            .trace::<A>(&region, sight.labels, changes, &mut self.weights);
+    }
+
+    /// The heaviest of these sources that by these labels can still end at either value, if any of them has a weight.
+    pub fn heaviest<A: Algebra>(&self, sources: &[LineId], labels: &[StateSet]) -> Option<LineId> {
+        self.weights.heaviest::<A>(sources, labels)
     }
 
     /// Looks for states of the cone's sources that justify the labels that all of its lines are seen with, under the conditions of a
@@ -93,7 +181,7 @@ impl Justifier {
         self.conditions.set_kind(kind);
         enter_all(&mut self.conditions, sight.net, path);
         let most_conflicts = match effort {
-            Effort::Little => self.patience.conflicts(kind),
+            Effort::Little => self.for_proposals.limit(kind),
             Effort::Much => MOST_CONFLICTS,
         };
         let found = self.decide::<A>(sight, cone, most_conflicts);

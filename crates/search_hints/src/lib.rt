@@ -10,11 +10,13 @@ mod culprits;
 mod decisions;
 mod draft;
 mod frontier;
+mod grounds;
 mod justifier;
 mod open_lines;
 mod patience;
 mod picking;
 mod region;
+mod weights;
 
 pub use blaming::Blame;
 pub use frontier::{Frontier, Lead, follow};

@@ -1,44 +1,51 @@
-// How much is tried before any split: the most that pays for each kind of tests; half as much after each search that ended in a
-// refutation, since what is searched next to it is often refuted too; and the most again after any other search.
+// How much is tried, as long as that pays: the most for each kind of tests; half as much, but not less than the least, after each search
+// in which it was in vain, since what is searched next to it is often like it; and the most again after any other search.
 use pd_base::Kind;
 
-// The most conflicts in one order.
-const MOST: u32 = 20;
-
-/// How many conflicts a proposal may take in one order, for each kind of tests.
+/// How much may be tried, for each kind of tests.
 #[derive(Clone, Copy)]
 pub(crate) struct Patience {
+    most: u32,
+    least: u32,
     robust: u32,
     nonrobust: u32,
 }
 
 impl Patience {
     // The most for each kind.
-    pub(crate) fn new() -> Patience {
+    pub(crate) fn new(most: u32, least: u32) -> Patience {
         Patience {
-            robust: MOST,
-            nonrobust: MOST,
+            most,
+            least,
+            robust: most,
+            nonrobust: most,
         }
     }
 
-    // How many conflicts a proposal for tests of a kind may take.
-    pub(crate) fn conflicts(&self, kind: Kind) -> u32 {
+    // How much may be tried for tests of a kind.
+    pub(crate) fn limit(&self, kind: Kind) -> u32 {
         match kind {
             Kind::Robust => self.robust,
             Kind::Nonrobust => self.nonrobust,
         }
     }
 
-    // Learns from a search for tests of a kind whether it ended in a refutation.
-    pub(crate) fn learn(&mut self, kind: Kind, is_refuted: bool) {
-        let next = if is_refuted {
-            self.conflicts(kind) / 2
+    // Learns from a search for tests of a kind whether it was in vain.
+    pub(crate) fn learn(&mut self, kind: Kind, was_in_vain: bool) {
+        let next = if was_in_vain {
+            self.halved(kind)
         } else {
-            MOST
+            self.most
         };
         match kind {
             Kind::Robust => self.robust = next,
             Kind::Nonrobust => self.nonrobust = next,
         }
+    }
+
+    // Half of what may be tried for tests of a kind, but not less than the least.
+    fn halved(&self, kind: Kind) -> u32 {
+        let half = self.limit(kind) / 2;
+        if half < self.least { self.least } else { half }
     }
 }

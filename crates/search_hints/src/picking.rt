@@ -33,6 +33,18 @@ pub(crate) fn without(set: StateSet, other: StateSet) -> StateSet {
     StateSet(set.0 & !other.0)
 }
 
+// Whether a set has more than one state.
+pub(crate) fn has_two(set: StateSet) -> bool {
+    set.0 & set.0.wrapping_sub(1) != 0
+}
+
+// Whether a set has a state of each last value.
+pub(crate) fn has_both_values<A: Algebra>(set: StateSet) -> bool {
+    let at_0 = set.intersect(A::ending_at(false));
+    let at_1 = set.intersect(A::ending_at(true));
+    at_0 != StateSet::EMPTY && at_1 != StateSet::EMPTY
+}
+
 // The steady states.
 fn steady_states<A: Algebra>() -> StateSet {
     A::allowed_by(SideCondition::AnySteady)

@@ -6,8 +6,9 @@ use Rattle.netlist.specs.Circuit.{Circuit, line_count}
 use Rattle.implication.specs.Scopes.{standing}
 use Rattle.cones.specs.KeptCones.{IsConeFor}
 use Rattle.justify.specs.Tasks.{task_target}
-use Rattle.justify.proofs.Orders.{at_least}
-use Rattle.justify.proofs.Starting.{start_under_way, start_desk, start_suits}
+use Rattle.justify.proofs.SameNodes.{restored_itself}
+use Rattle.justify.proofs.Starting.{start_desk, start_suits}
+use Rattle.justify.proofs.TriedSources.{kept_desk}
 use Rattle.justify.proofs.searching.find.Goals as goal
 
 pub set_end-requires-clause-made : goal.set_end-requires-clause-made
@@ -25,26 +26,24 @@ propose-requires-clause-desk g c =
     c.args.desk.now c.set_end.new.self c.net.result.now c.last_line.result.0 c.net.ensures c.last_line.ensures.end c.requires.desk
     c.set_end.ensures.made c.set_end.ensures.links c.set_end.ensures.cone
 
-pub split_cases-requires-clause-suits : goal.split_cases-requires-clause-suits
-split_cases-requires-clause-suits g c =
+pub split_in_turns-requires-clause-suits : goal.split_in_turns-requires-clause-suits
+split_in_turns-requires-clause-suits g c =
     start_suits (task_target c.args.task.now) (standing c.args.scope.now) c.requires.start c.requires.prefix g.A.Algebra.algebra
     c.args.desk.now c.last_line.result.0 c.last_line.ensures.end (c.last_line.ensures.told (ap is_some c.requires.start.beginning))
     c.requires.desk
 
-pub returns-in-Some-clause-goes_on : goal.returns-in-Some-clause-goes_on
-returns-in-Some-clause-goes_on g c = record {
-  setting = record { net = refl; rules = refl; ends = refl };
-  under_way = start_under_way (task_target c.args.task.now) (standing c.args.scope.now) c.requires.start;
-  serves = c.propose.ensures.desk;
-  later = at_least _ _ refl;
+pub returns-in-Some-clause-left : goal.returns-in-Some-clause-left
+returns-in-Some-clause-left g c = record {
+  restored = restored_itself (standing c.args.scope.now);
+  serves =
+      kept_desk g.A.Algebra.algebra (standing c.args.scope.now).net (standing c.args.scope.now).rules c.args.task.now.path.now c.propose.new.desk _
+      (record { cone = refl; states = refl; blame = refl; liked = refl; justifier = c.learn_tree.ensures }) c.propose.ensures.desk;
 }
 
-pub returns-in_err-pair-clause-goes_on : goal.returns-in_err-pair-clause-goes_on
-returns-in_err-pair-clause-goes_on g c = record {
-  setting = record { net = refl; rules = refl; ends = refl };
-  under_way = start_under_way (task_target c.args.task.now) (standing c.args.scope.now) c.requires.start;
+pub returns-in_err-pair-clause-left : goal.returns-in_err-pair-clause-left
+returns-in_err-pair-clause-left g c = record {
+  restored = restored_itself (standing c.args.scope.now);
   serves = c.propose.ensures.desk;
-  later = at_least _ _ refl;
 }
 
 pub returns-in-Some-clause-found : goal.returns-in-Some-clause-found

@@ -1,59 +1,34 @@
--- The tree grows from its root, and its end is the answer.
-use Rattle.std.proofs.Common.{◌∷◌, [], List, refl, ap, ◌∙◌, arith}
-use Rattle.std.proofs.lemmas.Grind.{common_steps}
-use Rattle.pd_base.specs.declared.ids.LineId.{LineId}
+-- Where the tree ends, going back restores the scope.
+use Rattle.std.proofs.Common.{ap}
+use Rattle.netlist.specs.Circuit.{Circuit}
+use Rattle.pd_base.specs.declared.rules.Rules.{Rules}
 use Rattle.implication.specs.Scopes.{standing}
-use Rattle.justify.specs.declared.growing.Place.{Place}
-use Rattle.justify.specs.Growths.{root_place}
+use Rattle.implication.specs.Standing.{Standing}
+use Rattle.implication.proofs.ScopeLabels.{there_too}
+use Rattle.justify.specs.Desks.{IsDesk}
 use Rattle.justify.specs.Tasks.{task_target}
-use Rattle.justify.proofs.Orders.{at_least}
-use Rattle.justify.proofs.Starting.{start_under_way, start_growing}
-use Rattle.justify.proofs.Ended.{grown_whole, grown_few, answer_found, answer_counts}
+use Rattle.justify.proofs.Ended.{counts_after}
+use Rattle.justify.proofs.Starting.{ended_restored, ended_mark}
 use Rattle.justify.proofs.searching.split_cases.Goals as goal
 
-pub returns-in_err-growth-clause-goes_on : goal.returns-in_err-growth-clause-goes_on
-returns-in_err-growth-clause-goes_on g c = record {
-  setting = record { net = refl; rules = refl; ends = refl };
-  under_way = start_under_way (task_target c.args.task.now) (standing c.args.scope.now) c.requires.start;
-  serves = c.requires.desk;
-  later = at_least _ _ refl;
-}
+pub back_to-requires-clause-now : goal.back_to-requires-clause-now
+back_to-requires-clause-now g c =
+    ended_mark (task_target c.args.task.now) (standing c.args.scope.now) (standing c.grow_tree-ended.new.scope) c.requires.start
+    c.grow_tree-ended.ensures.goes_on.under_way c.mark-mark.result.at c.mark-mark.ensures
 
-pub grow-grown-requires-clause-searching : goal.grow-grown-requires-clause-searching
-grow-grown-requires-clause-searching g c =
-    let P : LineId → List Place = λ source. root_place g.A.Algebra.algebra.count c.mark.result source ∷ [] in
+pub returns-clause-left : goal.returns-clause-left
+returns-clause-left g c =
+    let first = standing c.args.scope.now in let middle = standing c.grow_tree-ended.new.scope in
+    let goes = c.grow_tree-ended.ensures.goes_on in
+    let P : Circuit → Rules → Type 0 = λ n r. IsDesk g.A.Algebra.algebra n r c.args.task.now.path.now c.grow_tree-ended.new.desk in
     record {
-      suits = c.requires.suits;
-      under_way = start_under_way (task_target c.args.task.now) (standing c.args.scope.now) c.requires.start;
-      serves = c.requires.desk;
-      growing = start_growing (task_target c.args.task.now) (standing c.args.scope.now) c.requires.start c.requires.suits.prefix g.A.Algebra.algebra c.requires.left_open
-          c.args.task.now.budget c.mark.result c.mark.ensures c.in_ok-growth.growth c.in_ok-growth.ensures.nodes
-          (c.in_ok-growth.ensures.places ∙ ap P c.source.ensures) c.in_ok-growth.ensures.splits;
+      restored =
+          ended_restored (task_target c.args.task.now) first middle (standing c.back_to.new.self) c.requires.start goes.under_way goes.setting
+          goes.later c.mark-mark.result.at c.mark-mark.ensures c.back_to.ensures.back;
+      serves = there_too P middle.net first.net middle.rules first.rules goes.setting.net goes.setting.rules goes.serves;
     }
-
-pub grow-grown-requires-clause-origin : goal.grow-grown-requires-clause-origin
-grow-grown-requires-clause-origin g c = grind (arith, common_steps)
-
-pub answer-requires-clause-whole : goal.answer-requires-clause-whole
-answer-requires-clause-whole g c =
-    grown_whole g.A.Algebra.algebra c.args.task.now (standing c.args.scope.now) (standing c.grow-grown.new.scope) c.grow-grown.new.growth c.grow-grown.result
-    c.grow-grown.ensures.answer
-
-pub answer-requires-clause-few : goal.answer-requires-clause-few
-answer-requires-clause-few g c =
-    grown_few g.A.Algebra.algebra c.args.task.now (standing c.args.scope.now) (standing c.grow-grown.new.scope) c.grow-grown.new.growth c.requires.budget
-    c.grow-grown.result c.grow-grown.ensures.answer
-
-pub returns-clause-goes_on : goal.returns-clause-goes_on
-returns-clause-goes_on g c = c.grow-grown.ensures.goes_on
-
-pub returns-clause-found : goal.returns-clause-found
-returns-clause-found g c =
-    answer_found g.A.Algebra.algebra c.args.task.now (standing c.args.scope.now) (standing c.grow-grown.new.scope) c.grow-grown.new.growth
-    c.grow-grown.ensures.goes_on.setting.net c.grow-grown.ensures.goes_on.setting.rules
-    c.grow-grown.result c.answer.result c.grow-grown.ensures.answer c.answer.ensures
 
 pub returns-clause-counted : goal.returns-clause-counted
 returns-clause-counted g c =
-    answer_counts g.A.Algebra.algebra c.args.task.now (standing c.args.scope.now) (standing c.grow-grown.new.scope) c.grow-grown.new.growth
-    c.grow-grown.result c.answer.result c.grow-grown.ensures.answer c.answer.ensures
+    counts_after c.args.task.now.budget (standing c.args.scope.now) (standing c.grow_tree-ended.new.scope) (standing c.back_to.new.self)
+    (ap (λ (s : Standing). s.closings) c.back_to.ensures.back) c.grow_tree-ended.result c.grow_tree-ended.ensures.counted

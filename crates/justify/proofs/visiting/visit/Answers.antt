@@ -1,32 +1,26 @@
 -- The place is shut out, or the node there is visited.
 use Rattle.implication.specs.Moves.{start_at}
 use Rattle.implication.specs.Scopes.{standing}
-use Rattle.justify.proofs.GoingOn.{next_late, next_at_mark, next_at_source, next_told, next_within, next_open, shut_goes_on, shut_visited, entered_node, entered_suits, entered_desk, entered_goes_on, node_visited}
+use Rattle.justify.proofs.GoingOn.{next_late, next_at_mark, next_at_source, next_told, next_within, next_begun, next_open, other_desk, shut_goes_on, shut_visited, entered_node, entered_suits, entered_desk, entered_goes_on, node_visited}
 use Rattle.justify.proofs.visiting.visit.Goals as goal
 
-pub enter-requires-clause-start : goal.enter-requires-clause-start
-enter-requires-clause-start g c =
-    next_late g.A.Algebra.algebra c.args.task.now (standing c.args.scope.now) c.args.desk.now c.args.growth.now c.args.place c.requires.searching (start_at c.args.scope.now.origin) c.requires.origin
+pub enter-requires-clause-can : goal.enter-requires-clause-can
+enter-requires-clause-can g c = record {
+  late = next_late g.A.Algebra.algebra c.args.task.now (standing c.args.scope.now) c.args.desk.now c.args.growth.now c.args.place c.requires.searching (start_at c.args.scope.now.origin) c.requires.origin;
+  reached = next_at_mark g.A.Algebra.algebra c.args.task.now (standing c.args.scope.now) c.args.desk.now c.args.growth.now c.args.place c.requires.searching;
+  is_source = next_at_source g.A.Algebra.algebra c.args.task.now (standing c.args.scope.now) c.args.desk.now c.args.growth.now c.args.place c.requires.searching;
+  told = next_told g.A.Algebra.algebra c.args.task.now (standing c.args.scope.now) c.args.desk.now c.args.growth.now c.args.place c.requires.searching;
+  within = next_within g.A.Algebra.algebra c.args.task.now (standing c.args.scope.now) c.args.desk.now c.args.growth.now c.args.place c.requires.searching;
+  begun = next_begun g.A.Algebra.algebra c.args.task.now (standing c.args.scope.now) c.args.desk.now c.args.growth.now c.args.place c.requires.searching;
+  free = c.requires.searching.under_way.free;
+  left_open = next_open g.A.Algebra.algebra c.args.task.now (standing c.args.scope.now) c.args.desk.now c.args.growth.now c.args.place c.requires.searching;
+}
 
-pub enter-requires-clause-now : goal.enter-requires-clause-now
-enter-requires-clause-now g c =
-    next_at_mark g.A.Algebra.algebra c.args.task.now (standing c.args.scope.now) c.args.desk.now c.args.growth.now c.args.place c.requires.searching
+pub enter-requires-clause-prefix : goal.enter-requires-clause-prefix
+enter-requires-clause-prefix g c = c.requires.searching.suits.prefix
 
-pub enter-requires-clause-source : goal.enter-requires-clause-source
-enter-requires-clause-source g c =
-    next_at_source g.A.Algebra.algebra c.args.task.now (standing c.args.scope.now) c.args.desk.now c.args.growth.now c.args.place c.requires.searching
-
-pub enter-requires-clause-told : goal.enter-requires-clause-told
-enter-requires-clause-told g c =
-    next_told g.A.Algebra.algebra c.args.task.now (standing c.args.scope.now) c.args.desk.now c.args.growth.now c.args.place c.requires.searching
-
-pub enter-requires-clause-set : goal.enter-requires-clause-set
-enter-requires-clause-set g c =
-    next_within g.A.Algebra.algebra c.args.task.now (standing c.args.scope.now) c.args.desk.now c.args.growth.now c.args.place c.requires.searching
-
-pub enter-requires-clause-left_open : goal.enter-requires-clause-left_open
-enter-requires-clause-left_open g c =
-    next_open g.A.Algebra.algebra c.args.task.now (standing c.args.scope.now) c.args.desk.now c.args.growth.now c.args.place c.requires.searching
+pub enter-requires-clause-desk : goal.enter-requires-clause-desk
+enter-requires-clause-desk g c = c.requires.searching.serves
 
 pub visit_node-requires-clause-suits : goal.visit_node-requires-clause-suits
 visit_node-requires-clause-suits g c =
@@ -40,7 +34,9 @@ visit_node-requires-clause-node g c =
 
 pub visit_node-requires-clause-desk : goal.visit_node-requires-clause-desk
 visit_node-requires-clause-desk g c =
-    entered_desk g.A.Algebra.algebra c.args.task.now (standing c.args.scope.now) c.args.desk.now c.args.growth.now c.args.place c.requires.searching
+    entered_desk g.A.Algebra.algebra c.args.task.now (standing c.args.scope.now) c.enter.new.desk c.args.growth.now c.args.place
+    (other_desk g.A.Algebra.algebra c.args.task.now (standing c.args.scope.now) c.args.desk.now c.enter.new.desk _ c.args.growth.now
+    c.requires.searching c.enter.ensures.desk)
     (standing c.enter.new.scope) (c.enter.ensures.entered c.if-enter.true)
 
 pub visit_node-requires-clause-budget : goal.visit_node-requires-clause-budget
@@ -60,7 +56,9 @@ returns-then-enter-clause-answer g c =
 
 pub returns-else-enter-clause-goes_on : goal.returns-else-enter-clause-goes_on
 returns-else-enter-clause-goes_on g c =
-    shut_goes_on g.A.Algebra.algebra c.args.task.now (standing c.args.scope.now) c.args.desk.now c.args.growth.now c.args.place c.requires.searching
+    shut_goes_on g.A.Algebra.algebra c.args.task.now (standing c.args.scope.now) c.enter.new.desk c.args.growth.now c.args.place
+    (other_desk g.A.Algebra.algebra c.args.task.now (standing c.args.scope.now) c.args.desk.now c.enter.new.desk _ c.args.growth.now
+    c.requires.searching c.enter.ensures.desk)
     (standing c.enter.new.scope) (c.enter.ensures.shut c.if-enter.false) c.enter.ensures.later
 
 pub returns-else-enter-clause-answer : goal.returns-else-enter-clause-answer

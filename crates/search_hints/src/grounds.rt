@@ -1,0 +1,203 @@
+// On which of the sources that were assumed since a tree began a conflict rests: from the line that was left no state back along the
+// changes of labels. A change of a line that matters comes from narrowing at a gate, whose lines then matter too, or else from what was
+// assumed of the line. At which gate is not kept, but found again: at one where narrowing, by the labels as they were before the change,
+// leaves the line no more than the change did. So this costs nothing where nobody asks. What is found is a hint alone.
+ghost use Rattle.std.specs.Prelude.{◌≡◌, ◌<◌, length, All, IfOk, IfSome};
+ghost use Rattle.netlist.specs.Circuit.{gate_count, line_count};
+
+use crate::culprits::add_lines;
+use crate::picking::without;
+use crate::region::{Region, condition_of, is_inside};
+use crate::weights::Weights;
+use cones::FoundLines;
+use hulls::{NarrowScratch, kept_at};
+use netlist::{MOST_FAN_IN, Netlist};
+use pd_base::{GateId, LineId, OutOfMemory, PinRef};
+use state_sets::{Algebra, StateSet};
+use std::alloc::Global;
+use std::marker::Model;
+use undo_trail::Note;
+
+/// Room for going back from conflicts. Contracts see how many lines there are.
+#[derive(Drop)]
+pub(crate) struct Grounds {
+    // By line: those of the cone where the tree began, and while a conflict is traced those before the change that is looked at.
+    labels: Vec<StateSet>,
+    // The lines that matter.
+    matters: FoundLines,
+    // How many changes were noted where the tree began.
+    begun: usize,
+    scratch: NarrowScratch,
+}
+
+impl Model for Grounds {
+    ghost use Rattle.std.specs.Prelude.{◌≡◌, ℕ, length};
+
+    ghost Value = { ℕ };
+
+    ghost view = { λ g. g.matters.room };
+
+    ghost invariant = { λ g. length g.labels.items ≡ g.matters.room };
+}
+
+impl Grounds {
+    // No tree yet.
+    pub(crate) fn new(alloc: Global, net: &Netlist) -> Result<Grounds, OutOfMemory>
+        ensures { IfOk result (λ g. g ≡ line_count net.now) }
+    {
+        let lines = net.lines() as usize;
+        let scratch = NarrowScratch::new(alloc, net)?;
+        let labels = vec![in alloc; StateSet::EMPTY; lines]?;
+        let matters = FoundLines::new(alloc, lines)?;
+        Ok(Grounds {
+            labels,
+            matters,
+            begun: 0,
+            scratch,
+        })
+    }
+
+    // A tree begins: these lines have these labels, and so many changes were noted.
+    pub(crate) fn begin(&mut self, lines: &[LineId], labels: &[StateSet], changes: usize)
+        ensures { self.new ≡ self.old }
+    {
+        self.begun = changes;
+        for line in lines {
+            self.write(*line, labels);
+        }
+    }
+
+    // Takes the label of a line from these, if there is one.
+    fn write(&mut self, line: LineId, labels: &[StateSet])
+        ensures { self.new ≡ self.old }
+    {
+        let at = line.0 as usize;
+        if at < labels.len() && at < self.labels.len() {
+            self.labels[at] = labels[at];
+        }
+    }
+
+    // Makes the sources heavier on which the conflict rests to which these changes led. These are the labels that they left.
+    pub(crate) fn trace<A: Algebra>(
+        &mut self,
+        region: &Region,
+        labels: &[StateSet],
+        changes: &[Note<StateSet>],
+        weights: &mut Weights,
+    )
+        requires lines { self.old ≡ line_count region.now.net.now }
+        requires changes { All (λ change. change.index < line_count region.now.net.now) changes.now }
+        ensures { self.new ≡ self.old }
+    {
+        self.take_last(labels, changes);
+        for place in (self.begun..changes.len()).rev() {
+            self.follow::<A>(region, changes[place], weights);
+        }
+        self.matters.clear();
+    }
+
+    // Takes the labels of the lines that have changed since the tree began. The last one that did matters.
+    fn take_last(&mut self, labels: &[StateSet], changes: &[Note<StateSet>])
+        requires { All (λ change. change.index < self.old) changes.now }
+        ensures { self.new ≡ self.old }
+    {
+        for place in self.begun..changes.len() {
+            self.write(LineId(changes[place].index), labels);
+        }
+        if !changes.is_empty() {
+            let last = changes[changes.len() - 1];
+            self.matters.add(LineId(last.index));
+        }
+    }
+
+    // Goes back before a change, and follows it to its cause if its line matters.
+    fn follow<A: Algebra>(&mut self, region: &Region, change: Note<StateSet>, weights: &mut Weights)
+        requires lines { self.old ≡ line_count region.now.net.now }
+        requires line { change.index < line_count region.now.net.now }
+        ensures { self.new ≡ self.old }
+    {
+        let line = LineId(change.index);
+        let left = self.labels[line.0 as usize];
+        self.labels[line.0 as usize] = change.old;
+        if !self.matters.marks()[line.0 as usize] {
+            return;
+        }
+        match self.cause::<A>(region, line, left) {
+            Some(gate) => add_lines(region.net, gate, &mut self.matters),
+            None => weights.raise(line),
+        }
+    }
+
+    // A gate of the cone at which narrowing leaves a line no more than this, if there is one.
+    fn cause<A: Algebra>(&mut self, region: &Region, line: LineId, left: StateSet) -> Option<GateId>
+        requires lines { self.old ≡ line_count region.now.net.now }
+        requires line { line.0 < line_count region.now.net.now }
+        ensures same { self.new ≡ self.old }
+        ensures gate { IfSome result (λ gate. gate.0 < gate_count region.now.net.now) }
+    {
+        if let Some(driver) = region.net.gate_of(line)
+            && self.drives_to::<A>(region, driver, line, left)
+        {
+            return Some(driver);
+        }
+        for reader in region.net.fanout(line) {
+            if self.reads_to::<A>(region, *reader, line, left) {
+                return Some(reader.gate);
+            }
+        }
+        None
+    }
+
+    // Whether narrowing at a gate leaves its own line no more than this.
+    fn drives_to<A: Algebra>(
+        &mut self,
+        region: &Region,
+        gate: GateId,
+        line: LineId,
+        left: StateSet,
+    ) -> bool
+        requires lines { self.old ≡ line_count region.now.net.now }
+        requires gate { gate.0 < gate_count region.now.net.now }
+        requires line { line.0 < line_count region.now.net.now }
+        ensures { self.new ≡ self.old }
+    {
+        let given = self.narrow_at::<A>(region, gate);
+        without(given.intersect(self.labels[line.0 as usize]), left) == StateSet::EMPTY
+    }
+
+    // Whether narrowing at the gate of a pin that reads a line, if it is in the cone, leaves the line no more than this.
+    fn reads_to<A: Algebra>(
+        &mut self,
+        region: &Region,
+        reader: PinRef,
+        line: LineId,
+        left: StateSet,
+    ) -> bool
+        requires lines { self.old ≡ line_count region.now.net.now }
+        requires gate { reader.gate.0 < gate_count region.now.net.now }
+        requires line { line.0 < line_count region.now.net.now }
+        ensures { self.new ≡ self.old }
+    {
+        if !is_inside(region, reader.gate) || reader.pin > MOST_FAN_IN {
+            return false;
+        }
+        self.narrow_at::<A>(region, reader.gate);
+        let kept = self.scratch.kept(reader.pin as usize);
+        without(kept.intersect(self.labels[line.0 as usize]), left) == StateSet::EMPTY
+    }
+
+    // What narrowing at a gate keeps: its own states, and in the scratch those at its pins.
+    fn narrow_at<A: Algebra>(&mut self, region: &Region, gate: GateId) -> StateSet
+        requires lines { self.old ≡ line_count region.now.net.now }
+        requires gate { gate.0 < gate_count region.now.net.now }
+        ensures { self.new ≡ self.old }
+    {
+        kept_at::<A>(
+            region.net,
+            self.labels.as_slice(),
+            gate,
+            condition_of(region, gate),
+            &mut self.scratch,
+        )
+    }
+}
