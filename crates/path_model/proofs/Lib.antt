@@ -1,3 +1,4 @@
+mod LinkedPairs
 mod PathOrder
 mod PathSteps
 mod SidesJudged

@@ -21,8 +21,8 @@ use std::marker::Model;
 /// what an earlier call left there is written over.
 #[derive(Drop)]
 pub struct Scratch {
-    finals: Vec<bool>,
-    steadiness: Vec<Steady>,
+    pub(crate) values: Vec<bool>,
+    pub(crate) steadiness: Vec<Steady>,
 }
 
 impl Model for Scratch {
@@ -30,9 +30,9 @@ impl Model for Scratch {
 
     ghost Value = { ℕ };
 
-    ghost view = { λ s. length s.finals.items };
+    ghost view = { λ s. length s.values.items };
 
-    ghost invariant = { λ s. length s.steadiness.items ≡ length s.finals.items };
+    ghost invariant = { λ s. length s.steadiness.items ≡ length s.values.items };
 }
 
 impl Scratch {
@@ -42,7 +42,7 @@ impl Scratch {
     {
         let lines = net.lines() as usize;
         Ok(Scratch {
-            finals: vec![in alloc; false; lines]?,
+            values: vec![in alloc; false; lines]?,
             steadiness: vec![in alloc; Steady::Moving; lines]?,
         })
     }
@@ -84,14 +84,14 @@ pub fn meets(
     // A prefix begins at a source. What a test shows is shown of a circuit, as which a netlist knows itself.
     let at_source = path.source().0 < net.sources();
     prove!(at_source);
-    let Scratch { finals, steadiness } = scratch;
+    let Scratch { values, steadiness } = scratch;
     launches(pair, dir, path.source())
         && sides_meet(
             net,
             path,
             kind,
             pair,
-            finals.as_mut_slice(),
+            values.as_mut_slice(),
             steadiness.as_mut_slice(),
         )
 }
