@@ -1,5 +1,5 @@
-"""A netlist of two paths and four faults, with the three files of its run, written down by hand, and calls on them. For the scripts beside
-it."""
+"""A netlist of two paths and four faults, with the three files of its run, a delay file of two delays for each pin and a tester's log, written
+down by hand, and calls on them. For the scripts beside it."""
 
 NET = "INPUT(a)\nOUTPUT(y)\nn = BUFF(a)\ny = AND(a, n)\n"
 DELAYS = "gate,pin,delay\n"
@@ -16,18 +16,31 @@ PROOFS = "pdfgen proofs 1\n1 refutes nonrobust fall 1 2 X\n2 refutes nonrobust f
 GEN_VERSION = 2
 GEN_PROOFS = PROOFS.replace("proofs 1", f"proofs {GEN_VERSION}", 1)
 SUMMARY = "paths 2 robust 2 nonrobust 0 untestable 2 aborted 0\n"
+# A rise and a fall delay for each pin, and a tester's log of the tests.
+TWO_DELAYS = "gate,pin,rise,fall\nn,0,5,2\n"
+LOG = "test,time,result\n1,7,pass\n2,3,pass\n1,2,fail\n"
+# Either test serves both rises, so one of them is kept.
+KEPT = "kept 1 of 2\n"
+KEPT_FILES = [TESTS[:TESTS.index("1 1")] + f"1 {path} rise robust 0 1 1\n" for path in (1, 2)]
+# What rfreplay prints at time 5, and bounds.
+LATE = "1 0 differs late\n2 0 differs met\n"
+BOUNDS = "1 rise 3\n1 fall -\n2 rise 3\n2 fall -\n"
+# Longer than each of the outputs, so that it shows where a file was not cut.
+OLD = "0" * 1000
 
-OUTPUTS = (("tests", TESTS), ("report", REPORT), ("proofs", PROOFS))
-INPUTS = (("net", NET), ("delays", DELAYS))
+OUTPUTS = (("tests", TESTS), ("report", REPORT), ("proofs", PROOFS), ("kept", OLD))
+INPUTS = (("net", NET), ("delays", DELAYS), ("two_delays", TWO_DELAYS), ("log", LOG))
 # Files that are refused, each for a reason whose line names something.
 REFUSED = (
     ("other_net", NET.replace("BUFF(a)", "BUFF(b)")),
     ("other_delays", DELAYS + "z,0,1\n"),
     ("other_tests", TESTS.replace("robust 0", "robust 2")),
     ("other_proofs", PROOFS.replace("1 X", "1 V0 X O")),
+    ("other_two_delays", TWO_DELAYS + "n,0,1,x\n"),
+    ("other_report", REPORT.replace("n:0 y:1", "n:0 y:0")),
+    ("other_bits", TESTS.replace("0 1 1\n2", "0 1 0\n2")),
+    ("other_log", LOG + "3,1,pass\n"),
 )
-# Longer than each of the outputs, so that it shows where a file was not cut.
-OLD = "0" * 1000
 
 FILES = ["net", "delays", "tests", "report", "proofs"]
 GEN_FILES = [TESTS, REPORT, GEN_PROOFS]
@@ -37,15 +50,25 @@ CALLS = [
     ("check", ["check", *FILES], 0),
     ("replay", ["replay", "net", "delays", "tests", "1"], 0),
     ("make", ["make", "2"], 0),
+    ("rfreplay", ["rfreplay", "net", "two_delays", "tests", "report", "5"], 0),
+    ("compact", ["compact", "net", "tests", "report", "kept"], 0),
+    ("bounds", ["bounds", "net", "tests", "report", "log"], 0),
     ("check, a line malformed", ["check", "net", "delays", "other_tests", "report", "proofs"], 1),
     ("check, a proof bad", ["check", "net", "delays", "tests", "report", "other_proofs"], 1),
+    ("rfreplay, a line malformed", ["rfreplay", "net", "two_delays", "other_tests", "report", "5"], 1),
+    ("compact, a path wrong", ["compact", "net", "tests", "other_report", "kept"], 1),
+    ("bounds, bits wrong", ["bounds", "net", "other_bits", "report", "log"], 1),
     ("no words", [], 2),
     ("an option twice", ["gen", *FILES, "--paths=5", "--paths", "6"], 2),
     ("gen, a netlist refused", ["gen", "other_net", *FILES[1:]], 3),
     ("gen, delays refused", ["gen", "net", "other_delays", *FILES[2:]], 4),
+    ("rfreplay, delays refused", ["rfreplay", "net", "other_two_delays", "tests", "report", "5"], 4),
     ("gen, DELAYS absent", ["gen", "net", "absent", *FILES[2:]], 5),
+    ("bounds, LOG absent", ["bounds", "net", "tests", "report", "absent"], 5),
     ("gen, REPORT in no folder", ["gen", "net", "delays", "tests", "absent/report", "proofs"], 6),
+    ("compact, OUT in no folder", ["compact", "net", "tests", "report", "absent/kept"], 6),
     ("gen, texts too long", ["gen", "long_name", "delays", *FILES[2:], "--paths", "10000", "--budget", "1"], 8),
+    ("bounds, a log refused", ["bounds", "net", "tests", "report", "other_log"], 12),
 ]
 
 
@@ -57,7 +80,7 @@ def long_way():
 
 
 def before(words):
-    """What the three outputs hold before a call with these words: old texts where it is to write them."""
+    """What the outputs hold before a call with these words: old texts where it is to write them."""
     return [OLD] * len(OUTPUTS) if words[:1] == ["gen"] else [text for _, text in OUTPUTS]
 
 
@@ -70,15 +93,20 @@ def prepare(folder, words):
 
 
 def outputs_in(folder):
-    """What the three outputs hold."""
+    """What the three outputs of gen and the one of compact hold."""
     return [(folder / name).read_text() for name, _ in OUTPUTS]
 
 
 def is_as_written_down(words, out, files):
-    """Whether a call with memory leaves what a person wrote down: the run of gen; for the others the files as before."""
+    """Whether a call with memory leaves what a person wrote down: the run of gen, a test that compact keeps; for the others the files as
+    before, and what rfreplay and bounds print."""
+    *others, kept = files
     if words == ["gen", *FILES]:
-        return out == SUMMARY and files == GEN_FILES
-    return words[:1] == ["gen"] or files == before(words)
+        return out == SUMMARY and files == [*GEN_FILES, OLD]
+    if out and words[0] == "compact":
+        return out == KEPT and others == before(words)[:-1] and kept in KEPT_FILES
+    printed = {"rfreplay": LATE, "bounds": BOUNDS}.get(words[0] if words else None)
+    return words[:1] == ["gen"] or (files == before(words) and (not out or printed in (None, out)))
 
 
 def stand_in_turn(found, whole, before):

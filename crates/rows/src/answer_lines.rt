@@ -9,7 +9,7 @@ pub fn add_came(status: u8, err: &[u8], out: &[u8], answer: &mut Text) {
     add_taken("out", out, answer);
 }
 
-/// The same, but of the lines that out took only how many there are, by the word at their end.
+/// The same, but of the lines that out took only how many there are, by the words at their ends.
 pub fn add_counted(status: u8, err: &[u8], out: &[u8], answer: &mut Text) {
     add_came(status, err, &[], answer);
     match str::from_utf8(out) {
@@ -18,23 +18,70 @@ pub fn add_counted(status: u8, err: &[u8], out: &[u8], answer: &mut Text) {
     }
 }
 
-// How many lines end with same, how many with differs, and how many otherwise.
+// How many lines end with same, how many with differs, and how many otherwise; and where lines tell of paths behind that, how many of each
+// kind there are.
 fn add_counts(out: &str, answer: &mut Text) {
-    let (mut same, mut differs, mut others) = (0u64, 0u64, 0u64);
-    for line in out.lines() {
-        let count = if line.ends_with(" same") {
-            &mut same
-        } else if line.ends_with(" differs") {
-            &mut differs
+    let late = Counts::of(out, " late");
+    let met = Counts::of(out, " met");
+    let none = Counts::of(out, " none");
+    if late.is_empty() && met.is_empty() && none.is_empty() {
+        Counts::of(out, "").add("", answer);
+    } else {
+        late.add(" late", answer);
+        met.add(" met", answer);
+        none.add(" none", answer);
+    }
+}
+
+// How many of the lines that end with some word have same before it, how many differs, and how many neither.
+struct Counts {
+    same: u64,
+    differs: u64,
+    others: u64,
+}
+
+impl Counts {
+    // Of the lines that end with this word.
+    fn of(out: &str, word: &str) -> Counts {
+        let mut counts = Counts {
+            same: 0,
+            differs: 0,
+            others: 0,
+        };
+        for line in out.lines() {
+            if let Some(front) = line.strip_suffix(word) {
+                counts.add_line(front);
+            }
+        }
+        counts
+    }
+
+    // Counts a line, of which this stands before the word.
+    fn add_line(&mut self, front: &str) {
+        let count = if front.ends_with(" same") {
+            &mut self.same
+        } else if front.ends_with(" differs") {
+            &mut self.differs
         } else {
-            &mut others
+            &mut self.others
         };
         *count = count.saturating_add(1);
     }
-    answer.add_number("  out has lines same ", same);
-    answer.add_number(", differs ", differs);
-    answer.add_number(", others ", others);
-    answer.add("\n");
+
+    // Whether no line is counted.
+    fn is_empty(&self) -> bool {
+        self.same == 0 && self.differs == 0 && self.others == 0
+    }
+
+    // Adds their line.
+    fn add(&self, word: &str, answer: &mut Text) {
+        answer.add("  out has lines");
+        answer.add(word);
+        answer.add_number(" same ", self.same);
+        answer.add_number(", differs ", self.differs);
+        answer.add_number(", others ", self.others);
+        answer.add("\n");
+    }
 }
 
 // A line with what was taken, if it is anything.
