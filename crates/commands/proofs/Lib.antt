@@ -15,6 +15,7 @@ pub mod SpelledRuns
 pub mod FewLines
 pub mod InputStages
 pub mod InputsJudged
+pub mod ListedStages
 pub mod Products
 pub mod SpelledTests
 pub mod StageReads

@@ -1,6 +1,6 @@
 -- What commands require alike of the files that they read, how each requirement refuses, and the stages of which a command puts its own
 -- together (this project's own). A command that reads NET first is an `InputCommand`.
-use Rattle.std.specs.Prelude.{◌≡◌, ℕ, ◌<◌, List, [], ◌∷◌, ◌++◌, length, slice_index_or}
+use Rattle.std.specs.Prelude.{◌≡◌, ℕ, ◌+◌, ◌<◌, List, [], ◌∷◌, ◌++◌, length, slice_index_or}
 use Rattle.netlist.specs.Circuit.{Circuit}
 use Rattle.bench_reader.specs.Circuits.{HasCircuit}
 use Rattle.bench_reader.specs.Refusals.{RefusesText}
@@ -37,13 +37,15 @@ pub data Requirement (Own : Type 0) : Type 0 where
   -- one of the command's own
   own : Own → Requirement Own
 
--- how many bytes an input of a role may have
+-- how many bytes an input of a role may have; no command reads OUT
 abbrev pub limit_of : Role → ℕ
 limit_of role.Net = INPUT_LIMIT
 limit_of role.Delays = INPUT_LIMIT
 limit_of role.Tests = MOST_BYTES
 limit_of role.Report = MOST_BYTES
 limit_of role.Proofs = MOST_BYTES
+limit_of role.Log = INPUT_LIMIT
+limit_of role.Out = INPUT_LIMIT
 
 -- the input before which so many were read
 abbrev pub input_at : List (List ℕ) → ℕ → List ℕ
@@ -143,6 +145,14 @@ net_stages net = read_stages role.Net net ++ Require SpellsCircuit ∷ []
 -- then DELAYS is read, and has to give delays
 abbrev pub input_stages : {Own : Type 0} → List ℕ → List ℕ → List (Stage (Requirement Own))
 input_stages net delays = net_stages net ++ read_stages role.Delays delays ++ Require SpellsDelays ∷ []
+
+-- TESTS and REPORT are read, in this order
+abbrev pub tests_and_report_stages : {Own : Type 0} → List ℕ → List ℕ → List (Stage (Requirement Own))
+tests_and_report_stages tests report = read_stages role.Tests tests ++ read_stages role.Report report
+
+-- then they have to have their form, where TESTS was read behind so many inputs, and REPORT next
+abbrev pub tests_and_report_forms : {Own : Type 0} → ℕ → List (Stage (Requirement Own))
+tests_and_report_forms place = Require (WellFormed role.Tests place) ∷ Require (WellFormed role.Report (place + 1)) ∷ []
 
 -- texts of so many paths, and of so many tests, have to be short
 abbrev pub short_stages : {Own : Type 0} → ℕ → List (Stage (Requirement Own))

@@ -3,3 +3,4 @@ pub mod Checking
 pub mod InputJudging
 pub mod Judging
 pub mod ReplayEndings
+pub mod TestsAndPaths
