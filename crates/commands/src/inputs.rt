@@ -11,7 +11,7 @@ mod reading;
 mod sizes;
 
 pub(crate) use claims::{proofs_in, report_in, tests_from, tests_in};
-pub(crate) use judging::{delays_from, netlist_from};
+pub(crate) use judging::{delays_from, netlist_from, rise_fall_from};
 pub(crate) use listed::{TestsAndPaths, TestsAndReport, tests_and_paths_in, tests_and_report_from};
 pub use reading::INPUT_LIMIT;
 pub(crate) use reading::text_from;
