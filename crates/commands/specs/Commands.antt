@@ -33,7 +33,7 @@ work_of (Ok (make call)) = make_work call
 work_of (Ok (rise_fall_replay call)) = rise_fall_replay_work call
 work_of (Ok (compact call)) = refused_at_once (words_refusal reason.Command)
 work_of (Ok (bounds call)) = refused_at_once (words_refusal reason.Command)
-work_of (Err reason) = refused_at_once (words_refusal reason)
+work_of (Err why) = refused_at_once (words_refusal why)
 
 -- what holds of a call of a command, which these words ask for, beside what holds of every call; one with refused words reports them, or
 -- want of memory
@@ -45,7 +45,7 @@ KeepsLawsOf words (Ok (make call)) status old new = KeepsMakeLaws status old new
 KeepsLawsOf words (Ok (rise_fall_replay call)) status old new = KeepsRiseFallReplayLaws call status old new
 KeepsLawsOf words (Ok (compact call)) status old new = ReportsAtOnce (words_refusal reason.Command) status old.err new.err
 KeepsLawsOf words (Ok (bounds call)) status old new = ReportsAtOnce (words_refusal reason.Command) status old.err new.err
-KeepsLawsOf words (Err reason) status old new = ReportsAtOnce (words_refusal reason) status old.err new.err
+KeepsLawsOf words (Err why) status old new = ReportsAtOnce (words_refusal why) status old.err new.err
 
 -- the work that these words ask for
 abbrev pub asked_work : List (List ℕ) → Work

@@ -50,9 +50,8 @@ fn perform_command<F: Files, O: Sink>(
         Command::Replay(command) => replay(alloc, command, files, out),
         Command::Make(command) => make(alloc, command, out),
         Command::RiseFallReplay(command) => rise_fall_replay(alloc, command, files, out),
-        Command::Compact(_) | Command::Bounds(_) => {
-            Ending::Refused(words_refusal(WordsRefusal::Command))
-        }
+        Command::Compact(_) => Ending::Refused(words_refusal(WordsRefusal::Command)),
+        Command::Bounds(_) => Ending::Refused(words_refusal(WordsRefusal::Command)),
     }
 }
 

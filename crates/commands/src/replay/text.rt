@@ -5,7 +5,8 @@ ghost use Rattle.runs.specs.Lawful.{AreLawfulTests};
 ghost use Rattle.delay_annotation.specs.Annotation.{Fits, delays_of};
 ghost use Rattle.delay_replay.specs.ChangeLimits.{HasFewChanges, RefusesReplay};
 ghost use Rattle.delay_replay.specs.Settling.{observed_at};
-ghost use Rattle.commands.specs.ReplayText.{replay_text, replayed_line};
+ghost use Rattle.text_pieces.specs.Tokens.{line};
+ghost use Rattle.commands.specs.ReplayText.{replay_text, replayed_line, sample_words};
 ghost use Rattle.commands.specs.TestChanges.{HaveFewChanges, RefusesTests};
 
 use crate::replay::over::{ReplayTextFault, replay_text_fault};
@@ -13,7 +14,7 @@ use crate::replay::sampled::{push_sample, samples_at};
 use delay_annotation::Delays;
 use delay_replay::{ReplayFault, replay};
 use netlist::Netlist;
-use pd_base::{Pair, Test};
+use pd_base::{OutOfMemory, Pair, Test};
 use std::alloc::Global;
 
 /// The text of a replay of these tests, which are lawful ones of the netlist and have numbers of 32 bits: for each its number, what its observed lines have at
@@ -61,7 +62,20 @@ fn push_replayed(
     ensures refused { IfErr result (RefusesReplay net.now test.now.pair (delays_of net.now delays.now)) }
 {
     let sampled = sampled(alloc, net, delays, &test.pair, time)?;
-    push_sample(out, number, sampled.as_slice(), test.expected.as_slice())?;
+    push_line(out, number, sampled.as_slice(), test.expected.as_slice())?;
+    Ok(())
+}
+
+// Appends the line of a test of this number, of which these bits were sampled.
+fn push_line(
+    out: &mut Vec<u8>,
+    number: u32,
+    sampled: &[bool],
+    expected: &[bool],
+) -> Result<(), OutOfMemory>
+    ensures { OnOk result (out.new.items ≡ out.old.items ++ line (sample_words number sampled.now expected.now)) }
+{
+    push_sample(out, number, sampled, expected)?;
     out.push(b'\n')?;
     Ok(())
 }

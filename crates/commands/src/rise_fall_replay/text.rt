@@ -3,8 +3,10 @@ ghost use Rattle.std.specs.Prelude.{◌≡◌, ◌<◌, ◌^◌, ◌++◌, lengt
 ghost use Rattle.netlist.specs.Circuit.{source_count};
 ghost use Rattle.runs.specs.Lawful.{AreLawfulTests};
 ghost use Rattle.delay_replay.specs.ChangeLimits.{HasFewOf, RefusesWaves};
+ghost use Rattle.text_pieces.specs.Tokens.{after_space, line};
 ghost use Rattle.commands.specs.Inside.RiseFallReplaying.{CanSample, sampled_waves, sampling_of};
-ghost use Rattle.commands.specs.RiseFallReplayText.{IsRiseFallText, judged_line, samples_of};
+ghost use Rattle.commands.specs.RiseFallReplayText.{IsRiseFallText, judged_line, path_word, samples_of};
+ghost use Rattle.commands.specs.ReplayText.{sample_words};
 ghost use Rattle.commands.specs.TestChanges.{HaveFewOf, RefusesTestsOf};
 
 use crate::replay::over::{ReplayTextFault, replay_text_fault};
@@ -12,7 +14,7 @@ use crate::replay::sampled::{push_sample, samples_at};
 use crate::rise_fall_replay::path_word::{PathJudge, PathWord, path_word};
 use crate::rise_fall_replay::sampling::Sampling;
 use delay_replay::ReplayFault;
-use pd_base::Test;
+use pd_base::{OutOfMemory, Test};
 use rise_fall::replay_rise_fall;
 use std::alloc::Global;
 use text_pieces::push_spaced;
@@ -61,7 +63,23 @@ fn push_judged(
     ensures refused { IfErr result (RefusesWaves at.now.net.now (sampled_waves at.now test.now.pair)) }
 {
     let sampled = sampled(alloc, at, test)?;
-    push_sample(out, number, sampled.as_slice(), test.expected.as_slice())?;
+    let expected = test.expected.as_slice();
+    push_line(out, number, sampled.as_slice(), expected, word)?;
+    Ok(())
+}
+
+// Appends the line of a test of this number with this word, of which these bits were sampled.
+fn push_line(
+    out: &mut Vec<u8>,
+    number: u32,
+    sampled: &[bool],
+    expected: &[bool],
+    word: PathWord,
+) -> Result<(), OutOfMemory>
+    ensures { OnOk result (out.new.items
+        ≡ out.old.items ++ line (sample_words number sampled.now expected.now ++ after_space (path_word word))) }
+{
+    push_sample(out, number, sampled, expected)?;
     push_spaced(out, path_word(word))?;
     out.push(b'\n')?;
     Ok(())
