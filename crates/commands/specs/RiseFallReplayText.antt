@@ -33,11 +33,15 @@ pub record IsRobustFor (at : RiseFallSampling) (test : Test) (listed : ListedPat
   pub is_path : IsPath at.circuit listed.path
   pub meets : Meets at.circuit (target_of listed.path test.dir Robust) test.pair
 
+-- how long a listed path is for the values to which its lines go under the pair of a test
+abbrev pub length_under : RiseFallSampling → Test → ListedPath → ℕ
+length_under at test listed = final_length at.delays at.circuit test.pair.second listed.path
+
 -- this holds of the listed path of a test, for which it is a robust one, and of that path's length for the values to which its lines go
 pub record HasPathLength (at : RiseFallSampling) (test : Test) (Holds : ℕ → Type 0) : Type 0 where
   pub listed : ListedPath
   pub robust : IsRobustFor at test listed
-  pub holds : Holds (final_length at.delays at.circuit test.pair.second listed.path)
+  pub holds : Holds (length_under at test listed)
 
 -- the word on a test: its path is late, or isn't, or it is a robust test for no listed path
 abbrev pub IsWordOn : RiseFallSampling → Test → PathWord → Type 0

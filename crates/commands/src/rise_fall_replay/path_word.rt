@@ -1,11 +1,12 @@
 // The word on a test: whether the path that it is for is late. A test is for the path that the report lists under its number, where that is
 // a path of the netlist for which the test's pair is a robust one.
-ghost use Rattle.std.specs.Prelude.{◌≡◌, ◌≤◌, ◌↔◌, ℕ, IfOk, IsTrue, MatchOption, length};
-ghost use Rattle.netlist.specs.Circuit.{line_count};
+ghost use Rattle.std.specs.Prelude.{◌≡◌, IfOk, MatchOption, length};
+ghost use Rattle.netlist.specs.Circuit.{line_count, source_count};
+ghost use Rattle.netlist.specs.Paths.{IsPrefix};
 ghost use Rattle.runs.specs.Lawful.{IsLawfulTest};
 ghost use Rattle.runs.specs.declared.run.ListedPath.{ListedPath as Listed};
 ghost use Rattle.commands.specs.Inside.RiseFallReplaying.{CanSample, sampling_of};
-ghost use Rattle.commands.specs.RiseFallReplayText.{IsRobustFor, IsWordOn, path_word};
+ghost use Rattle.commands.specs.RiseFallReplayText.{IsRobustFor, IsWordOn, length_under, path_word};
 
 use crate::rise_fall_replay::sampling::Sampling;
 use logic_values::evaluate;
@@ -80,12 +81,11 @@ impl PathJudge {
         let Some(listed) = robust_path(at, test, scratch) else {
             return PathWord::NotRobust;
         };
-        evaluate(at.net, test.pair.second(), finals.as_mut_slice());
-        if length_rise_fall(at.net, at.delays, &listed.path, finals.as_slice()) > at.time {
-            PathWord::Late
-        } else {
-            PathWord::Met
+        let length = final_length(at, test, listed, finals.as_mut_slice());
+        if length <= at.time {
+            return PathWord::Met;
         }
+        PathWord::Late
     }
 }
 
@@ -113,4 +113,16 @@ fn robust_path<'a>(at: &Sampling<'a>, test: &Test, scratch: &mut Scratch) -> Opt
     } else {
         None
     }
+}
+
+// The length of the listed path of a test for the values to which its lines go. The values of all lines stay in the slice.
+fn final_length(at: &Sampling, test: &Test, listed: &ListedPath, finals: &mut [bool]) -> u64
+    requires can { CanSample at.now }
+    requires bits { length test.now.pair.second ≡ source_count at.now.net.now }
+    requires prefix { IsPrefix at.now.net.now listed.now.path }
+    requires places { length finals.old ≡ line_count at.now.net.now }
+    ensures { result ≡ length_under (sampling_of at.now) test.now listed.now }
+{
+    evaluate(at.net, test.pair.second(), finals);
+    length_rise_fall(at.net, at.delays, &listed.path, finals)
 }

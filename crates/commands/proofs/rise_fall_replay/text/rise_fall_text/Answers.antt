@@ -1,17 +1,21 @@
 -- One test more, or the first one that is over; and behind the last test the whole text.
-use Rattle.std.proofs.Common.{◌≡◌, ◌+◌, List, ◌++◌, take, sym, ap, subst, ◌∙◌, arith}
+use Rattle.std.proofs.Common.{◌≡◌, ◌+◌, List, [], ◌∷◌, ◌++◌, take, sym, ap, subst, ◌∙◌, arith}
 use Rattle.std.proofs.lemmas.List.{length-take-le, take_all, take_more}
 use Rattle.pd_base.specs.declared.test.Test.{Test}
 use Rattle.delay_replay.specs.ChangeLimits.{HasFewOf, RefusesWaves}
 use Rattle.commands.specs.Inside.RiseFallReplaying.{sampled_waves, sampling_of}
-use Rattle.commands.specs.RiseFallReplayText.{IsRiseFallText, IsWordOn, judged_line}
+use Rattle.commands.specs.RiseFallReplayText.{IsRiseFallText, judged_line}
 use Rattle.commands.specs.TestChanges.{HaveFewOf, RefusesTestsOf}
 use Rattle.commands.proofs.Replayed.{one_more_few, refused_here}
 use Rattle.commands.proofs.RiseFallTexts.{no_lines, one_judged_more}
 use Rattle.commands.proofs.rise_fall_replay.text.rise_fall_text.Goals as goal
 
 pub loop-index-init : goal.loop-index-init
-loop-index-init c = record { written = no_lines (sampling_of c.args.at.now); few = λ k d within. absurd (omega arith); room = c.in_ok-judge.ensures }
+loop-index-init c = record {
+  written = subst (IsRiseFallText (sampling_of c.args.at.now) []) (sym c.new-text.ensures.items) (no_lines (sampling_of c.args.at.now));
+  few = λ k d within. absurd (omega arith);
+  room = c.in_ok-judge.ensures;
+}
 
 pub returns-in-Err-clause-refused : goal.returns-in-Err-clause-refused
 returns-in-Err-clause-refused c =
@@ -31,12 +35,14 @@ loop-index-preserved c =
     let more : take (place + 1) tests ≡ take place tests ++ test ∷ [] =
     take_more tests place test c.loop-index-test.true ∙ ap (λ (t : Test). take place tests ++ t ∷ []) (sym c.index-tests-index.is) in
     let long = length-take-le place tests (omega arith) in
+    let line = judged_line (sampling_of at) (place + 1) (record { test = test; word = c.word_on-word.result }) in
+    let judged =
+    one_judged_more (sampling_of at) (take place tests) c.loop-index.text.items test c.word_on-word.result (place + 1) (omega arith)
+    c.word_on-word.ensures.word c.loop-index.invariant.written in
     record {
       written =
-          subst (λ (some : List Test). IsRiseFallText (sampling_of at) some _) (sym more)
-          (subst (IsRiseFallText (sampling_of at) (take place tests ++ test ∷ [])) (sym c.in_default.ensures.line)
-          (one_judged_more (sampling_of at) (take place tests) c.loop-index.text.items test _ (place + 1) (omega arith) c.word_on-word.ensures.word
-          c.loop-index.invariant.written));
+          subst (IsRiseFallText (sampling_of at) (take (place + 1) tests)) (sym c.in_default.ensures.line)
+          (subst (λ (some : List Test). IsRiseFallText (sampling_of at) some (c.loop-index.text.items ++ line)) (sym more) judged);
       few =
           one_more_few at.net.now (sampled_waves at) tests place test c.loop-index-test.true c.loop-index.invariant.few
           (subst (λ (t : Test). HasFewOf at.net.now (sampled_waves at t.pair)) c.index-tests-index.is c.in_default.ensures.few);
