@@ -123,6 +123,7 @@ cause_of exit.Words = causes.Words
 cause_of exit.Netlist = causes.Netlist
 cause_of exit.Delays = causes.Delays
 cause_of exit.Size = causes.Size
+cause_of exit.Log = causes.Log
 cause_of status = causes.Claims
 
 -- each cause has a status of its own
@@ -133,6 +134,7 @@ cause_of-status_for causes.Words = refl
 cause_of-status_for causes.Netlist = refl
 cause_of-status_for causes.Delays = refl
 cause_of-status_for causes.Size = refl
+cause_of-status_for causes.Log = refl
 
 one_cause : (first second : Cause) → status_for first ≡ status_for second → first ≡ second
 one_cause first second same = sym (cause_of-status_for first) ∙ ap cause_of same ∙ cause_of-status_for second

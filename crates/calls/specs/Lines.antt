@@ -1,7 +1,7 @@
 -- The status and the line on err of each ending (this project's own).
 use Rattle.std.specs.Prelude.{ℕ, List, [], ◌++◌, codes}
 use Rattle.calls.specs.declared.role.Role.{Role}
-use Rattle.calls.specs.declared.role.Role.TheVariants.{Net, Delays, Tests, Report, Proofs}
+use Rattle.calls.specs.declared.role.Role.TheVariants.{Net, Delays, Tests, Report, Proofs, Log, Out}
 use Rattle.calls.specs.declared.cause.Cause.{Cause}
 use Rattle.calls.specs.declared.cause.Cause.TheVariants as cause
 use Rattle.calls.specs.declared.refusal.Refusal.{Refusal}
@@ -18,6 +18,8 @@ role_word Delays = codes "DELAYS"
 role_word Tests = codes "TESTS"
 role_word Report = codes "REPORT"
 role_word Proofs = codes "PROOFS"
+role_word Log = codes "LOG"
+role_word Out = codes "OUT"
 
 -- the line on err for a refusal
 abbrev pub refusal_line : Refusal → List ℕ
@@ -39,6 +41,7 @@ status_for cause.Words = exit.Words
 status_for cause.Netlist = exit.Netlist
 status_for cause.Delays = exit.Delays
 status_for cause.Size = exit.Size
+status_for cause.Log = exit.Log
 
 -- the status of an ending
 abbrev pub status_of : Ending → Status
@@ -60,3 +63,4 @@ number_of exit.ReadFault = 5
 number_of exit.WriteFault = 6
 number_of exit.NoMemory = 7
 number_of exit.Size = 8
+number_of exit.Log = 12

@@ -18,6 +18,8 @@ pub enum Cause {
     Delays,
     /// A length, or a number of changes, over its limit.
     Size,
+    /// The tester's log.
+    Log,
 }
 
 impl Cause {
@@ -31,6 +33,7 @@ impl Cause {
             Cause::Netlist => Status::Netlist,
             Cause::Delays => Status::Delays,
             Cause::Size => Status::Size,
+            Cause::Log => Status::Log,
         }
     }
 }

@@ -15,6 +15,10 @@ pub enum Role {
     Report,
     /// The proofs.
     Proofs,
+    /// A tester's log.
+    Log,
+    /// The tests that are kept of others.
+    Out,
 }
 
 impl Role {
@@ -28,6 +32,8 @@ impl Role {
             Role::Tests => b"TESTS",
             Role::Report => b"REPORT",
             Role::Proofs => b"PROOFS",
+            Role::Log => b"LOG",
+            Role::Out => b"OUT",
         }
     }
 }

@@ -23,6 +23,8 @@ pub enum Status {
     NoMemory = 7,
     /// An input has more bytes than are read of it, the texts may be too long, or a line changes too often under a test.
     Size = 8,
+    /// The log says nothing of the tests.
+    Log = 12,
 }
 
 impl Status {

@@ -14,8 +14,10 @@ use Rattle.bench_reader.proofs.Answering.{circuit_not_refused, one_circuit}
 use Rattle.bench_reader.proofs.LawfulCircuits.{is_circuit}
 use Rattle.delay_annotation.specs.declared.fault.DelayFault.{DelayFault}
 use Rattle.delay_annotation.specs.declared.fault.DelayFault.TheVariants as delay
-use Rattle.delay_annotation.specs.DelayFile.{HasDelays, RefusesDelays}
-use Rattle.delay_annotation.proofs.DelayLaws.{delays_not_refused}
+use Rattle.delay_annotation.specs.declared.setting.Columns.{Columns}
+use Rattle.delay_annotation.specs.DelayFile.{HasDelaysOn, RefusesFile}
+use Rattle.delay_annotation.proofs.DelayLaws.{file_not_refused}
+use Rattle.pd_base.specs.declared.fault.Direction.{Direction}
 use Rattle.runs.specs.declared.run.ListedPath.{ListedPath}
 use Rattle.runs.specs.declared.run.Proof.{Proof}
 use Rattle.pd_base.specs.declared.rules.Rules.{Rules}
@@ -62,36 +64,37 @@ net_judged text (bench.Build build.NoMemory) refuses = judging.no_memory refl
 net_judged text bench.NoMemory refuses = judging.no_memory refl
 
 -- so does a fault of a delay file
-pub delays_judged : (c : Circuit) (text : List ℕ) (fault : DelayFault) → RefusesDelays c text fault → FailsDelays c text (delays_ending fault)
-delays_judged c text delay.Header refuses = judging.refused _ refl (record { fault = delay.Header; refused = refuses; is = refl })
-delays_judged c text (delay.Fields row) refuses =
+pub delays_judged : (columns : Columns) (c : Circuit) (text : List ℕ) (fault : DelayFault) → RefusesFile c columns text fault
+    → FailsDelays columns c text (delays_ending fault)
+delays_judged columns c text delay.Header refuses = judging.refused _ refl (record { fault = delay.Header; refused = refuses; is = refl })
+delays_judged columns c text (delay.Fields row) refuses =
     judging.refused _ refl (record { fault = delay.Fields row; refused = refuses; is = refl })
-delays_judged c text (delay.UnknownGate row) refuses =
+delays_judged columns c text (delay.UnknownGate row) refuses =
     judging.refused _ refl (record { fault = delay.UnknownGate row; refused = refuses; is = refl })
-delays_judged c text (delay.BadPin row) refuses =
+delays_judged columns c text (delay.BadPin row) refuses =
     judging.refused _ refl (record { fault = delay.BadPin row; refused = refuses; is = refl })
-delays_judged c text (delay.BadNumber row) refuses =
+delays_judged columns c text (delay.BadNumber row) refuses =
     judging.refused _ refl (record { fault = delay.BadNumber row; refused = refuses; is = refl })
-delays_judged c text delay.NoMemory refuses = judging.no_memory refl
+delays_judged columns c text delay.NoMemory refuses = judging.no_memory refl
 
 -- want of memory is no refusal
 memory_is_no_refusal : (fault : DelayFault) (refusal : Refusal) → fault ≡ delay.NoMemory → ¬ (delays_ending fault ≡ Refused refusal)
 memory_is_no_refusal fault refusal none is =
     let never : NoMemory ≡ Refused refusal = sym (ap delays_ending none) ∙ is in absurd cc
 
--- a text that gives delays is not refused
-pub gives_delays : (c : Circuit) → IsCircuit c → (text : List ℕ) (delays : Delays) (refusal : Refusal)
-    → HasDelays c text delays → ¬ HasNoDelaysFor c text refusal
-gives_delays c is text delays refusal has it =
-    memory_is_no_refusal it.fault refusal (delays_not_refused c is text delays it.fault has it.refused) it.is
+-- a text that gives delays in these columns, for either transition, is not refused
+pub gives_delays : (columns : Columns) (direction : Direction) (c : Circuit) → IsCircuit c → (text : List ℕ) (delays : Delays)
+    (refusal : Refusal) → HasDelaysOn c columns direction text delays → ¬ HasNoDelaysFor c columns text refusal
+gives_delays columns direction c is text delays refusal has it =
+    memory_is_no_refusal it.fault refusal (file_not_refused c columns is direction text delays it.fault has it.refused) it.is
 
 module _ (net : List ℕ) (c : Circuit) (has : HasCircuit net c) where
   -- a delay file that gives delays to the pins of NET's circuit is not refused
-  pub has_delays : (delay_file : List ℕ) (delays : Delays) (refusal : Refusal) → HasDelays c delay_file delays
-      → ¬ HasNoDelays net delay_file refusal
-  has_delays delay_file delays refusal gives none =
-      gives_delays c (is_circuit net c has) delay_file delays refusal gives
-      (subst (λ (d : Circuit). HasNoDelaysFor d delay_file refusal) (one_circuit net none.circuit c none.has has) none.none)
+  pub has_delays : (columns : Columns) (direction : Direction) (delay_file : List ℕ) (delays : Delays) (refusal : Refusal)
+      → HasDelaysOn c columns direction delay_file delays → ¬ HasNoDelays columns net delay_file refusal
+  has_delays columns direction delay_file delays refusal gives none =
+      gives_delays columns direction c (is_circuit net c has) delay_file delays refusal gives
+      (subst (λ (d : Circuit). HasNoDelaysFor d columns delay_file refusal) (one_circuit net none.circuit c none.has has) none.none)
 
   -- a product that is within its limit is not over it
   pub is_within : (product_of : Circuit → ℕ) (limit : ℕ) (refused_so : ℕ → Refusal) (refusal : Refusal) → product_of c ≤ limit

@@ -6,7 +6,11 @@ use Rattle.pd_io.specs.Seen.{FilesSeen}
 use Rattle.netlist.specs.Circuit.{Circuit}
 use Rattle.netlist.specs.Waves.{Delays}
 use Rattle.bench_reader.specs.Circuits.{HasCircuit}
-use Rattle.delay_annotation.specs.DelayFile.{HasDelays}
+use Rattle.delay_annotation.specs.DelayFile.{HasDelays, HasDelaysOn}
+use Rattle.delay_annotation.specs.declared.setting.Columns.{Columns}
+use Rattle.delay_annotation.specs.declared.setting.Columns.TheVariants as column
+use Rattle.pd_base.specs.declared.fault.Direction.{Direction}
+use Rattle.pd_base.specs.declared.fault.Direction.TheVariants.{Rise}
 use Rattle.calls.specs.declared.ending.Ending.{Ending}
 use Rattle.calls.specs.declared.role.Role.{Role}
 use Rattle.calls.specs.declared.role.Role.TheVariants as role
@@ -16,10 +20,10 @@ use Rattle.calls.specs.Stopping.{Stops}
 use Rattle.calls.proofs.Stages.{begun, then_required, stops_refused}
 use Rattle.commands.specs.declared.inputs.reading.TheConstants.{INPUT_LIMIT}
 use Rattle.commands.specs.declared.inputs.sizes.TheConstants.{MOST_PATH_TEXT, MOST_TEST_TEXT}
-use Rattle.commands.specs.Inside.InputJudging.{FailsToGiveDelays, FailsToGiveNet, GivesDelays, GivesNet, ReadsWithin}
+use Rattle.commands.specs.Inside.InputJudging.{FailsToGive, FailsToGiveDelays, FailsToGiveNet, GivesDelays, GivesFrom, GivesNet, ReadsWithin}
 use Rattle.commands.specs.Inside.InputJudging as judging
 use Rattle.commands.specs.InputRefusals.{long_path_text, long_test_text}
-use Rattle.commands.specs.InputRequirements.{HasMalformed, LacksCircuit, HasNoDelaysFor, InputCommand, Requirement, ShortPathText, ShortTestText, SpellsCircuit, SpellsDelays, WellFormed, input_at, input_stages, net_stages, short_stages, work_on_inputs}
+use Rattle.commands.specs.InputRequirements.{HasMalformed, LacksCircuit, HasNoDelaysFor, InputCommand, Requirement, ShortPathText, ShortTestText, SpellsCircuit, SpellsDelays, WellFormed, delays_stages, input_at, input_stages, net_stages, short_stages, work_on_inputs}
 use Rattle.commands.specs.Sizes.{HasLongTexts, HasShortTexts, long_paths, long_tests, path_text_product, test_text_product}
 use Rattle.commands.proofs.StageReads.{accepts_size, stops_judged, stops_unwhole, then_whole}
 use Rattle.commands.proofs.InputFaults.{has_a_circuit, has_delays, is_within}
@@ -30,10 +34,12 @@ module _ (command : InputCommand) where
       → Accepts (work_on_inputs command) SpellsCircuit (net ∷ later)
   accepts_net net later c has refusal refuses = has_a_circuit net c refusal has refuses
 
-  -- DELAYS gives it delays
-  pub accepts_given : (net delays : List ℕ) (later : List (List ℕ)) (c : Circuit) (given : Delays) → HasCircuit net c
-      → HasDelays c delays given → Accepts (work_on_inputs command) SpellsDelays (net ∷ delays ∷ later)
-  accepts_given net delays later c given has gives refusal refuses = has_delays net c has delays given refusal gives refuses
+  -- DELAYS gives it delays in these columns
+  pub accepts_given : (columns : Columns) (direction : Direction) (net delays : List ℕ) (later : List (List ℕ)) (c : Circuit) (given : Delays)
+      → HasCircuit net c → HasDelaysOn c columns direction delays given
+      → Accepts (work_on_inputs command) (SpellsDelays columns) (net ∷ delays ∷ later)
+  accepts_given columns direction net delays later c given has gives refusal refuses =
+      has_delays net c has columns direction delays given refusal gives refuses
 
   -- a claim file none of whose lines lacks its form
   pub accepts_form : (input : Role) (place : ℕ) (net : List ℕ) (later : List (List ℕ))
@@ -70,32 +76,48 @@ module _ (command : InputCommand) where
       then_required (work_on_inputs command) SpellsCircuit
       (then_whole command role.Net net_name net.text (begun (work_on_inputs command) old) net.read) (accepts_net net.text.items [] c net.holds)
 
-  module _ (net_name delays_name : List ℕ) (c : Circuit) (old mid new : FilesSeen) (net : GivesNet net_name c old mid) where
+  module _ (columns : Columns) (net_name delays_name : List ℕ) (c : Circuit) (old mid new : FilesSeen) (net : GivesNet net_name c old mid)
+      where
     -- DELAYS gives no delays
-    pub delays_fail : (behind : List (Stage (Requirement command.Own))) → command.stages ≡ input_stages net_name delays_name ++ behind
-        → (ending : Ending) → FailsToGiveDelays delays_name c ending mid new → Stops (work_on_inputs command) ending old new
-    delays_fail behind place ending (judging.not_read fails) =
+    pub columns_fail : (behind : List (Stage (Requirement command.Own)))
+        → command.stages ≡ delays_stages columns net_name delays_name ++ behind → (ending : Ending)
+        → FailsToGive columns delays_name c ending mid new → Stops (work_on_inputs command) ending old new
+    columns_fail behind place ending (judging.not_read fails) =
         stops_unwhole command role.Delays delays_name ending (net_passed net_name c old mid net) (_, place) fails
-    delays_fail behind place ending (judging.gives_none file read fails) =
-        stops_judged command SpellsDelays (HasNoDelaysFor c file.items) ending
+    columns_fail behind place ending (judging.gives_none file read fails) =
+        stops_judged command (SpellsDelays columns) (HasNoDelaysFor c columns file.items) ending
         (then_whole command role.Delays delays_name file (net_passed net_name c old mid net) read) (_, place)
         (λ refusal why. record { circuit = c; has = net.holds; none = why }) fails
 
     -- both were read and judged
+    pub columns_passed : (Holds : List ℕ → Type 0) (direction : Direction) (given : Delays)
+        → ((text : List ℕ) → Holds text → HasDelaysOn c columns direction text given) → (delays : GivesFrom role.Delays delays_name Holds mid new)
+        → HasPassed (work_on_inputs command) (delays_stages columns net_name delays_name) (net.text.items ∷ delays.text.items ∷ []) old new
+    columns_passed Holds direction given has delays =
+        then_required (work_on_inputs command) (SpellsDelays columns)
+        (then_whole command role.Delays delays_name delays.text (net_passed net_name c old mid net) delays.read)
+        (accepts_given columns direction net.text.items delays.text.items [] c given net.holds (has delays.text.items delays.holds))
+
+  -- the same, where DELAYS is to have one delay for each pin
+  module _ (net_name delays_name : List ℕ) (c : Circuit) (old mid new : FilesSeen) (net : GivesNet net_name c old mid) where
+    pub delays_fail : (behind : List (Stage (Requirement command.Own))) → command.stages ≡ input_stages net_name delays_name ++ behind
+        → (ending : Ending) → FailsToGiveDelays delays_name c ending mid new → Stops (work_on_inputs command) ending old new
+    delays_fail = columns_fail column.Delay net_name delays_name c old mid new net
+
     pub inputs_passed : (given : Delays) (delays : GivesDelays delays_name c given mid new)
         → HasPassed (work_on_inputs command) (input_stages net_name delays_name) (net.text.items ∷ delays.text.items ∷ []) old new
     inputs_passed given delays =
-        then_required (work_on_inputs command) SpellsDelays
-        (then_whole command role.Delays delays_name delays.text (net_passed net_name c old mid net) delays.read)
-        (accepts_given net.text.items delays.text.items [] c given net.holds delays.holds)
+        columns_passed column.Delay net_name delays_name c old mid new net (λ text. HasDelays c text given) Rise given
+        (λ text has. has) delays
 
   -- what the files tell of NET and DELAYS is accepted, and what follows is passed
-  pub inputs_pass : (told : Folder) (net_name delays_name : List ℕ) (later : List (Stage (Requirement command.Own))) (c : Circuit)
-      (given : Delays) (all : List (List ℕ)) → length (bytes_at told.held net_name) ≤ INPUT_LIMIT → HasCircuit (bytes_at told.held net_name) c
-      → length (bytes_at told.held delays_name) ≤ INPUT_LIMIT → HasDelays c (bytes_at told.held delays_name) given
+  pub delays_pass : (columns : Columns) (direction : Direction) (told : Folder) (net_name delays_name : List ℕ)
+      (later : List (Stage (Requirement command.Own))) (c : Circuit) (given : Delays) (all : List (List ℕ))
+      → length (bytes_at told.held net_name) ≤ INPUT_LIMIT → HasCircuit (bytes_at told.held net_name) c
+      → length (bytes_at told.held delays_name) ≤ INPUT_LIMIT → HasDelaysOn c columns direction (bytes_at told.held delays_name) given
       → Pass (work_on_inputs command) (Some told) later (bytes_at told.held net_name ∷ bytes_at told.held delays_name ∷ []) all
-      → Pass (work_on_inputs command) (Some told) (input_stages net_name delays_name ++ later) [] all
-  inputs_pass told net_name delays_name later c given all net_within has delays_within gives rest =
+      → Pass (work_on_inputs command) (Some told) (delays_stages columns net_name delays_name ++ later) [] all
+  delays_pass columns direction told net_name delays_name later c given all net_within has delays_within gives rest =
       let net = bytes_at told.held net_name in
       let delays = bytes_at told.held delays_name in (
         net,
@@ -109,12 +131,20 @@ module _ (command : InputCommand) where
               refl,
               (
                 accepts_size command role.Delays (net ∷ []) delays delays_within,
-                (accepts_given net delays [] c given has gives, rest),
+                (accepts_given columns direction net delays [] c given has gives, rest),
               ),
             ),
           ),
         ),
       )
+
+  -- the same of one delay for each pin
+  pub inputs_pass : (told : Folder) (net_name delays_name : List ℕ) (later : List (Stage (Requirement command.Own))) (c : Circuit)
+      (given : Delays) (all : List (List ℕ)) → length (bytes_at told.held net_name) ≤ INPUT_LIMIT → HasCircuit (bytes_at told.held net_name) c
+      → length (bytes_at told.held delays_name) ≤ INPUT_LIMIT → HasDelays c (bytes_at told.held delays_name) given
+      → Pass (work_on_inputs command) (Some told) later (bytes_at told.held net_name ∷ bytes_at told.held delays_name ∷ []) all
+      → Pass (work_on_inputs command) (Some told) (input_stages net_name delays_name ++ later) [] all
+  inputs_pass = delays_pass column.Delay Rise
 
   -- texts of so many paths, behind NET and DELAYS
   module _ (net_name delays_name : List ℕ) (paths : ℕ) (net delays : List ℕ) (c : Circuit) (has : HasCircuit net c) where

@@ -4,6 +4,10 @@ mod Replayed
 pub mod ReplayAccepting
 pub mod ReplayLaws
 pub mod ReplayStages
+mod RiseFallAccepting
+pub mod RiseFallReplayLaws
+pub mod RiseFallStages
+mod RiseFallTexts
 mod SameDelays
 mod TestCounts
 pub mod AgreeingDelays
@@ -15,6 +19,8 @@ pub mod SpelledRuns
 pub mod FewLines
 pub mod InputStages
 pub mod InputsJudged
+pub mod ListedStages
+pub mod Printed
 pub mod Products
 pub mod SpelledTests
 pub mod StageReads
@@ -30,6 +36,7 @@ pub mod FilesLeft
 pub mod GenLeft
 pub mod GenThenCheck
 pub mod GenThenReplay
+pub mod GenThenRiseFall
 pub mod GoodTexts
 pub mod NameBounds
 pub mod PathLengths

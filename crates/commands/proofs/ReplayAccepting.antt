@@ -1,8 +1,9 @@
 -- What each requirement of `replay` on TESTS accepts.
 use Rattle.std.proofs.Common.{◌≡◌, ℕ, ◌≤◌, List, [], ◌∷◌, length, sym, subst, ◌∙◌}
 use Rattle.pd_base.specs.declared.test.Test.{Test}
+use Rattle.pd_base.specs.Pair.{Vectors}
 use Rattle.netlist.specs.Circuit.{Circuit}
-use Rattle.netlist.specs.Waves.{Delays}
+use Rattle.netlist.specs.Waves.{Delays, wave_of}
 use Rattle.bench_reader.specs.Circuits.{HasCircuit}
 use Rattle.bench_reader.proofs.Answering.{one_circuit}
 use Rattle.bench_reader.proofs.LawfulCircuits.{is_circuit}
@@ -21,7 +22,7 @@ use Rattle.commands.proofs.InputFaults.{tests_formed}
 use Rattle.commands.proofs.InputStages.{accepts_form}
 use Rattle.commands.proofs.StageReads.{accepts_size}
 use Rattle.commands.proofs.Replayed.{few_tests_or_over}
-use Rattle.commands.proofs.SameDelays.{all_few_agree}
+use Rattle.commands.proofs.SameDelays.{few_by_delays}
 
 -- the inputs, in order
 abbrev pub three : List ℕ → List ℕ → List ℕ → List (List ℕ)
@@ -47,8 +48,8 @@ module _ (call : ReplayCall) (net delays tests : List ℕ) where
         let same : listed ≡ others =
         tests_once c listed others are.spells.lawful also.spells.lawful (sym are.spells.is_text ∙ also.spells.is_text) in
         let agree = delays_agree c (is_circuit net c are.has) delays given other are.gives also.gives in
-        few_tests_or_over c other others number line
-        (subst (HaveFewChanges c other) same (all_few_agree c given other agree listed few)) first
+        few_tests_or_over c (λ (pair : Vectors). wave_of c pair other) others number line
+        (subst (HaveFewChanges c other) same (few_by_delays c given other agree listed few)) first
 
     -- nor whichever circuit
     no_test_over : (refusal : Refusal) → ¬ HasTestOver net delays tests refusal

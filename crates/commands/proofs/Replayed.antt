@@ -1,5 +1,5 @@
--- The text of a replay, test by test; and why tests whose lines change few times are refused for no line that changes too often.
-use Rattle.std.proofs.Common.{◌≡◌, ℕ, ◌+◌, ◌<◌, ℤ, List, ◌∷◌, ◌++◌, take, drop, length, map, get_or, refl, sym, ap, subst, ◌∙◌, append_assoc, arith}
+-- The text of a replay, test by test, whichever waves the pair of a test gives the lines; and why tests whose lines change few times are refused for no line that changes too often.
+use Rattle.std.proofs.Common.{◌≡◌, ℕ, ◌+◌, ◌<◌, List, ◌∷◌, ◌++◌, take, drop, length, map, get_or, refl, sym, ap, subst, ◌∙◌, append_assoc, arith}
 use Rattle.std.specs.List.{All, range_with_len}
 use Rattle.std.proofs.lemmas.List.{drop_more, get_or_at, length-append, length-take-le, take-append-drop, take_more}
 use Rattle.std.proofs.lemmas.List.Elements.{All-append, All-map, All-push}
@@ -9,12 +9,11 @@ use Rattle.pd_base.specs.declared.test.Test.{Test}
 use Rattle.pd_base.specs.Pair.{Vectors}
 use Rattle.netlist.specs.Circuit.{Circuit, gate_line, line_count, source_count}
 use Rattle.netlist.specs.Levels.{IsRankOrder}
-use Rattle.netlist.specs.Waves.{Delays}
 use Rattle.delay_replay.specs.declared.line_waves.ReplayFault.{ReplayFault}
 use Rattle.delay_replay.specs.declared.line_waves.ReplayFault.TheVariants.{TooManyChanges, NoMemory}
-use Rattle.delay_replay.specs.ChangeLimits.{HasFewChanges, IsFirstTooMuch, RefusesReplay, ranked_lines}
-use Rattle.commands.specs.ReplayText.{replayed_line, replayed_lines}
-use Rattle.commands.specs.TestChanges.{HaveFewChanges, IsFirstTestOver, RefusesTests, replay_text_fault}
+use Rattle.delay_replay.specs.ChangeLimits.{HasFewOf, IsFirstOf, RefusesWaves, ranked_lines}
+use Rattle.commands.specs.ReplayText.{numbered_lines}
+use Rattle.commands.specs.TestChanges.{HaveFewOf, IsFirstTestOf, PairWaves, RefusesTestsOf, replay_text_fault}
 use Rattle.commands.proofs.OneRankOrder.{one_rank_order}
 
 -- what holds of each item holds of the one at this place
@@ -24,7 +23,7 @@ all_at P items earlier later item place all =
     let holds = subst (All P) (sym place) all in
     subst P (get_or_at earlier item later item (length earlier) refl) (holds (length earlier) item (omega (arith, long)))
 
-module _ (c : Circuit) (delays : Delays) where
+module _ (c : Circuit) (waves : PairWaves) where
   -- each line that is ranked is one of the circuit
   ranked_inside : (order : List GateId) → IsRankOrder c order → All (λ line. line < line_count c) (ranked_lines c order)
   ranked_inside order ranked =
@@ -36,23 +35,23 @@ module _ (c : Circuit) (delays : Delays) where
       (All-map IsLine (λ (g : GateId). gate_line c g.0) order (λ k d within. omega (arith, ranked.in_circuit k d within)))
 
   -- so is one that is too much
-  pub over_inside : (pair : Vectors) (line : ℕ) → IsFirstTooMuch c pair delays line → line < line_count c
+  pub over_inside : (pair : Vectors) (line : ℕ) → IsFirstOf c (waves pair) line → line < line_count c
   over_inside pair line first =
       all_at (λ l. l < line_count c) (ranked_lines c first.order) first.earlier first.later line first.place
       (ranked_inside first.order first.ranked)
 
   -- lines change few times or some line is too much, and not both
-  pub few_or_over : (pair : Vectors) (line : ℕ) → HasFewChanges c pair delays → ¬ IsFirstTooMuch c pair delays line
+  pub few_or_over : (pair : Vectors) (line : ℕ) → HasFewOf c (waves pair) → ¬ IsFirstOf c (waves pair) line
   few_or_over pair line few first =
       few.none first.earlier line first.later
       (first.place ∙ ap (ranked_lines c) (one_rank_order c first.order few.order first.ranked few.ranked)) first.too_much
 
   -- nor is a test the first one over, where all tests have few changes
-  pub few_tests_or_over : (tests : List Test) (number line : ℕ) → HaveFewChanges c delays tests
-      → ¬ IsFirstTestOver c delays tests number line
+  pub few_tests_or_over : (tests : List Test) (number line : ℕ) → HaveFewOf c waves tests
+      → ¬ IsFirstTestOf c waves tests number line
   few_tests_or_over tests number line few first =
       few_or_over first.test.pair line
-      (all_at (λ (test : Test). HasFewChanges c test.pair delays) tests first.earlier first.later first.test (sym first.place) few)
+      (all_at (λ (test : Test). HasFewOf c (waves test.pair)) tests first.earlier first.later first.test (sym first.place) few)
       first.too_much
 
   module _ (tests : List Test) (place : ℕ) (none : Test) (within : place < length tests) where
@@ -61,25 +60,24 @@ module _ (c : Circuit) (delays : Delays) where
     here = get_or tests place none
 
     -- with its line the text goes on behind it
-    pub one_line_more : (time : ℤ) (number : ℕ) (text whole : List ℕ)
-        → text ++ replayed_lines c delays time number (drop place tests) ≡ whole
-        → (text ++ replayed_line c delays time number here) ++ replayed_lines c delays time (number + 1) (drop (place + 1) tests)
-        ≡ whole
-    one_line_more time number text whole is =
-        append_assoc text (replayed_line c delays time number here) (replayed_lines c delays time (number + 1) (drop (place + 1) tests))
-        ∙ ap (λ lines. text ++ lines) (sym (ap (replayed_lines c delays time number) (drop_more tests place none within)))
+    pub one_line_more : (line_for : ℕ → Test → List ℕ) (number : ℕ) (text whole : List ℕ)
+        → text ++ numbered_lines line_for number (drop place tests) ≡ whole
+        → (text ++ line_for number here) ++ numbered_lines line_for (number + 1) (drop (place + 1) tests) ≡ whole
+    one_line_more line_for number text whole is =
+        append_assoc text (line_for number here) (numbered_lines line_for (number + 1) (drop (place + 1) tests))
+        ∙ ap (λ lines. text ++ lines) (sym (ap (numbered_lines line_for number) (drop_more tests place none within)))
         ∙ is
 
-    module _ (few : HaveFewChanges c delays (take place tests)) where
+    module _ (few : HaveFewOf c waves (take place tests)) where
       -- with it one test more has few changes
-      pub one_more_few : HasFewChanges c here.pair delays → HaveFewChanges c delays (take (place + 1) tests)
+      pub one_more_few : HasFewOf c (waves here.pair) → HaveFewOf c waves (take (place + 1) tests)
       one_more_few own =
-          subst (HaveFewChanges c delays) (sym (take_more tests place none within))
-          (All-push (λ (test : Test). HasFewChanges c test.pair delays) (take place tests) here few own)
+          subst (HaveFewOf c waves) (sym (take_more tests place none within))
+          (All-push (λ (test : Test). HasFewOf c (waves test.pair)) (take place tests) here few own)
 
       -- or it is the first one over
-      pub refused_here : (fault : ReplayFault) → RefusesReplay c here.pair delays fault
-          → RefusesTests c delays tests (replay_text_fault (place + 1) fault)
+      pub refused_here : (fault : ReplayFault) → RefusesWaves c (waves here.pair) fault
+          → RefusesTestsOf c waves tests (replay_text_fault (place + 1) fault)
       refused_here NoMemory refuses = tt
       refused_here (TooManyChanges line) refuses = record {
         earlier = take place tests;

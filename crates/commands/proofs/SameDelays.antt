@@ -1,5 +1,5 @@
--- Delays that agree at the pins of a circuit give its lines the same waves, and so the same text and the same changes.
-use Rattle.std.proofs.Common.{◌≡◌, ⊎_elim, ℕ, zero, suc, ◌+◌, ◌-◌, ◌<◌, ◌≤◌, ℤ, pos, ◌-ℤ◌, List, [], ◌∷◌, ◌++◌, map, length, get_or, nat_lt, if◌then◌else◌, refl, ap, ap₂, subst, ◌∙◌, arith}
+-- Pins that agree in how they copy their lines give the lines of a circuit the same waves, and so the lines change as often.
+use Rattle.std.proofs.Common.{◌≡◌, ⊎_elim, ℕ, zero, suc, ◌+◌, ◌-◌, ◌<◌, ◌≤◌, ℤ, pos, ◌-ℤ◌, Bool, List, [], ◌∷◌, map, length, get_or, nat_lt, if◌then◌else◌, refl, ap, ap₂, subst, ◌∙◌, arith}
 use Rattle.std.proofs.lemmas.Bool.{cases_lt}
 use Rattle.std.proofs.lemmas.List.{get_or_past, length-map}
 use Rattle.std.proofs.lemmas.List.Elements.{All-weaker}
@@ -8,24 +8,27 @@ use Rattle.pd_base.specs.declared.ids.LineId.{LineId}
 use Rattle.pd_base.specs.declared.ids.PinRef.{PinRef}
 use Rattle.pd_base.specs.declared.test.Test.{Test}
 use Rattle.pd_base.specs.Pair.{Vectors}
-use Rattle.netlist.specs.Circuit.{Circuit, Gate, no_gate, source_count, gate_count, kind_at, pins_at, observed_lines}
+use Rattle.netlist.specs.Circuit.{Circuit, Gate, no_gate, source_count, gate_count, kind_at, pins_at}
 use Rattle.netlist.specs.Evaluation.{value_within}
 use Rattle.netlist.specs.Pins.{IsPinOn}
 use Rattle.netlist.specs.Values.{gate_value}
-use Rattle.netlist.specs.Waves.{Delays, Wave, delay_copy, pin_values, source_wave, wave_of}
-use Rattle.delay_replay.specs.ChangeLimits.{HasFewChanges, NoneTooMuch, ranked_lines}
-use Rattle.commands.specs.ReplayText.{replayed_lines, sample_line}
-use Rattle.commands.specs.TestChanges.{HaveFewChanges}
+use Rattle.netlist.specs.Waves.{Delays, PinCopy, Wave, delay_copy, pin_values, source_wave, wave_under}
+use Rattle.delay_replay.specs.ChangeLimits.{HasFewOf, NoneTooMuch, ranked_lines}
+use Rattle.commands.specs.TestChanges.{HaveFewChanges, HaveFewOf}
 
 -- a pin of a gate, by numbers
 abbrev pin_of : ℕ → ℕ → PinRef
 pin_of gate pin = record { gate = record { 0 = gate }; pin = pin }
 
 -- what a gate makes of waves at a time
-abbrev gate_step : Circuit → Delays → ℕ → List Wave → Wave
-gate_step c delays gate waves time = gate_value (kind_at c gate) (pin_values (delay_copy delays) gate 0 waves time)
+abbrev gate_step : Circuit → PinCopy → ℕ → List Wave → Wave
+gate_step c copies gate waves time = gate_value (kind_at c gate) (pin_values copies gate 0 waves time)
 
-module _ (c : Circuit) (a b : Delays) (agree : (pin : PinRef) (line : ℕ) → IsPinOn c pin line → a pin ≡ b pin) where
+-- two models of pins agree at each pin that reads a line
+abbrev pub PinsAgree : {A : Type 0} → Circuit → (PinRef → A) → (PinRef → A) → Type 0
+PinsAgree c a b = (pin : PinRef) (line : ℕ) → IsPinOn c pin line → a pin ≡ b pin
+
+module _ (c : Circuit) (a b : PinCopy) (agree : PinsAgree c a b) where
   -- a pin that a gate has reads a line
   at_pin : (gate pin : ℕ) → pin < length (pins_at c gate) → a (pin_of gate pin) ≡ b (pin_of gate pin)
   at_pin gate pin inside =
@@ -41,13 +44,14 @@ module _ (c : Circuit) (a b : Delays) (agree : (pin : PinRef) (line : ℕ) → I
       no_pin past =
           let empty = ap (λ (g : Gate). length g.pins) (get_or_past c.gates gate no_gate past) in omega (arith, empty, inside)
 
-  -- pins whose delays agree see the same
+  -- pins that agree see the same
   pins_see : (gate pin : ℕ) (waves : List Wave)
       → ((p : ℕ) → pin ≤ p → p < pin + length waves → a (pin_of gate p) ≡ b (pin_of gate p)) → (time : ℤ)
-      → pin_values (delay_copy a) gate pin waves time ≡ pin_values (delay_copy b) gate pin waves time
+      → pin_values a gate pin waves time ≡ pin_values b gate pin waves time
   pins_see gate pin [] each time = refl
   pins_see gate pin (wave ∷ waves) each time =
-      ap₂ ◌∷◌ (ap (λ delay. wave (time -ℤ pos delay)) (each pin (omega arith) (omega arith)))
+      ap₂ (λ (value : Bool) values. value ∷ values)
+      (ap (λ (copy : Wave → Wave). copy wave time) (each pin (omega arith) (omega arith)))
       (pins_see gate (pin + 1) waves (λ p from below. each p (omega arith) (omega arith)) time)
 
   -- so a gate makes the same of the waves of its pins' lines
@@ -71,21 +75,11 @@ module _ (c : Circuit) (a b : Delays) (agree : (pin : PinRef) (line : ℕ) → I
       ap (λ wave. if nat_lt line (source_count c) then source_wave pair line else wave) (one ∙ other)
 
   -- each line has the same wave
-  pub waves_agree : (pair : Vectors) → wave_of c pair a ≡ wave_of c pair b
+  pub waves_agree : (pair : Vectors) → wave_under a c pair ≡ wave_under b c pair
   waves_agree pair = λ i line. within_agree pair (gate_count c) line i
 
-  -- so the text is the same
-  pub lines_agree : (time : ℤ) (number : ℕ) (tests : List Test)
-      → replayed_lines c a time number tests ≡ replayed_lines c b time number tests
-  lines_agree time number [] = refl
-  lines_agree time number (test ∷ tests) =
-      ap₂ ◌++◌
-      (ap (λ (wave : ℕ → Wave). sample_line number (map (λ (line : LineId). wave line.0 time) (observed_lines c)) test.expected)
-      (waves_agree test.pair))
-      (lines_agree time (number + 1) tests)
-
-  -- and the lines change as often
-  pub few_agree : (pair : Vectors) → HasFewChanges c pair a → HasFewChanges c pair b
+  -- so the lines change as often
+  few_agree : (pair : Vectors) → HasFewOf c (wave_under a c pair) → HasFewOf c (wave_under b c pair)
   few_agree pair few = record {
     order = few.order;
     ranked = few.ranked;
@@ -93,7 +87,13 @@ module _ (c : Circuit) (a b : Delays) (agree : (pin : PinRef) (line : ℕ) → I
   }
 
   -- under each of these pairs
-  pub all_few_agree : (tests : List Test) → HaveFewChanges c a tests → HaveFewChanges c b tests
+  pub all_few_agree : (tests : List Test) → HaveFewOf c (wave_under a c) tests → HaveFewOf c (wave_under b c) tests
   all_few_agree tests few =
-      All-weaker (λ (test : Test). HasFewChanges c test.pair a) (λ (test : Test). HasFewChanges c test.pair b)
+      All-weaker (λ (test : Test). HasFewOf c (wave_under a c test.pair)) (λ (test : Test). HasFewOf c (wave_under b c test.pair))
       (λ test is. few_agree test.pair is) tests few
+
+-- that holds of one delay for each pin
+pub few_by_delays : (c : Circuit) (a b : Delays) → PinsAgree c a b → (tests : List Test) → HaveFewChanges c a tests
+    → HaveFewChanges c b tests
+few_by_delays c a b agree =
+    all_few_agree c (delay_copy a) (delay_copy b) (λ pin line on. ap (λ delay wave time. wave (time -ℤ pos delay)) (agree pin line on))

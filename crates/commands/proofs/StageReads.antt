@@ -29,7 +29,7 @@ read_is_within input name read old new it =
     subst (λ (bytes : List ℕ). length bytes ≤ limit_of input) (sym it.is_read.items) it.is_read.within
 
 -- a front of stages without its last one
-front_before : {R : Type 0} (stages all : List (Stage R)) (last : Stage R) → IsFrontOf (stages ++ last ∷ []) all → IsFrontOf stages all
+pub front_before : {R : Type 0} (stages all : List (Stage R)) (last : Stage R) → IsFrontOf (stages ++ last ∷ []) all → IsFrontOf stages all
 front_before stages all last (rest, whole) = (last ∷ rest, whole ∙ append_assoc stages (last ∷ []) rest)
 
 module _ (command : InputCommand) where

@@ -3,9 +3,10 @@
 use Rattle.std.specs.Prelude.{ℕ, List, Result, Ok, Err}
 use Rattle.pd_io.specs.Seen.{Outside}
 use Rattle.command_line.specs.declared.refusal.WordsRefusal.{WordsRefusal}
+use Rattle.command_line.specs.declared.refusal.WordsRefusal.TheVariants as reason
 use Rattle.command_line.specs.declared.fault.WordsFault.{WordsFault}
 use Rattle.command_line.specs.declared.fault.WordsFault.TheVariants as fault
-use Rattle.command_line.specs.Words.{Call, gen, check, replay, make, asked_call}
+use Rattle.command_line.specs.Words.{Call, gen, check, replay, make, rise_fall_replay, compact, bounds, asked_call}
 use Rattle.calls.specs.declared.ending.Ending.{Ending}
 use Rattle.calls.specs.declared.ending.Ending.TheVariants as ended
 use Rattle.calls.specs.Work.{Work}
@@ -19,6 +20,8 @@ use Rattle.commands.specs.Make.{make_work}
 use Rattle.commands.specs.MakeLaws.{KeepsMakeLaws}
 use Rattle.commands.specs.Replay.{replay_work}
 use Rattle.commands.specs.ReplayLaws.{KeepsReplayLaws}
+use Rattle.commands.specs.RiseFallReplay.{rise_fall_replay_work}
+use Rattle.commands.specs.RiseFallReplayLaws.{KeepsRiseFallReplayLaws}
 use Rattle.commands.specs.WordsRefusals.{words_refusal}
 
 -- the work of a command, or of words that are refused
@@ -27,7 +30,10 @@ work_of (Ok (gen call)) = gen_work call
 work_of (Ok (check call)) = check_work call
 work_of (Ok (replay call)) = replay_work call
 work_of (Ok (make call)) = make_work call
-work_of (Err reason) = refused_at_once (words_refusal reason)
+work_of (Ok (rise_fall_replay call)) = rise_fall_replay_work call
+work_of (Ok (compact call)) = refused_at_once (words_refusal reason.Command)
+work_of (Ok (bounds call)) = refused_at_once (words_refusal reason.Command)
+work_of (Err why) = refused_at_once (words_refusal why)
 
 -- what holds of a call of a command, which these words ask for, beside what holds of every call; one with refused words reports them, or
 -- want of memory
@@ -36,7 +42,10 @@ KeepsLawsOf words (Ok (gen call)) status old new = KeepsGenLaws call status old 
 KeepsLawsOf words (Ok (check call)) status old new = KeepsCheckLaws words call status old new
 KeepsLawsOf words (Ok (replay call)) status old new = KeepsReplayLaws call status old new
 KeepsLawsOf words (Ok (make call)) status old new = KeepsMakeLaws status old new
-KeepsLawsOf words (Err reason) status old new = ReportsAtOnce (words_refusal reason) status old.err new.err
+KeepsLawsOf words (Ok (rise_fall_replay call)) status old new = KeepsRiseFallReplayLaws call status old new
+KeepsLawsOf words (Ok (compact call)) status old new = ReportsAtOnce (words_refusal reason.Command) status old.err new.err
+KeepsLawsOf words (Ok (bounds call)) status old new = ReportsAtOnce (words_refusal reason.Command) status old.err new.err
+KeepsLawsOf words (Err why) status old new = ReportsAtOnce (words_refusal why) status old.err new.err
 
 -- the work that these words ask for
 abbrev pub asked_work : List (List ℕ) → Work

@@ -1,12 +1,14 @@
 -- What commands require alike of the files that they read, how each requirement refuses, and the stages of which a command puts its own
 -- together (this project's own). A command that reads NET first is an `InputCommand`.
-use Rattle.std.specs.Prelude.{◌≡◌, ℕ, ◌<◌, List, [], ◌∷◌, ◌++◌, length, slice_index_or}
+use Rattle.std.specs.Prelude.{◌≡◌, ℕ, ◌+◌, ◌<◌, List, [], ◌∷◌, ◌++◌, length, slice_index_or}
 use Rattle.netlist.specs.Circuit.{Circuit}
 use Rattle.bench_reader.specs.Circuits.{HasCircuit}
 use Rattle.bench_reader.specs.Refusals.{RefusesText}
 use Rattle.bench_reader.specs.declared.fault.BenchFault.{BenchFault}
-use Rattle.delay_annotation.specs.DelayFile.{RefusesDelays}
+use Rattle.delay_annotation.specs.DelayFile.{RefusesFile}
 use Rattle.delay_annotation.specs.declared.fault.DelayFault.{DelayFault}
+use Rattle.delay_annotation.specs.declared.setting.Columns.{Columns}
+use Rattle.delay_annotation.specs.declared.setting.Columns.TheVariants as columns
 use Rattle.pd_base.specs.declared.limits.TheConstants.{MOST_BYTES}
 use Rattle.calls.specs.declared.ending.Ending.TheVariants.{Refused}
 use Rattle.calls.specs.declared.refusal.Refusal.{Refusal}
@@ -26,8 +28,8 @@ pub data Requirement (Own : Type 0) : Type 0 where
   WithinLimit : Role → Requirement Own
   -- NET, which was read first, has a circuit
   SpellsCircuit : Requirement Own
-  -- DELAYS, which was read next, gives delays to its pins
-  SpellsDelays : Requirement Own
+  -- DELAYS, which was read next, gives delays to its pins: in these columns, one for each pin, or one for a rise and one for a fall
+  SpellsDelays : Columns → Requirement Own
   -- the product that bounds the texts of so many paths is within its limit
   ShortPathText : ℕ → Requirement Own
   -- so is the one that bounds the texts of so many tests
@@ -37,13 +39,15 @@ pub data Requirement (Own : Type 0) : Type 0 where
   -- one of the command's own
   own : Own → Requirement Own
 
--- how many bytes an input of a role may have
+-- how many bytes an input of a role may have; no command reads OUT
 abbrev pub limit_of : Role → ℕ
 limit_of role.Net = INPUT_LIMIT
 limit_of role.Delays = INPUT_LIMIT
 limit_of role.Tests = MOST_BYTES
 limit_of role.Report = MOST_BYTES
 limit_of role.Proofs = MOST_BYTES
+limit_of role.Log = INPUT_LIMIT
+limit_of role.Out = INPUT_LIMIT
 
 -- the input before which so many were read
 abbrev pub input_at : List (List ℕ) → ℕ → List ℕ
@@ -66,17 +70,17 @@ pub record LacksCircuit (net : List ℕ) (refusal : Refusal) : Type 0 where
   pub refused : RefusesText net fault
   pub is : netlist_ending fault ≡ Refused refusal
 
--- the text gives no delays to the pins of this circuit, and is refused so
-pub record HasNoDelaysFor (c : Circuit) (text : List ℕ) (refusal : Refusal) : Type 0 where
+-- the text gives no delays in these columns to the pins of this circuit, and is refused so
+pub record HasNoDelaysFor (c : Circuit) (columns : Columns) (text : List ℕ) (refusal : Refusal) : Type 0 where
   pub fault : DelayFault
-  pub refused : RefusesDelays c text fault
+  pub refused : RefusesFile c columns text fault
   pub is : delays_ending fault ≡ Refused refusal
 
 -- NET has a circuit, to whose pins DELAYS gives no delays
-pub record HasNoDelays (net delays : List ℕ) (refusal : Refusal) : Type 0 where
+pub record HasNoDelays (columns : Columns) (net delays : List ℕ) (refusal : Refusal) : Type 0 where
   pub circuit : Circuit
   pub has : HasCircuit net circuit
-  pub none : HasNoDelaysFor circuit delays refusal
+  pub none : HasNoDelaysFor circuit columns delays refusal
 
 -- NET has a circuit, whose product is over its limit, which is refused so
 pub record IsOverProduct (net : List ℕ) (product_of : Circuit → ℕ) (limit : ℕ) (refused_so : ℕ → Refusal) (refusal : Refusal) : Type 0 where
@@ -110,7 +114,7 @@ pub record InputCommand : Type 1 where
 abbrev pub RefusesInputs : (command : InputCommand) → Requirement command.Own → List (List ℕ) → Refusal → Type 0
 RefusesInputs command (WithinLimit input) inputs refusal = IsOverLimit input (last_input inputs) refusal
 RefusesInputs command SpellsCircuit inputs refusal = LacksCircuit (input_at inputs 0) refusal
-RefusesInputs command SpellsDelays inputs refusal = HasNoDelays (input_at inputs 0) (input_at inputs 1) refusal
+RefusesInputs command (SpellsDelays columns) inputs refusal = HasNoDelays columns (input_at inputs 0) (input_at inputs 1) refusal
 RefusesInputs command (ShortPathText paths) inputs refusal =
     IsOverProduct (input_at inputs 0) (path_text_product paths) MOST_PATH_TEXT long_path_text refusal
 RefusesInputs command (ShortTestText paths) inputs refusal =
@@ -140,9 +144,21 @@ read_stages input name = Read input name ∷ Require (WithinLimit input) ∷ []
 abbrev pub net_stages : {Own : Type 0} → List ℕ → List (Stage (Requirement Own))
 net_stages net = read_stages role.Net net ++ Require SpellsCircuit ∷ []
 
--- then DELAYS is read, and has to give delays
+-- then DELAYS is read, and has to give delays in these columns
+abbrev pub delays_stages : {Own : Type 0} → Columns → List ℕ → List ℕ → List (Stage (Requirement Own))
+delays_stages columns net delays = net_stages net ++ read_stages role.Delays delays ++ Require (SpellsDelays columns) ∷ []
+
+-- it has to give one delay for each pin
 abbrev pub input_stages : {Own : Type 0} → List ℕ → List ℕ → List (Stage (Requirement Own))
-input_stages net delays = net_stages net ++ read_stages role.Delays delays ++ Require SpellsDelays ∷ []
+input_stages net delays = delays_stages columns.Delay net delays
+
+-- TESTS and REPORT are read, in this order
+abbrev pub tests_and_report_stages : {Own : Type 0} → List ℕ → List ℕ → List (Stage (Requirement Own))
+tests_and_report_stages tests report = read_stages role.Tests tests ++ read_stages role.Report report
+
+-- then they have to have their form, where TESTS was read behind so many inputs, and REPORT next
+abbrev pub tests_and_report_forms : {Own : Type 0} → ℕ → List (Stage (Requirement Own))
+tests_and_report_forms place = Require (WellFormed role.Tests place) ∷ Require (WellFormed role.Report (place + 1)) ∷ []
 
 -- texts of so many paths, and of so many tests, have to be short
 abbrev pub short_stages : {Own : Type 0} → ℕ → List (Stage (Requirement Own))

@@ -3,3 +3,5 @@ pub mod Checking
 pub mod InputJudging
 pub mod Judging
 pub mod ReplayEndings
+pub mod RiseFallReplaying
+pub mod TestsAndPaths

@@ -2,13 +2,15 @@
 use Rattle.std.specs.Prelude.{◌≡◌, ◌≢◌, ℕ, List, [], ◌∷◌, All, AllPairs, Ok, Some, codes}
 use Rattle.pd_io.specs.Folder.{bytes_at, Folder}
 use Rattle.pd_io.specs.Seen.{Outside}
-use Rattle.command_line.specs.Words.{ReplayCall, RunCall, asked_call, gen}
+use Rattle.command_line.specs.Words.{ReplayCall, RiseFallReplayCall, RunCall, asked_call, gen}
 use Rattle.calls.specs.Work.{Work}
 use Rattle.calls.specs.Passing.{Pass}
 use Rattle.calls.specs.Calls.{IsDone}
 use Rattle.commands.specs.Gen.{gen_work}
-use Rattle.commands.specs.InputRequirements.{input_stages}
+use Rattle.delay_annotation.specs.declared.setting.Columns.TheVariants.{RiseAndFall}
+use Rattle.commands.specs.InputRequirements.{delays_stages, input_stages}
 use Rattle.commands.specs.Replay.{replay_work}
+use Rattle.commands.specs.RiseFallReplay.{rise_fall_replay_work}
 
 -- the names of the files of a run, in the order of the words
 abbrev pub run_names : RunCall → List (List ℕ)
@@ -45,3 +47,11 @@ pub record FindsTests (call : RunCall) (left : Folder) (replay : ReplayCall) (no
   pub tests : HoldsAs now replay.tests left call.tests
   pub inputs : List (List ℕ)
   pub accepted : Pass (replay_work replay) (Some now) (input_stages replay.net replay.delays) [] inputs
+
+-- a call of `rfreplay` finds in NET what such a call of `gen` found there, in TESTS and REPORT what that call wrote, and accepts NET and DELAYS
+pub record FindsTestsAndReport (call : RunCall) (left : Folder) (replay : RiseFallReplayCall) (now : Folder) : Type 0 where
+  pub net : HoldsAs now replay.net left call.net
+  pub tests : HoldsAs now replay.tests left call.tests
+  pub report : HoldsAs now replay.report left call.report
+  pub inputs : List (List ℕ)
+  pub accepted : Pass (rise_fall_replay_work replay) (Some now) (delays_stages RiseAndFall replay.net replay.delays) [] inputs

@@ -13,6 +13,9 @@ pub mod MakeLaws
 pub mod Replay
 pub mod ReplayLaws
 pub mod ReplayText
+pub mod RiseFallReplay
+pub mod RiseFallReplayLaws
+pub mod RiseFallReplayText
 pub mod Sizes
 pub mod SpelledRuns
 pub mod SpelledTests

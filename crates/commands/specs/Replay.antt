@@ -1,7 +1,7 @@
 -- The command `replay`: its stages, what it refuses, and what it gives. Where a call ends with status 0, out has one line for each test
 -- of TESTS: what the observed lines have at TIME under the test's pair and the delays, and whether these are the bits that the test
 -- expects (this project's own).
-use Rattle.std.specs.Prelude.{◌≡◌, ℕ, pos, List, [], ◌∷◌, ◌++◌, codes, decimal, Vec}
+use Rattle.std.specs.Prelude.{◌≡◌, ℕ, pos, List, [], ◌∷◌, ◌++◌, codes, Vec}
 use Rattle.std.specs.declared.alloc.Global.{Global}
 use Rattle.pd_base.specs.declared.test.Test.{Test}
 use Rattle.netlist.specs.Circuit.{Circuit}
@@ -10,15 +10,13 @@ use Rattle.netlist.specs.Waves.{Delays}
 use Rattle.bench_reader.specs.Circuits.{HasCircuit}
 use Rattle.delay_annotation.specs.DelayFile.{HasDelays}
 use Rattle.command_line.specs.Words.{ReplayCall}
-use Rattle.calls.specs.CauseAndText.{refusal_for}
-use Rattle.calls.specs.declared.cause.Cause.TheVariants as cause
 use Rattle.calls.specs.declared.role.Role.TheVariants as role
 use Rattle.calls.specs.declared.refusal.Refusal.{Refusal}
 use Rattle.calls.specs.Work.{Work, Stage, Require, Products}
 use Rattle.commands.specs.InputRequirements.{InputCommand, Requirement, WellFormed, input_stages, own, read_stages, work_on_inputs}
 use Rattle.commands.specs.SpelledTests.{SpellsTests}
 use Rattle.commands.specs.ReplayText.{replay_text}
-use Rattle.commands.specs.TestChanges.{HaveFewChanges, IsFirstTestOver}
+use Rattle.commands.specs.TestChanges.{HaveFewChanges, IsFirstTestOver, changes_too_often}
 
 -- what replay requires beside what is required alike
 pub data ReplayRequirement : Type 0 where
@@ -38,10 +36,6 @@ pub record AreReplayed (net delays tests : List ℕ) (c : Circuit) (given : Dela
   pub has : HasCircuit net c
   pub gives : HasDelays c delays given
   pub spells : SpellsTests c tests listed
-
--- under the pair of the test of this number the line of this name changes too often
-abbrev pub changes_too_often : ℕ → List ℕ → Refusal
-changes_too_often number name = refusal_for cause.Size (codes "size: test " ++ decimal number ++ codes " line " ++ name)
 
 -- Under the pair of a test some line changes too often, which is refused for the first such line in rank order of the first such test.
 pub record HasTestOver (net delays tests : List ℕ) (refusal : Refusal) : Type 0 where

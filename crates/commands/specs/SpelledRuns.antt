@@ -1,6 +1,7 @@
 -- Which run three texts spell, or which line of which of them is malformed (this project's own).
 use Rattle.std.specs.Prelude.{◌≡◌, ℕ, List}
 use Rattle.pd_base.specs.declared.rules.Rules.{Rules}
+use Rattle.pd_base.specs.declared.test.Test.{Test}
 use Rattle.netlist.specs.Circuit.{Circuit}
 use Rattle.bench_reader.specs.Circuits.{HasCircuit}
 use Rattle.runs.specs.declared.run.ListedPath.{ListedPath}
@@ -25,6 +26,11 @@ pub record SpellsProofs (c : Circuit) (text : List ℕ) (rules : Rules) (proofs 
   pub unlinked : IsUnlinked rules
   pub lawful : AreSpelledProofs c proofs
   pub is_text : text ≡ proofs_text rules proofs
+
+-- the two texts spell these tests and these listed paths of the circuit
+pub record SpellTestsAndPaths (c : Circuit) (tests report : List ℕ) (listed : List Test) (paths : List ListedPath) : Type 0 where
+  pub tests_are : SpellsTests c tests listed
+  pub report_is : SpellsReport c report paths
 
 -- the three texts spell this run of the circuit, whose rules the first line of the proofs tells
 pub record SpellsRun (c : Circuit) (tests report proofs : List ℕ) (run : Run) : Type 0 where

@@ -31,6 +31,13 @@ use std::alloc::Global;
 /// what each observed line has at TIME under the test's pair and the delays, and `same` or `differs`, by whether these are the bits that
 /// the test expects (`replay_work` in specs/Replay.antt).
 ///
+/// `rfreplay NET DELAYS TESTS REPORT TIME` reads these four files and writes none; DELAYS has a rise and a fall delay for each pin. At status
+/// 0 out has a line for each test of TESTS, with what `replay` says of it under such delays and a word on the path that REPORT lists under
+/// its number: `late` where the test's pair is a robust test for that path and the path is longer than TIME for the values to which its
+/// lines go, `met` where it is no longer, and `none` else. Where it says `late`, what was sampled at the path's end isn't its final value;
+/// and a robust test shows its path late in this way under every rise and fall delay of each pin (`rise_fall_replay_work` in
+/// specs/RiseFallReplay.antt).
+///
 /// `make N` does the work of `gen` on a ladder of N stages, with a delay of 1 at each pin, and prints one line that counts the verdicts of a
 /// good run (`make_work` in specs/Make.antt). No words but refused ones, failed writes on out and want of memory keep it from status 0.
 ///
@@ -64,8 +71,8 @@ pub fn run<F: Files, O: Sink, E: Sink>(
         (outside F.Files O.Sink E.Sink files.old out.old err.old)
         (outside F.Files O.Sink E.Sink files.new out.new err.new) }
 
-    // What the command promises beside this: which inputs it accepts, when check answers 0 and when 1, and that check and replay take what
-    // gen left.
+    // What the command promises beside this: which inputs it accepts, when check answers 0 and when 1, and that check, replay and rfreplay
+    // take what gen left.
     ensures own { KeepsAskedLaws (bytes_of_words words.now) result
         (outside F.Files O.Sink E.Sink files.old out.old err.old)
         (outside F.Files O.Sink E.Sink files.new out.new err.new) }

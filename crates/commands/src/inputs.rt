@@ -1,16 +1,18 @@
 // The inputs that commands read and judge alike: each read within its limit (reading.rt), NET's circuit and the delays of its pins
-// (judging.rt), the claim files (claims.rt), and the two products that bound the texts of a run (sizes.rt). What is required so, and how it
+// (judging.rt), the claim files (claims.rt), TESTS and REPORT together (listed.rt), and the two products that bound the texts of a run (sizes.rt). What is required so, and how it
 // is refused, is said in specs/InputRequirements.antt and InputRefusals.antt; a command puts its stages together of those, and cites the
 // lemmas of proofs/InputStages.antt.
 mod claims;
 mod delays_ending;
 mod judging;
+mod listed;
 mod netlist_ending;
 mod reading;
 mod sizes;
 
 pub(crate) use claims::{proofs_in, report_in, tests_from, tests_in};
-pub(crate) use judging::{delays_from, netlist_from};
+pub(crate) use judging::{delays_from, netlist_from, rise_fall_from};
+pub(crate) use listed::{TestsAndPaths, TestsAndReport, tests_and_paths_in, tests_and_report_from};
 pub use reading::INPUT_LIMIT;
 pub(crate) use reading::text_from;
 pub(crate) use sizes::require_short_texts;

@@ -1,8 +1,8 @@
 //! The commands, over any files and streams: `run`, which does what the program's words ask for (specs/Commands.antt); `gen`,
 //! which leads from a netlist and its delays to the texts of one run (specs/Gen.antt); `make`, which does that work on a ladder
-//! (specs/Make.antt); `check` (specs/Check.antt) and `replay` (specs/Replay.antt). What they read in the same way is in
-//! src/inputs.rt. That `check` accepts what `gen` wrote, and that its tests can be replayed, is said by the clause `own` of
-//! `run` (specs/CheckLaws.antt, ReplayLaws.antt).
+//! (specs/Make.antt); `check` (specs/Check.antt), `replay` (specs/Replay.antt) and `rfreplay` (specs/RiseFallReplay.antt). What they
+//! read in the same way is in src/inputs.rt. That `check` accepts what `gen` wrote, and that its tests can be replayed, is said by
+//! the clause `own` of `run` (specs/CheckLaws.antt, ReplayLaws.antt, RiseFallReplayLaws.antt).
 //! Stands on calls, which has what every command does alike, on the readers and writers of all files, on the search of all paths, on
 //! the judge of a run, on the waves of tests and, for the system's own files and streams, on system_files. The program is
 //! `serve`: `exit_code` over the system's files and streams, which is `run` with the number of its status.
@@ -17,6 +17,7 @@ mod inputs;
 mod making;
 mod preparing;
 mod replay;
+mod rise_fall_replay;
 mod serving;
 mod words_refusal;
 

@@ -2,13 +2,12 @@
 use Rattle.std.proofs.Common.{◌≡◌, ℕ, ◌+◌, ◌<◌, ◌≤◌, ℤ, Bool, false, List, [], ◌∷◌, ◌++◌, take, take_all, length, get_or, set, sym, ap, ap₂, ◌∙◌, arith}
 use Rattle.std.proofs.lemmas.List.{get_or-map, length-map, take_more, take_more_set}
 use Rattle.pd_base.specs.declared.ids.LineId.{LineId}
-use Rattle.pd_base.specs.Pair.{Vectors}
 use Rattle.netlist.specs.Circuit.{Circuit, HasLines, observed_lines}
-use Rattle.netlist.specs.Waves.{Delays, wave_of}
+use Rattle.netlist.specs.Waves.{Wave}
 use Rattle.netlist.proofs.Evaluation.{map_agree}
 use Rattle.delay_replay.specs.Changes.{Changes, wave_at}
-use Rattle.delay_replay.specs.LineWaves.{AreWavesOf, kept_wave}
-use Rattle.delay_replay.specs.Settling.{samples, observed_at}
+use Rattle.delay_replay.specs.LineWaves.{AreLineWaves, kept_wave}
+use Rattle.delay_replay.specs.Settling.{samples, observed_under}
 
 module _ (c : Circuit) (waves : List Changes) (time : ℤ) where
   -- what is sampled of a line
@@ -38,8 +37,8 @@ module _ (c : Circuit) (waves : List Changes) (time : ℤ) where
         sym (take_all place out (omega arith)) ∙ before ∙ take_all place (samples c waves time) (omega arith)
 
   -- of the waves of a circuit the samples are what its observed lines have
-  pub samples_of_waves : (pair : Vectors) (delays : Delays) → HasLines c (observed_lines c) → AreWavesOf c pair delays waves
-      → samples c waves time ≡ observed_at c pair delays time
-  samples_of_waves pair delays lines are =
-      map_agree sample_of (λ line. wave_of c pair delays line.0 time) (observed_lines c)
+  pub samples_of_waves : (wave : ℕ → Wave) → HasLines c (observed_lines c) → AreLineWaves c wave waves
+      → samples c waves time ≡ observed_under c wave time
+  samples_of_waves wave lines are =
+      map_agree sample_of (λ line. wave line.0 time) (observed_lines c)
       (λ i d within. (are.each (get_or (observed_lines c) i d).0 (lines i d within)).shows time)

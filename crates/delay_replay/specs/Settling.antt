@@ -6,7 +6,7 @@ use Rattle.pd_base.specs.declared.ids.PinRef.{PinRef}
 use Rattle.pd_base.specs.Pair.{Vectors}
 use Rattle.netlist.specs.Circuit.{Circuit, observed_lines}
 use Rattle.netlist.specs.Paths.{IsSide}
-use Rattle.netlist.specs.Waves.{Delays, wave_of}
+use Rattle.netlist.specs.Waves.{Delays, Wave, wave_of}
 use Rattle.delay_replay.specs.Changes.{Changes, wave_at}
 use Rattle.delay_replay.specs.LineWaves.{EndsAt, kept_wave}
 
@@ -14,9 +14,13 @@ use Rattle.delay_replay.specs.LineWaves.{EndsAt, kept_wave}
 abbrev pub samples : Circuit → List Changes → ℤ → List Bool
 samples c waves time = map (λ line. wave_at (kept_wave waves line.0) time) (observed_lines c)
 
--- what the observed lines have at a time under a pair and a delay assignment
+-- what the observed lines have at a time, where the lines have these waves
+abbrev pub observed_under : Circuit → (ℕ → Wave) → ℤ → List Bool
+observed_under c wave time = map (λ line. wave line.0 time) (observed_lines c)
+
+-- what they have under a pair and a delay assignment
 abbrev pub observed_at : Circuit → Vectors → Delays → ℤ → List Bool
-observed_at c pair delays time = map (λ line. wave_of c pair delays line.0 time) (observed_lines c)
+observed_at c pair delays time = observed_under c (wave_of c pair delays) time
 
 -- at this time the wave has the value that it has behind all its changes
 pub record HasSettled (changes : Changes) (time : ℤ) : Type 0 where

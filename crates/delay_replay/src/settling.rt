@@ -1,9 +1,9 @@
 // What is read of the waves of all lines at a time: samples of the observed lines, and whether the sides of a path have
 // settled. Nothing here takes memory. The waves are made in line_waves.rt.
-ghost use Rattle.std.specs.Prelude.{◌≡◌, ◌+◌, ◌*◌, ◌<◌, ◌≤◌, ◌↔◌, pos, ◌-ℤ◌, length, IsTrue};
+ghost use Rattle.std.specs.Prelude.{◌≡◌, ℕ, ◌+◌, ◌*◌, ◌<◌, ◌≤◌, ◌↔◌, pos, ◌-ℤ◌, length, IsTrue};
 ghost use Rattle.pd_base.specs.Pair.{Vectors};
 ghost use Rattle.netlist.specs.Circuit.{gate_count, line_count, observed_lines, pins_at};
-ghost use Rattle.netlist.specs.Waves.{Delays as DelayAssignment};
+ghost use Rattle.netlist.specs.Waves.{Wave as LineWave};
 ghost use Rattle.netlist.specs.Lawful.{IsCircuit};
 ghost use Rattle.netlist.specs.Paths.{IsPrefix};
 ghost use Rattle.netlist.specs.Meaning.{IsSettled};
@@ -11,8 +11,8 @@ ghost use Rattle.netlist.specs.declared.limits.TheConstants.{MOST_LEVELS};
 ghost use Rattle.delay_annotation.specs.Annotation.{delays_of, Fits};
 ghost use Rattle.delay_annotation.specs.declared.delays.TheConstants.{MOST_DELAY};
 ghost use Rattle.delay_replay.specs.Changes.{wave_at};
-ghost use Rattle.delay_replay.specs.LineWaves.{AreWavesOf};
-ghost use Rattle.delay_replay.specs.Settling.{samples, observed_at, IsOwnOrSettled, HaveSidesSettled, HaveSettled};
+ghost use Rattle.delay_replay.specs.LineWaves.{AreLineWaves, AreWavesOf};
+ghost use Rattle.delay_replay.specs.Settling.{samples, observed_under, IsOwnOrSettled, HaveSidesSettled, HaveSettled};
 
 use crate::Wave;
 use delay_annotation::Delays;
@@ -25,8 +25,8 @@ pub fn sample(net: &Netlist, waves: &[Wave], time: i64, out: &mut [bool])
     requires one_each { length waves.now ≡ line_count net.now }
     requires places { length out.old ≡ length (observed_lines net.now) }
     ensures samples { out.new ≡ samples net.now waves.now time }
-    ensures of_waves { (pair : Vectors) (delays : DelayAssignment) → AreWavesOf net.now pair delays waves.now
-        → out.new ≡ observed_at net.now pair delays time }
+    ensures of_waves { (wave : ℕ → LineWave) → AreLineWaves net.now wave waves.now
+        → out.new ≡ observed_under net.now wave time }
 {
     for (place, line) in net.observed().iter().enumerate() {
         out[place] = waves[line.0 as usize].at(time);

@@ -5,8 +5,11 @@ use Rattle.pd_base.specs.declared.test.Test.{Test}
 use Rattle.pd_io.specs.Seen.{FilesSeen}
 use Rattle.netlist.specs.Circuit.{Circuit}
 use Rattle.netlist.specs.Waves.{Delays as PinDelays}
+use Rattle.rise_fall.specs.Waves.{RiseFallDelays}
 use Rattle.bench_reader.specs.Circuits.{HasCircuit}
-use Rattle.delay_annotation.specs.DelayFile.{HasDelays}
+use Rattle.delay_annotation.specs.DelayFile.{HasDelays, HasRiseFall}
+use Rattle.delay_annotation.specs.declared.setting.Columns.{Columns}
+use Rattle.delay_annotation.specs.declared.setting.Columns.TheVariants as columns
 use Rattle.calls.specs.declared.ending.Ending.{Ending}
 use Rattle.calls.specs.declared.ending.Ending.TheVariants.{Refused, NoMemory}
 use Rattle.calls.specs.declared.refusal.Refusal.{Refusal}
@@ -39,9 +42,9 @@ pub data FailsFor (Refuses : Refusal → Type 0) (ending : Ending) : Type 0 wher
 abbrev pub FailsNet : List ℕ → Ending → Type 0
 FailsNet net ending = FailsFor (LacksCircuit net) ending
 
--- there are no delays
-abbrev pub FailsDelays : Circuit → List ℕ → Ending → Type 0
-FailsDelays c delays ending = FailsFor (HasNoDelaysFor c delays) ending
+-- there are no delays in these columns
+abbrev pub FailsDelays : Columns → Circuit → List ℕ → Ending → Type 0
+FailsDelays columns c delays ending = FailsFor (HasNoDelaysFor c columns delays) ending
 
 -- there are no tests, as the command of this word says
 abbrev pub FailsTests : List ℕ → Circuit → List ℕ → Ending → Type 0
@@ -80,9 +83,21 @@ FailsToGiveNet name ending old new = FailsFrom role.Net name FailsNet ending old
 abbrev pub GivesDelays : List ℕ → Circuit → PinDelays → FilesSeen → FilesSeen → Type 0
 GivesDelays name c delays old new = GivesFrom role.Delays name (λ text. HasDelays c text delays) old new
 
--- DELAYS gives it none
+-- it gives a rise and a fall delay to each
+abbrev pub GivesRiseFall : List ℕ → Circuit → RiseFallDelays → FilesSeen → FilesSeen → Type 0
+GivesRiseFall name c delays old new = GivesFrom role.Delays name (λ text. HasRiseFall c text delays) old new
+
+-- DELAYS gives it none in these columns
+abbrev pub FailsToGive : Columns → List ℕ → Circuit → Ending → FilesSeen → FilesSeen → Type 0
+FailsToGive columns name c ending old new = FailsFrom role.Delays name (FailsDelays columns c) ending old new
+
+-- it gives it none, one for each pin
 abbrev pub FailsToGiveDelays : List ℕ → Circuit → Ending → FilesSeen → FilesSeen → Type 0
-FailsToGiveDelays name c ending old new = FailsFrom role.Delays name (FailsDelays c) ending old new
+FailsToGiveDelays name c ending old new = FailsToGive columns.Delay name c ending old new
+
+-- nor a rise and a fall delay
+abbrev pub FailsToGiveRiseFall : List ℕ → Circuit → Ending → FilesSeen → FilesSeen → Type 0
+FailsToGiveRiseFall name c ending old new = FailsToGive columns.RiseAndFall name c ending old new
 
 -- TESTS was read, and its text spells these tests of the circuit
 abbrev pub GivesTests : List ℕ → Circuit → List Test → FilesSeen → FilesSeen → Type 0

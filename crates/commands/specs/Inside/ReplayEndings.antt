@@ -1,15 +1,14 @@
--- How a call of `replay` ends whose text was not made (this project's own).
+-- How a call of `replay` or `rfreplay` ends whose text was not made (this project's own).
 use Rattle.std.specs.Prelude.{◌≡◌, ⊤, ℕ, ◌<◌, List}
 use Rattle.pd_base.specs.declared.test.Test.{Test}
 use Rattle.netlist.specs.Circuit.{Circuit, line_count}
 use Rattle.netlist.specs.Names.{name_at}
-use Rattle.netlist.specs.Waves.{Delays}
+use Rattle.netlist.specs.Waves.{Delays, wave_of}
 use Rattle.calls.specs.declared.ending.Ending.{Ending}
 use Rattle.calls.specs.declared.ending.Ending.TheVariants as ended
-use Rattle.commands.specs.Replay.{changes_too_often}
-use Rattle.commands.specs.TestChanges.{IsFirstTestOver}
-use Rattle.commands.specs.declared.replay.text.ReplayTextFault.{ReplayTextFault}
-use Rattle.commands.specs.declared.replay.text.ReplayTextFault.TheVariants.{TooManyChanges, NoMemory}
+use Rattle.commands.specs.TestChanges.{IsFirstTestOf, PairWaves, changes_too_often}
+use Rattle.commands.specs.declared.replay.over.ReplayTextFault.{ReplayTextFault}
+use Rattle.commands.specs.declared.replay.over.ReplayTextFault.TheVariants.{TooManyChanges, NoMemory}
 
 -- a fault of a text names a line of the circuit, if it names one
 abbrev pub NamesLine : Circuit → ReplayTextFault → Type 0
@@ -22,10 +21,14 @@ pub data EndsForFault (c : Circuit) (fault : ReplayTextFault) (ending : Ending) 
       → ending ≡ ended.Refused (changes_too_often number (name_at c line)) → EndsForFault c fault ending
   no_memory : ending ≡ ended.NoMemory → EndsForFault c fault ending
 
--- there is no text of the replay of these tests
-pub data FailsReplay (c : Circuit) (delays : Delays) (tests : List Test) (ending : Ending) : Type 0 where
+-- there is no text of the replay of these tests, where their pairs give the lines these waves
+pub data FailsReplayOf (c : Circuit) (waves : PairWaves) (tests : List Test) (ending : Ending) : Type 0 where
   -- the lines change too often under the pair of some test, which is told
   over : (number line : ℕ) → ending ≡ ended.Refused (changes_too_often number (name_at c line))
-      → IsFirstTestOver c delays tests number line → FailsReplay c delays tests ending
+      → IsFirstTestOf c waves tests number line → FailsReplayOf c waves tests ending
   -- memory ran out
-  lacks_memory : ending ≡ ended.NoMemory → FailsReplay c delays tests ending
+  lacks_memory : ending ≡ ended.NoMemory → FailsReplayOf c waves tests ending
+
+-- the same, where each pin has one delay
+abbrev pub FailsReplay : Circuit → Delays → List Test → Ending → Type 0
+FailsReplay c delays = FailsReplayOf c (λ pair. wave_of c pair delays)

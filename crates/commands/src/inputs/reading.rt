@@ -10,7 +10,7 @@ use pd_base::MOST_BYTES;
 use pd_io::Files;
 use std::alloc::Global;
 
-/// How many bytes NET and DELAYS may have.
+/// How many bytes NET, DELAYS and LOG may have.
 pub const INPUT_LIMIT: usize = 33_554_432;
 
 /// The bytes of the input of this role. One over its limit is refused, and a failed read ends the call.
@@ -31,12 +31,12 @@ pub(crate) fn text_from<F: Files>(
     }
 }
 
-// How many bytes an input of this role may have.
+// How many bytes an input of this role may have. No command reads OUT.
 fn limit_of(role: Role) -> usize
     ensures { result ≡ limit_of role }
 {
     match role {
-        Role::Net | Role::Delays => INPUT_LIMIT,
+        Role::Net | Role::Delays | Role::Log | Role::Out => INPUT_LIMIT,
         Role::Tests | Role::Report | Role::Proofs => MOST_BYTES,
     }
 }

@@ -1,5 +1,5 @@
 // The stages of `replay` in their order, up to the text that is to be printed. Nothing is written here.
-ghost use Rattle.std.specs.Prelude.{◌≡◌, ◌<◌, ◌^◌, pos, length, IfOk, IfErr};
+ghost use Rattle.std.specs.Prelude.{◌≡◌, ◌<◌, ◌^◌, length, IfOk, IfErr};
 ghost use Rattle.pd_io.specs.Seen.{FilesSeen, files_seen};
 ghost use Rattle.runs.specs.Lawful.{AreLawfulTests};
 ghost use Rattle.delay_annotation.specs.Annotation.{Fits, delays_of};
@@ -7,18 +7,19 @@ ghost use Rattle.command_line.specs.Commands.{replay_call_of};
 ghost use Rattle.command_line.specs.Words.{HasReplayNumbers};
 ghost use Rattle.calls.specs.Preparing.{Prepares};
 ghost use Rattle.commands.specs.Inside.InputJudging.{GivesNet};
-ghost use Rattle.commands.specs.Replay.{changes_too_often, printed_text, replay_work};
+ghost use Rattle.commands.specs.Replay.{printed_text, replay_work};
 ghost use Rattle.commands.specs.ReplayText.{replay_text};
-ghost use Rattle.commands.specs.Inside.ReplayEndings.{EndsForFault, FailsReplay, NamesLine};
+ghost use Rattle.commands.specs.Inside.ReplayEndings.{FailsReplay};
 ghost use Rattle.commands.specs.TestChanges.{HaveFewChanges};
 
 use crate::inputs::{delays_from, netlist_from, tests_from};
-use crate::replay::text::{ReplayTextFault, replay_text};
-use calls::{Cause, Ending, Part, Refusal};
+use crate::replay::over::ending_for;
+use crate::replay::text::replay_text;
+use calls::Ending;
 use command_line::ReplayCommand;
 use delay_annotation::Delays;
 use netlist::Netlist;
-use pd_base::{Items, OutOfMemory, Test};
+use pd_base::Test;
 use pd_io::Files;
 use std::alloc::Global;
 
@@ -72,40 +73,4 @@ fn text_at(
         Ok(text) => Ok(text),
         Err(fault) => Err(ending_for(alloc, net, fault)),
     }
-}
-
-// How the call ends for a fault of its text.
-fn ending_for(alloc: Global, net: &Netlist, fault: ReplayTextFault) -> Ending
-    requires { NamesLine net.now fault }
-    ensures { EndsForFault net.now fault result }
-{
-    match fault {
-        ReplayTextFault::TooManyChanges(number, line) => match copied(alloc, net.name(line)) {
-            Ok(name) => Ending::Refused(changes_too_often(number, name)),
-            Err(OutOfMemory) => Ending::NoMemory,
-        },
-        ReplayTextFault::NoMemory => Ending::NoMemory,
-    }
-}
-
-// The refusal of a test of this number, under whose pair the line of this name changes too often.
-fn changes_too_often(number: u32, name: Items<u8>) -> Refusal
-    ensures { result ≡ changes_too_often number name }
-{
-    Refusal::naming(
-        Cause::Size,
-        &[
-            Part::Words(b"size: test "),
-            Part::Number(u64::from(number)),
-            Part::Words(b" line "),
-        ],
-        name,
-    )
-}
-
-// A copy of a name.
-fn copied(alloc: Global, name: &[u8]) -> Result<Items<u8>, OutOfMemory>
-    ensures { IfOk result (λ copy. copy ≡ name.now) }
-{
-    Ok(Items::new(Vec::from_slice(alloc, name)?))
 }

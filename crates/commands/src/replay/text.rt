@@ -5,34 +5,17 @@ ghost use Rattle.runs.specs.Lawful.{AreLawfulTests};
 ghost use Rattle.delay_annotation.specs.Annotation.{Fits, delays_of};
 ghost use Rattle.delay_replay.specs.ChangeLimits.{HasFewChanges, RefusesReplay};
 ghost use Rattle.delay_replay.specs.Settling.{observed_at};
-ghost use Rattle.commands.specs.ReplayText.{sample_line, agreement_word, replay_text, replayed_line};
-ghost use Rattle.commands.specs.TestChanges.{HaveFewChanges, RefusesTests, replay_text_fault};
+ghost use Rattle.text_pieces.specs.Tokens.{line};
+ghost use Rattle.commands.specs.ReplayText.{replay_text, replayed_line, sample_words};
+ghost use Rattle.commands.specs.TestChanges.{HaveFewChanges, RefusesTests};
 
+use crate::replay::over::{ReplayTextFault, replay_text_fault};
+use crate::replay::sampled::{push_sample, samples_at};
 use delay_annotation::Delays;
-use delay_replay::{ReplayFault, replay, sample};
+use delay_replay::{ReplayFault, replay};
 use netlist::Netlist;
-use pd_base::{LineId, OutOfMemory, Pair, Test, push_decimal};
+use pd_base::{OutOfMemory, Pair, Test};
 use std::alloc::Global;
-use text_pieces::{push_spaced, push_spaced_digits};
-
-/// Why the text of a replay was not made.
-#[derive(Clone, Copy, Drop)]
-pub(crate) enum ReplayTextFault {
-    /// The first test, by its number from 1, under whose pair some line changes too often, and the first such line in rank order.
-    TooManyChanges(u32, LineId),
-    /// Memory ran out.
-    NoMemory,
-}
-
-impl From<OutOfMemory> for ReplayTextFault {
-    ghost use Rattle.commands.specs.declared.replay.text.ReplayTextFault.TheVariants.{NoMemory};
-
-    ghost from_gives = { λ _ fault. fault ≡ NoMemory };
-
-    fn from(_: OutOfMemory) -> ReplayTextFault {
-        ReplayTextFault::NoMemory
-    }
-}
 
 /// The text of a replay of these tests, which are lawful ones of the netlist and have numbers of 32 bits: for each its number, what its observed lines have at
 /// the time, and whether these are the bits that it expects. Refused with `TooManyChanges` exactly where some test's lines change
@@ -61,16 +44,6 @@ pub(crate) fn replay_text(
     Ok(text)
 }
 
-// The fault of the test of this number.
-fn replay_text_fault(number: u32, fault: ReplayFault) -> ReplayTextFault
-    ensures { result ≡ replay_text_fault number fault }
-{
-    match fault {
-        ReplayFault::TooManyChanges(line) => ReplayTextFault::TooManyChanges(number, line),
-        ReplayFault::NoMemory => ReplayTextFault::NoMemory,
-    }
-}
-
 // Appends the line of a test.
 fn push_replayed(
     alloc: Global,
@@ -89,7 +62,21 @@ fn push_replayed(
     ensures refused { IfErr result (RefusesReplay net.now test.now.pair (delays_of net.now delays.now)) }
 {
     let sampled = sampled(alloc, net, delays, &test.pair, time)?;
-    push_sample(out, number, sampled.as_slice(), test.expected.as_slice())?;
+    push_line(out, number, sampled.as_slice(), test.expected.as_slice())?;
+    Ok(())
+}
+
+// Appends the line of a test of this number, of which these bits were sampled.
+fn push_line(
+    out: &mut Vec<u8>,
+    number: u32,
+    sampled: &[bool],
+    expected: &[bool],
+) -> Result<(), OutOfMemory>
+    ensures { OnOk result (out.new.items ≡ out.old.items ++ line (sample_words number sampled.now expected.now)) }
+{
+    push_sample(out, number, sampled, expected)?;
+    out.push(b'\n')?;
     Ok(())
 }
 
@@ -107,44 +94,6 @@ fn sampled(
     ensures few { IfOk result (λ bits. HasFewChanges net.now pair.now (delays_of net.now delays.now)) }
     ensures refused { IfErr result (RefusesReplay net.now pair.now (delays_of net.now delays.now)) }
 {
-    let mut bits = blank_bits(alloc, net.observed().len())?;
     let waves = replay(alloc, net, delays, pair)?;
-    sample(net, waves.as_slice(), time, bits.as_mut_slice());
-    Ok(bits)
-}
-
-// So many bits.
-fn blank_bits(alloc: Global, count: usize) -> Result<Vec<bool>, OutOfMemory>
-    ensures { IfOk result (λ bits. length bits.items ≡ count) }
-{
-    let mut bits = Vec::new(alloc);
-    bits.resize(count, false)?;
-    Ok(bits)
-}
-
-// Appends the line of a test of this number, of which these bits were sampled.
-fn push_sample(
-    out: &mut Vec<u8>,
-    number: u32,
-    sampled: &[bool],
-    expected: &[bool],
-) -> Result<(), OutOfMemory>
-    ensures { OnOk result (out.new.items ≡ out.old.items ++ sample_line number sampled.now expected.now) }
-{
-    push_decimal(out, u64::from(number))?;
-    push_spaced_digits(out, sampled)?;
-    push_spaced(out, agreement_word(sampled, expected))?;
-    out.push(b'\n')?;
-    Ok(())
-}
-
-// The word that says whether the sampled bits are the expected ones.
-fn agreement_word(sampled: &[bool], expected: &[bool]) -> &'static [u8]
-    ensures { result.now ≡ agreement_word sampled.now expected.now }
-{
-    if sampled == expected {
-        b"same"
-    } else {
-        b"differs"
-    }
+    Ok(samples_at(alloc, net, waves.as_slice(), time)?)
 }

@@ -31,6 +31,6 @@ returns-clause-samples c =
     ∙ ap (samples c.args.net.now c.args.waves.now) (to_z-of_z w64 c.args.time c.ranges.time)
 
 pub returns-clause-of_waves : goal.returns-clause-of_waves
-returns-clause-of_waves c = λ pair delays are.
+returns-clause-of_waves c = λ wave are.
     let lines = subst (HasLines c.args.net.now) c.observed-line-items.ensures.observed c.observed-line-items.ensures.in_circuit in
-    returns-clause-samples c ∙ samples_of_waves c.args.net.now c.args.waves.now c.args.time pair delays lines are
+    returns-clause-samples c ∙ samples_of_waves c.args.net.now c.args.waves.now c.args.time wave lines are

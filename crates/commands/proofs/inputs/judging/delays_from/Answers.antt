@@ -5,6 +5,7 @@ use Rattle.calls.specs.declared.role.Role.TheVariants as role
 use Rattle.delay_annotation.specs.Annotation.{delays_of}
 use Rattle.delay_annotation.specs.DelayFile.{HasDelays}
 use Rattle.delay_annotation.specs.declared.delays.Delays.{Delays}
+use Rattle.delay_annotation.specs.declared.setting.Columns.TheVariants as columns
 use Rattle.commands.specs.Inside.InputJudging as judging
 use Rattle.commands.specs.Inside.InputJudging.{FailsDelays}
 use Rattle.commands.proofs.InputsJudged.{gives_from, fails_from}
@@ -22,5 +23,5 @@ returns-clause-gives g c =
 
 pub returns-clause-fails : goal.returns-clause-fails
 returns-clause-fails g c =
-    fails_from role.Delays c.args.name.now (FailsDelays c.args.net.now) c.in_ok-text.text _ _ _ c.as_slice.ensures.value
+    fails_from role.Delays c.args.name.now (FailsDelays columns.Delay c.args.net.now) c.in_ok-text.text _ _ _ c.as_slice.ensures.value
     c.in_ok-text.ensures.read c.delays_in.result c.delays_in.ensures.fails

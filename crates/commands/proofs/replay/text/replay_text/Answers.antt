@@ -3,6 +3,8 @@ use Rattle.std.proofs.Common.{◌≡◌, ◌+◌, ◌++◌, drop, sym, ap, subst
 use Rattle.std.proofs.lemmas.Int.{to_z-of_z}
 use Rattle.std.proofs.lemmas.List.{drop_all, take_all}
 use Rattle.pd_base.specs.declared.test.Test.{Test}
+use Rattle.pd_base.specs.Pair.{Vectors}
+use Rattle.netlist.specs.Waves.{wave_of}
 use Rattle.delay_annotation.specs.Annotation.{delays_of}
 use Rattle.delay_replay.specs.ChangeLimits.{HasFewChanges, RefusesReplay}
 use Rattle.commands.specs.ReplayText.{replay_text, replayed_line, replayed_lines}
@@ -16,7 +18,7 @@ returns-in-Err-clause-refused c =
     let delays = delays_of c.args.net.now c.args.delays.now in
     let test = c.index-tests-index.result in
     subst (RefusesTests net delays c.args.tests.now) (sym c.replay_text_fault.ensures)
-    (refused_here net delays c.args.tests.now c.loop-index.index test c.loop-index-test.true c.loop-index.invariant.few c.in-Err.fault
+    (refused_here net (λ (pair : Vectors). wave_of net pair delays) c.args.tests.now c.loop-index.index test c.loop-index-test.true c.loop-index.invariant.few c.in-Err.fault
     (subst (λ (t : Test). RefusesReplay net t.pair delays c.in-Err.fault) c.index-tests-index.is c.in-Err.ensures.refused))
 
 pub loop-index-preserved : goal.loop-index-preserved
@@ -32,10 +34,11 @@ loop-index-preserved c =
       written =
           ap (λ text. text ++ replayed_lines net delays time (place + 1 + 1) (drop (place + 1) tests))
           (c.in_default.ensures.line ∙ ap (λ (t : Test). c.loop-index.text.items ++ replayed_line net delays time (place + 1) t) at)
-          ∙ one_line_more net delays tests place test c.loop-index-test.true time (place + 1) c.loop-index.text.items _
+          ∙ one_line_more net (λ (pair : Vectors). wave_of net pair delays) tests place test c.loop-index-test.true (replayed_line net delays time) (place + 1)
+          c.loop-index.text.items _
           c.loop-index.invariant.written;
       few =
-          one_more_few net delays tests place test c.loop-index-test.true c.loop-index.invariant.few
+          one_more_few net (λ (pair : Vectors). wave_of net pair delays) tests place test c.loop-index-test.true c.loop-index.invariant.few
           (subst (λ (t : Test). HasFewChanges net t.pair delays) at c.in_default.ensures.few);
     }
 

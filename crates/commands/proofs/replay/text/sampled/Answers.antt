@@ -1,27 +1,18 @@
--- All places were filled in with what the observed lines have.
-use Rattle.std.proofs.Common.{◌≡◌, List, ◌++◌, take, length, sym, ap, subst, ◌∙◌, append-nil, arith, to_z, of_z, w64}
+-- The samples are those of the waves.
+use Rattle.std.proofs.Common.{List, sym, ap, subst, ◌∙◌, w64}
 use Rattle.std.proofs.lemmas.Int.{to_z-of_z}
-use Rattle.std.proofs.lemmas.List.{drop_all, take_all, length-map}
-use Rattle.pd_base.specs.declared.ids.LineId.{LineId}
-use Rattle.netlist.specs.Circuit.{observed_lines}
+use Rattle.netlist.specs.Waves.{wave_of}
 use Rattle.delay_annotation.specs.Annotation.{delays_of}
-use Rattle.delay_replay.specs.Changes.{Changes, wave_at}
-use Rattle.delay_replay.specs.LineWaves.{AreWavesOf, kept_wave}
+use Rattle.delay_replay.specs.Changes.{Changes}
+use Rattle.delay_replay.specs.LineWaves.{AreWavesOf}
 use Rattle.delay_replay.specs.Settling.{observed_at}
 use Rattle.commands.proofs.replay.text.sampled.Goals as goal
 
 pub returns-clause-samples : goal.returns-clause-samples
 returns-clause-samples c =
     let net = c.args.net.now in
+    let pair = c.args.pair.now in
     let delays = delays_of c.args.net.now c.args.delays.now in
-    let bits = c.in_ok-bits.bits in
-    let out = c.sample.new.out in
-    let told = c.sample.ensures.of_waves c.args.pair.now delays
-    (subst (λ (waves : List Changes). AreWavesOf net c.args.pair.now delays waves) (sym c.as_slice.ensures.value) c.in_ok-waves.ensures.waves) in
-    let long : length out ≡ length (observed_lines net) =
-    ap length c.sample.ensures.samples
-    ∙ length-map (observed_lines net) (λ (line : LineId). wave_at (kept_wave c.as_slice.result.now line.0) (to_z w64 (of_z w64 c.args.time))) in
-    let room : length bits.items ≡ length (observed_lines net) = c.in_ok-bits.ensures ∙ ap length c.observed.ensures.observed in
-    ap (λ rest. take bits.len (out ++ rest)) (drop_all (length out) bits.items (omega arith))
-    ∙ ap (take bits.len) (append-nil out) ∙ take_all bits.len out (omega (arith, bits.ok.0)) ∙ told
-    ∙ ap (observed_at net c.args.pair.now delays) (to_z-of_z w64 c.args.time c.ranges.time)
+    c.in_ok-samples_at.ensures (wave_of net pair delays)
+    (subst (λ (waves : List Changes). AreWavesOf net pair delays waves) (sym c.as_slice.ensures.value) c.in_ok-waves.ensures.waves)
+    ∙ ap (observed_at net pair delays) (to_z-of_z w64 c.args.time c.ranges.time)

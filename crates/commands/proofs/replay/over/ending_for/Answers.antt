@@ -1,9 +1,9 @@
 -- The test and the name of its line are named.
 use Rattle.std.proofs.Common.{ap, ◌∙◌}
 use Rattle.calls.specs.declared.ending.Ending.TheVariants as ended
-use Rattle.commands.specs.Replay.{changes_too_often}
+use Rattle.commands.specs.TestChanges.{changes_too_often}
 use Rattle.commands.specs.Inside.ReplayEndings as endings
-use Rattle.commands.proofs.replay.preparing.ending_for.Goals as goal
+use Rattle.commands.proofs.replay.over.ending_for.Goals as goal
 
 pub returns-in-Ok : goal.returns-in-Ok
 returns-in-Ok c =

@@ -1,0 +1,14 @@
+use Rattle.std.proofs.Common.{◌≡◌, ℕ, take}
+use Rattle.netlist.specs.Circuit.{line_count}
+use Rattle.commands.specs.Inside.RiseFallReplaying.{sampled_waves, sampling_of}
+use Rattle.commands.specs.RiseFallReplayText.{IsRiseFallText}
+use Rattle.commands.specs.TestChanges.{HaveFewOf}
+use Rattle.commands.proofs.rise_fall_replay.text.rise_fall_text.Given as goal
+
+-- the lines of the tests before this one stand, and there is room to judge the next
+abbrev pub invariant-loop-index : goal.invariant-loop-index
+invariant-loop-index l = record {
+  written : IsRiseFallText (sampling_of l.at) (take l.index l.tests) l.text.items;
+  few : HaveFewOf l.at.net.now (sampled_waves l.at) (take l.index l.tests);
+  room : l.judge ≡ line_count l.at.net.now;
+}
