@@ -7,12 +7,16 @@ pub mod ReplayStages
 mod SameDelays
 mod TestCounts
 pub mod AgreeingDelays
+pub mod BoundsStages
 pub mod CheckLaws
+pub mod CompactStages
 pub mod CheckStages
 pub mod CheckExactly
 pub mod OneRun
 pub mod SpelledRuns
 pub mod FewLines
+mod FewListed
+pub mod FirstWithout
 pub mod InputStages
 pub mod InputsJudged
 pub mod ListedStages
@@ -23,6 +27,8 @@ pub mod InputFaults
 pub mod GenLaws
 pub mod GenStages
 pub mod GenTexts
+pub mod GradedStages
+pub mod KeptTests
 pub mod MakeLaws
 pub mod Performing
 pub mod AskedNames

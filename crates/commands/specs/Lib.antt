@@ -1,9 +1,15 @@
+pub mod Bounds
+pub mod BoundsLaws
+pub mod BoundsText
 pub mod Check
 pub mod CheckLaws
 pub mod Commands
+pub mod Compact
+pub mod CompactLaws
 pub mod Exits
 pub mod Gen
 pub mod GenLaws
+pub mod Grading
 pub mod InputRefusals
 pub mod InputRequirements
 pub mod Inside

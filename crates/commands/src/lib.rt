@@ -8,8 +8,10 @@
 //! `serve`: `exit_code` over the system's files and streams, which is `run` with the number of its status.
 #![tactic(auto)]
 
+mod bounds;
 mod calling;
 mod check;
+mod compact;
 mod dispatch;
 mod exiting;
 mod generating;
@@ -22,6 +24,6 @@ mod words_refusal;
 
 pub use calling::run;
 pub use exiting::exit_code;
-pub use inputs::{INPUT_LIMIT, MOST_PATH_TEXT, MOST_TEST_TEXT, STEP_BYTES};
+pub use inputs::{INPUT_LIMIT, MOST_GRADES, MOST_PATH_TEXT, MOST_TEST_TEXT, STEP_BYTES};
 pub use making::{LADDER_BUDGET, LADDER_PATHS};
 pub use serving::serve;
