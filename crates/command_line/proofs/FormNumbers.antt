@@ -1,14 +1,16 @@
--- The numbers that accepted words of `replay` and of `make` ask for are within their limits.
+-- The numbers that accepted words of `replay`, of `rfreplay` and of `make` ask for are within their limits.
 use Rattle.std.proofs.Common.{◌≡◌, ◌≤◌, ℕ, List, [], Option, Some, None, Ok, get_or, sym, ap, subst, inl, inr}
 use Rattle.std.specs.Prelude.{if◌then◌else◌, unwrap_or}
 use Rattle.std.proofs.lemmas.Bool.{cases_Bool}
 use Rattle.command_line.specs.MakeForm.{HasMakeNumbers, make_call, make_form, stages_reason, stages_spelled}
 use Rattle.command_line.specs.ReplayForm.{HasReplayNumbers, replay_call, replay_form}
+use Rattle.command_line.specs.RiseFallReplayForm.{HasRiseFallReplayNumbers, rise_fall_replay_call, rise_fall_replay_form}
 use Rattle.command_line.specs.Scan.{Texts, accepted_texts}
 use Rattle.command_line.specs.Times.{time_reason, time_spelled}
 use Rattle.command_line.specs.Values.{is_within}
 use Rattle.pd_base.specs.declared.limits.TheConstants.{MOST_STAGES}
 use Rattle.command_line.specs.declared.forms.replay.TheConstants.{REPLAY_FILES}
+use Rattle.command_line.specs.declared.forms.rise_fall_replay.TheConstants.{RISE_FALL_REPLAY_FILES}
 use Rattle.command_line.specs.declared.refusal.WordsRefusal.{WordsRefusal}
 use Rattle.command_line.specs.declared.time.TheConstants.{MOST_TIME}
 use Rattle.command_line.proofs.Asking.{is_given, no_first}
@@ -27,13 +29,26 @@ lawful_number least greatest found reason none =
 number_is : (least greatest : ℕ) (found : Option ℕ) → (is : IsNumberWithin least greatest found) → unwrap_or found 0 ≡ is.value
 number_is least greatest found is = ap (λ (number : Option ℕ). unwrap_or number 0) is.spelled
 
+-- a time that is not refused
+small_time : (text : List ℕ) → time_reason text ≡ None → unwrap_or (time_spelled text) 0 ≤ MOST_TIME
+small_time text none =
+    let number = lawful_number 0 MOST_TIME (time_spelled text) _ none in
+    subst (λ n. n ≤ MOST_TIME) (sym (number_is 0 MOST_TIME (time_spelled text) number)) number.below
+
 pub replay_numbers : (words : List (List ℕ)) (texts : Texts) → accepted_texts replay_form words ≡ Ok texts → HasReplayNumbers (replay_call texts)
 replay_numbers words texts accepted =
     let is = is_given replay_form words texts accepted in
     let text = get_or is.given.positional REPLAY_FILES [] in
-    let number = lawful_number 0 MOST_TIME (time_spelled text) _ (no_first (time_reason text) _ is.no_reason) in
     subst (λ (t : Texts). HasReplayNumbers (replay_call t)) is.said
-    (record { small_time = subst (λ n. n ≤ MOST_TIME) (sym (number_is 0 MOST_TIME (time_spelled text) number)) number.below })
+    (record { small_time = small_time text (no_first (time_reason text) _ is.no_reason) })
+
+pub rise_fall_replay_numbers : (words : List (List ℕ)) (texts : Texts) → accepted_texts rise_fall_replay_form words ≡ Ok texts
+    → HasRiseFallReplayNumbers (rise_fall_replay_call texts)
+rise_fall_replay_numbers words texts accepted =
+    let is = is_given rise_fall_replay_form words texts accepted in
+    let text = get_or is.given.positional RISE_FALL_REPLAY_FILES [] in
+    subst (λ (t : Texts). HasRiseFallReplayNumbers (rise_fall_replay_call t)) is.said
+    (record { small_time = small_time text (no_first (time_reason text) _ is.no_reason) })
 
 pub make_numbers : (words : List (List ℕ)) (texts : Texts) → accepted_texts make_form words ≡ Ok texts → HasMakeNumbers (make_call texts)
 make_numbers words texts accepted =

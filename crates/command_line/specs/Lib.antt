@@ -1,9 +1,12 @@
+pub mod BoundsForm
 pub mod ClapWords
 pub mod Commands
+pub mod CompactForm
 pub mod Kinds
 pub mod MakeForm
 pub mod Options
 pub mod ReplayForm
+pub mod RiseFallReplayForm
 pub mod RunForm
 pub mod Scan
 pub mod Taken

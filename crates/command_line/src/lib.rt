@@ -22,8 +22,11 @@ mod value_kind;
 
 pub use command::{Command, read_words};
 pub use fault::WordsFault;
+pub use forms::bounds::BoundsCommand;
+pub use forms::compact::CompactCommand;
 pub use forms::make::MakeCommand;
 pub use forms::replay::ReplayCommand;
+pub use forms::rise_fall_replay::RiseFallReplayCommand;
 pub use forms::run::RunCommand;
 pub use option_name::OptionName;
 pub use refusal::WordsRefusal;

@@ -20,7 +20,7 @@ pub enum WordsRefusal {
     SameAt(usize, usize),
     /// The number of paths times the budget, this product, is over its limit.
     Product(u64),
-    /// The time is none that `replay` takes.
+    /// The time is none that `replay` and `rfreplay` take.
     Time,
     /// The number of stages is none that `make` takes.
     Stages,

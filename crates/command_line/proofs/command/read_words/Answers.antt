@@ -13,3 +13,12 @@ read_replay-requires c = first_and_later c.args.words.now c.in-len1-up.len_at_le
 
 pub read_make-requires : goal.read_make-requires
 read_make-requires c = first_and_later c.args.words.now c.in-len1-up.len_at_least
+
+pub read_rise_fall_replay-requires : goal.read_rise_fall_replay-requires
+read_rise_fall_replay-requires c = first_and_later c.args.words.now c.in-len1-up.len_at_least
+
+pub read_compact-requires : goal.read_compact-requires
+read_compact-requires c = first_and_later c.args.words.now c.in-len1-up.len_at_least
+
+pub read_bounds-requires : goal.read_bounds-requires
+read_bounds-requires c = first_and_later c.args.words.now c.in-len1-up.len_at_least
