@@ -37,7 +37,7 @@ same_tests c text listed other spells also =
 
 module _ (net : List ℕ) (c : Circuit) (has : HasCircuit net c) where
   -- and one list of listed paths
-  same_paths : (text : List ℕ) (paths other : List ListedPath) → SpellsReport c text paths → SpellsReport c text other → paths ≡ other
+  pub same_paths : (text : List ℕ) (paths other : List ListedPath) → SpellsReport c text paths → SpellsReport c text other → paths ≡ other
   same_paths text paths other spells also =
       report_once c (is_circuit net c has) paths other spells.lawful also.lawful (sym spells.is_text ∙ also.is_text)
 

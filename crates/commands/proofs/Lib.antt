@@ -7,8 +7,11 @@ pub mod ReplayStages
 mod SameDelays
 mod TestCounts
 pub mod AgreeingDelays
+pub mod BoundsLaws
 pub mod BoundsStages
 pub mod CheckLaws
+pub mod CompactLaws
+pub mod CompactLeft
 pub mod CompactStages
 pub mod CheckStages
 pub mod CheckExactly
@@ -27,6 +30,8 @@ pub mod InputFaults
 pub mod GenLaws
 pub mod GenStages
 pub mod GenTexts
+pub mod GradedLeft
+pub mod GradedPasses
 pub mod GradedStages
 pub mod KeptTests
 pub mod MakeLaws
