@@ -5,7 +5,7 @@ use Rattle.pd_base.specs.declared.fault.Direction.{Direction}
 use Rattle.pd_base.specs.declared.fault.Direction.TheVariants.{Rise, Fall}
 use Rattle.runs.specs.declared.run.ListedPath.{ListedPath}
 use Rattle.test_grade.specs.Serving.{fault_place}
-use Rattle.text_pieces.specs.Tokens.{direction_word, line}
+use Rattle.text_pieces.specs.Tokens.{after_space, direction_word, line}
 
 -- the word for a bound
 abbrev pub bound_word : Option ℕ → List ℕ
@@ -15,7 +15,7 @@ bound_word (Some time) = decimal time
 -- the line of a fault of the path of this number
 abbrev pub bound_line : ℕ → Direction → Option ℕ → List ℕ
 bound_line number direction bound =
-    line (decimal number ++ codes " " ++ direction_word direction ++ codes " " ++ bound_word bound)
+    line (decimal number ++ after_space (direction_word direction) ++ after_space (bound_word bound))
 
 -- the line of the fault with this direction of the path at this place, counted from 0
 abbrev pub fault_line : List (Option ℕ) → ℕ → Direction → List ℕ

@@ -1,5 +1,6 @@
 // The text of `bounds`, line by line.
-ghost use Rattle.std.specs.Prelude.{◌≡◌, ◌*◌, ◌++◌, codes, length, IfOk, OnOk};
+ghost use Rattle.std.specs.Prelude.{◌≡◌, ◌*◌, ◌++◌, length, IfOk, OnOk};
+ghost use Rattle.text_pieces.specs.Tokens.{after_space};
 ghost use Rattle.commands.specs.BoundsText.{bound_line, bound_word, lines_of_first};
 
 use pd_base::{Direction, OutOfMemory, push_decimal};
@@ -42,7 +43,7 @@ fn push_bound(
 
 // Appends a space and the word for a bound.
 fn push_time(out: &mut Vec<u8>, bound: Option<u64>) -> Result<(), OutOfMemory>
-    ensures { OnOk result (out.new.items ≡ out.old.items ++ codes " " ++ bound_word bound) }
+    ensures { OnOk result (out.new.items ≡ out.old.items ++ after_space (bound_word bound)) }
 {
     match bound {
         Some(time) => push_spaced_number(out, time),
