@@ -23,6 +23,7 @@ pub mod FirstWithout
 pub mod InputStages
 pub mod InputsJudged
 pub mod ListedStages
+pub mod Printed
 pub mod Products
 pub mod SpelledTests
 pub mod StageReads

@@ -1,21 +1,16 @@
--- Which inputs `replay` accepts, and how a call goes on behind its text.
+-- Which inputs `replay` accepts.
 use Rattle.std.proofs.Common.{◌≡◌, ℕ, ◌≤◌, List, [], length, Some, refl, sym, subst}
 use Rattle.pd_base.specs.declared.test.Test.{Test}
 use Rattle.pd_io.specs.Folder.{Folder, bytes_at}
-use Rattle.pd_io.specs.Seen.{Outside, Seen}
+use Rattle.pd_io.specs.Seen.{Outside}
 use Rattle.netlist.specs.Circuit.{Circuit}
 use Rattle.netlist.specs.Waves.{Delays}
 use Rattle.bench_reader.specs.Circuits.{HasCircuit}
 use Rattle.delay_annotation.specs.DelayFile.{HasDelays}
 use Rattle.pd_base.specs.declared.limits.TheConstants.{MOST_BYTES}
 use Rattle.command_line.specs.Words.{HasRunNumbers, ReplayCall, RunCall}
-use Rattle.calls.specs.declared.ending.Ending.{Ending}
 use Rattle.calls.specs.declared.status.Status.{Status}
-use Rattle.calls.specs.Calls.{Ends, HasAcceptedInputs, Performs, wrote}
-use Rattle.calls.specs.Outputs.{Prints}
-use Rattle.calls.specs.Preparing.{IsPrepared}
-use Rattle.calls.specs.Work.{Work}
-use Rattle.calls.proofs.Outputs.{none_whole, printed}
+use Rattle.calls.specs.Calls.{Ends, HasAcceptedInputs}
 use Rattle.commands.specs.declared.inputs.reading.TheConstants.{INPUT_LIMIT}
 use Rattle.commands.specs.SpelledTests.{SpellsTests}
 use Rattle.commands.proofs.InputStages.{inputs_pass}
@@ -26,17 +21,8 @@ use Rattle.commands.proofs.GenThenReplay.{replay_answers}
 use Rattle.commands.specs.LaterCalls.{HasNamesApart}
 use Rattle.commands.specs.ReplayLaws.{KeepsReplayLaws}
 use Rattle.commands.specs.Replay.{replay_command, replay_work, tests_stages}
+pub use Rattle.commands.proofs.Printed.{printed_behind}
 use Rattle.commands.proofs.ReplayAccepting.{accepts_tests_size, accepts_tests, accepts_few, three}
-
--- a text that was prepared was printed, or not
-pub printed_behind : (work : Work) (text shown : List ℕ) (ending : Ending) (old new : Seen)
-    → IsPrepared work (record { files = []; out = text }) old.files new.files → shown ≡ text → Prints shown ending old.out new.out
-    → Performs work ending old new
-printed_behind work text shown ending old new prepared is prints =
-    let P : List ℕ → Type 0 = λ t. Prints t ending old.out new.out in
-    wrote prepared.inputs (record { files = []; out = text }) new.files prepared.passed prepared.gives
-    (printed (record { files = []; out = text }) ending (record { files = new.files; out = old.out }) new (none_whole new.files)
-    (subst P is prints))
 
 module _ (call : ReplayCall) (told : Folder) where
   -- the bytes under the name of NET

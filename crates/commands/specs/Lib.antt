@@ -16,6 +16,7 @@ pub mod Inside
 pub mod LaterCalls
 pub mod Make
 pub mod MakeLaws
+pub mod Printed
 pub mod Replay
 pub mod ReplayLaws
 pub mod ReplayText

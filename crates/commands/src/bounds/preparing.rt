@@ -10,7 +10,7 @@ ghost use Rattle.delay_bounds.specs.LogFile.{IsLog};
 ghost use Rattle.commands.specs.Bounds.{bounds_work};
 ghost use Rattle.commands.specs.Grading.{CanBeGraded};
 ghost use Rattle.commands.specs.Inside.BoundsJudging.{FailsLog, TellsBounds};
-ghost use Rattle.commands.specs.Replay.{printed_text};
+ghost use Rattle.commands.specs.Printed.{printed_text};
 ghost use Rattle.commands.specs.declared.inputs.reading.TheConstants.{INPUT_LIMIT};
 
 use crate::bounds::log_ending::log_ending;

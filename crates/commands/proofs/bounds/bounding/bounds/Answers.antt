@@ -1,7 +1,7 @@
 -- The text was printed, or not.
 use Rattle.command_line.specs.BoundsForm.{bounds_call_of}
 use Rattle.commands.specs.Bounds.{bounds_work}
-use Rattle.commands.proofs.ReplayLaws.{printed_behind}
+use Rattle.commands.proofs.Printed.{printed_behind}
 use Rattle.commands.proofs.bounds.bounding.bounds.Goals as goal
 
 pub returns-in-Ok : goal.returns-in-Ok
