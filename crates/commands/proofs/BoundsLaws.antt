@@ -87,7 +87,7 @@ module _ (call : BoundsCall) (now : Folder) where
         it.net_within it.tests_within it.report_within (log, refl, refl)
 
     -- it is too long
-    too_long_log : INPUT_LIMIT < length log → LeadsToRefusal (bounds_work call) (Some now)
+    abbrev too_long_log : INPUT_LIMIT < length log → LeadsToRefusal (bounds_work call) (Some now)
     too_long_log over = record {
       told = tt;
       before = up_to_log;
@@ -116,7 +116,7 @@ module _ (call : BoundsCall) (now : Folder) where
           )
 
       -- there is too much to grade
-      too_much : MOST_GRADES < grades it.listed it.paths → LeadsToRefusal (bounds_work call) (Some now)
+      abbrev too_much : MOST_GRADES < grades it.listed it.paths → LeadsToRefusal (bounds_work call) (Some now)
       too_much over = record {
         told = tt;
         before = up_to_grades;

@@ -38,15 +38,15 @@ use Rattle.commands.proofs.KeptTests.{none_left_out}
 
 module _ (call : CompactCall) (now : Folder) where
   -- what can be compacted is accepted
-  pub accepted : CanBeCompacted call now → HasAcceptedInputs (compact_work call) (Some now)
-  accepted can = record {
-    told = tt;
-    inputs = compact_inputs call now;
-    passed = reads_pass (compact_command call) now call.net call.tests call.report _ can.circuit (compact_inputs call now) can.are.has
-        can.net_within can.tests_within can.report_within
-        (pass_graded (compact_command call) (Some now) (bytes_at now.held call.net) can.circuit can.are.has (bytes_at now.held call.tests)
-        (bytes_at now.held call.report) [] can.listed can.paths can.are.spell [] (compact_inputs call now) can.are.graded refl);
-  }
+  all_pass : CanBeCompacted call now → Pass (compact_work call) (Some now) (compact_stages call) [] (compact_inputs call now)
+  all_pass can =
+      reads_pass (compact_command call) now call.net call.tests call.report _ can.circuit (compact_inputs call now) can.are.has
+      can.net_within can.tests_within can.report_within
+      (pass_graded (compact_command call) (Some now) (bytes_at now.held call.net) can.circuit can.are.has (bytes_at now.held call.tests)
+      (bytes_at now.held call.report) [] can.listed can.paths can.are.spell [] (compact_inputs call now) can.are.graded refl)
+
+  accepted : CanBeCompacted call now → HasAcceptedInputs (compact_work call) (Some now)
+  accepted can = record { told = tt; inputs = compact_inputs call now; passed = all_pass can }
 
   -- the stages up to the last requirement
   abbrev front : List (Stage (Requirement ⊥))
@@ -75,17 +75,23 @@ module _ (first : CompactCall) (left : Folder) (it : KeptFiles first left) (call
   report_is : bytes_at now.held call.report ≡ it.report
   report_is = finds.report_is ∙ it.report_left
 
-  pub kept_can : CanBeCompacted call now
+  has_now : HasCircuit (bytes_at now.held call.net) it.circuit
+  has_now = subst (λ (bytes : List ℕ). HasCircuit bytes it.circuit) (sym net_is) it.has
+
+  spells_tests : SpellsTests it.circuit (bytes_at now.held call.tests) it.kept
+  spells_tests = record { lawful = it.lawful; is_text = tests_are }
+
+  spells_report : SpellsReport it.circuit (bytes_at now.held call.report) it.paths
+  spells_report = subst (λ (bytes : List ℕ). SpellsReport it.circuit bytes it.paths) (sym report_is) it.report_is
+
+  kept_can : CanBeCompacted call now
   kept_can = record {
     circuit = it.circuit;
     listed = it.kept;
     paths = it.paths;
     are = record {
-      has = subst (λ (bytes : List ℕ). HasCircuit bytes it.circuit) (sym net_is) it.has;
-      spell = record {
-        tests_are = record { lawful = it.lawful; is_text = tests_are };
-        report_is = subst (λ (bytes : List ℕ). SpellsReport it.circuit bytes it.paths) (sym report_is) it.report_is;
-      };
+      has = has_now;
+      spell = record { tests_are = spells_tests; report_is = spells_report };
       graded = it.graded;
     };
     net_within = subst (λ (bytes : List ℕ). length bytes ≤ INPUT_LIMIT) (sym net_is) it.net_within;
@@ -97,7 +103,7 @@ module _ (first : CompactCall) (left : Folder) (it : KeptFiles first left) (call
   module _ (products : Products) (gives : GivesKept call (bytes_at now.held call.net) (bytes_at now.held call.tests)
       (bytes_at now.held call.report) products) where
     same_circuit : gives.circuit ≡ it.circuit
-    same_circuit = one_circuit (bytes_at now.held call.net) gives.circuit it.circuit gives.are.has kept_can.are.has
+    same_circuit = one_circuit (bytes_at now.held call.net) gives.circuit it.circuit gives.are.has has_now
 
     -- the tests that are kept are the tests that were read
     keeps : gives.kept ≡ it.kept
@@ -107,10 +113,10 @@ module _ (first : CompactCall) (left : Folder) (it : KeptFiles first left) (call
         × IsCompacted (Serves d gives.paths) gives.listed gives.kept in
         let here : P it.circuit = subst P same_circuit (gives.are.spell, gives.compacted) in
         let listed : gives.listed ≡ it.kept =
-        same_tests it.circuit (bytes_at now.held call.tests) gives.listed it.kept here.0.tests_are kept_can.are.spell.tests_are in
+        same_tests it.circuit (bytes_at now.held call.tests) gives.listed it.kept here.0.tests_are spells_tests in
         let paths : gives.paths ≡ it.paths =
-        same_paths (bytes_at now.held call.net) it.circuit kept_can.are.has (bytes_at now.held call.report) gives.paths it.paths
-        here.0.report_is kept_can.are.spell.report_is in
+        same_paths (bytes_at now.held call.net) it.circuit has_now (bytes_at now.held call.report) gives.paths it.paths here.0.report_is
+        spells_report in
         let of_paths : IsCompacted (Serves it.circuit it.paths) gives.listed gives.kept =
         subst (λ (p : List ListedPath). IsCompacted (Serves it.circuit p) gives.listed gives.kept) paths here.1 in
         let of_both : IsCompacted (Serves it.circuit it.paths) it.kept gives.kept =
@@ -121,7 +127,7 @@ module _ (first : CompactCall) (left : Folder) (it : KeptFiles first left) (call
     listed_are =
         same_tests it.circuit (bytes_at now.held call.tests) gives.listed it.kept
         (subst (λ (d : Circuit). SpellsTests d (bytes_at now.held call.tests) gives.listed) same_circuit gives.are.spell.tests_are)
-        kept_can.are.spell.tests_are
+        spells_tests
 
     products_are : products
         ≡ record {
@@ -170,7 +176,7 @@ module _ (first : CompactCall) (left : Folder) (it : KeptFiles first left) (call
     by inputs pass gives =
         let read : inputs ≡ compact_inputs call now =
         passed_alike (compact_work call) (Some now) (compact_stages call) [] inputs (compact_inputs call now) tt pass
-        (accepted call now kept_can).passed in
+        (all_pass call now kept_can) in
         with_products (subst (λ (i : List (List ℕ)). GivesCompact call i done.products) read gives)
 
 -- what holds of a call of compact
