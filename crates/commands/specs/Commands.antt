@@ -3,7 +3,7 @@
 use Rattle.std.specs.Prelude.{ℕ, List, Result, Ok, Err}
 use Rattle.pd_io.specs.Seen.{Outside}
 use Rattle.command_line.specs.declared.refusal.WordsRefusal.{WordsRefusal}
-use Rattle.command_line.specs.declared.refusal.WordsRefusal.TheVariants as reason
+use Rattle.command_line.specs.declared.refusal.WordsRefusal.TheVariants as refusal
 use Rattle.command_line.specs.declared.fault.WordsFault.{WordsFault}
 use Rattle.command_line.specs.declared.fault.WordsFault.TheVariants as fault
 use Rattle.command_line.specs.Words.{Call, gen, check, replay, make, rise_fall_replay, compact, bounds, asked_call}
@@ -32,7 +32,7 @@ work_of (Ok (gen call)) = gen_work call
 work_of (Ok (check call)) = check_work call
 work_of (Ok (replay call)) = replay_work call
 work_of (Ok (make call)) = make_work call
-work_of (Ok (rise_fall_replay call)) = refused_at_once (words_refusal reason.Command)
+work_of (Ok (rise_fall_replay call)) = refused_at_once (words_refusal refusal.Command)
 work_of (Ok (compact call)) = compact_work call
 work_of (Ok (bounds call)) = bounds_work call
 work_of (Err reason) = refused_at_once (words_refusal reason)
@@ -44,7 +44,7 @@ KeepsLawsOf words (Ok (gen call)) status old new = KeepsGenLaws call status old 
 KeepsLawsOf words (Ok (check call)) status old new = KeepsCheckLaws words call status old new
 KeepsLawsOf words (Ok (replay call)) status old new = KeepsReplayLaws call status old new
 KeepsLawsOf words (Ok (make call)) status old new = KeepsMakeLaws status old new
-KeepsLawsOf words (Ok (rise_fall_replay call)) status old new = ReportsAtOnce (words_refusal reason.Command) status old.err new.err
+KeepsLawsOf words (Ok (rise_fall_replay call)) status old new = ReportsAtOnce (words_refusal refusal.Command) status old.err new.err
 KeepsLawsOf words (Ok (compact call)) status old new = KeepsCompactLaws call status old new
 KeepsLawsOf words (Ok (bounds call)) status old new = KeepsBoundsLaws call status old new
 KeepsLawsOf words (Err reason) status old new = ReportsAtOnce (words_refusal reason) status old.err new.err
