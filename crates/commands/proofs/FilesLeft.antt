@@ -10,7 +10,7 @@ use Rattle.command_line.specs.Words.{RunCall}
 use Rattle.commands.specs.LaterCalls.{HasNamesApart}
 
 -- another name has the bytes that it had
-bytes_at-put_other : (held : Contents) (name other bytes : List ℕ) → other ≢ name → bytes_at (put held name bytes) other ≡ bytes_at held other
+pub bytes_at-put_other : (held : Contents) (name other bytes : List ℕ) → other ≢ name → bytes_at (put held name bytes) other ≡ bytes_at held other
 bytes_at-put_other held name other bytes apart =
     ⊎_elim
     (λ (is : pointwise nat_eq other name ≡ true). absurd (apart ((bytes_eq-Decides other name).0 is)))

@@ -30,7 +30,7 @@ use Rattle.commands.specs.LaterCalls.{HasNamesApart, IsLeftBy}
 use Rattle.commands.proofs.FilesLeft.{delays_left, net_left, proofs_left, report_left, tests_left}
 
 -- an input that is not over its limit is within it
-not_over : (input : Role) (text : List ℕ) → ((refusal : Refusal) → ¬ IsOverLimit input text refusal) → length text ≤ limit_of input
+pub not_over : (input : Role) (text : List ℕ) → ((refusal : Refusal) → ¬ IsOverLimit input text refusal) → length text ≤ limit_of input
 not_over input text none =
     ⊎_elim (λ (over : limit_of input < length text). absurd (none (too_long input) (record { over = over; is = refl }))) (λ within. within)
     (cases_lt (limit_of input) (length text))

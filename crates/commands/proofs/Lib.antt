@@ -11,12 +11,19 @@ mod RiseFallTexts
 mod SameDelays
 mod TestCounts
 pub mod AgreeingDelays
+pub mod BoundsLaws
+pub mod BoundsStages
 pub mod CheckLaws
+pub mod CompactLaws
+pub mod CompactLeft
+pub mod CompactStages
 pub mod CheckStages
 pub mod CheckExactly
 pub mod OneRun
 pub mod SpelledRuns
 pub mod FewLines
+mod FewListed
+pub mod FirstWithout
 pub mod InputStages
 pub mod InputsJudged
 pub mod ListedStages
@@ -28,6 +35,10 @@ pub mod InputFaults
 pub mod GenLaws
 pub mod GenStages
 pub mod GenTexts
+pub mod GradedLeft
+pub mod GradedPasses
+pub mod GradedStages
+pub mod KeptTests
 pub mod MakeLaws
 pub mod Performing
 pub mod AskedNames

@@ -21,6 +21,7 @@ use Rattle.commands.proofs.GenThenReplay.{replay_answers}
 use Rattle.commands.specs.LaterCalls.{HasNamesApart}
 use Rattle.commands.specs.ReplayLaws.{KeepsReplayLaws}
 use Rattle.commands.specs.Replay.{replay_command, replay_work, tests_stages}
+pub use Rattle.commands.proofs.Printed.{printed_behind}
 use Rattle.commands.proofs.ReplayAccepting.{accepts_tests_size, accepts_tests, accepts_few, three}
 
 module _ (call : ReplayCall) (told : Folder) where

@@ -26,7 +26,8 @@ use Rattle.commands.specs.Inside.ReplayEndings.{FailsReplay}
 use Rattle.commands.specs.Inside.ReplayEndings as endings
 use Rattle.commands.specs.ReplayText.{replay_text}
 use Rattle.commands.specs.TestChanges.{HaveFewChanges, changes_too_often}
-use Rattle.commands.specs.Replay.{AreReplayed, FewChanges, ReplayRequirement, printed_text, replay_command, replay_work}
+use Rattle.commands.specs.Printed.{printed_text}
+use Rattle.commands.specs.Replay.{AreReplayed, FewChanges, ReplayRequirement, replay_command, replay_work}
 use Rattle.commands.proofs.ReplayAccepting.{accepts_tests, accepts_few, three}
 
 module _ (call : ReplayCall) (net delays : List ℕ) (old mid new : FilesSeen)

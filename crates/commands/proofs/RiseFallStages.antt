@@ -27,7 +27,8 @@ use Rattle.commands.proofs.InputStages.{columns_passed}
 use Rattle.commands.specs.Inside.ReplayEndings.{FailsReplayOf}
 use Rattle.commands.specs.Inside.ReplayEndings as endings
 use Rattle.commands.specs.Inside.TestsAndPaths.{FailsToReadBoth, FailsToSpellBoth, ReadsBoth}
-use Rattle.commands.specs.Replay.{FewChanges, ReplayRequirement, printed_text}
+use Rattle.commands.specs.Printed.{printed_text}
+use Rattle.commands.specs.Replay.{FewChanges, ReplayRequirement}
 use Rattle.commands.specs.RiseFallReplay.{AreReadAs, FourTexts, RiseFallInputs, rise_fall_front, rise_fall_replay_command, rise_fall_replay_work, sampling_at, waves_under}
 use Rattle.commands.specs.RiseFallReplayText.{IsRiseFallText, RiseFallSampling}
 use Rattle.commands.specs.SpelledRuns.{SpellTestsAndPaths}

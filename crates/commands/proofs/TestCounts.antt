@@ -10,7 +10,7 @@ use Rattle.pattern_writer.specs.TestsText.{tests_form, tests_headings}
 use Rattle.commands.specs.SpelledTests.{SpellsTests}
 
 -- a line has a byte at least
-line_long : (text rest : List ℕ) → length rest < length (line text ++ rest)
+pub line_long : (text rest : List ℕ) → length rest < length (line text ++ rest)
 line_long text rest = omega (arith, length-append (line text) rest, length-append text (line_feed ∷ []))
 
 -- so there are no more lines than bytes

@@ -3,7 +3,6 @@
 use Rattle.std.specs.Prelude.{ℕ, List, Result, Ok, Err}
 use Rattle.pd_io.specs.Seen.{Outside}
 use Rattle.command_line.specs.declared.refusal.WordsRefusal.{WordsRefusal}
-use Rattle.command_line.specs.declared.refusal.WordsRefusal.TheVariants as reason
 use Rattle.command_line.specs.declared.fault.WordsFault.{WordsFault}
 use Rattle.command_line.specs.declared.fault.WordsFault.TheVariants as fault
 use Rattle.command_line.specs.Words.{Call, gen, check, replay, make, rise_fall_replay, compact, bounds, asked_call}
@@ -12,8 +11,12 @@ use Rattle.calls.specs.declared.ending.Ending.TheVariants as ended
 use Rattle.calls.specs.Work.{Work}
 use Rattle.calls.specs.Refused.{ReportsAtOnce, refused_at_once}
 use Rattle.calls.specs.declared.status.Status.{Status}
+use Rattle.commands.specs.Bounds.{bounds_work}
+use Rattle.commands.specs.BoundsLaws.{KeepsBoundsLaws}
 use Rattle.commands.specs.Check.{check_work}
 use Rattle.commands.specs.CheckLaws.{KeepsCheckLaws}
+use Rattle.commands.specs.Compact.{compact_work}
+use Rattle.commands.specs.CompactLaws.{KeepsCompactLaws}
 use Rattle.commands.specs.Gen.{gen_work}
 use Rattle.commands.specs.GenLaws.{KeepsGenLaws}
 use Rattle.commands.specs.Make.{make_work}
@@ -31,9 +34,9 @@ work_of (Ok (check call)) = check_work call
 work_of (Ok (replay call)) = replay_work call
 work_of (Ok (make call)) = make_work call
 work_of (Ok (rise_fall_replay call)) = rise_fall_replay_work call
-work_of (Ok (compact call)) = refused_at_once (words_refusal reason.Command)
-work_of (Ok (bounds call)) = refused_at_once (words_refusal reason.Command)
-work_of (Err why) = refused_at_once (words_refusal why)
+work_of (Ok (compact call)) = compact_work call
+work_of (Ok (bounds call)) = bounds_work call
+work_of (Err reason) = refused_at_once (words_refusal reason)
 
 -- what holds of a call of a command, which these words ask for, beside what holds of every call; one with refused words reports them, or
 -- want of memory
@@ -43,9 +46,9 @@ KeepsLawsOf words (Ok (check call)) status old new = KeepsCheckLaws words call s
 KeepsLawsOf words (Ok (replay call)) status old new = KeepsReplayLaws call status old new
 KeepsLawsOf words (Ok (make call)) status old new = KeepsMakeLaws status old new
 KeepsLawsOf words (Ok (rise_fall_replay call)) status old new = KeepsRiseFallReplayLaws call status old new
-KeepsLawsOf words (Ok (compact call)) status old new = ReportsAtOnce (words_refusal reason.Command) status old.err new.err
-KeepsLawsOf words (Ok (bounds call)) status old new = ReportsAtOnce (words_refusal reason.Command) status old.err new.err
-KeepsLawsOf words (Err why) status old new = ReportsAtOnce (words_refusal why) status old.err new.err
+KeepsLawsOf words (Ok (compact call)) status old new = KeepsCompactLaws call status old new
+KeepsLawsOf words (Ok (bounds call)) status old new = KeepsBoundsLaws call status old new
+KeepsLawsOf words (Err reason) status old new = ReportsAtOnce (words_refusal reason) status old.err new.err
 
 -- the work that these words ask for
 abbrev pub asked_work : List (List ℕ) → Work

@@ -15,6 +15,7 @@ use Rattle.calls.specs.declared.refusal.Refusal.{Refusal}
 use Rattle.calls.specs.declared.role.Role.{Role}
 use Rattle.calls.specs.declared.role.Role.TheVariants as role
 use Rattle.calls.specs.Work.{Work, Products, Stage, Read, Require}
+use Rattle.commands.specs.Grading.{RefusesExpected, RefusesGrades, RefusesPaths}
 use Rattle.commands.specs.InputRefusals.{delays_ending, long_path_text, long_test_text, malformed, netlist_ending, too_long}
 use Rattle.commands.specs.Sizes.{path_text_product, test_text_product}
 use Rattle.commands.specs.SpelledTests.{HasMalformedTests}
@@ -36,6 +37,12 @@ pub data Requirement (Own : Type 0) : Type 0 where
   ShortTestText : ℕ → Requirement Own
   -- each line of the claim file of this role, before which so many inputs were read, has its form
   WellFormed : Role → ℕ → Requirement Own
+  -- of NET, TESTS and REPORT, which were read first, in this order: each listed path is a path
+  ListsPaths : Requirement Own
+  -- each test expects the values of the observed lines
+  ExpectRight : Requirement Own
+  -- and tests times faults is within its limit
+  FewGrades : Requirement Own
   -- one of the command's own
   own : Own → Requirement Own
 
@@ -121,6 +128,9 @@ RefusesInputs command (ShortTestText paths) inputs refusal =
     IsOverProduct (input_at inputs 0) (test_text_product paths) MOST_TEST_TEXT long_test_text refusal
 RefusesInputs command (WellFormed input place) inputs refusal =
     LacksForm command.word input (HasMalformed input (input_at inputs 0) (input_at inputs place)) refusal
+RefusesInputs command ListsPaths inputs refusal = RefusesPaths command.word (input_at inputs 0) (input_at inputs 2) refusal
+RefusesInputs command ExpectRight inputs refusal = RefusesExpected command.word (input_at inputs 0) (input_at inputs 1) refusal
+RefusesInputs command FewGrades inputs refusal = RefusesGrades (input_at inputs 0) (input_at inputs 1) (input_at inputs 2) refusal
 RefusesInputs command (own requirement) inputs refusal = command.RefusesOwn requirement inputs refusal
 
 -- its work
@@ -159,6 +169,10 @@ tests_and_report_stages tests report = read_stages role.Tests tests ++ read_stag
 -- then they have to have their form, where TESTS was read behind so many inputs, and REPORT next
 abbrev pub tests_and_report_forms : {Own : Type 0} → ℕ → List (Stage (Requirement Own))
 tests_and_report_forms place = Require (WellFormed role.Tests place) ∷ Require (WellFormed role.Report (place + 1)) ∷ []
+
+-- of TESTS and REPORT, read behind NET alone, both have to have their form; then their tests can be graded against their listed paths
+abbrev pub graded_stages : {Own : Type 0} → List (Stage (Requirement Own))
+graded_stages = tests_and_report_forms 1 ++ Require ListsPaths ∷ Require ExpectRight ∷ Require FewGrades ∷ []
 
 -- texts of so many paths, and of so many tests, have to be short
 abbrev pub short_stages : {Own : Type 0} → ℕ → List (Stage (Requirement Own))

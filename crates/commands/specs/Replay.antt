@@ -1,8 +1,7 @@
 -- The command `replay`: its stages, what it refuses, and what it gives. Where a call ends with status 0, out has one line for each test
 -- of TESTS: what the observed lines have at TIME under the test's pair and the delays, and whether these are the bits that the test
 -- expects (this project's own).
-use Rattle.std.specs.Prelude.{◌≡◌, ℕ, pos, List, [], ◌∷◌, ◌++◌, codes, Vec}
-use Rattle.std.specs.declared.alloc.Global.{Global}
+use Rattle.std.specs.Prelude.{◌≡◌, ℕ, pos, List, [], ◌∷◌, ◌++◌, codes}
 use Rattle.pd_base.specs.declared.test.Test.{Test}
 use Rattle.netlist.specs.Circuit.{Circuit}
 use Rattle.netlist.specs.Names.{name_at}
@@ -52,10 +51,6 @@ pub record HasTestOver (net delays tests : List ℕ) (refusal : Refusal) : Type 
 abbrev pub RefusesChanges : ReplayRequirement → List (List ℕ) → Refusal → Type 0
 RefusesChanges FewChanges (net ∷ delays ∷ tests ∷ []) refusal = HasTestOver net delays tests refusal
 RefusesChanges FewChanges inputs refusal = ⊥
-
--- no file, and a text on out
-abbrev pub printed_text : Vec ℕ Global → Products
-printed_text text = record { files = []; out = text.items }
 
 -- on out the text of the replay at this time of the tests that TESTS spells, and no file
 pub record GivesReplayed (time : ℕ) (net delays tests : List ℕ) (products : Products) : Type 0 where

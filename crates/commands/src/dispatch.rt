@@ -6,14 +6,16 @@ ghost use Rattle.command_line.specs.Words.{HasLawfulNumbers};
 ghost use Rattle.calls.specs.Calls.{Performs};
 ghost use Rattle.commands.specs.Commands.{asked_work, work_of, words_ending};
 
+use crate::bounds::bounds;
 use crate::check::check;
+use crate::compact::compact;
 use crate::generating::generate;
 use crate::making::make;
 use crate::replay::replay;
 use crate::rise_fall_replay::rise_fall_replay;
 use crate::words_refusal::words_refusal;
 use calls::Ending;
-use command_line::{Command, WordsFault, WordsRefusal, read_words};
+use command_line::{Command, WordsFault, read_words};
 use pd_io::{Files, Sink};
 use std::alloc::Global;
 
@@ -48,10 +50,10 @@ fn perform_command<F: Files, O: Sink>(
         Command::Gen(command) => generate(alloc, command, files, out),
         Command::Check(command) => check(alloc, command, files, out),
         Command::Replay(command) => replay(alloc, command, files, out),
-        Command::Make(command) => make(alloc, command, out),
         Command::RiseFallReplay(command) => rise_fall_replay(alloc, command, files, out),
-        Command::Compact(_) => Ending::Refused(words_refusal(WordsRefusal::Command)),
-        Command::Bounds(_) => Ending::Refused(words_refusal(WordsRefusal::Command)),
+        Command::Compact(command) => compact(alloc, command, files, out),
+        Command::Bounds(command) => bounds(alloc, command, files, out),
+        Command::Make(command) => make(alloc, command, out),
     }
 }
 

@@ -8,7 +8,7 @@ ghost use Rattle.calls.specs.Preparing.{Prepares};
 ghost use Rattle.commands.specs.Inside.InputJudging.{GivesNet};
 ghost use Rattle.commands.specs.Inside.ReplayEndings.{FailsReplayOf};
 ghost use Rattle.commands.specs.Inside.RiseFallReplaying.{CanSample, sampled_waves, sampling_of};
-ghost use Rattle.commands.specs.Replay.{printed_text};
+ghost use Rattle.commands.specs.Printed.{printed_text};
 ghost use Rattle.commands.specs.RiseFallReplay.{rise_fall_replay_work};
 ghost use Rattle.commands.specs.RiseFallReplayText.{IsRiseFallText};
 ghost use Rattle.commands.specs.TestChanges.{HaveFewOf};

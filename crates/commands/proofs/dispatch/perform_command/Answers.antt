@@ -15,10 +15,10 @@ pub returns-in-RiseFallReplay : goal.returns-in-RiseFallReplay
 returns-in-RiseFallReplay g c = rw c.in-RiseFallReplay.is c.rise_fall_replay.ensures
 
 pub returns-in-Compact : goal.returns-in-Compact
-returns-in-Compact g c = rw c.in-Compact.is ?
+returns-in-Compact g c = rw c.in-Compact.is c.compact.ensures
 
 pub returns-in-Bounds : goal.returns-in-Bounds
-returns-in-Bounds g c = rw c.in-Bounds.is ?
+returns-in-Bounds g c = rw c.in-Bounds.is c.bounds.ensures
 
 pub returns-in-Make : goal.returns-in-Make
 returns-in-Make g c = rw c.in-Make.is (c.make.ensures (files_seen g.F.Files c.args.files.now))

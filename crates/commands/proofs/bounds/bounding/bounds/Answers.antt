@@ -1,0 +1,10 @@
+-- The text was printed, or not.
+use Rattle.command_line.specs.BoundsForm.{bounds_call_of}
+use Rattle.commands.specs.Bounds.{bounds_work}
+use Rattle.commands.proofs.Printed.{printed_behind}
+use Rattle.commands.proofs.bounds.bounding.bounds.Goals as goal
+
+pub returns-in-Ok : goal.returns-in-Ok
+returns-in-Ok g c =
+    printed_behind (bounds_work (bounds_call_of c.args.command.now)) c.in-Ok.text.items c.as_slice.result.now _ _ _ c.in-Ok.ensures
+    c.as_slice.ensures.value c.print.ensures
