@@ -1,5 +1,7 @@
 // The tree of the prefixes of listed paths. Each prefix has a node, so that two are compared by their nodes, and a list by nodes holds
-// something for each prefix. It is made in time of the order of the steps listed.
+// something for each prefix. It is made in time of the order of the steps listed. The search keeps something else (prefix_sensitize,
+// path_tree.rt): the order in which those paths stand side by side that share a prefix, and no node. Proofs name prefixes in any order,
+// by path and number of steps, and by nodes each is found at once.
 ghost use Rattle.std.specs.Prelude.{◌≡◌, ◌+◌, ◌<◌, ◌≤◌, ◌↔◌, ◌∷◌, ◌++◌, [], All, IfOk, IsTrue, List, OnOk, length, slice_index_or, sum_by};
 ghost use Rattle.pd_base.specs.declared.limits.TheConstants.{MOST_PATHS};
 ghost use Rattle.pd_base.specs.Route.{Route};

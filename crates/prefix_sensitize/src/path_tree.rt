@@ -1,6 +1,8 @@
 // The order in which listed paths are walked: by their sources, then by their steps, so that paths that share a prefix stand side by side
 // and no path stands before one that is a prefix of it. What two paths share is told in sharing.rt, which paths have one prefix in
-// stretch.rt.
+// stretch.rt. `check` keeps something else (claim_check, prefix_tree.rt): it asks of a proof's prefix, by path and number of steps, which
+// listed path has it first, so each prefix has a node there. A walk meets prefixes in order and asks for none by name: it keeps a row for
+// each path, and nothing for a step.
 ghost use Rattle.std.specs.Prelude.{◌≡◌, ◌≤◌, ◌<◌, ◌*◌, ℕ, length, take, All, IfOk};
 ghost use Rattle.std.specs.List.{range_with_len};
 ghost use Rattle.pd_base.specs.declared.limits.TheConstants.{MOST_PATHS};
