@@ -34,6 +34,7 @@ fn add_counts(out: &str, answer: &mut Text) {
 }
 
 // How many of the lines that end with some word have same before it, how many differs, and how many neither.
+#[derive(Clone, Copy)]
 struct Counts {
     same: u64,
     differs: u64,
