@@ -24,3 +24,4 @@ pub use field::{
 pub use reading::{read_delays, read_rise_fall};
 pub use rise_fall::RiseFall;
 pub use rows::three_fields;
+pub use setting::Columns;

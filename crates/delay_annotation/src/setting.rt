@@ -25,7 +25,7 @@ pub(crate) enum Pins {
 
 /// Which numbers the rows of a delay file have behind gate and pin.
 #[derive(Clone, Copy)]
-pub(crate) enum Columns {
+pub enum Columns {
     /// One delay, of a rise as of a fall.
     Delay,
     /// A rise delay, then a fall delay.

@@ -2,7 +2,7 @@
 ghost use Rattle.std.specs.Prelude.{◌<◌, ◌^◌, length, IfOk, IfErr};
 ghost use Rattle.pd_io.specs.Seen.{FilesSeen, files_seen};
 ghost use Rattle.runs.specs.Lawful.{AreLawfulTests};
-ghost use Rattle.command_line.specs.Commands.{rise_fall_replay_call_of};
+ghost use Rattle.command_line.specs.RiseFallReplayForm.{rise_fall_replay_call_of};
 ghost use Rattle.command_line.specs.Words.{HasRiseFallReplayNumbers};
 ghost use Rattle.calls.specs.Preparing.{Prepares};
 ghost use Rattle.commands.specs.Inside.InputJudging.{GivesNet};

@@ -1,6 +1,6 @@
 // The command `rfreplay`: the text that it prepared is printed.
 ghost use Rattle.pd_io.specs.Seen.{seen};
-ghost use Rattle.command_line.specs.Commands.{rise_fall_replay_call_of};
+ghost use Rattle.command_line.specs.RiseFallReplayForm.{rise_fall_replay_call_of};
 ghost use Rattle.command_line.specs.Words.{HasRiseFallReplayNumbers};
 ghost use Rattle.calls.specs.Calls.{Performs};
 ghost use Rattle.commands.specs.RiseFallReplay.{rise_fall_replay_work};

@@ -13,7 +13,7 @@ use Rattle.commands.specs.InputRequirements.{own, tests_and_report_forms, tests_
 use Rattle.commands.specs.Replay.{FewChanges}
 use Rattle.commands.proofs.TestCounts.{few_tests}
 use Rattle.std.specs.List.{All}
-use Rattle.command_line.specs.Commands.{rise_fall_replay_call_of}
+use Rattle.command_line.specs.RiseFallReplayForm.{rise_fall_replay_call_of}
 use Rattle.commands.specs.RiseFallReplay.{rise_fall_replay_command}
 use Rattle.commands.proofs.InputStages.{columns_fail}
 use Rattle.commands.proofs.RiseFallStages.{both_passed, listed_malformed, listed_unread, rise_fall_text_prepared}

@@ -1,7 +1,7 @@
 -- NET gave no netlist, or the call went on behind it.
 use Rattle.std.proofs.Common.{refl}
 use Rattle.std.proofs.lemmas.Result.{err_from_is_err_and}
-use Rattle.command_line.specs.Commands.{rise_fall_replay_call_of}
+use Rattle.command_line.specs.RiseFallReplayForm.{rise_fall_replay_call_of}
 use Rattle.commands.proofs.InputStages.{net_fails}
 use Rattle.commands.specs.RiseFallReplay.{rise_fall_replay_command}
 use Rattle.commands.proofs.rise_fall_replay.preparing.prepare_rise_fall_replay.Goals as goal

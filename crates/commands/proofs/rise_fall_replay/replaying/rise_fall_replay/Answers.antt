@@ -1,5 +1,5 @@
 -- The text was printed, or not.
-use Rattle.command_line.specs.Commands.{rise_fall_replay_call_of}
+use Rattle.command_line.specs.RiseFallReplayForm.{rise_fall_replay_call_of}
 use Rattle.commands.specs.RiseFallReplay.{rise_fall_replay_work}
 use Rattle.commands.proofs.Printed.{printed_behind}
 use Rattle.commands.proofs.rise_fall_replay.replaying.rise_fall_replay.Goals as goal
