@@ -3,7 +3,7 @@
 ghost use Rattle.std.specs.Prelude.{◌≡◌, ◌*◌, ◌<◌, ◌≤◌, ◌^◌, All, IfErr, IfOk, MatchOption, OnOk, length};
 ghost use Rattle.netlist.specs.Circuit.{source_count};
 ghost use Rattle.runs.specs.Lawful.{IsNameable};
-ghost use Rattle.commands.specs.Grading.{AreTooManyGrades, CanBeGraded, ExpectsValues, HaveWrongExpected, HaveWrongPath, IsFirstWithout, ListsPath, grades, too_many_grades, wrong_expected, wrong_path};
+ghost use Rattle.commands.specs.Grading.{AreTooManyGrades, CanBeGraded, ExpectsValues, HaveWrongExpected, HaveWrongPath, IsFirstWithout, ListsPath, grades, too_many_grades, wrong_item};
 ghost use Rattle.commands.specs.Inside.Grading.{FailsToBeGraded};
 ghost use Rattle.commands.specs.Inside.InputJudging.{FailsFor};
 ghost use Rattle.commands.specs.Inside.TestsAndPaths.{AreBothWithin};
@@ -55,7 +55,10 @@ fn require_paths(
 {
     match first_wrong_path(net, paths) {
         None => Ok(()),
-        Some(number) => Err(Ending::Refused(wrong_path(command, number))),
+        Some(number) => {
+            let refusal = wrong_item(command, b": path ", number, b" WrongPath");
+            Err(Ending::Refused(refusal))
+        }
     }
 }
 
@@ -85,7 +88,10 @@ fn require_expected(
 {
     match first_wrong_expected(alloc, net, tests)? {
         None => Ok(()),
-        Some(number) => Err(Ending::Refused(wrong_expected(command, number))),
+        Some(number) => {
+            let refusal = wrong_item(command, b": test ", number, b" WrongExpected");
+            Err(Ending::Refused(refusal))
+        }
     }
 }
 
@@ -122,32 +128,22 @@ fn require_few(tests: &[Test], paths: &[ListedPath]) -> Result<(), Ending>
     Ok(())
 }
 
-// The refusal of listed paths, whose path of this number is none.
-fn wrong_path(command: &'static [u8], number: u64) -> Refusal
-    ensures { result ≡ wrong_path command.now number }
+// The refusal of an item of this number, under the word of the command.
+fn wrong_item(
+    command: &'static [u8],
+    item: &'static [u8],
+    number: u64,
+    reason: &'static [u8],
+) -> Refusal
+    ensures { result ≡ wrong_item command.now item.now number reason.now }
 {
     Refusal::new(
         Cause::Claims,
         &[
             Part::Words(command),
-            Part::Words(b": path "),
+            Part::Words(item),
             Part::Number(number),
-            Part::Words(b" WrongPath"),
-        ],
-    )
-}
-
-// That of tests, whose test of this number expects other values.
-fn wrong_expected(command: &'static [u8], number: u64) -> Refusal
-    ensures { result ≡ wrong_expected command.now number }
-{
-    Refusal::new(
-        Cause::Claims,
-        &[
-            Part::Words(command),
-            Part::Words(b": test "),
-            Part::Number(number),
-            Part::Words(b" WrongExpected"),
+            Part::Words(reason),
         ],
     )
 }
