@@ -63,6 +63,7 @@ fn require_paths(
 }
 
 // The number of the first listed path that is no path of the netlist. That it is one of its first paths is not asked.
+#[tactic(auto, using(crate::proofs::FirstWithout::one_more_path))]
 fn first_wrong_path(net: &Netlist, paths: &[ListedPath]) -> Option<u64>
     requires { All (λ listed. IsNameable net.now listed.path) paths.now }
     ensures { MatchOption result (All (ListsPath net.now) paths.now) (IsFirstWithout (ListsPath net.now) paths.now) }
@@ -96,6 +97,7 @@ fn require_expected(
 }
 
 // The number of the first test that expects other values.
+#[tactic(auto, using(crate::proofs::FirstWithout::first_unexpected, crate::proofs::FirstWithout::one_more_expects))]
 fn first_wrong_expected(
     alloc: Global,
     net: &Netlist,

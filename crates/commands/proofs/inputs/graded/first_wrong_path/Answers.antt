@@ -1,16 +1,8 @@
--- One path more, and at the end all.
+-- At the end all are paths.
 use Rattle.std.proofs.Common.{All, arith, subst}
 use Rattle.std.proofs.lemmas.List.{take_all}
-use Rattle.std.proofs.lemmas.List.Elements.{All-more}
 use Rattle.commands.specs.Grading.{ListsPath}
 use Rattle.commands.proofs.inputs.graded.first_wrong_path.Goals as goal
-
-pub loop-place-preserved : goal.loop-place-preserved
-loop-place-preserved c =
-    let paths = c.args.paths.now in
-    let listed = c.index-paths-place.result in
-    All-more (ListsPath c.args.net.now) paths c.loop-place.place listed c.loop-place-test.true c.loop-place.invariant
-    (subst (ListsPath c.args.net.now) c.index-paths-place.is (c.is_path.ensures.0 (rw c.if-not-is_path.false tt)))
 
 pub returns : goal.returns
 returns c =
