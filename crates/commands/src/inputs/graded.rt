@@ -44,11 +44,7 @@ pub(crate) fn graded_in(
 }
 
 // Refuses listed paths of which one is no path.
-fn require_paths(
-    command: &'static [u8],
-    net: &Netlist,
-    paths: &[ListedPath],
-) -> Result<(), Ending>
+fn require_paths(command: &'static [u8], net: &Netlist, paths: &[ListedPath]) -> Result<(), Ending>
     requires { All (λ listed. IsNameable net.now listed.path) paths.now }
     ensures paths { OnOk result (All (ListsPath net.now) paths.now) }
     ensures fails { IfErr result (FailsFor (HaveWrongPath command.now net.now paths.now)) }
