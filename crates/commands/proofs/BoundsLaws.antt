@@ -60,8 +60,8 @@ module _ (call : BoundsCall) (now : Folder) where
           (
             accepts_size (bounds_command call) role.Log (net ∷ tests ∷ report ∷ []) log can.log_within,
             pass_graded (bounds_command call) (Some now) net can.circuit can.are.has tests report (log ∷ []) can.listed can.paths
-            can.are.spell (Require (own SpellsLog) ∷ []) (bounds_inputs call now) can.are.graded
-            (accepts_log call net tests report log can.circuit can.are.has can.listed can.are.spell.tests_are can.rows can.is_log, refl),
+                can.are.spell (Require (own SpellsLog) ∷ []) (bounds_inputs call now) can.are.graded
+                (accepts_log call net tests report log can.circuit can.are.has can.listed can.are.spell.tests_are can.rows can.is_log, refl),
           ),
         );
   }
@@ -111,7 +111,7 @@ module _ (call : BoundsCall) (now : Folder) where
             (
               accepts_size (bounds_command call) role.Log (net ∷ tests ∷ report ∷ []) log within,
               pass_before_grades (bounds_command call) (Some now) net it.circuit it.has tests report (log ∷ []) it.listed it.paths it.spell []
-              (bounds_inputs call now) it.are_paths it.expect refl,
+                  (bounds_inputs call now) it.are_paths it.expect refl,
             ),
           )
 
@@ -146,7 +146,7 @@ module _ (call : BoundsCall) (now : Folder) where
             (
               accepts_size (bounds_command call) role.Log (net ∷ tests ∷ report ∷ []) log within,
               pass_graded (bounds_command call) (Some now) net it.circuit it.has tests report (log ∷ []) it.listed it.paths it.spell []
-              (bounds_inputs call now) (record { are_paths = it.are_paths; expect = it.expect; few = few }) refl,
+                  (bounds_inputs call now) (record { are_paths = it.are_paths; expect = it.expect; few = few }) refl,
             ),
           )
 

@@ -124,18 +124,18 @@ module _ (call : CompactCall) (apart : HasFilesApart call) where
           are_paths = gives.are.graded.are_paths;
           expect = all_left (ExpectsValues c) gives.listed gives.kept gives.compacted.in_order gives.are.graded.expect;
           few = omega (
-              arith,
-              gives.are.graded.few,
-              mul-le (length gives.kept) (2 * length gives.paths) (length gives.listed) (2 * length gives.paths)
-              (fewer_left gives.compacted.in_order) (omega arith),
-            );
+            arith,
+            gives.are.graded.few,
+            mul-le (length gives.kept) (2 * length gives.paths) (length gives.listed) (2 * length gives.paths)
+                (fewer_left gives.compacted.in_order) (omega arith),
+          );
         };
         compacted = gives.compacted;
         kept_within = omega (
-            arith,
-            shorter_text c gives.listed gives.kept gives.compacted.in_order few,
-            ap (λ (t : List ℕ). length t) gives.are.spell.tests_are.is_text,
-          );
+          arith,
+          shorter_text c gives.listed gives.kept gives.compacted.in_order few,
+          ap (λ (t : List ℕ). length t) gives.are.spell.tests_are.is_text,
+        );
         net_left = ap (λ (h : Contents). bytes_at h call.net) held
             ∙ bytes_at-put_other before.held call.out call.net text (apart 0 3 [] (omega arith) (omega arith)) ∙ sym is_net;
         report_left = ap (λ (h : Contents). bytes_at h call.report) held

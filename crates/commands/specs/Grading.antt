@@ -48,13 +48,17 @@ pub record AreGradable (net tests report : List ℕ) (c : Circuit) (listed : Lis
   pub spell : SpellTestsAndPaths c tests report listed paths
   pub graded : CanBeGraded c listed paths
 
--- the listed path of this number is no path, as the command of this word says
+-- an item of this number is refused so, as the command of this word says
+abbrev pub wrong_item : List ℕ → List ℕ → ℕ → List ℕ → Refusal
+wrong_item command item number reason = refusal_for cause.Claims (command ++ item ++ decimal number ++ reason)
+
+-- the listed path of this number is no path
 abbrev pub wrong_path : List ℕ → ℕ → Refusal
-wrong_path command number = refusal_for cause.Claims (command ++ codes ": path " ++ decimal number ++ codes " WrongPath")
+wrong_path command number = wrong_item command (codes ": path ") number (codes " WrongPath")
 
 -- the test of this number expects other values
 abbrev pub wrong_expected : List ℕ → ℕ → Refusal
-wrong_expected command number = refusal_for cause.Claims (command ++ codes ": test " ++ decimal number ++ codes " WrongExpected")
+wrong_expected command number = wrong_item command (codes ": test ") number (codes " WrongExpected")
 
 -- there is too much to grade
 abbrev pub too_many_grades : ℕ → Refusal

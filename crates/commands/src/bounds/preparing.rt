@@ -15,9 +15,7 @@ ghost use Rattle.commands.specs.declared.inputs.reading.TheConstants.{INPUT_LIMI
 
 use crate::bounds::log_ending::log_ending;
 use crate::bounds::text::bounds_text;
-use crate::inputs::{
-    TestsAndPaths, graded_in, netlist_from, tests_and_report_from, text_from,
-};
+use crate::inputs::{TestsAndPaths, graded_in, netlist_from, tests_and_report_from, text_from};
 use calls::{Ending, Role};
 use command_line::BoundsCommand;
 use delay_bounds::{LogRow, bounds, read_log};

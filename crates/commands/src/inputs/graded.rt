@@ -3,7 +3,7 @@
 ghost use Rattle.std.specs.Prelude.{◌≡◌, ◌*◌, ◌<◌, ◌≤◌, ◌^◌, All, IfErr, IfOk, MatchOption, OnOk, length};
 ghost use Rattle.netlist.specs.Circuit.{source_count};
 ghost use Rattle.runs.specs.Lawful.{IsNameable};
-ghost use Rattle.commands.specs.Grading.{AreTooManyGrades, CanBeGraded, ExpectsValues, HaveWrongExpected, HaveWrongPath, IsFirstWithout, ListsPath, grades, too_many_grades, wrong_expected, wrong_path};
+ghost use Rattle.commands.specs.Grading.{AreTooManyGrades, CanBeGraded, ExpectsValues, HaveWrongExpected, HaveWrongPath, IsFirstWithout, ListsPath, grades, too_many_grades, wrong_item};
 ghost use Rattle.commands.specs.Inside.Grading.{FailsToBeGraded};
 ghost use Rattle.commands.specs.Inside.InputJudging.{FailsFor};
 ghost use Rattle.commands.specs.Inside.TestsAndPaths.{AreBothWithin};
@@ -44,22 +44,22 @@ pub(crate) fn graded_in(
 }
 
 // Refuses listed paths of which one is no path.
-fn require_paths(
-    command: &'static [u8],
-    net: &Netlist,
-    paths: &[ListedPath],
-) -> Result<(), Ending>
+fn require_paths(command: &'static [u8], net: &Netlist, paths: &[ListedPath]) -> Result<(), Ending>
     requires { All (λ listed. IsNameable net.now listed.path) paths.now }
     ensures paths { OnOk result (All (ListsPath net.now) paths.now) }
     ensures fails { IfErr result (FailsFor (HaveWrongPath command.now net.now paths.now)) }
 {
     match first_wrong_path(net, paths) {
         None => Ok(()),
-        Some(number) => Err(Ending::Refused(wrong_path(command, number))),
+        Some(number) => {
+            let refusal = wrong_item(command, b": path ", number, b" WrongPath");
+            Err(Ending::Refused(refusal))
+        }
     }
 }
 
 // The number of the first listed path that is no path of the netlist. That it is one of its first paths is not asked.
+#[tactic(auto, using(crate::proofs::FirstWithout::one_more_path))]
 fn first_wrong_path(net: &Netlist, paths: &[ListedPath]) -> Option<u64>
     requires { All (λ listed. IsNameable net.now listed.path) paths.now }
     ensures { MatchOption result (All (ListsPath net.now) paths.now) (IsFirstWithout (ListsPath net.now) paths.now) }
@@ -85,11 +85,15 @@ fn require_expected(
 {
     match first_wrong_expected(alloc, net, tests)? {
         None => Ok(()),
-        Some(number) => Err(Ending::Refused(wrong_expected(command, number))),
+        Some(number) => {
+            let refusal = wrong_item(command, b": test ", number, b" WrongExpected");
+            Err(Ending::Refused(refusal))
+        }
     }
 }
 
 // The number of the first test that expects other values.
+#[tactic(auto, using(crate::proofs::FirstWithout::first_unexpected, crate::proofs::FirstWithout::one_more_expects))]
 fn first_wrong_expected(
     alloc: Global,
     net: &Netlist,
@@ -122,32 +126,22 @@ fn require_few(tests: &[Test], paths: &[ListedPath]) -> Result<(), Ending>
     Ok(())
 }
 
-// The refusal of listed paths, whose path of this number is none.
-fn wrong_path(command: &'static [u8], number: u64) -> Refusal
-    ensures { result ≡ wrong_path command.now number }
+// The refusal of an item of this number, under the word of the command.
+fn wrong_item(
+    command: &'static [u8],
+    item: &'static [u8],
+    number: u64,
+    reason: &'static [u8],
+) -> Refusal
+    ensures { result ≡ wrong_item command.now item.now number reason.now }
 {
     Refusal::new(
         Cause::Claims,
         &[
             Part::Words(command),
-            Part::Words(b": path "),
+            Part::Words(item),
             Part::Number(number),
-            Part::Words(b" WrongPath"),
-        ],
-    )
-}
-
-// That of tests, whose test of this number expects other values.
-fn wrong_expected(command: &'static [u8], number: u64) -> Refusal
-    ensures { result ≡ wrong_expected command.now number }
-{
-    Refusal::new(
-        Cause::Claims,
-        &[
-            Part::Words(command),
-            Part::Words(b": test "),
-            Part::Number(number),
-            Part::Words(b" WrongExpected"),
+            Part::Words(reason),
         ],
     )
 }
