@@ -1,6 +1,5 @@
 // What is said of the hull below halves of splits.
-ghost use Rattle.std.specs.Prelude.{◌<◌, ◌^◌, length, All, IfOk};
-ghost use Rattle.pd_base.specs.Links.{links_of};
+ghost use Rattle.std.specs.Prelude.{◌<◌, All, IfOk};
 ghost use Rattle.netlist.specs.Circuit.{source_count};
 ghost use Rattle.netlist.specs.LinkedPairs.{FitRules};
 ghost use Rattle.netlist.specs.Paths.{IsPath};
@@ -47,7 +46,6 @@ fn add_hull_below(
 ) -> Result<(), Trouble>
     requires halves { All (λ half. half.source < source_count net.now) halves.now }
     requires fit { FitRules net.now fault.rules.now }
-    requires few { length (links_of fault.rules.now) < 2 ^ 30 }
 {
     let prefix = path(alloc, net, prefix)?;
     match hull_of(alloc, net, &prefix, fault, halves)? {
@@ -69,7 +67,6 @@ fn hull_of(
     requires path { IsPath net.now prefix.now }
     requires halves { All (λ half. half.source < source_count net.now) halves.now }
     requires fit { FitRules net.now fault.rules.now }
-    requires few { length (links_of fault.rules.now) < 2 ^ 30 }
 {
     let Fault { direction, kind } = fault.fault;
     hull(alloc, net, fault.rules, prefix, direction, kind, halves)
