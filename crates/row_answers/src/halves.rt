@@ -19,7 +19,8 @@ use std::alloc::Global;
 use trees::Node;
 
 /// Adds the hull below these halves: the rules (rules.rt), transition, kind, and for each half a split, as in a tree, and
-/// behind a dot 1 or 2. A line for each line of the circuit: its name, and the numbers of its states. Or that some line has none.
+/// behind a dot 1 or 2. A line for each line of the circuit: its name, and the numbers of its states; before them, where these are of the
+/// six, the name of such an answer. Or that some line has none.
 pub fn hull_at(
     alloc: Global,
     net: &Netlist,
@@ -50,7 +51,10 @@ fn add_hull_below(
     let prefix = path(alloc, net, prefix)?;
     match hull_of(alloc, net, &prefix, fault, halves)? {
         Hull::Rest(labels) => add_labels(net, labels.as_slice(), answer),
-        Hull::RestLinked(labels) => add_labels(net, labels.as_slice(), answer),
+        Hull::RestLinked(labels) => {
+            answer.add("  RestLinked\n");
+            add_labels(net, labels.as_slice(), answer);
+        }
         Hull::Empty(_) => answer.add("  empty\n"),
     }
     Ok(())
