@@ -40,7 +40,6 @@ pub(crate) fn wrong_proof(
     requires nodes { AreTreeNodes paths.now prefixes.now }
     requires few { length run.now.proofs < 2 ^ 32 }
     requires fit { FitRules net.now run.now.rules }
-    requires links { length (links_of run.now.rules) < 2 ^ 30 }
     ensures { IfOk result (TellsOfItems (IsRightProofAt net.now budget run.now)) }
 {
     match run.rules {
@@ -66,7 +65,6 @@ fn wrong_with<A: Algebra>(
     requires nodes { AreTreeNodes paths.now prefixes.now }
     requires few { length run.now.proofs < 2 ^ 32 }
     requires fit { FitRules net.now run.now.rules }
-    requires links { length (links_of run.now.rules) < 2 ^ 30 }
     ensures { IfOk result (TellsOfItems (IsRightProofAt net.now budget run.now)) }
 {
     // a netlist knows itself as a circuit

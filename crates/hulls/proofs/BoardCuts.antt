@@ -89,14 +89,14 @@ module _ (count : ℕ) (labels : List StateSet) (notes : List (Note StateSet)) (
 
           pub moved_to : (c : Circuit) (passed : Option GateId) → AreWaiting c awaited.inside passed line more.waiting
               → AreLinksWaiting c links line more.waiting → IsCutTo count c passed line to board moved
-          moved_to c passed waits ties = record {
+          moved_to c passed waits links_wait = record {
             labels = refl;
             within = cut_within;
             inside = many.inside;
             links = refl;
             follows = record { more = note ∷ []; notes = refl; back = back };
             stays = many.stays;
-            moves = inr (record { fewer = less; waits = waits; ties = ties; few = many.few is.few });
+            moves = inr (record { fewer = less; waits = waits; links_wait = links_wait; few = many.few is.few });
           }
 
       -- the same, as the code has the sets and the notes
@@ -125,7 +125,7 @@ module _ (count : ℕ) (labels : List StateSet) (notes : List (Note StateSet)) (
 
           pub cut_to : (c : Circuit) (passed : Option GateId) → AreWaiting c awaited.inside passed line more.waiting
               → AreLinksWaiting c links line more.waiting → IsCutTo count c passed line to board after
-          cut_to c passed waits ties = subst (IsCutTo count c passed line to board) (sym is_moved) (moved_to away more many c passed waits ties)
+          cut_to c passed waits links_wait = subst (IsCutTo count c passed line to board) (sym is_moved) (moved_to away more many c passed waits links_wait)
 
     -- the changes since a mark are undone
     pub undone_is : (mark : ℕ) (back : List StateSet) → back ≡ undone (drop mark notes) labels → (noted : Noted StateSet)

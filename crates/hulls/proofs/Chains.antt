@@ -4,7 +4,7 @@ use Rattle.std.proofs.Math.ListN.{set}
 use Rattle.std.proofs.lemmas.Bool.{cases_eq}
 use Rattle.std.proofs.lemmas.List.{length_push, get_or-set_same, get_or-set_other, get_or_past, get_or_append_left, get_or_push}
 use Rattle.pd_base.specs.Links.{LinkList}
-use Rattle.hulls.specs.Links.{IsInChain, IsChained, tied_line, link_at}
+use Rattle.hulls.specs.Links.{IsInChain, IsChained, chained_line, link_at}
 use Rattle.hulls.specs.Links.IsInChain.{here, later}
 
 -- no link stands in the chain that has ended
@@ -44,7 +44,7 @@ module _ (nexts : List ℕ) (next : ℕ) (falls : (link : ℕ) → link < length
 
 -- a link more at the head of its line's chain
 module _ (second : Bool) (links : LinkList) (bound : ℕ) (heads nexts : List ℕ) (is : IsChained second links bound heads nexts)
-    (line : ℕ) (at_line : (tied_line second (link_at links bound)).0 ≡ line) (inside : line < length heads) where
+    (line : ℕ) (at_line : (chained_line second (link_at links bound)).0 ≡ line) (inside : line < length heads) where
   abbrev next : ℕ
   next = get_or heads line 0
 
@@ -80,12 +80,12 @@ module _ (second : Bool) (links : LinkList) (bound : ℕ) (heads nexts : List �
       (λ (away : other ≡ line → ⊥). omega (arith, head_away other away, is.heads_low other))
       (cases_eq other line)
 
-  chained_on : (link : ℕ) → link < bound + 1 → IsInChain new_nexts link (get_or new_heads (tied_line second (link_at links link)).0 0)
+  chained_on : (link : ℕ) → link < bound + 1 → IsInChain new_nexts link (get_or new_heads (chained_line second (link_at links link)).0 0)
   chained_on link below =
-      let key : ℕ = (tied_line second (link_at links link)).0 in
+      let key : ℕ = (chained_line second (link_at links link)).0 in
       ⊎_elim
       (λ (same : link ≡ bound).
-      let own : key ≡ line = ap (λ (n : ℕ). (tied_line second (link_at links n)).0) same ∙ at_line in
+      let own : key ≡ line = ap (λ (n : ℕ). (chained_line second (link_at links n)).0) same ∙ at_line in
       here (ap (λ (n : ℕ). get_or new_heads n 0) own ∙ head_here ∙ ap (λ (n : ℕ). n + 1) (sym same)))
       (λ (away : link ≡ bound → ⊥).
       let low : link < bound = omega (arith, below, away) in

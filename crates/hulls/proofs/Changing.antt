@@ -67,7 +67,7 @@ module _ (c : Circuit) (passed : Option GateId) where
   wakes_none board = record {
     stays = λ gate waits. waits;
     woken = λ gate within here away. inr (λ k d inside. refl);
-    tied = λ link inside. inr (λ k d at. refl);
+    links_woken = λ link inside. inr (λ k d at. refl);
   }
 
   pub wakes_on : (old mid new : OnBoard) → mid.inside ≡ old.inside → mid.links ≡ old.links → Wakes c passed old mid → Wakes c passed mid new → Wakes c passed old new
@@ -81,7 +81,7 @@ module _ (c : Circuit) (passed : Option GateId) where
         (λ (still : All (IsSameAt mid.labels new.labels) (gate_lines c gate)). inr (λ k d inside. still k d inside ∙ same k d inside))
         (after.woken gate within (ap (λ (flags : List Bool). is_inside flags gate) same_inside ∙ here) away))
         (before.woken gate within here away);
-    tied = λ link inside. ⊎_elim
+    links_woken = λ link inside. ⊎_elim
         (λ (waits : Contains mid.waiting (link_turn c link)). inl (after.stays (link_turn c link) waits))
         (λ (same : All (IsSameAt old.labels mid.labels) (link_lines old.links link)).
         ⊎_elim
@@ -90,8 +90,8 @@ module _ (c : Circuit) (passed : Option GateId) where
         let here : All (IsSameAt mid.labels new.labels) (link_lines old.links link) =
         subst (λ (ls : LinkList). All (IsSameAt mid.labels new.labels) (link_lines ls link)) same_links still in
         inr (λ k d at. here k d at ∙ same k d at))
-        (after.tied link (subst (λ (ls : LinkList). link < length ls) (sym same_links) inside)))
-        (before.tied link inside);
+        (after.links_woken link (subst (λ (ls : LinkList). link < length ls) (sym same_links) inside)))
+        (before.links_woken link inside);
   }
 
   module _ (count : ℕ) where
@@ -141,10 +141,10 @@ module _ (c : Circuit) (passed : Option GateId) where
           (others_same (gate_lines c gate) old.labels line (both_sets (label_at old.labels line) to) not)))
           (stands_or_not (gate_lines c gate) line)
 
-      moved_tied : IsMoved count c passed line old new → (link : ℕ) → link < length old.links
+      moved_links : IsMoved count c passed line old new → (link : ℕ) → link < length old.links
           → Contains new.waiting (link_turn c link) ⊎ All (IsSameAt old.labels new.labels) (link_lines old.links link)
-      moved_tied moved link inside = ⊎_elim
-          (λ (among : Contains (link_lines old.links link) (record { 0 = line })). inl (moved.ties link inside among))
+      moved_links moved link inside = ⊎_elim
+          (λ (among : Contains (link_lines old.links link) (record { 0 = line })). inl (moved.links_wait link inside among))
           (λ (not : ¬ Contains (link_lines old.links link) (record { 0 = line })).
           inr (subst (λ (l : List StateSet). All (IsSameAt old.labels l) (link_lines old.links link)) (sym cut.labels)
           (others_same (link_lines old.links link) old.labels line (both_sets (label_at old.labels line) to) not)))
@@ -163,10 +163,10 @@ module _ (c : Circuit) (passed : Option GateId) where
               (λ (same : new ≡ old). inr (λ k d inside. ap (λ (b : OnBoard). label_at b.labels (get_or (gate_lines c gate) k d).0) same))
               (λ (moved : IsMoved count c passed line old new). moved_woken moved gate within here away)
               cut.moves;
-          tied = λ link inside. ⊎_elim
+          links_woken = λ link inside. ⊎_elim
               (λ (same : new ≡ old).
               inr (λ k d at. ap (λ (b : OnBoard). label_at b.labels (get_or (link_lines old.links link) k d).0) same))
-              (λ (moved : IsMoved count c passed line old new). moved_tied moved link inside)
+              (λ (moved : IsMoved count c passed line old new). moved_links moved link inside)
               cut.moves;
         };
         falls = ⊎_elim (λ (same : new ≡ old). inl same)

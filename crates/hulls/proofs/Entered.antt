@@ -45,9 +45,9 @@ awake_entered a c kind steps step old new same stays waits awake = record {
       (subst (λ o. IsNarrowing a c gate o old.labels old.labels) (sym (condition_elsewhere kind steps step gate away)) rests)))
       (awake.gates gate within inside))
       (cases_eq gate step.gate.0);
-  ties = λ link inside. ⊎_elim
+  links = λ link inside. ⊎_elim
       (λ (queued : Contains old.waiting (link_turn c link)). inl (stays (link_turn c link) queued))
       (λ (rests : RestsAlong a old.links old.labels link).
       inr (subst (λ (b : OnBoard). RestsAlong a b.links b.labels link) (sym same) rests))
-      (awake.ties link (subst (λ (b : OnBoard). link < length b.links) same inside));
+      (awake.links link (subst (λ (b : OnBoard). link < length b.links) same inside));
 }

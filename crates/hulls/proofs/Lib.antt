@@ -16,6 +16,6 @@ pub mod Prefixes
 pub mod Readers
 pub mod Sets
 pub mod Suffixes
-pub mod Tied
-pub mod Ties
+pub mod AlongLinks
+pub mod LinkCuts
 pub mod Whole

@@ -197,10 +197,10 @@ module _ (a : StateAlgebra) (c : Circuit) (kind : Kind) (steps : List PinRef) wh
       (wakes.woken gate within here (not_passed passed but is_but gate away))
 
   -- and so do links
-  ties_on : (but : ℕ) (passed : Option GateId) (old new : OnBoard) → new.links ≡ old.links → Wakes c passed old new
+  links_on : (but : ℕ) (passed : Option GateId) (old new : OnBoard) → new.links ≡ old.links → Wakes c passed old new
       → IsAwakeBut a c kind steps but old → (link : ℕ) → link < length old.links → (link_turn c link).0 ≢ but
       → Contains new.waiting (link_turn c link) ⊎ RestsAlong a new.links new.labels link
-  ties_on but passed old new same_links wakes awake link inside away = ⊎_elim
+  links_on but passed old new same_links wakes awake link inside away = ⊎_elim
       (λ (waits : Contains new.waiting (link_turn c link)). inl waits)
       (λ (same : All (IsSameAt old.labels new.labels) (link_lines old.links link)).
       ⊎_elim
@@ -208,14 +208,14 @@ module _ (a : StateAlgebra) (c : Circuit) (kind : Kind) (steps : List PinRef) wh
       (λ (rests : RestsAlong a old.links old.labels link).
       inr (subst (λ (ls : LinkList). RestsAlong a ls new.labels link) (sym same_links)
       (link_rests_same a old.links link old.labels new.labels same rests)))
-      (awake.ties link inside away))
-      (wakes.tied link inside)
+      (awake.links link inside away))
+      (wakes.links_woken link inside)
 
   pub awake_on : (but : ℕ) (passed : Option GateId) → IfSome passed (λ other. other.0 ≡ but) → (old new : OnBoard) → new.inside ≡ old.inside
       → new.links ≡ old.links → Wakes c passed old new → IsAwakeBut a c kind steps but old → IsAwakeBut a c kind steps but new
   awake_on but passed is_but old new same_inside same_links wakes awake = record {
     gates = gates_on but passed is_but old new same_inside wakes awake;
-    ties = λ link inside away. ties_on but passed old new same_links wakes awake link
+    links = λ link inside away. links_on but passed old new same_links wakes awake link
         (subst (λ (ls : LinkList). link < length ls) same_links inside) away;
   }
 
@@ -289,7 +289,7 @@ module _ (a : StateAlgebra) (c : Circuit) (kind : Kind) (steps : List PinRef) wh
                   (λ (same : other ≡ gate). subst (λ (n : ℕ). Contains new.waiting (record { 0 = n }) ⊎ RestsAt a c kind steps new.labels n) (sym same) awake_here)
                   (λ (away : other ≢ gate). awake_but.gates other inside here_new away)
                   (cases_eq other gate);
-              ties = λ link inside. awake_but.ties link inside (λ same. absurd (omega (arith, same)));
+              links = λ link inside. awake_but.links link inside (λ same. absurd (omega (arith, same)));
             };
             some = some_left c passed a.count (gate_line c gate) given mid new own pins.some left;
             falls = shrunk.falls;
@@ -331,12 +331,12 @@ module _ (a : StateAlgebra) (c : Circuit) (kind : Kind) (steps : List PinRef) wh
         (λ (rests : RestsAt a c kind steps old.labels other).
         inr (subst (λ (l : List StateSet). RestsAt a c kind steps l other) (sym (ap (λ (b : OnBoard). b.labels) same)) rests))
         (awake.gates other within (ap (λ (b : OnBoard). is_inside b.inside other) (sym same) ∙ here));
-    ties = λ link inside away. ⊎_elim
+    links = λ link inside away. ⊎_elim
         (λ (waits : Contains old.waiting (link_turn c link)). inl (still_waits (link_turn c link) away waits))
         (λ (rests : RestsAlong a old.links old.labels link).
         inr (subst (λ (ls : LinkList). RestsAlong a ls mid.labels link) (sym (ap (λ (b : OnBoard). b.links) same))
         (subst (λ (l : List StateSet). RestsAlong a old.links l link) (sym (ap (λ (b : OnBoard). b.labels) same)) rests)))
-        (awake.ties link (subst (λ (ls : LinkList). link < length ls) (ap (λ (b : OnBoard). b.links) same) inside));
+        (awake.links link (subst (λ (ls : LinkList). link < length ls) (ap (λ (b : OnBoard). b.links) same) inside));
   }
     where
       still_waits : (other : GateId) → other.0 ≢ gate.0 → Contains old.waiting other → Contains mid.waiting other
@@ -377,7 +377,7 @@ module _ (a : StateAlgebra) (c : Circuit) (kind : Kind) (steps : List PinRef) wh
       absurd (let w = waits.1 in let e = ap length none in omega arith))
       (λ (rests : RestsAlong a board.links board.labels is_one.0).
       subst (λ (l : LineId × LineId). IsLinkNarrowing a l.0.0 l.1.0 board.labels board.labels) at rests)
-      (awake.ties is_one.0 is_one.1)
+      (awake.links is_one.0 is_one.1)
   rests_all board none awake (at_gate gate condition) is_one = ⊎_elim
       (λ (waits : Contains board.waiting (record { 0 = gate })).
       absurd (let w = waits.1 in let e = ap length none in omega arith))
@@ -425,13 +425,13 @@ module _ (a : StateAlgebra) (c : Circuit) (kind : Kind) (steps : List PinRef) wh
   awake_of_rest old new same_inside same_links wakes rest =
       let awake_old : IsAwakeBut a c kind steps (gate_count c + length old.links) old = record {
         gates = λ gate within here away. inr (rest (at_gate gate (condition_at kind steps gate)) (within, here, refl));
-        ties = λ link inside away.
+        links = λ link inside away.
             inr (rest (along_link (link_at old.links link).0.0 (link_at old.links link).1.0) (link_stands old.links link inside));
       } in
       let awake_new = awake_on a c kind steps (gate_count c + length old.links) None tt old new same_inside same_links wakes awake_old in
       record {
         gates = λ gate within here. awake_new.gates gate within here (λ same. absurd (omega arith));
-        ties = λ link inside.
+        links = λ link inside.
             let within : link < length old.links = subst (λ (ls : LinkList). link < length ls) same_links inside in
-            awake_new.ties link inside (λ same. absurd (omega (arith, same, within)));
+            awake_new.links link inside (λ same. absurd (omega (arith, same, within)));
       }

@@ -66,10 +66,10 @@ module _ (c : Circuit) (line : ℕ) (readers : List PinRef) (fanout : IsFanout c
         (Contains-push_cases (pins_at c gate) (record { 0 = gate_line c gate }) this among)
 
 -- the links at a line wait, as the code has the links and the number of gates
-pub ties_as : (c : Circuit) (seen links : LinkList) → seen ≡ links → (gates : ℕ) → gates ≡ gate_count c → (line : LineId) (waiting : List GateId)
+pub links_as : (c : Circuit) (seen links : LinkList) → seen ≡ links → (gates : ℕ) → gates ≡ gate_count c → (line : LineId) (waiting : List GateId)
     → ((link : ℕ) → link < length seen → Contains (link_lines seen link) line → Contains waiting (record { 0 = gates + link }))
     → AreLinksWaiting c links line.0 waiting
-ties_as c seen links same gates is line waiting waits link inside among =
+links_as c seen links same gates is line waiting waits link inside among =
     subst (λ (n : ℕ). Contains waiting (record { 0 = n + link })) is
     (waits link (subst (λ (ls : LinkList). link < length ls) (sym same) inside)
     (subst (λ (ls : LinkList). Contains (link_lines ls link) line) (sym same) among))

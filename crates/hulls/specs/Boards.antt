@@ -39,7 +39,7 @@ pub record IsBoardOf (c : Circuit) (board : OnBoard) : Type 0 where
   pub gates : length board.inside ≡ gate_count c + length board.links
   pub few : length board.inside < 2 ^ 32
   pub links : AreLinksOf c board.links
-  pub ties : (link : ℕ) → link < length board.links → is_inside board.inside (link_turn c link).0 ≡ true
+  pub links_inside : (link : ℕ) → link < length board.links → is_inside board.inside (link_turn c link).0 ≡ true
 
 -- the new board has more notes, and undoing these leads its labels back to the old ones
 pub record Follows (old new : OnBoard) : Type 0 where

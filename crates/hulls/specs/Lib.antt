@@ -6,6 +6,7 @@ pub mod Falling
 pub mod GateViews
 pub mod Joins
 pub mod Limits
+pub mod LinkPairs
 pub mod Links
 pub mod Marks
 pub mod Passes

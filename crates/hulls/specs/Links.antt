@@ -11,9 +11,9 @@ abbrev pub link_lines : LinkList → ℕ → List LineId
 link_lines links link = (link_at links link).0 ∷ (link_at links link).1 ∷ []
 
 -- its second line, or its first
-abbrev pub tied_line : Bool → LineId × LineId → LineId
-tied_line true link = link.1
-tied_line false link = link.0
+abbrev pub chained_line : Bool → LineId × LineId → LineId
+chained_line true link = link.1
+chained_line false link = link.0
 
 -- The link stands in the chain that begins at a link, of whose number this is one more: it is that link, or stands in the chain from the
 -- one before it on.
@@ -26,9 +26,9 @@ pub record IsChained (second : Bool) (links : LinkList) (bound : ℕ) (heads nex
   pub one_each : length nexts ≡ bound
   pub falls : (link : ℕ) → link < bound → slice_index_or nexts link 0 ≤ link
   pub heads_low : (line : ℕ) → slice_index_or heads line 0 ≤ bound
-  pub on : (link : ℕ) → link < bound → IsInChain nexts link (slice_index_or heads (tied_line second (link_at links link)).0 0)
+  pub on : (link : ℕ) → link < bound → IsInChain nexts link (slice_index_or heads (chained_line second (link_at links link)).0 0)
 
 -- all links stand in the chains of both of their lines
-pub record AreTied (links : LinkList) (source_heads source_nexts line_heads line_nexts : List ℕ) : Type 0 where
+pub record AreChained (links : LinkList) (source_heads source_nexts line_heads line_nexts : List ℕ) : Type 0 where
   pub by_source : IsChained false links (length links) source_heads source_nexts
   pub by_line : IsChained true links (length links) line_heads line_nexts

@@ -36,7 +36,7 @@ AreLinksWaiting c links line waiting =
 pub record IsMoved (count : ℕ) (c : Circuit) (passed : Option GateId) (line : ℕ) (old new : OnBoard) : Type 0 where
   pub fewer : states_left count new.labels < states_left count old.labels
   pub waits : AreWaiting c old.inside passed line new.waiting
-  pub ties : AreLinksWaiting c old.links line new.waiting
+  pub links_wait : AreLinksWaiting c old.links line new.waiting
   pub few : length new.waiting ≤ length new.inside
 
 -- the set of a line was cut down to another one, which changed the board or did not
@@ -61,14 +61,14 @@ RestsAlong a links labels link = IsLinkNarrowing a (link_at links link).0.0 (lin
 pub record IsAwake (a : StateAlgebra) (c : Circuit) (kind : Kind) (steps : List PinRef) (board : OnBoard) : Type 0 where
   pub gates : (gate : ℕ) → gate < gate_count c → is_inside board.inside gate ≡ true
       → Contains board.waiting (record { 0 = gate }) ⊎ RestsAt a c kind steps board.labels gate
-  pub ties : (link : ℕ) → link < length board.links
+  pub links : (link : ℕ) → link < length board.links
       → Contains board.waiting (link_turn c link) ⊎ RestsAlong a board.links board.labels link
 
 -- each gate inside and each link but the one of this number waits, or rests
 pub record IsAwakeBut (a : StateAlgebra) (c : Circuit) (kind : Kind) (steps : List PinRef) (but : ℕ) (board : OnBoard) : Type 0 where
   pub gates : (gate : ℕ) → gate < gate_count c → is_inside board.inside gate ≡ true → gate ≢ but
       → Contains board.waiting (record { 0 = gate }) ⊎ RestsAt a c kind steps board.labels gate
-  pub ties : (link : ℕ) → link < length board.links → (link_turn c link).0 ≢ but
+  pub links : (link : ℕ) → link < length board.links → (link_turn c link).0 ≢ but
       → Contains board.waiting (link_turn c link) ⊎ RestsAlong a board.links board.labels link
 
 -- what a board is settled from: a labelling in which each line has some state, and each gate inside waits, or rests
@@ -96,7 +96,7 @@ pub record Wakes (c : Circuit) (passed : Option GateId) (old new : OnBoard) : Ty
   pub stays : (gate : GateId) → Contains old.waiting gate → Contains new.waiting gate
   pub woken : (gate : ℕ) → gate < gate_count c → is_inside old.inside gate ≡ true → passed ≢ Some (record { 0 = gate })
       → Contains new.waiting (record { 0 = gate }) ⊎ All (IsSameAt old.labels new.labels) (gate_lines c gate)
-  pub tied : (link : ℕ) → link < length old.links
+  pub links_woken : (link : ℕ) → link < length old.links
       → Contains new.waiting (link_turn c link) ⊎ All (IsSameAt old.labels new.labels) (link_lines old.links link)
 
 -- states were lost, and no more gates wait than there are

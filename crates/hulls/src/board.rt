@@ -11,7 +11,7 @@ ghost use Rattle.hulls.specs.Boards.{IsBoardOf, link_turn};
 ghost use Rattle.hulls.specs.Settling.{IsCutTo};
 ghost use Rattle.hulls.specs.Links.{link_at};
 
-use crate::tie_lists::Ties;
+use crate::link_lists::LinkLists;
 use crate::waiting::{Turn, Waiting};
 use crate::waking::wake;
 use netlist::Netlist;
@@ -30,7 +30,7 @@ pub struct Board<A: Algebra> {
     labels: Labels<A>,
     trail: Trail<StateSet>,
     waiting: Waiting,
-    links: Ties,
+    links: LinkLists,
 }
 
 impl<A: Algebra> Model for Board<A> {
@@ -55,7 +55,6 @@ impl<A: Algebra> Board<A> {
         links: &[(LineId, LineId)],
     ) -> Result<Board<A>, OutOfMemory>
         requires gates { length inside.items ≡ gate_count net.now }
-        requires few { length inside.items + length links.now < 2 ^ 31 }
         requires of { AreLinksOf net.now links.now }
         ensures { IfOk result (λ b. b ≡ record {
           labels = replicate (line_count net.now) (all_states A.algebra.count);
@@ -65,9 +64,10 @@ impl<A: Algebra> Board<A> {
           links = links.now;
         }) }
     {
+        let lines = net.lines() as usize;
         let labels = Labels::full(alloc, net)?;
         let inside = with_links(inside, links.len())?;
-        let links = Ties::new(alloc, net.lines() as usize, links)?;
+        let links = LinkLists::new(alloc, lines, links)?;
         Board::over(alloc, net, labels, inside, links)
     }
 
@@ -78,7 +78,7 @@ impl<A: Algebra> Board<A> {
         net: &Netlist,
         links: &[(LineId, LineId)],
     ) -> Result<Board<A>, OutOfMemory>
-        requires few { length self.inside + length links.now < 2 ^ 31 }
+        requires gates { length self.inside ≡ gate_count net.now }
         requires of { AreLinksOf net.now links.now }
         ensures { IfOk result (λ b. b ≡ record self {
           waiting = [];
@@ -86,12 +86,13 @@ impl<A: Algebra> Board<A> {
           links = links.now;
         }) }
     {
+        let lines = net.lines() as usize;
         let inside = with_links(self.waiting.into_inside(), links.len())?;
         Ok(Board {
             labels: self.labels,
             trail: self.trail,
             waiting: Waiting::new(alloc, inside)?,
-            links: Ties::new(alloc, net.lines() as usize, links)?,
+            links: LinkLists::new(alloc, lines, links)?,
         })
     }
 
@@ -101,7 +102,7 @@ impl<A: Algebra> Board<A> {
         net: &Netlist,
         labels: Labels<A>,
         inside: Vec<bool>,
-        links: Ties,
+        links: LinkLists,
     ) -> Result<Board<A>, OutOfMemory>
         requires labelling { IsLabelling A.algebra.count net.now labels }
         ensures { IfOk result (λ b. b ≡ record { labels = labels; notes = []; waiting = []; inside = inside.items; links = links }) }
@@ -180,7 +181,7 @@ impl<A: Algebra> Board<A> {
         ensures labels { self.new ≡ record self.old { waiting = self.new.waiting } }
         ensures waits { (gate : ℕ) → gate < gate_count net.now → is_inside self.old.inside gate ≡ true
             → Contains self.new.waiting (record { 0 = gate }) }
-        ensures ties { (link : ℕ) → link < length self.old.links → Contains self.new.waiting (link_turn net.now link) }
+        ensures links_wait { (link : ℕ) → link < length self.old.links → Contains self.new.waiting (link_turn net.now link) }
     {
         self.ask_gates(net);
         self.ask_links(net.gates());
@@ -202,7 +203,7 @@ impl<A: Algebra> Board<A> {
     fn ask_links(&mut self, gates: u32)
         requires room { gates + length self.old.links ≤ length self.old.inside }
         requires few { length self.old.inside < 2 ^ 32 }
-        requires ties { (link : ℕ) → link < length self.old.links → is_inside self.old.inside (gates + link) ≡ true }
+        requires links_inside { (link : ℕ) → link < length self.old.links → is_inside self.old.inside (gates + link) ≡ true }
         ensures labels { self.new ≡ record self.old { waiting = self.new.waiting } }
         ensures stays { (gate : GateId) → Contains self.old.waiting gate → Contains self.new.waiting gate }
         ensures waits { (link : ℕ) → link < length self.old.links → Contains self.new.waiting (record { 0 = gates + link }) }

@@ -1,9 +1,10 @@
-// Narrowing along a link, which ties a source to a line.
+// Narrowing along a link, of a source to a line.
 ghost use Rattle.std.specs.Prelude.{◌≡◌, ◌<◌, ◌∷◌, [], ◌↔◌, length, IsTrue};
 ghost use Rattle.state_sets.specs.declared.state.State.{State};
 ghost use Rattle.state_sets.specs.States.{Has, IsWithin, AreWithin};
 ghost use Rattle.state_sets.specs.Labellings.{TellsOfNarrowing};
 ghost use Rattle.state_sets.specs.Narrowing.{IsLinkNarrowing};
+ghost use Rattle.hulls.specs.LinkPairs.{KeepsLinkedPairs};
 ghost use Rattle.hulls.specs.Sets.{Means};
 
 use crate::cutting::{cut_line, told};
@@ -20,6 +21,9 @@ pub fn narrow_link<A: Algebra>(labels: &mut Labels<A>, source: LineId, line: Lin
     ensures narrowed { IsLinkNarrowing A.algebra source.0 line.0 labels.old labels.new }
     ensures answer { TellsOfNarrowing (source ∷ line ∷ []) labels.old labels.new result }
     ensures within { AreWithin A.algebra.count labels.old → AreWithin A.algebra.count labels.new }
+
+    // no pair of rules with this link is lost
+    ensures pairs { KeepsLinkedPairs A.algebra source.0 line.0 labels.old labels.new }
 {
     narrow_sets::<A>(labels.as_mut_slice(), source, line)
 }

@@ -104,7 +104,8 @@ impl<A: Algebra> Board<A> {
         }
     }
 
-    // Narrows along the link of this number.
+    // Narrows along the link of this number: a call, so that the loop over gates is small.
+    #[inline(never)]
     fn narrow_along(&mut self, net: &Netlist, conditions: &Conditions, link: u32) -> Option<LineId>
         requires of { IsBoardOf net.now self.old }
         requires within { AreWithin A.algebra.count self.old.labels }

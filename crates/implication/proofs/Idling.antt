@@ -60,8 +60,8 @@ still_of c old new inside links lines of = record {
   gates = ap length inside ∙ of.gates ∙ ap (λ (ls : LinkList). gate_count c + length ls) (sym links);
   few = subst (λ (flags : List Bool). length flags < 2 ^ 32) (sym inside) of.few;
   links = subst (AreLinksOf c) (sym links) of.links;
-  ties = λ link stands. subst (λ (flags : List Bool). is_inside flags (gate_count c + link) ≡ true) (sym inside)
-      (of.ties link (subst (λ (ls : LinkList). link < length ls) links stands));
+  links_inside = λ link stands. subst (λ (flags : List Bool). is_inside flags (gate_count c + link) ≡ true) (sym inside)
+      (of.links_inside link (subst (λ (ls : LinkList). link < length ls) links stands));
 }
 
 -- a new board is one of its circuit
@@ -75,7 +75,7 @@ new_of c circuit count board is = record {
     lines = λ k d inside. absurd (omega (arith, inside));
     once = λ i j d before inside. absurd (omega (arith, inside));
   });
-  ties = λ link stands. absurd (let e = ap length is.unlinked in omega (arith, stands, e));
+  links_inside = λ link stands. absurd (let e = ap length is.unlinked in omega (arith, stands, e));
 }
 
 -- a board has as many labels as one that follows it
@@ -397,15 +397,15 @@ module _ (a : StateAlgebra) (laws : HasLaws a) (c : Circuit) (circuit : IsCircui
         gates = λ gate within is. inr (subst (λ (s : List PinRef). RestsAt a c kind s old.labels gate) (sym no_steps)
             (subst (λ (ls : List StateSet). RestsAt a c kind [] ls gate) (sym is_idle)
             (idle.stands.forward.rests kind (at_gate gate None) (within, is, refl))));
-        ties = λ link inside.
-            let tie = link_at old.links link in
+        links = λ link inside.
+            let two = link_at old.links link in
             let is_link = link_stands old.links link inside in
             let is_start = linked_starts a laws rules idle.stands.start idle.stands.is_start old.links unlinked link inside in
-            inr (subst (λ (ls : List StateSet). IsLinkNarrowing a tie.0.0 tie.1.0 ls ls) (sym is_idle)
+            inr (subst (λ (ls : List StateSet). IsLinkNarrowing a two.0.0 two.1.0 ls ls) (sym is_idle)
             (link_rests_forward a laws c circuit (is_inside old.inside) idle.stands.start idling.labels idle.stands.forward
-            (λ state has. (is_start state has.in_range).0 has) (λ state has. (is_start state has.in_range).1 has) tie.0.0 tie.1.0
-            (linked_source c old.links idle.stands.of.links tie.0.0 tie.1.0 is_link)
-            (linked_line c old.links idle.stands.of.links tie.0.0 tie.1.0 is_link)));
+            (λ state has. (is_start state has.in_range).0 has) (λ state has. (is_start state has.in_range).1 has) two.0.0 two.1.0
+            (linked_source c old.links idle.stands.of.links two.0.0 two.1.0 is_link)
+            (linked_line c old.links idle.stands.of.links two.0.0 two.1.0 is_link)));
       };
     }
 

@@ -131,10 +131,10 @@ is_ready a from list board kind steps of inside same_links same_kind same_steps 
         gates = λ gate within here.
             inr (is.hull.rest.rest (at_gate gate (condition_at from.begun.kind (entered_pins list) gate))
             (within, ap (λ (i : List Bool). is_inside i gate) inside ∙ here, refl));
-        ties = λ link in_links.
-            let tie = link_at board.links link in
-            inr (is.hull.rest.rest (along_link tie.0.0 tie.1.0)
-            (subst (λ (ls : LinkList). IsLink ls tie.0.0 tie.1.0) same_links (link_stands board.links link in_links)));
+        links = λ link in_links.
+            let two = link_at board.links link in
+            inr (is.hull.rest.rest (along_link two.0.0 two.1.0)
+            (subst (λ (ls : LinkList). IsLink ls two.0.0 two.1.0) same_links (link_stands board.links link in_links)));
       };
     }))
 

@@ -15,6 +15,7 @@ use Rattle.state_sets.specs.Hulls.{IsAtRest}
 use Rattle.state_sets.specs.Hulls.Narrowing.{at_gate, along_link}
 use Rattle.state_laws.specs.Cones.{IsClosedBack, IsNarrowingIn, IsLineWithin}
 use Rattle.state_laws.specs.Forward.{IsForward}
+use Rattle.state_laws.proofs.LinkCounts.{few_gates_and_links}
 use Rattle.state_laws.proofs.Linked.{none_linked}
 use Rattle.hulls.specs.Awaiting.{is_inside}
 use Rattle.hulls.specs.Boards.{OnBoard}
@@ -90,16 +91,15 @@ module _ (c : Circuit) (circuit : IsCircuit c) (flags : List Bool) (gates : leng
 -- an idle board stays one as it gets links
 pub idle_linked : (a : StateAlgebra) (c : Circuit) → IsCircuit c → (rules : Rules) (idling : Idling) (old new : OnBoard) (links : LinkList)
     → IsIdleBoard a c rules idling old → length old.inside ≡ gate_count c → AreLinksOf c links
-    → length old.inside + length links < 2 ^ 31
     → new ≡ record old { waiting = []; inside = old.inside ++ replicate (length links) true; links = links } → IsIdleBoard a c rules idling new
-idle_linked a c circuit rules idling old new links idle gates of few is = subst (IsIdleBoard a c rules idling) (sym is) (record {
+idle_linked a c circuit rules idling old new links idle gates of is = subst (IsIdleBoard a c rules idling) (sym is) (record {
   stands = record {
     of = record {
       lines = idle.stands.of.lines;
       gates = long ∙ ap (λ (n : ℕ). n + length links) gates;
-      few = omega (arith, long, few);
+      few = let few = few_gates_and_links c circuit links of in omega (arith, long, gates, few);
       links = of;
-      ties = λ link stands.
+      links_inside = λ link stands.
           get_or-append_right old.inside (replicate (length links) true) (gate_count c) (gate_count c + link) false gates (omega arith)
           ∙ get_or-replicate (length links) (gate_count c + link - gate_count c) true false (omega (arith, stands));
     };

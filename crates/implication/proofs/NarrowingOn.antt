@@ -85,12 +85,12 @@ module _ (a : StateAlgebra) (c : Circuit) (old : OnBoard) (steps : Steps) (ready
           let past = gate_count c + length old.links in
           let wakes = awake_on a c steps.kind steps.steps past None tt old cut is.inside is.links
           (cut_shrunk c None a.count source.0 to old cut is).wakes
-          (record { gates = λ other in_c here away. ready.awake.gates other in_c here; ties = λ link inside away. ready.awake.ties link inside }) in
+          (record { gates = λ other in_c here away. ready.awake.gates other in_c here; links = λ link inside away. ready.awake.links link inside }) in
           record {
             gates = λ gate in_circuit here. wakes.gates gate in_circuit here (λ same. absurd (omega (arith, same, in_circuit)));
-            ties = λ link inside.
+            links = λ link inside.
                 let low : link < length old.links = subst (λ (ls : LinkList). link < length ls) is.links inside in
-                wakes.ties link inside (λ same. absurd (omega (arith, same, low)));
+                wakes.links link inside (λ same. absurd (omega (arith, same, low)));
           };
     }
 

@@ -22,7 +22,7 @@ use Rattle.state_laws.specs.Cones.{IsClosedUnder, IsNarrowingIn}
 use Rattle.hulls.specs.Conditions.{Entered as EnteredSteps}
 use Rattle.undo_trail.specs.Undoing.{undone}
 use Rattle.hulls.specs.Awaiting.{is_inside}
-use Rattle.hulls.specs.Boards.{OnBoard, IsBoardOf}
+use Rattle.hulls.specs.Boards.{OnBoard, IsBoardOf, Follows}
 use Rattle.implication.specs.declared.assumption.Beginning.{Beginning}
 use Rattle.implication.specs.declared.assumption.Assumption.{Assumption}
 use Rattle.implication.specs.declared.assumption.Assumption.TheVariants.{Entered, Assumed}
@@ -114,6 +114,13 @@ pub record IsNarrowedMore (a : StateAlgebra) (c : Circuit) (entry : Assumption) 
   pub first : List StateSet
   pub cut : AreCutBy a.count (entry ∷ []) old.labels first
   pub settled : IsSettledFrom a c old.inside old.links kind steps first new.labels answer
+
+-- a board was narrowed and rests: the same gates and links are inside, its new notes lead back to the old labels, and nothing waits
+pub record IsNarrowedToRest (old new : OnBoard) : Type 0 where
+  pub inside : new.inside ≡ old.inside
+  pub links : new.links ≡ old.links
+  pub follows : Follows old new
+  pub at_rest : new.waiting ≡ []
 
 -- what is left of the sources under an entry more
 abbrev pub left_with : Assumption → List StateSet → List StateSet

@@ -91,7 +91,6 @@ impl<A: Algebra, S: Setting> Engine<A, S> {
     /// only where memory runs out.
     pub fn new(alloc: Global, setting: S) -> Result<Engine<A, S>, OutOfMemory>
         requires fit { FitRules (S.circuit setting) (S.rules setting) }
-        requires few { length (links_of (S.rules setting)) < 2 ^ 30 }
         ensures { IfOk result (λ engine. engine ≡ record {
           net = S.circuit setting;
           rules = S.rules setting;
@@ -111,7 +110,6 @@ impl<A: Algebra, S: Setting> Engine<A, S> {
     pub fn within(alloc: Global, setting: S, ends: &[LineId]) -> Result<Engine<A, S>, OutOfMemory>
         requires ends { All (λ end. end.0 < line_count (S.circuit setting)) ends.now }
         requires fit { FitRules (S.circuit setting) (S.rules setting) }
-        requires few { length (links_of (S.rules setting)) < 2 ^ 30 }
         ensures { IfOk result (λ engine. engine ≡ record {
           net = S.circuit setting;
           rules = S.rules setting;
@@ -141,7 +139,6 @@ impl<A: Algebra, S: Setting> Engine<A, S> {
         requires of { AreLinksOf (S.circuit setting) cone.links.items }
         requires sources { AreToldSources (S.circuit setting) (links_of (S.rules setting)) (option_map (λ list. list.items) ends) cone.told.items }
         requires fit { FitRules (S.circuit setting) (S.rules setting) }
-        requires few { length cone.links.items < 2 ^ 30 }
         ensures { IfOk result (λ engine. engine ≡ record {
           net = S.circuit setting;
           rules = S.rules setting;

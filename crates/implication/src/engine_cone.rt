@@ -53,7 +53,6 @@ pub(crate) fn cone_of(
     ensures told { IfOk result (λ cone. AreToldGates net.now links.now (Some ends.now) cone.inside.items cone.links.items) }
     ensures one_each { IfOk result (λ cone. length cone.inside.items ≡ gate_count net.now) }
     ensures of { IfOk result (λ cone. AreLinksOf net.now cone.links.items) }
-    ensures few { IfOk result (λ cone. length cone.links.items ≤ length links.now) }
     ensures sources { IfOk result (λ cone. AreToldSources net.now links.now (Some ends.now) cone.told.items) }
 {
     let behind = SourceLinks::new(alloc, net.sources() as usize, links)?;

@@ -19,7 +19,7 @@ ghost use Rattle.hulls.specs.Awaiting.{is_inside};
 ghost use Rattle.hulls.specs.Boards.{IsBoardOf};
 ghost use Rattle.implication.specs.Idling.{IsIdleSet, StartsNowhere, StandsBy, IsIdleBoard, IsNewBoard, IsLeftAtRest};
 ghost use Rattle.implication.specs.ByLevel.{lines_by_level, IsByLevel};
-ghost use Rattle.implication.specs.Begun.{HasBegunWith, AreBegun, IsBegunFrom};
+ghost use Rattle.implication.specs.Begun.{HasBegunWith, AreBegun, IsBegunFrom, IsStartFound};
 
 use crate::Beginning;
 use crate::images::image;
@@ -101,12 +101,7 @@ impl IdleLabels {
         requires links { links_of rules.now ≡ [] → board.old.links ≡ [] }
         requires conditions { IsEnteredOn net.now conditions.now }
         requires no_steps { conditions.now.steps ≡ [] }
-        ensures hull { IfNone result (IsHull A.algebra net.now (IsNarrowingIn net.now (is_inside board.old.inside) board.old.links conditions.now.kind [])
-            (MayStart A.algebra net.now rules.now begun.source.0 begun.direction) board.new.labels) }
-        ensures none_empty { IfNone result (HasNoEmptySet net.now board.new.labels) }
-        ensures emptied { IfSome result (λ line. (line.0 < line_count net.now)
-            × IsEmptied A.algebra net.now (IsNarrowingIn net.now (is_inside board.old.inside) board.old.links conditions.now.kind [])
-            (MayStart A.algebra net.now rules.now begun.source.0 begun.direction) line.0) }
+        ensures start { IsStartFound A.algebra net.now rules.now begun board.old conditions.now.kind board.new.labels result }
         ensures stands { StandsBy A.algebra net.now rules.now self.new board.new }
         ensures board { IsLeftAtRest board.old board.new }
     {

@@ -42,7 +42,6 @@ impl<A: Algebra> BoardParts<A> {
         requires gates { length inside.items ≡ gate_count net.now }
         requires closed { IsClosedBack net.now (is_inside inside.items) }
         requires of { AreLinksOf net.now links.now }
-        requires few { length inside.items + length links.now < 2 ^ 31 }
         ensures idle { IfOk result (λ parts. IsIdleBoard A.algebra net.now rules.now parts.idle parts.board) }
         ensures inside { IfOk result (λ parts. parts.board.inside ≡ inside.items ++ replicate (length links.now) true) }
         ensures links { IfOk result (λ parts. parts.board.links ≡ links.now) }

@@ -4,10 +4,9 @@ ghost use Rattle.std.specs.Prelude.{◌≡◌, ◌<◌, ◌∷◌, ◌++◌, [],
 ghost use Rattle.netlist.specs.Circuit.{source_count};
 ghost use Rattle.netlist.specs.Pins.{IsPin};
 ghost use Rattle.hulls.specs.Conditions.{IsEnteredOn};
-ghost use Rattle.hulls.specs.Boards.{Follows};
 ghost use Rattle.hulls.specs.Settling.{MaySettle};
 ghost use Rattle.implication.specs.Assumptions.{entered_pins};
-ghost use Rattle.implication.specs.Kept.{IsNarrowedMore, IsSettledFrom, AreCutBy, IsAboutSource, CanStep, CanEnter, left_with, left_without, steps_without};
+ghost use Rattle.implication.specs.Kept.{IsNarrowedMore, IsNarrowedToRest, IsSettledFrom, AreCutBy, IsAboutSource, CanStep, CanEnter, left_with, left_without, steps_without};
 ghost use Rattle.implication.specs.declared.assumption.Assumption.TheVariants.{Assumed};
 
 use crate::Assumption;
@@ -32,10 +31,7 @@ pub(crate) fn narrow_on<A: Algebra>(
     requires source { IsAboutSource (source_count net.now) entry }
     ensures steps { conditions.new ≡ record conditions.old { steps = conditions.old.steps ++ entered_pins (entry ∷ []) } }
     ensures narrowed { IsNarrowedMore A.algebra net.now entry conditions.new.kind conditions.new.steps board.old board.new result }
-    ensures inside { board.new.inside ≡ board.old.inside }
-    ensures links { board.new.links ≡ board.old.links }
-    ensures follows { Follows board.old board.new }
-    ensures at_rest { board.new.waiting ≡ [] }
+    ensures board { IsNarrowedToRest board.old board.new }
 {
     match entry {
         Assumption::Entered(pin) => narrow_on_entered(net, pin, board, conditions, scratch),
@@ -60,10 +56,7 @@ fn narrow_on_entered<A: Algebra>(
     ensures steps { conditions.new ≡ record conditions.old { steps = conditions.old.steps ++ pin ∷ [] } }
     ensures settled { IsSettledFrom A.algebra net.now board.old.inside board.old.links conditions.new.kind conditions.new.steps
         board.old.labels board.new.labels result }
-    ensures inside { board.new.inside ≡ board.old.inside }
-    ensures links { board.new.links ≡ board.old.links }
-    ensures follows { Follows board.old board.new }
-    ensures at_rest { board.new.waiting ≡ [] }
+    ensures board { IsNarrowedToRest board.old board.new }
 {
     conditions.enter(pin);
     board.ask(pin.gate);
@@ -84,10 +77,7 @@ pub(crate) fn narrow_on_cut<A: Algebra>(
     requires source { source.0 < source_count net.now }
     ensures narrowed { IsNarrowedMore A.algebra net.now (Assumed source set) conditions.now.kind conditions.now.steps
         board.old board.new result }
-    ensures inside { board.new.inside ≡ board.old.inside }
-    ensures links { board.new.links ≡ board.old.links }
-    ensures follows { Follows board.old board.new }
-    ensures at_rest { board.new.waiting ≡ [] }
+    ensures board { IsNarrowedToRest board.old board.new }
 {
     if board.cut(net, source, set) == StateSet::EMPTY {
         board.rest();

@@ -8,7 +8,7 @@ ghost use Rattle.state_sets.specs.States.{IsWithin, AreWithin};
 ghost use Rattle.state_sets.specs.FourStates.{four_states};
 ghost use Rattle.implication.specs.Standing.{Standing, IsIdle, IsFree, IsLabels, IsTold, TellsLabel, TellsLabels, IsEmptiedIn, IsOpenIn, end_of_scope};
 ghost use Rattle.implication.specs.Moves.{with_entered, with_assumed, grown, closed_at, back_at, left_behind, HasBegun, start_at};
-ghost use Rattle.implication.specs.Clients.{ExtendsStanding, IsRestored};
+ghost use Rattle.implication.specs.Clients.{ExtendsStanding, IsRestored, TellsOfConflict, TellsOfMore};
 
 use crate::{Beginning, Conflict, Engine, Origin, Setting};
 use netlist::Netlist;
@@ -64,8 +64,7 @@ impl<'e, A: Algebra, S: Setting> Scope<'e, A, S> {
         ensures begun { HasBegun (record { source = source; direction = direction; kind = kind }) engine.old (standing result) }
         ensures idle { IsIdle engine.old }
         ensures origin { result.origin ≡ Origin.Begun }
-        ensures open { IfNone (standing result).conflict (IsOpenIn A.algebra (standing result)) }
-        ensures emptied { IfSome (standing result).conflict (λ line. IsEmptiedIn A.algebra (standing result) line.0) }
+        ensures tells { TellsOfConflict A.algebra (standing result) }
 
         // with the four states and no links none does
         ensures four_states { links_of engine.old.rules ≡ [] → A.algebra ≡ four_states → (standing result).conflict ≡ None }
@@ -88,23 +87,8 @@ impl<'e, A: Algebra, S: Setting> Scope<'e, A, S> {
         requires source { source.0 < source_count (standing self.old).net }
         requires told { IsTold (standing self.old) source.0 }
         ensures scope { IsSameScope self.old self.new }
-
-        // while a conflict stands, the answer is that conflict
-        ensures held { IfSome (standing self.old).conflict (λ line. (result ≡ Err (record { 0 = line }))
-            × (standing self.new ≡ standing self.old)) }
-
-        // where no scope is open, nothing changes
-        ensures idle { (standing self.old).beginning ≡ None → standing self.new ≡ standing self.old }
-
-        // otherwise the set is assumed; a conflict is noted and counted
-        ensures ok { OnOk result
-            (standing self.new ≡ grown (standing self.old) (with_assumed A.algebra.count (standing self.old).assumptions source to)) }
-        ensures err { IsFree (standing self.old) → IfErr result (λ conflict. standing self.new
-            ≡ closed_at (standing self.old) (with_assumed A.algebra.count (standing self.old).assumptions source to) conflict.0) }
-
-        // Err if and only if the hull under the assumptions has an empty set
-        ensures open { OnOk result (IsOpenIn A.algebra (standing self.new)) }
-        ensures emptied { IfErr result (λ conflict. IsEmptiedIn A.algebra (standing self.new) conflict.0.0) }
+        ensures tells { TellsOfMore A.algebra (with_assumed A.algebra.count (standing self.old).assumptions source to)
+            (standing self.old) (standing self.new) result }
         ensures extends { ExtendsStanding (standing self.old) (standing self.new) }
     {
         self.engine.assume(source, to)
@@ -118,14 +102,7 @@ impl<'e, A: Algebra, S: Setting> Scope<'e, A, S> {
         requires room { steps.old < u64.MAX }
         ensures scope { IsSameScope self.old self.new }
         ensures counted { steps.new ≡ steps.old + 1 }
-        ensures held { IfSome (standing self.old).conflict (λ line. (result ≡ Err (record { 0 = line }))
-            × (standing self.new ≡ standing self.old)) }
-        ensures idle { (standing self.old).beginning ≡ None → standing self.new ≡ standing self.old }
-        ensures ok { OnOk result (standing self.new ≡ grown (standing self.old) (with_entered (standing self.old).assumptions pin)) }
-        ensures err { IsFree (standing self.old) → IfErr result (λ conflict. standing self.new
-            ≡ closed_at (standing self.old) (with_entered (standing self.old).assumptions pin) conflict.0) }
-        ensures open { OnOk result (IsOpenIn A.algebra (standing self.new)) }
-        ensures emptied { IfErr result (λ conflict. IsEmptiedIn A.algebra (standing self.new) conflict.0.0) }
+        ensures tells { TellsOfMore A.algebra (with_entered (standing self.old).assumptions pin) (standing self.old) (standing self.new) result }
         ensures extends { ExtendsStanding (standing self.old) (standing self.new) }
     {
         steps.tick();

@@ -31,6 +31,12 @@ pub record AreLineStates (count : ℕ) (c : Circuit) (states : List State) : Typ
   pub places : length states ≡ line_count c
   pub below : AreStates count states
 
+-- States were written at lines of gates: there are as many as before, each is one of so many, and those of the sources are the same.
+pub record KeepsSourceStates (count : ℕ) (c : Circuit) (old new : List State) : Type 0 where
+  pub places : length new ≡ length old
+  pub states : AreStates count new
+  pub sources : (source : ℕ) → source < source_count c → state_in new source ≡ state_in old source
+
 -- under the pair, each source in the support of the end under links is in its state
 abbrev pub HasSourceStates : StateAlgebra → Circuit → LinkList → ℕ → List State → Vectors → Type 0
 HasSourceStates a c links end states pair =

@@ -4,11 +4,11 @@
 ghost use Rattle.std.specs.Prelude.{◌≡◌, ◌<◌, ℕ, true, false, length, All, IfSome, IfNone, MatchOption};
 ghost use Rattle.pd_base.specs.Links.{IsLink};
 ghost use Rattle.pd_base.specs.Target.{target_of};
-ghost use Rattle.netlist.specs.Circuit.{HasGates, source_count, line_count};
+ghost use Rattle.netlist.specs.Circuit.{HasGates, line_count};
 ghost use Rattle.netlist.specs.Lawful.{IsCircuit};
 ghost use Rattle.netlist.specs.Paths.{IsPrefix, end_of};
 ghost use Rattle.cones.specs.KeptCones.{IsConeFor, IsConeAt};
-ghost use Rattle.pair_judging.specs.ConeStates.{state_in, AreStates, AreLineStates};
+ghost use Rattle.pair_judging.specs.ConeStates.{state_in, AreStates, AreLineStates, KeepsSourceStates};
 ghost use Rattle.pair_judging.specs.Judged.{IsJudgedAt, FailsInCone, AreComputed, RulesOut, LinksPass, IsFailingLink};
 
 use crate::gate_states::gate_state;
@@ -46,9 +46,7 @@ pub fn judge<A: Algebra>(
     requires cone { IsConeAt net.now (end_of net.now path.now) cone.now }
     requires labels { length labels.now ≡ line_count net.now }
     requires states { AreLineStates A.algebra.count net.now states.old }
-    ensures places { length states.new ≡ length states.old }
-    ensures states { AreStates A.algebra.count states.new }
-    ensures sources { (source : ℕ) → source < source_count net.now → state_in states.new source ≡ state_in states.old source }
+    ensures kept { KeepsSourceStates A.algebra.count net.now states.old states.new }
     ensures within { FailsInCone net.now cone.now.links (end_of net.now path.now) result }
     ensures judged { IsJudgedAt A.algebra net.now cone.now.links (target_of path.now dir kind) labels.now states.new result }
 {
@@ -71,9 +69,7 @@ fn compute_states<A: Algebra>(
     requires gates { HasGates net.now gates.now }
     requires labels { length labels.now ≡ line_count net.now }
     requires states { AreLineStates A.algebra.count net.now states.old }
-    ensures places { length states.new ≡ length states.old }
-    ensures states { AreStates A.algebra.count states.new }
-    ensures sources { (source : ℕ) → source < source_count net.now → state_in states.new source ≡ state_in states.old source }
+    ensures kept { KeepsSourceStates A.algebra.count net.now states.old states.new }
     ensures circuit { IsCircuit net.now }
     ensures computed { IfNone result (AreComputed A.algebra net.now gates.now states.old states.new) }
     ensures failed { IfSome result (λ line. RulesOut A.algebra net.now gates.now labels.now states.old line.0) }

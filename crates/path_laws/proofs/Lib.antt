@@ -30,3 +30,4 @@ pub mod WalkOrder
 pub mod FirstPaths
 pub mod ShortWalks
 pub mod WalkPaths
+pub mod Numbered

@@ -1,8 +1,8 @@
--- Relations that hold between each element of a list and each later one, along lists joined and mapped.
-use Rattle.std.proofs.Common.{◌≡◌, ⊎_elim, ◌+◌, ◌-◌, ◌<◌, ◌≤◌, List, ◌++◌, length, map, get_or, refl, sym, subst₂, arith, length-append}
+-- Relations that hold between each element of a list and each later one, along lists joined.
+use Rattle.std.proofs.Common.{◌≡◌, ⊎_elim, ◌+◌, ◌-◌, ◌<◌, ◌≤◌, List, ◌++◌, length, get_or, refl, sym, subst₂, arith, length-append}
 use Rattle.std.specs.List.{All, AllPairs}
 use Rattle.std.proofs.lemmas.Bool.{cases_lt}
-use Rattle.std.proofs.lemmas.List.{get_or_append_left, get_or-append_right, get_or-map, length-map}
+use Rattle.std.proofs.lemmas.List.{get_or_append_left, get_or-append_right}
 
 -- what holds between all elements of each of two lists, and of those of the first with those of the second, holds in both
 -- together
@@ -29,10 +29,3 @@ pairs_append R xs ys of_xs of_ys across i j d before within =
         subst₂ R (sym (get_or-append_right xs ys (length xs) i d refl later))
         (sym (get_or-append_right xs ys (length xs) j d refl right))
         (of_ys (i - length xs) (j - length xs) d (omega arith) (omega (arith, long)))
-
--- what holds between the images of all elements holds between those of the mapped list
-pub pairs_map : {X Y : Type 0} (R : Y → Y → Type 0) (f : X → Y) (x : X) (xs : List X) → AllPairs (λ a b. R (f a) (f b)) xs
-    → AllPairs R (map f xs)
-pairs_map R f x xs of_xs i j d before within =
-    let inside : j < length xs = omega (arith, length-map xs f) in
-    subst₂ R (sym (get_or-map f xs i x d (omega arith))) (sym (get_or-map f xs j x d inside)) (of_xs i j x before inside)

@@ -15,10 +15,11 @@ use Rattle.netlist.specs.Levels.{level, IsRankedBefore, IsRankOrder}
 use Rattle.netlist.specs.Levels.IsRankedBefore.{lower_level, lesser_number}
 use Rattle.netlist.specs.Pins.{IsPinOn}
 use Rattle.netlist.proofs.Evaluation.{gate_line_of, value_at_source}
+use Rattle.path_laws.proofs.Numbered.{few_by_number, pairs_map}
 use Rattle.path_laws.proofs.StepCounts.{step_raises}
 use Rattle.path_lister.specs.Ranking.{IsLineBefore, IsRanking, line_in}
-use Rattle.path_lister.proofs.Counting.{all_numbers, few_by_number}
-use Rattle.path_lister.proofs.Pairs.{pairs_append, pairs_map}
+use Rattle.path_lister.proofs.Counting.{all_numbers}
+use Rattle.path_lister.proofs.Pairs.{pairs_append}
 
 -- the line of a number
 abbrev pub line_of : ℕ → LineId

@@ -11,10 +11,10 @@ use Rattle.netlist.specs.Circuit.{Circuit, source_count}
 use Rattle.netlist.specs.Pins.{IsFanout, IsPin, IsPinOn, pin_place_in, pin_total}
 use Rattle.netlist.proofs.PinRow.{pin_on_line, place_within, places_differ}
 use Rattle.path_laws.specs.CircuitGraph.{AreArcsOf, no_pin}
+use Rattle.path_laws.proofs.Numbered.{few_by_number}
 use Rattle.path_laws.proofs.WalkOrder.{no_pin_behind}
 use Rattle.path_lister.specs.Ranking.{IsRanking, line_in}
 use Rattle.path_lister.specs.Rows.{AreRows, ReadsOneOf}
-use Rattle.path_lister.proofs.Counting.{few_by_number}
 use Rattle.path_lister.proofs.Pairs.{pairs_append}
 use Rattle.path_lister.proofs.Ranked.{line_of, numbers_differ}
 

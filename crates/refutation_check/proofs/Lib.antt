@@ -6,6 +6,7 @@ mod Roots
 mod SameSettings
 mod SplitEnds
 mod Spending
+mod SupportDeciding
 mod Telling
 mod TrialStates
 mod Trying

@@ -1,6 +1,5 @@
 -- What contracts see of a judge of trees: for what it is made (this project's own).
-use Rattle.std.specs.Prelude.{◌≡◌, ◌<◌, ◌^◌, List, length, Option, None}
-use Rattle.pd_base.specs.Links.{links_of}
+use Rattle.std.specs.Prelude.{◌≡◌, List, Option, None}
 use Rattle.pd_base.specs.declared.ids.LineId.{LineId}
 use Rattle.pd_base.specs.declared.rules.Rules.{Rules}
 use Rattle.netlist.specs.Circuit.{Circuit}
@@ -15,9 +14,7 @@ pub record MadeFor : Type 0 where
   pub rules : Rules
   pub ends : Option (List LineId)
 
--- No scope is open on its engine, and there is room for trials, with states of the kind that the rules choose. There are few enough links
--- for engines.
+-- No scope is open on its engine, and there is room for trials, with states of the kind that the rules choose.
 pub record IsJudgeReady (a : StateAlgebra) (engine : Standing) (trials : TrialRoom) : Type 0 where
-  pub few : length (links_of engine.rules) < 2 ^ 30
   pub idle : engine.beginning ≡ None
   pub room : IsTrialRoomFor a engine.net engine.rules trials

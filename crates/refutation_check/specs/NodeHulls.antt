@@ -1,13 +1,19 @@
 -- What a call for the hull at a node answers, under any rules, and what the answer tells of pairs of vectors (this project's own).
-use Rattle.std.specs.Prelude.{⊤, ◌<◌, List, All, Result, Ok, Err}
+use Rattle.std.specs.Prelude.{◌≡◌, ⊤, ℕ, ◌<◌, List, All, Result, Ok, Err}
+use Rattle.pd_base.specs.Links.{LinkList, links_of, IsLink}
 use Rattle.pd_base.specs.Target.{Target}
 use Rattle.pd_base.specs.Pair.{Vectors}
 use Rattle.pd_base.specs.declared.ids.LineId.{LineId}
 use Rattle.pd_base.specs.declared.rules.Rules.{Rules}
-use Rattle.netlist.specs.Circuit.{Circuit, line_count}
+use Rattle.netlist.specs.Circuit.{Circuit, line_count, source_count}
 use Rattle.netlist.specs.Conditions.{Meets}
-use Rattle.netlist.specs.LinkedPairs.{IsOfRules}
+use Rattle.netlist.specs.LinkedPairs.{IsOfRules, IsSupported}
+use Rattle.netlist.specs.Paths.{end_of}
+use Rattle.netlist.specs.Values.{bit_of, value}
+use Rattle.state_sets.specs.declared.state.State.{State}
 use Rattle.state_sets.specs.declared.state.StateSet.{StateSet}
+use Rattle.state_sets.specs.States.{Has}
+use Rattle.state_sets.specs.Labellings.{label_at}
 use Rattle.state_sets.specs.StateAlgebra.{StateAlgebra}
 use Rattle.state_sets.specs.Hulls.{HasNoEmptySet}
 use Rattle.state_sets.specs.LineStates.{state_under}
@@ -61,10 +67,27 @@ LosesNone c rules target halves (Err line) = (pair : Vectors) → ¬ IsPairBelow
 abbrev pub LosesNoPair : Circuit → Rules → Target → List Half → Hull → Type 0
 LosesNoPair c rules target halves hull = LosesNone c rules target halves (found_of hull)
 
--- singletons decide: where the hull leaves to each source in the fan-in of the path's end no state but the one under a pair, the
--- pair meets the conditions
+-- labels leave to each source in the support of an end, closed over links, at most its state under the pair
+abbrev pub IsGivenBehind : StateAlgebra → Circuit → LinkList → ℕ → List StateSet → Vectors → Type 0
+IsGivenBehind a c links end labels pair =
+    (source : ℕ) → source < source_count c → IsSupported c links end source
+    → (state : State) → Has a.count (label_at labels source) state → state ≡ state_under a c pair source
+
+-- the pair keeps the links of the sources in the support of an end: the second bit of each is the value of its line under the first vector
+abbrev pub KeepsLinksBehind : Circuit → LinkList → ℕ → Vectors → Type 0
+KeepsLinksBehind c links end pair =
+    (source line : ℕ) → IsSupported c links end source → IsLink links source line → bit_of pair.second source ≡ value c pair.first line
+
+-- Singletons decide. Where the hull leaves to each source in the fan-in of the path's end no state but the one under a pair, the pair meets
+-- the conditions. Where it leaves no other one to each source in the support of the end, the pair keeps the links there, too: it is one of
+-- the rules, but for the links of sources on which the end doesn't rest.
+pub record DecideAt (c : Circuit) (rules : Rules) (target : Target) (labels : List StateSet) : Type 0 where
+  pub meets : (pair : Vectors) → IsGiven (algebra_of rules) c pair target.path labels → Meets c target pair
+  pub keeps : (pair : Vectors) → IsGivenBehind (algebra_of rules) c (links_of rules) (end_of c target.path) labels pair
+      → KeepsLinksBehind c (links_of rules) (end_of c target.path) pair
+
 abbrev pub SinglesDecide : Circuit → Rules → Target → Result (List StateSet) LineId → Type 0
-SinglesDecide c rules target (Ok labels) = (pair : Vectors) → IsGiven (algebra_of rules) c pair target.path labels → Meets c target pair
+SinglesDecide c rules target (Ok labels) = DecideAt c rules target labels
 SinglesDecide c rules target (Err line) = ⊤
 
 abbrev pub DecidesSingletons : Circuit → Rules → Target → Hull → Type 0

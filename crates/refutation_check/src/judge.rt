@@ -1,6 +1,6 @@
 // The judge of trees: one engine within the ends that it is made for, which judges one tree after another. What is asked of the nodes
 // stands in refutation.rt and spent.rt.
-ghost use Rattle.std.specs.Prelude.{◌≡◌, ◌<◌, ◌^◌, ◌↔◌, All, Some, Ok, IfOk, Contains, IsTrue, length};
+ghost use Rattle.std.specs.Prelude.{◌≡◌, ◌<◌, ◌↔◌, All, Some, Ok, IfOk, Contains, IsTrue};
 ghost use Rattle.pd_base.specs.Links.{links_of};
 ghost use Rattle.pd_base.specs.Target.{target_of};
 ghost use Rattle.pd_base.specs.Pair.{Vectors};
@@ -73,7 +73,6 @@ impl<'n, A: Algebra> TreeJudge<'n, A> {
     ) -> Result<TreeJudge<'n, A>, OutOfMemory>
         requires chosen { A.algebra ≡ algebra_of rules.now }
         requires fit { FitRules net.now rules.now }
-        requires few { length (links_of rules.now) < 2 ^ 30 }
         requires ends { All (λ end. end.0 < line_count net.now) ends.now }
         ensures { IfOk result (λ judge. judge ≡ record { net = net.now; rules = rules.now; ends = Some ends.now }) }
     {

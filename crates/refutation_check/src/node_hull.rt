@@ -1,8 +1,7 @@
 // The hull at a node of a tree of cases: a scope of an engine that tells all lines enters the pins of a prefix, assumes the halves above
 // the node, and gives its labels. How a scope comes to the root of a tree stands in entering.rt, and how it goes down in walk.rt. No
 // command asks for this hull. It is a scope, so that there is one start and one way to settle.
-ghost use Rattle.std.specs.Prelude.{◌≡◌, ◌<◌, ◌^◌, [], List, None, All, IfOk, length};
-ghost use Rattle.pd_base.specs.Links.{links_of};
+ghost use Rattle.std.specs.Prelude.{◌≡◌, ◌<◌, [], List, None, All, IfOk, length};
 ghost use Rattle.pd_base.specs.Target.{Target, target_of};
 ghost use Rattle.netlist.specs.Circuit.{source_count, line_count};
 ghost use Rattle.netlist.specs.LinkedPairs.{FitRules};
@@ -40,7 +39,6 @@ pub fn hull(
     halves: &[Half],
 ) -> Result<Hull, OutOfMemory>
     requires fit { FitRules net.now rules.now }
-    requires few { length (links_of rules.now) < 2 ^ 30 }
     requires prefix { IsPrefix net.now prefix.now }
     requires sources { All (λ half. half.source < source_count net.now) halves.now }
     ensures hull { IfOk result (IsAtNode net.now rules.now (target_of prefix.now dir kind) halves.now) }
@@ -68,7 +66,6 @@ fn hull_by_rules(
     halves: &[Half],
 ) -> Result<Hull, OutOfMemory>
     requires fit { FitRules net.now rules.now }
-    requires few { length (links_of rules.now) < 2 ^ 30 }
     requires prefix { IsPrefix net.now asked.now.path.now }
     requires sources { All (λ half. half.source < source_count net.now) halves.now }
     ensures { IfOk result (IsAtNode net.now rules.now (asked_target asked.now) halves.now) }
@@ -94,7 +91,6 @@ fn hull_at<A: Algebra>(
     halves: &[Half],
 ) -> Result<Result<Labels<A>, LineId>, OutOfMemory>
     requires fit { FitRules net.now rules.now }
-    requires few { length (links_of rules.now) < 2 ^ 30 }
     requires prefix { IsPrefix net.now asked.now.path.now }
     requires sources { All (λ half. half.source < source_count net.now) halves.now }
     ensures { IfOk result (IsFoundAt A.algebra net.now rules.now (asked_target asked.now) halves.now) }

@@ -1,6 +1,5 @@
 // Single trees, each judged on its own, with the kind of states that the rules choose.
-ghost use Rattle.std.specs.Prelude.{◌≡◌, ◌<◌, ◌^◌, ◌↔◌, Ok, IfOk, length};
-ghost use Rattle.pd_base.specs.Links.{links_of};
+ghost use Rattle.std.specs.Prelude.{◌≡◌, ◌<◌, ◌↔◌, Ok, IfOk};
 ghost use Rattle.pd_base.specs.Target.{target_of};
 ghost use Rattle.pd_base.specs.Pair.{Vectors};
 ghost use Rattle.pd_base.specs.Route.{Route};
@@ -40,7 +39,6 @@ pub fn check_tree(
     tree: &Tree,
 ) -> Result<TreeCheck, OutOfMemory>
     requires fit { FitRules net.now rules.now }
-    requires few { length (links_of rules.now) < 2 ^ 30 }
     requires prefix { IsPrefix net.now prefix.now }
     ensures tells { IfOk result (TellsOfRefutation net.now rules.now (target_of prefix.now dir kind) tree.now) }
     ensures exactly { IfOk result (λ check.
@@ -72,7 +70,6 @@ fn refutes_by_rules(
     tree: &Tree,
 ) -> Result<TreeCheck, OutOfMemory>
     requires fit { FitRules net.now rules.now }
-    requires few { length (links_of rules.now) < 2 ^ 30 }
     requires prefix { IsPrefix net.now asked.now.path.now }
     ensures { IfOk result (TellsOfNodes (IsRightInRefutation net.now rules.now (asked_target asked.now)) tree.now) }
 {
@@ -105,7 +102,6 @@ pub fn check_spent(
     tree: &Tree,
 ) -> Result<TreeCheck, OutOfMemory>
     requires fit { FitRules net.now rules.now }
-    requires few { length (links_of rules.now) < 2 ^ 30 }
     requires prefix { IsPrefix net.now path.now }
     ensures tells { IfOk result (TellsOfSpent net.now rules.now (target_of path.now dir kind) budget tree.now) }
     ensures exactly { IfOk result (λ check.
@@ -126,7 +122,6 @@ fn spends_by_rules(
     tree: &Tree,
 ) -> Result<TreeCheck, OutOfMemory>
     requires fit { FitRules net.now rules.now }
-    requires few { length (links_of rules.now) < 2 ^ 30 }
     requires prefix { IsPrefix net.now asked.now.path.now }
     ensures { IfOk result (TellsOfSpent net.now rules.now (asked_target asked.now) budget tree.now) }
 {
@@ -149,7 +144,6 @@ fn spends_with<A: Algebra>(
 ) -> Result<TreeCheck, OutOfMemory>
     requires chosen { A.algebra ≡ algebra_of rules.now }
     requires fit { FitRules net.now rules.now }
-    requires few { length (links_of rules.now) < 2 ^ 30 }
     requires prefix { IsPrefix net.now asked.now.path.now }
     ensures { IfOk result (TellsOfSpent net.now rules.now (asked_target asked.now) budget tree.now) }
 {

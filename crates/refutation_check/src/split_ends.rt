@@ -1,8 +1,7 @@
 // Trees that split linked sources outside the support of a judge's ends. A half of such a source bears on the lines inside: it cuts the
 // first value of the line to which the source is linked, which the judge's engine leaves out. So the tree is judged on an engine of its
 // own, within the end of its prefix and the sources that it splits.
-ghost use Rattle.std.specs.Prelude.{◌<◌, ◌^◌, All, IfOk, OnOk, IsTrue, length, Contains};
-ghost use Rattle.pd_base.specs.Links.{links_of};
+ghost use Rattle.std.specs.Prelude.{◌<◌, All, IfOk, OnOk, IsTrue, Contains};
 ghost use Rattle.netlist.specs.Circuit.{source_count, line_count};
 ghost use Rattle.netlist.specs.LinkedPairs.{FitRules};
 ghost use Rattle.netlist.specs.Paths.{IsPrefix, end_of};
@@ -62,7 +61,6 @@ pub(crate) fn refutes_apart<A: Algebra>(
     tree: &Tree,
 ) -> Result<TreeCheck, OutOfMemory>
     requires fit { FitRules net.now rules.now }
-    requires few { length (links_of rules.now) < 2 ^ 30 }
     requires prefix { IsPrefix net.now asked.now.path.now }
     ensures { IfOk result (TellsOfNodes (RefutesAtNode A.algebra net.now rules.now (asked_target asked.now)) tree.now) }
 {

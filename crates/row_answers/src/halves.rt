@@ -1,6 +1,5 @@
 // What is said of the hull below halves of splits.
-ghost use Rattle.std.specs.Prelude.{◌<◌, ◌^◌, length, All, IfOk};
-ghost use Rattle.pd_base.specs.Links.{links_of};
+ghost use Rattle.std.specs.Prelude.{◌<◌, All, IfOk};
 ghost use Rattle.netlist.specs.Circuit.{source_count};
 ghost use Rattle.netlist.specs.LinkedPairs.{FitRules};
 ghost use Rattle.netlist.specs.Paths.{IsPath};
@@ -20,7 +19,8 @@ use std::alloc::Global;
 use trees::Node;
 
 /// Adds the hull below these halves: the rules (rules.rt), transition, kind, and for each half a split, as in a tree, and
-/// behind a dot 1 or 2. A line for each line of the circuit: its name, and the numbers of its states. Or that some line has none.
+/// behind a dot 1 or 2. A line for each line of the circuit: its name, and the numbers of its states; before them, where these are of the
+/// six, the name of such an answer. Or that some line has none.
 pub fn hull_at(
     alloc: Global,
     net: &Netlist,
@@ -47,12 +47,14 @@ fn add_hull_below(
 ) -> Result<(), Trouble>
     requires halves { All (λ half. half.source < source_count net.now) halves.now }
     requires fit { FitRules net.now fault.rules.now }
-    requires few { length (links_of fault.rules.now) < 2 ^ 30 }
 {
     let prefix = path(alloc, net, prefix)?;
     match hull_of(alloc, net, &prefix, fault, halves)? {
         Hull::Rest(labels) => add_labels(net, labels.as_slice(), answer),
-        Hull::RestLinked(labels) => add_labels(net, labels.as_slice(), answer),
+        Hull::RestLinked(labels) => {
+            answer.add("  RestLinked\n");
+            add_labels(net, labels.as_slice(), answer);
+        }
         Hull::Empty(_) => answer.add("  empty\n"),
     }
     Ok(())
@@ -69,7 +71,6 @@ fn hull_of(
     requires path { IsPath net.now prefix.now }
     requires halves { All (λ half. half.source < source_count net.now) halves.now }
     requires fit { FitRules net.now fault.rules.now }
-    requires few { length (links_of fault.rules.now) < 2 ^ 30 }
 {
     let Fault { direction, kind } = fault.fault;
     hull(alloc, net, fault.rules, prefix, direction, kind, halves)

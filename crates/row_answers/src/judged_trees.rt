@@ -1,7 +1,6 @@
 // What the judge says of trees. Its calls stand alone, in functions that promise nothing, so that the answers are not proved over again
 // under their contracts.
-ghost use Rattle.std.specs.Prelude.{◌<◌, ◌^◌, length};
-ghost use Rattle.pd_base.specs.Links.{links_of};
+ghost use Rattle.std.specs.Prelude.{◌<◌};
 ghost use Rattle.netlist.specs.LinkedPairs.{FitRules};
 ghost use Rattle.netlist.specs.Paths.{IsPath};
 
@@ -83,7 +82,6 @@ fn add_judged(
     answer: &mut Text,
 ) -> Result<(), Trouble>
     requires fit { FitRules net.now fault.rules.now }
-    requires few { length (links_of fault.rules.now) < 2 ^ 30 }
 {
     let prefix = path(alloc, net, prefix)?;
     add_told(judged(alloc, net, &prefix, fault, tree)?, answer);
@@ -100,7 +98,6 @@ pub fn judged(
 ) -> Result<TreeCheck, OutOfMemory>
     requires path { IsPath net.now prefix.now }
     requires fit { FitRules net.now fault.rules.now }
-    requires few { length (links_of fault.rules.now) < 2 ^ 30 }
 {
     let Fault { direction, kind } = fault.fault;
     check_tree(alloc, net, fault.rules, prefix, direction, kind, tree)
@@ -133,7 +130,6 @@ fn add_judged_spent(
     answer: &mut Text,
 ) -> Result<(), Trouble>
     requires fit { FitRules net.now fault.rules.now }
-    requires few { length (links_of fault.rules.now) < 2 ^ 30 }
 {
     let prefix = path(alloc, net, prefix)?;
     add_told(
@@ -154,7 +150,6 @@ pub fn judged_spent(
 ) -> Result<TreeCheck, OutOfMemory>
     requires path { IsPath net.now prefix.now }
     requires fit { FitRules net.now fault.rules.now }
-    requires few { length (links_of fault.rules.now) < 2 ^ 30 }
 {
     let Fault { direction, kind } = fault.fault;
     check_spent(

@@ -1,5 +1,5 @@
 // The rules that a row begins with.
-ghost use Rattle.std.specs.Prelude.{◌≡◌, ◌<◌, ◌^◌, ◌↔◌, [], length, IfOk, IsTrue};
+ghost use Rattle.std.specs.Prelude.{◌≡◌, ◌<◌, ◌↔◌, [], IfOk, IsTrue};
 ghost use Rattle.std.specs.List.{Any};
 ghost use Rattle.pd_base.specs.Links.{links_of};
 ghost use Rattle.netlist.specs.Circuit.{line_count, source_count};
@@ -12,14 +12,10 @@ use netlist::Netlist;
 use pd_base::{LineId, Links, Rules};
 use std::alloc::Global;
 
-// The most links of a row.
-const MOST_LINKS: usize = 65_536;
-
 /// The rules that a row begins with, and what stands behind them: rules Two behind the word two; linked ones behind the word linked, with
 /// their links as the next word; and else rules One.
 pub fn rules_of<'a>(alloc: Global, net: &Netlist, row: &'a str) -> Result<(Rules, &'a str), Trouble>
     ensures fit { IfOk result (λ read. FitRules net.now read.0) }
-    ensures few { IfOk result (λ read. length (links_of read.0) < 2 ^ 30) }
 {
     let Some(rest) = row.strip_prefix("linked ") else {
         return Ok(unlinked_rules_of(row));
@@ -42,12 +38,8 @@ pub fn unlinked_rules_of(row: &str) -> (Rules, &str)
 // Rules with the links of a word.
 fn linked_rules(alloc: Global, net: &Netlist, word: &str) -> Result<Rules, Trouble>
     ensures fit { IfOk result (FitRules net.now) }
-    ensures few { IfOk result (λ rules. length (links_of rules) < 2 ^ 30) }
 {
     let pairs = pairs_of(alloc, net, word)?;
-    if pairs.len() > MOST_LINKS {
-        return Err(Trouble::NoRow);
-    }
     Ok(Rules::Linked(Links::new(alloc, pairs.as_slice())?))
 }
 

@@ -1,6 +1,6 @@
 -- What is told stays told while the circuit, the rules and the ends stay; an engine without ends tells all lines, and without links each
 -- engine tells all sources.
-use Rattle.std.proofs.Common.{◌≡◌, ◌<◌, ◌^◌, inl, inr, ℕ, Bool, List, ◌∷◌, [], length, Option, None, Some, refl, sym, ap, subst, subst₂, arith}
+use Rattle.std.proofs.Common.{◌≡◌, ◌<◌, inl, inr, ℕ, Bool, List, ◌∷◌, [], Option, None, Some, refl, sym, subst, subst₂, arith}
 use Rattle.std.specs.Bool.{IsTrue}
 use Rattle.pd_base.specs.Links.{IsLink, LinkList, links_of}
 use Rattle.pd_base.specs.declared.ids.LineId.{LineId}
@@ -44,12 +44,9 @@ unlinked_told standing source unlinked within = by standing.ends
           (subst (λ (links : LinkList). IsLink links source other) (no_links standing.rules unlinked) link),
     )
 
--- rules without links fit every circuit, and have few of them
+-- rules without links fit every circuit
 pub fits : (c : Circuit) (rules : Rules) → IsUnlinked rules → FitRules c rules
 fits c rules unlinked = unlinked_fit c rules (no_links rules unlinked)
-
-pub few_links : (rules : Rules) → IsUnlinked rules → length (links_of rules) < 2 ^ 30
-few_links rules unlinked = omega (arith, ap length (no_links rules unlinked))
 
 -- an engine with this one end tells the lines that are marked where exactly its fan-in is
 pub cone_told : (standing : Standing) (end : LineId) (marks : List Bool) → standing.ends ≡ Some (end ∷ [])

@@ -29,7 +29,7 @@ pub(crate) fn is_accepted(
 }
 
 // Whether a tree refutes within the budget.
-#[tactic(auto, using(crate::proofs::Told::fits, crate::proofs::Told::few_links))]
+#[tactic(auto, using(crate::proofs::Told::fits))]
 fn is_refutation(
     alloc: Global,
     net: &Netlist,
@@ -44,7 +44,7 @@ fn is_refutation(
 }
 
 // Whether a tree spent the budget.
-#[tactic(auto, using(crate::proofs::Told::fits, crate::proofs::Told::few_links))]
+#[tactic(auto, using(crate::proofs::Told::fits))]
 fn is_spent(alloc: Global, net: &Netlist, wanted: &Wanted, tree: &Tree) -> Result<bool, OutOfMemory>
     requires path { IsPath net.now wanted.now.path.now }
     requires unlinked { IsUnlinked wanted.now.ruled.rules.now }

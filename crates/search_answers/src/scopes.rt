@@ -32,7 +32,7 @@ pub(crate) fn whole_alike(
 }
 
 // The same at these lines.
-#[tactic(auto, using(crate::proofs::Told::all_told, crate::proofs::Told::fits, crate::proofs::Told::few_links))]
+#[tactic(auto, using(crate::proofs::Told::all_told, crate::proofs::Told::fits))]
 fn marked_alike(
     alloc: Global,
     net: &Netlist,
@@ -80,7 +80,7 @@ fn last_line(net: &Netlist, assumed: &Assumed) -> LineId
 }
 
 // The same of an engine that tells the fan-in of this line, which it marks.
-#[tactic(auto, using(crate::proofs::Told::cone_told, crate::proofs::Told::fits, crate::proofs::Told::few_links))]
+#[tactic(auto, using(crate::proofs::Told::cone_told, crate::proofs::Told::fits))]
 fn cone_alike(
     alloc: Global,
     net: &Netlist,

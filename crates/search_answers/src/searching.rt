@@ -81,7 +81,7 @@ fn search_for(alloc: Global, net: &Netlist, wanted: &Wanted) -> Result<Came, Tro
 }
 
 // The same with these marks.
-#[tactic(auto, using(crate::proofs::Told::all_told, crate::proofs::Told::fits, crate::proofs::Told::few_links))]
+#[tactic(auto, using(crate::proofs::Told::all_told, crate::proofs::Told::fits))]
 fn search_at(alloc: Global, net: &Netlist, wanted: &Wanted, marks: &[bool]) -> Result<Came, Trouble>
     requires path { IsPath net.now wanted.now.path.now }
     requires unlinked { IsUnlinked wanted.now.ruled.rules.now }

@@ -26,3 +26,4 @@ pub mod Forward
 pub mod LinkedStarts
 pub mod LinkedTrials
 pub mod Supports
+pub mod LinkCounts

@@ -131,7 +131,7 @@ module _ (a : StateAlgebra) (c : Circuit) (links : LinkList) (labels : List Stat
           ∙ ap (value c first_bits) (linked_once c links fit source other line (found_is_link links source other is) link)
 
 -- kinds of states under links tell first values
-tells_if_linked : (rules : Rules) (source line : ℕ) → IsLink (links_of rules) source line → TellsFirst (algebra_of rules)
+pub tells_if_linked : (rules : Rules) (source line : ℕ) → IsLink (links_of rules) source line → TellsFirst (algebra_of rules)
 tells_if_linked One source line link = absurd (none_linked source line link)
 tells_if_linked Two source line link = absurd (none_linked source line link)
 tells_if_linked (Linked links) source line link = six_tells_first

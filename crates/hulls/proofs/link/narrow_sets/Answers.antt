@@ -5,7 +5,7 @@ use Rattle.state_sets.specs.declared.state.StateSet.{StateSet}
 use Rattle.state_sets.specs.States.{both_sets}
 use Rattle.state_sets.specs.Labellings.{label_at}
 use Rattle.state_sets.specs.Narrowing.{IsLinkNarrowing}
-use Rattle.hulls.proofs.Ties.{link_narrowed}
+use Rattle.hulls.proofs.LinkCuts.{link_narrowed}
 use Rattle.hulls.proofs.link.narrow_sets.Goals as goal
 
 pub returns-clause-narrowed : goal.returns-clause-narrowed

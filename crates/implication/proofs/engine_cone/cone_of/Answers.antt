@@ -2,14 +2,12 @@
 use Rattle.std.proofs.Common.{◌≡◌, ◌↔◌, List, Bool, ℕ, length, drop, take_all, ◌-◌, Some, sym, ap, ◌∙◌, subst, arith}
 use Rattle.std.specs.List.{Contains}
 use Rattle.std.proofs.lemmas.List.{length-drop}
-use Rattle.std.proofs.lemmas.List.Sums.{length-filter, count_by-le-length}
 use Rattle.pd_base.specs.declared.ids.LineId.{LineId}
 use Rattle.pd_base.specs.Links.{LinkList}
 use Rattle.netlist.specs.Circuit.{source_count}
 use Rattle.netlist.specs.LinkedPairs.{AreLinksOf}
 use Rattle.cones.specs.Ends.{IsBehind}
 use Rattle.cones.specs.FoundLines.{FoundSet}
-use Rattle.hulls.specs.Awaiting.{is_inside}
 use Rattle.implication.specs.Inside.{AreFlagged}
 use Rattle.implication.specs.Kept.{AreToldGates}
 use Rattle.implication.proofs.Inside.{found_marks, support_told, inner_of, flagged_told}
@@ -37,12 +35,6 @@ returns-clause-told c =
 pub returns-clause-of : goal.returns-clause-of
 returns-clause-of c =
     subst (AreLinksOf c.args.net.now) (sym c.in_ok-inner.ensures) (inner_of c.args.net.now c.args.links.now c.requires.of c.marks-marks.result.now)
-
-pub returns-clause-few : goal.returns-clause-few
-returns-clause-few c =
-    let links = c.args.links.now in
-    let test : LineId × LineId → Bool = λ link. is_inside c.marks-marks.result.now link.0.0 in
-    omega (arith, ap (length {A = LineId × LineId}) c.in_ok-inner.ensures, length-filter test links, count_by-le-length test links)
 
 pub returns-clause-sources : goal.returns-clause-sources
 returns-clause-sources c =

@@ -1,8 +1,9 @@
 -- A board that was cut is settled, where the source has some state left.
-use Rattle.std.proofs.Common.{refl, ap}
+use Rattle.std.proofs.Common.{refl, sym, ap, ◌∙◌, subst}
 use Rattle.hulls.specs.Boards.{OnBoard}
 use Rattle.state_sets.specs.Labellings.{label_at}
 use Rattle.hulls.proofs.Narrowed.{is_none, is_some}
+use Rattle.implication.specs.Kept.{IsNarrowedToRest}
 use Rattle.implication.proofs.NarrowingOn.{ready_cut, emptied_cut, settled_cut, narrowed_cut, follows_cut}
 use Rattle.implication.proofs.narrowing_on.narrow_on_cut.Goals as goal
 
@@ -33,7 +34,21 @@ returns-clause-narrowed g c =
     c.settle.ensures.none_empty c.settle.ensures.emptied)
     c.settle.new.self refl
 
-pub returns-clause-follows : goal.returns-clause-follows
-returns-clause-follows g c =
-    follows_cut g.A.Algebra.algebra.count c.args.net.now c.args.source.0 c.args.set c.args.board.now c.cut.new.self c.settle.new.self
-    c.cut.ensures.cut c.settle.ensures.narrowed.follows
+pub returns-then-eq-clause-board : goal.returns-then-eq-clause-board
+returns-then-eq-clause-board g c =
+    let cut = c.cut.ensures.cut in
+    subst (λ (b : OnBoard). IsNarrowedToRest c.args.board.now b) (sym c.rest.ensures) (record {
+      inside = cut.inside;
+      links = cut.links;
+      follows = record { more = cut.follows.more; notes = cut.follows.notes; back = cut.follows.back };
+      at_rest = refl;
+    })
+
+pub returns-clause-board : goal.returns-clause-board
+returns-clause-board g c = record {
+  inside = c.settle.ensures.narrowed.inside ∙ c.cut.ensures.cut.inside;
+  links = c.settle.ensures.narrowed.links ∙ c.cut.ensures.cut.links;
+  follows = follows_cut g.A.Algebra.algebra.count c.args.net.now c.args.source.0 c.args.set c.args.board.now c.cut.new.self c.settle.new.self
+      c.cut.ensures.cut c.settle.ensures.narrowed.follows;
+  at_rest = c.settle.ensures.waiting;
+}

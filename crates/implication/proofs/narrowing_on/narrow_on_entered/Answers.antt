@@ -1,5 +1,5 @@
 -- The board is ready under the condition of a pin more, once its gate waits.
-use Rattle.std.proofs.Common.{subst}
+use Rattle.std.proofs.Common.{ap, ◌∙◌, subst}
 use Rattle.hulls.specs.Boards.{OnBoard, Follows}
 use Rattle.implication.specs.Kept.{IsSettledFrom}
 use Rattle.implication.proofs.NarrowingOn.{ready_entered}
@@ -20,8 +20,13 @@ returns-clause-settled g c =
       emptied = c.settle.ensures.emptied;
     })
 
-pub returns-clause-follows : goal.returns-clause-follows
-returns-clause-follows g c =
+pub returns-clause-board : goal.returns-clause-board
+returns-clause-board g c =
     let P : OnBoard → Type 0 = λ b. Follows b c.settle.new.self in
     let follows = subst P c.ask.ensures.labels c.settle.ensures.narrowed.follows in
-    record { more = follows.more; notes = follows.notes; back = follows.back }
+    record {
+      inside = c.settle.ensures.narrowed.inside ∙ ap (λ (b : OnBoard). b.inside) c.ask.ensures.labels;
+      links = c.settle.ensures.narrowed.links ∙ ap (λ (b : OnBoard). b.links) c.ask.ensures.labels;
+      follows = record { more = follows.more; notes = follows.notes; back = follows.back };
+      at_rest = c.settle.ensures.waiting;
+    }

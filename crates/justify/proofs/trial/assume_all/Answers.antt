@@ -26,7 +26,7 @@ returns-in-Err-clause-trial g c =
     } in
     within_more g.A.Algebra.algebra (task_target c.args.task.now) first c.requires.node now (standing c.assume.new.self) _
     (c.requires.tried c.loop-entry.entry-index _ c.loop-entry-test.true) c.only.result c.only.ensures
-    (closed_list g.A.Algebra.algebra.count now (standing c.assume.new.self) _ c.only.result _ (c.in-Err.ensures.err free)) c.loop-entry.invariant.trial
+    (closed_list g.A.Algebra.algebra.count now (standing c.assume.new.self) _ c.only.result _ (c.in-Err.ensures.tells.err free)) c.loop-entry.invariant.trial
 
 pub returns-in-Err-clause-ends : goal.returns-in-Err-clause-ends
 returns-in-Err-clause-ends g c =
@@ -36,9 +36,9 @@ returns-in-Err-clause-ends g c =
     record {
       closes = closes_there g.A.Algebra.algebra first new (beginning_of (task_target c.args.task.now)) (c.assume.ensures.extends.net ∙ before.net)
           (c.assume.ensures.extends.rules ∙ before.rules) (c.assume.ensures.extends.beginning ∙ before.beginning ∙ c.requires.node.beginning)
-          _ c.in-Err.ensures.emptied;
+          _ c.in-Err.ensures.tells.emptied;
       counted = counted_later first.closings now.closings new.closings before.later
-          (closed_count g.A.Algebra.algebra.count now new _ c.only.result _ (c.in-Err.ensures.err free));
+          (closed_count g.A.Algebra.algebra.count now new _ c.only.result _ (c.in-Err.ensures.tells.err free));
     }
 
 pub loop-entry-preserved : goal.loop-entry-preserved
@@ -46,15 +46,15 @@ loop-entry-preserved g c =
     let first = standing c.args.scope.now in let now = standing c.loop-entry.scope in let new = standing c.assume.new.self in
     let target = task_target c.args.task.now in
     let before = c.loop-entry.invariant in
-    let more = grown_list g.A.Algebra.algebra.count now new _ c.only.result c.in-Ok.ensures.ok in
+    let more = grown_list g.A.Algebra.algebra.count now new _ c.only.result c.in-Ok.ensures.tells.ok in
     let is = c.requires.tried c.loop-entry.entry-index _ c.loop-entry-test.true in
     record {
       scope = same_scope_twice before.scope c.assume.ensures.scope;
       extends = extends_trans first now new before.extends c.assume.ensures.extends;
       trial = within_more g.A.Algebra.algebra target first c.requires.node now new _ is c.only.result c.only.ensures more before.trial;
       held = record {
-        free = grown_conflict g.A.Algebra.algebra.count now new _ c.only.result c.in-Ok.ensures.ok ∙ before.held.free;
-        left_open = c.in-Ok.ensures.open;
+        free = grown_conflict g.A.Algebra.algebra.count now new _ c.only.result c.in-Ok.ensures.tells.ok ∙ before.held.free;
+        left_open = c.in-Ok.ensures.tells.left_open;
         held = All-more (IsHeldIn g.A.Algebra.algebra target first new) c.args.tried.now c.loop-entry.entry-index _ c.loop-entry-test.true
             (held_before g.A.Algebra.algebra target first c.requires.node now new _ is c.only.result c.only.ensures more (take c.loop-entry.entry-index c.args.tried.now) before.held.held)
             (held_here g.A.Algebra.algebra target first c.requires.node now new _ is c.only.result c.only.ensures more);

@@ -37,28 +37,28 @@ read_test-requires-clause-sources g c =
 
 pub returns-in_ok-pair-in-IsTest-clause-desk : goal.returns-in_ok-pair-in-IsTest-clause-desk
 returns-in_ok-pair-in-IsTest-clause-desk g c =
-    let long = c.judge-judgement.ensures.places ∙ ap length c.as_mut_slice.ensures.value in
+    let long = c.judge-judgement.ensures.kept.places ∙ ap length c.as_mut_slice.ensures.value in
     kept_desk g.A.Algebra.algebra (standing c.args.scope.now).net (standing c.args.scope.now).rules c.args.task.now.path.now _ c.keep.new.self c.keep.ensures
     (desk_again g.A.Algebra.algebra (standing c.args.scope.now).net (standing c.args.scope.now).rules c.args.task.now.path.now c.args.desk.now _ c.judge-judgement.new.states c.requires.desk
     refl refl refl
     (with_items_is c.args.desk.now.states c.judge-judgement.new.states (long ∙ sym c.args.desk.now.states.ok.0))
-    c.judge-judgement.ensures.states long c.requires.desk.made.justifier)
+    c.judge-judgement.ensures.kept.states long c.requires.desk.made.justifier)
 
 pub returns-in_ok-pair-in-IsTest-clause-kept : goal.returns-in_ok-pair-in-IsTest-clause-kept
 returns-in_ok-pair-in-IsTest-clause-kept g c =
-    let long = c.judge-judgement.ensures.places ∙ ap length c.as_mut_slice.ensures.value ∙ sym c.args.desk.now.states.ok.0 in
+    let long = c.judge-judgement.ensures.kept.places ∙ ap length c.as_mut_slice.ensures.value ∙ sym c.args.desk.now.states.ok.0 in
     record {
       cone = c.keep.ensures.cone;
       states = λ source within.
           ap (λ (xs : List State). state_in xs source)
           (c.keep.ensures.states ∙ with_items_is c.args.desk.now.states c.judge-judgement.new.states long)
-          ∙ c.judge-judgement.ensures.sources source (subst (λ (n : Circuit). source < source_count n) (sym c.net-net.ensures) within)
+          ∙ c.judge-judgement.ensures.kept.sources source (subst (λ (n : Circuit). source < source_count n) (sym c.net-net.ensures) within)
           ∙ ap (λ (xs : List State). state_in xs source) c.as_mut_slice.ensures.value;
     }
 
 pub returns-in_ok-pair-in-IsTest-clause-test : goal.returns-in_ok-pair-in-IsTest-clause-test
 returns-in_ok-pair-in-IsTest-clause-test g c =
-    let long = c.judge-judgement.ensures.places ∙ ap length c.as_mut_slice.ensures.value ∙ sym c.args.desk.now.states.ok.0 in
+    let long = c.judge-judgement.ensures.kept.places ∙ ap length c.as_mut_slice.ensures.value ∙ sym c.args.desk.now.states.ok.0 in
     let net = (standing c.args.scope.now).net in let target = task_target c.args.task.now in
     judged_fits g.A.Algebra.algebra c.net-net.result.now net c.net-net.ensures (standing c.args.scope.now).rules target c.args.desk.now
     c.requires.desk c.judge-judgement.new.states c.in_ok-pair-in-IsTest.pair
@@ -70,39 +70,39 @@ returns-in_ok-pair-in-IsTest-clause-test g c =
 
 pub returns-in_err-pair-in-IsTest-clause-desk : goal.returns-in_err-pair-in-IsTest-clause-desk
 returns-in_err-pair-in-IsTest-clause-desk g c =
-    let long = c.judge-judgement.ensures.places ∙ ap length c.as_mut_slice.ensures.value in
+    let long = c.judge-judgement.ensures.kept.places ∙ ap length c.as_mut_slice.ensures.value in
     desk_again g.A.Algebra.algebra (standing c.args.scope.now).net (standing c.args.scope.now).rules c.args.task.now.path.now c.args.desk.now _ c.judge-judgement.new.states c.requires.desk
     refl refl refl
     (with_items_is c.args.desk.now.states c.judge-judgement.new.states (long ∙ sym c.args.desk.now.states.ok.0))
-    c.judge-judgement.ensures.states long c.requires.desk.made.justifier
+    c.judge-judgement.ensures.kept.states long c.requires.desk.made.justifier
 
 pub returns-in_err-pair-in-IsTest-clause-kept : goal.returns-in_err-pair-in-IsTest-clause-kept
 returns-in_err-pair-in-IsTest-clause-kept g c =
-    let long = c.judge-judgement.ensures.places ∙ ap length c.as_mut_slice.ensures.value ∙ sym c.args.desk.now.states.ok.0 in
+    let long = c.judge-judgement.ensures.kept.places ∙ ap length c.as_mut_slice.ensures.value ∙ sym c.args.desk.now.states.ok.0 in
     record {
       cone = refl;
       states = λ source within.
           ap (λ (xs : List State). state_in xs source) (with_items_is c.args.desk.now.states c.judge-judgement.new.states long)
-          ∙ c.judge-judgement.ensures.sources source (subst (λ (n : Circuit). source < source_count n) (sym c.net-net.ensures) within)
+          ∙ c.judge-judgement.ensures.kept.sources source (subst (λ (n : Circuit). source < source_count n) (sym c.net-net.ensures) within)
           ∙ ap (λ (xs : List State). state_in xs source) c.as_mut_slice.ensures.value;
     }
 
 pub returns-in-FailsAt-clause-desk : goal.returns-in-FailsAt-clause-desk
 returns-in-FailsAt-clause-desk g c =
-    let long = c.judge-judgement.ensures.places ∙ ap length c.as_mut_slice.ensures.value in
+    let long = c.judge-judgement.ensures.kept.places ∙ ap length c.as_mut_slice.ensures.value in
     desk_again g.A.Algebra.algebra (standing c.args.scope.now).net (standing c.args.scope.now).rules c.args.task.now.path.now c.args.desk.now _ c.judge-judgement.new.states c.requires.desk
     refl c.set_failure.ensures.room refl
     (with_items_is c.args.desk.now.states c.judge-judgement.new.states (long ∙ sym c.args.desk.now.states.ok.0))
-    c.judge-judgement.ensures.states long c.requires.desk.made.justifier
+    c.judge-judgement.ensures.kept.states long c.requires.desk.made.justifier
 
 pub returns-in-FailsAt-clause-kept : goal.returns-in-FailsAt-clause-kept
 returns-in-FailsAt-clause-kept g c =
-    let long = c.judge-judgement.ensures.places ∙ ap length c.as_mut_slice.ensures.value ∙ sym c.args.desk.now.states.ok.0 in
+    let long = c.judge-judgement.ensures.kept.places ∙ ap length c.as_mut_slice.ensures.value ∙ sym c.args.desk.now.states.ok.0 in
     record {
       cone = refl;
       states = λ source within.
           ap (λ (xs : List State). state_in xs source) (with_items_is c.args.desk.now.states c.judge-judgement.new.states long)
-          ∙ c.judge-judgement.ensures.sources source (subst (λ (n : Circuit). source < source_count n) (sym c.net-net.ensures) within)
+          ∙ c.judge-judgement.ensures.kept.sources source (subst (λ (n : Circuit). source < source_count n) (sym c.net-net.ensures) within)
           ∙ ap (λ (xs : List State). state_in xs source) c.as_mut_slice.ensures.value;
     }
 
@@ -130,20 +130,20 @@ judge-judgement-requires-clause-states g c = record {
 
 pub read_test-requires-clause-places : goal.read_test-requires-clause-places
 read_test-requires-clause-places g c =
-    let long = c.judge-judgement.ensures.places ∙ ap length c.as_mut_slice.ensures.value in
+    let long = c.judge-judgement.ensures.kept.places ∙ ap length c.as_mut_slice.ensures.value in
     let here = with_items_is c.args.desk.now.states c.judge-judgement.new.states (long ∙ sym c.args.desk.now.states.ok.0) in
     ap length (c.as_slice.ensures.value ∙ here) ∙ long ∙ c.requires.desk.made.states ∙ sym (ap line_count c.net-net.ensures)
 
 pub read_test-requires-clause-states : goal.read_test-requires-clause-states
 read_test-requires-clause-states g c =
-    let long = c.judge-judgement.ensures.places ∙ ap length c.as_mut_slice.ensures.value in
+    let long = c.judge-judgement.ensures.kept.places ∙ ap length c.as_mut_slice.ensures.value in
     let here = with_items_is c.args.desk.now.states c.judge-judgement.new.states (long ∙ sym c.args.desk.now.states.ok.0) in
     let Q : List State → Type 0 = λ xs. AreSourceStates g.A.Algebra.algebra c.args.desk.now.cone.sources xs in
     subst Q (sym (c.as_slice.ensures.value ∙ here))
     (kept_sources g.A.Algebra.algebra (standing c.args.scope.now).net (standing c.args.scope.now).rules c.args.task.now.path.now
     c.args.desk.now c.requires.desk c.args.desk.now.states.items c.judge-judgement.new.states
     (λ source within.
-    c.judge-judgement.ensures.sources source (subst (λ (n : Circuit). source < source_count n) (sym c.net-net.ensures) within)
+    c.judge-judgement.ensures.kept.sources source (subst (λ (n : Circuit). source < source_count n) (sym c.net-net.ensures) within)
     ∙ ap (λ (xs : List State). state_in xs source) c.as_mut_slice.ensures.value) c.requires.sources)
 
 pub set_failure-requires-clause-room : goal.set_failure-requires-clause-room

@@ -59,3 +59,17 @@ loop-gate-preserved g c =
 pub returns-clause-computed : goal.returns-clause-computed
 returns-clause-computed g c =
     done_all g.A.Algebra.algebra g.met.A.Algebra.laws c.args.net.now c.args.gates.now c.args.states.now c.loop-gate.gate-index c.loop-gate.states c.loop-gate-test.false c.loop-gate.invariant.done
+
+pub returns-then-not-holds-clause-kept : goal.returns-then-not-holds-clause-kept
+returns-then-not-holds-clause-kept g c =
+    let states = c.loop-gate.states in let state = c.gate_state-state.result in let line = c.line_of-line.result in
+    let before = c.loop-gate.invariant in let number = ap (λ (l : LineId). l.0) c.line_of-line.ensures.line in
+    record {
+      places = length-set states line.0 state ∙ before.places;
+      states = All-set (λ (s : State). s.0 < g.A.Algebra.algebra.count) states line.0 state c.gate_state-state.ensures.in_range before.below;
+      sources = λ source within.
+          get_or-set_other states line.0 source state (record { 0 = 0 }) (λ same. omega (arith, same, number, within)) ∙ before.sources source within;
+    }
+
+pub returns-clause-kept : goal.returns-clause-kept
+returns-clause-kept g c = let i = c.loop-gate.invariant in record { places = i.places; states = i.below; sources = i.sources }

@@ -23,7 +23,7 @@ returns-in-Some-clause-judged g c =
     let target = target_of c.args.path.now c.args.dir c.args.kind in
     let cone = c.args.cone.now in
     ruled_out g.A.Algebra.algebra c.args.net.now c.compute_states.ensures.circuit cone.links c.requires.made.fit target
-    c.requires.prefix cone.gates c.requires.cone.gates c.args.states.now c.compute_states.new.states c.compute_states.ensures.sources
+    c.requires.prefix cone.gates c.requires.cone.gates c.args.states.now c.compute_states.new.states c.compute_states.ensures.kept.sources
     c.args.labels.now c.in-Some.line
     (subst (λ (gs : List GateId). RulesOut g.A.Algebra.algebra c.args.net.now gs c.args.labels.now c.args.states.now c.in-Some.line.0)
     c.gates.ensures c.in-Some.ensures.failed)
@@ -33,13 +33,13 @@ failing_link-requires-clause-sources g c =
     let states = c.compute_states.new.states in
     subst (λ (ls : List LineId). All (λ (source : LineId). source.0 < length states) ls) (sym c.sources.ensures)
     (sources_below c.args.net.now c.args.cone.now.links (end_of c.args.net.now c.args.path.now) c.args.cone.now.sources c.requires.cone.sources
-    (length states) (omega (arith, c.compute_states.ensures.places, c.requires.states.places)))
+    (length states) (omega (arith, c.compute_states.ensures.kept.places, c.requires.states.places)))
 
 pub failing_link-requires-clause-lines : goal.failing_link-requires-clause-lines
 failing_link-requires-clause-lines g c =
     let states = c.compute_states.new.states in
     subst (λ (links : LinkList). All (λ (link : LineId × LineId). link.1.0 < length states) links) (sym c.links.ensures)
-    (λ k d inside. omega (arith, c.requires.made.fit.lines k d inside, c.compute_states.ensures.places, c.requires.states.places))
+    (λ k d inside. omega (arith, c.requires.made.fit.lines k d inside, c.compute_states.ensures.kept.places, c.requires.states.places))
 
 pub returns-in-Some-failing_link-clause-within : goal.returns-in-Some-failing_link-clause-within
 returns-in-Some-failing_link-clause-within g c =
@@ -64,7 +64,7 @@ returns-in-Some-failing_link-clause-judged g c = λ pair has.
     let source = c.in-Some-failing_link.source in
     let line = c.in-Some-failing_link.line in
     link_fails g.A.Algebra.algebra c.args.net.now c.compute_states.ensures.circuit cone.links c.requires.made.fit target
-    c.requires.prefix cone.gates c.requires.cone.gates c.args.states.now states c.compute_states.ensures.sources
+    c.requires.prefix cone.gates c.requires.cone.gates c.args.states.now states c.compute_states.ensures.kept.sources
     (subst (λ (gs : List GateId). AreComputed g.A.Algebra.algebra c.args.net.now gs c.args.states.now states) c.gates.ensures
     c.in_default.ensures.computed) pair has cone.sources c.requires.cone.sources c.args.labels.now source line
     (subst₂ (λ (links : LinkList) (ls : List LineId). IsFailingLink g.A.Algebra.algebra links ls states source line) c.links.ensures
@@ -79,7 +79,7 @@ returns-clause-judged g c =
     let cone = c.args.cone.now in
     let states = c.compute_states.new.states in
     judged_at g.A.Algebra.algebra c.args.net.now c.compute_states.ensures.circuit cone.links c.requires.made.fit target
-    c.requires.prefix cone.gates c.requires.cone.gates c.args.states.now states c.compute_states.ensures.sources
+    c.requires.prefix cone.gates c.requires.cone.gates c.args.states.now states c.compute_states.ensures.kept.sources
     (subst (λ (gs : List GateId). AreComputed g.A.Algebra.algebra c.args.net.now gs c.args.states.now states) c.gates.ensures
     c.in_default.ensures.computed) cone.sources c.requires.cone.sources
     (subst₂ (λ (links : LinkList) (ls : List LineId). LinksPass g.A.Algebra.algebra links ls states) c.links.ensures c.sources.ensures

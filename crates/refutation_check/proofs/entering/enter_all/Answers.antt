@@ -51,7 +51,7 @@ returns-then-is_err-clause-root g c =
     × IsEmptiedIn g.A.Algebra.algebra after conflict.0.0)
     c.is_err.result c.is_err.ensures.value c.if-is_err.true
     (err_both c.enter.result (λ (conflict : Conflict). after ≡ closed_at before (with_entered before.assumptions pin) conflict.0)
-    (λ (conflict : Conflict). IsEmptiedIn g.A.Algebra.algebra after conflict.0.0) (c.enter.ensures.err is_free) c.enter.ensures.emptied) in
+    (λ (conflict : Conflict). IsEmptiedIn g.A.Algebra.algebra after conflict.0.0) (c.enter.ensures.tells.err is_free) c.enter.ensures.tells.emptied) in
     next_closed g.A.Algebra.algebra prefix before place pin inv.entered
     (omega (arith, c.loop-pin-test.true, ap length c.steps-pin-items.ensures))
     (read_pin items prefix.steps place no_pin c.steps-pin-items.ensures (omega (arith, c.loop-pin-test.true)))
@@ -80,8 +80,8 @@ loop-pin-preserved g c =
           (read_pin items prefix.steps place no_pin c.steps-pin-items.ensures (omega (arith, c.loop-pin-test.true)))
           after
           (ok_of c.enter.result (after ≡ grown before (with_entered before.assumptions pin)) c.is_err.result c.is_err.ensures.value
-          c.if-is_err.false c.enter.ensures.ok)
-          (ok_of c.enter.result (IsOpenIn g.A.Algebra.algebra after) c.is_err.result c.is_err.ensures.value c.if-is_err.false c.enter.ensures.open);
+          c.if-is_err.false c.enter.ensures.tells.ok)
+          (ok_of c.enter.result (IsOpenIn g.A.Algebra.algebra after) c.is_err.result c.is_err.ensures.value c.if-is_err.false c.enter.ensures.tells.left_open);
     }
 
 pub returns-clause-root : goal.returns-clause-root

@@ -40,8 +40,8 @@ enter_root-requires-clause-begun g c =
       beginning = begun.beginning;
       source = c.source.ensures;
       nothing = begun.nothing;
-      left_open = c.begin-scope.ensures.open;
-      emptied = c.begin-scope.ensures.emptied;
+      left_open = c.begin-scope.ensures.tells.left_open;
+      emptied = c.begin-scope.ensures.tells.emptied;
     }
 
 pub walk_spent-requires-clause-prefix : goal.walk_spent-requires-clause-prefix

@@ -16,7 +16,7 @@ loop-link-preserved g c =
       waits = λ k below. ⊎_elim
           (λ (here : k ≡ at). subst (λ (n : ℕ). Contains new (record { 0 = gates + n })) (sym here)
           (c.ask.ensures.waits (ap (λ (b : OnBoard). is_inside b.inside (gates + at)) i.same
-          ∙ c.requires.ties at (subst (λ (b : OnBoard). at < length b.links) c.self.view_is here_in))))
+          ∙ c.requires.links_inside at (subst (λ (b : OnBoard). at < length b.links) c.self.view_is here_in))))
           (λ (away : k ≡ at → ⊥). c.ask.ensures.stays (record { 0 = gates + k }) (i.waits k (omega (arith, below, away))))
           (cases_eq k at);
     }

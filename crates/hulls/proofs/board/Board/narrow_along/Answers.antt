@@ -6,7 +6,7 @@ use Rattle.state_sets.specs.States.{Has}
 use Rattle.state_sets.specs.Labellings.{label_at}
 use Rattle.hulls.specs.Sets.{Means}
 use Rattle.hulls.proofs.Narrowed.{is_none, is_some}
-use Rattle.hulls.proofs.Tied.{conflict_at_source, conflict_at_line, tied_done}
+use Rattle.hulls.proofs.AlongLinks.{conflict_at_source, conflict_at_line, link_done}
 use Rattle.hulls.proofs.board.Board.narrow_along.Goals as goal
 
 pub returns-then-eq : goal.returns-then-eq
@@ -46,7 +46,7 @@ returns g c =
     let at_source = c.linked_sources-at_source.result in let at_line = c.linked_lines-at_line.result in let mid = c.cut_in.new.self in
     let new = c.cut_in-2.new.self in
     record {
-      turn = tied_done a net on.kind on.steps old c.requires.of c.requires.within c.args.link c.requires.link c.link.result
+      turn = link_done a net on.kind on.steps old c.requires.of c.requires.within c.args.link c.requires.link c.link.result
           c.link.ensures at_source at_line
           (subst (λ (set : StateSet). Means a.count at_source (λ s. (s.0 < a.count) × ((l : State) × Has a.count set l × IsTrue (a.link s l))))
           c.get.ensures.set c.linked_sources-at_source.ensures)

@@ -64,7 +64,7 @@ settle-requires-clause-ready g c =
         gates = c.requires.of.gates;
         few = c.requires.of.few;
         links = c.requires.of.links;
-        ties = c.requires.of.ties;
+        links_inside = c.requires.of.links_inside;
       };
       labelling = record {
         one_each = c.requires.of.lines;
@@ -73,6 +73,6 @@ settle-requires-clause-ready g c =
       some = subst (HasNoEmptySet net) c.labels.ensures.labels c.in_default.ensures.none;
       awake = record {
         gates = λ gate within here. inl (c.ask_all.ensures.waits gate within here);
-        ties = λ link inside. inl (c.ask_all.ensures.ties link inside);
+        links = λ link inside. inl (c.ask_all.ensures.links_wait link inside);
       };
     })

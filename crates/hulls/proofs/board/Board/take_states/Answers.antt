@@ -6,7 +6,7 @@ use Rattle.state_sets.specs.Labellings.{label_at}
 use Rattle.hulls.specs.Boards.{OnBoard}
 use Rattle.hulls.specs.Settling.{IsCutTo}
 use Rattle.hulls.proofs.BoardCuts.{room_left, cut_is, cut_to}
-use Rattle.hulls.proofs.Readers.{more_on, ties_as}
+use Rattle.hulls.proofs.Readers.{more_on, links_as}
 use Rattle.hulls.proofs.board.Board.take_states.Goals as goal
 
 -- the cut takes states of the line
@@ -62,5 +62,5 @@ returns-clause-cut g c =
     c.note.new.self c.note.ensures c.wake-2.new.waiting (more_on i.waiting c.wake.new.waiting c.wake-2.new.waiting c.wake.ensures.more c.wake-2.ensures.more) c.cut.new.self c.cut.ensures
     c.args.net.now c.args.passed
     (λ gate within here away among. c.wake-2.ensures.more.stays (record { 0 = gate }) (c.wake.ensures.waits gate within here away among))
-    (ties_as c.args.net.now i.links i.links refl c.gates.result c.gates.ensures c.args.line
+    (links_as c.args.net.now i.links i.links refl c.gates.result c.gates.ensures c.args.line
     c.wake-2.new.waiting.waiting c.wake-2.ensures.waits))

@@ -50,8 +50,8 @@ pub invariant_of-self : goal.invariant_of-self
 invariant_of-self g c = (
   added g.A.Algebra.algebra c.self.invariant.0 c.args.self.now c.self.view_is c.requires.begun c.requires.free c.args.entry c.requires.fits
       c.netlist.result.now c.netlist.ensures (record { changes = c.mark-changes.result; left = c.args.left }) c.mark-changes.ensures
-      c.requires.left c.narrow_on-emptied.new.board c.narrow_on-emptied.ensures.inside c.narrow_on-emptied.ensures.links c.narrow_on-emptied.ensures.follows
-      c.narrow_on-emptied.ensures.at_rest c.narrow_on-emptied.new.conditions c.narrow_on-emptied.ensures.steps c.narrow_on-emptied.result
+      c.requires.left c.narrow_on-emptied.new.board c.narrow_on-emptied.ensures.board.inside c.narrow_on-emptied.ensures.board.links c.narrow_on-emptied.ensures.board.follows
+      c.narrow_on-emptied.ensures.board.at_rest c.narrow_on-emptied.new.conditions c.narrow_on-emptied.ensures.steps c.narrow_on-emptied.result
       c.narrow_on-emptied.ensures.narrowed c.push_reserved-2.new.self.items c.push_reserved-2.ensures.items c.push_reserved.new.self.items
       c.push_reserved.ensures.items c.take_from.new.left.items c.take_from.ensures (vec_capacity c.push_reserved-2.new.self)
       (vec_capacity c.push_reserved.new.self) c.push_reserved-2.ensures.capacity c.push_reserved.ensures.capacity c.self.inside.closings,
@@ -62,8 +62,8 @@ pub invariant_of-self-in-Some : goal.invariant_of-self-in-Some
 invariant_of-self-in-Some g c = (
   added g.A.Algebra.algebra c.self.invariant.0 c.args.self.now c.self.view_is c.requires.begun c.requires.free c.args.entry c.requires.fits
       c.netlist.result.now c.netlist.ensures (record { changes = c.mark-changes.result; left = c.args.left }) c.mark-changes.ensures
-      c.requires.left c.narrow_on-emptied.new.board c.narrow_on-emptied.ensures.inside c.narrow_on-emptied.ensures.links c.narrow_on-emptied.ensures.follows
-      c.narrow_on-emptied.ensures.at_rest c.narrow_on-emptied.new.conditions c.narrow_on-emptied.ensures.steps c.narrow_on-emptied.result
+      c.requires.left c.narrow_on-emptied.new.board c.narrow_on-emptied.ensures.board.inside c.narrow_on-emptied.ensures.board.links c.narrow_on-emptied.ensures.board.follows
+      c.narrow_on-emptied.ensures.board.at_rest c.narrow_on-emptied.new.conditions c.narrow_on-emptied.ensures.steps c.narrow_on-emptied.result
       c.narrow_on-emptied.ensures.narrowed c.push_reserved-2.new.self.items c.push_reserved-2.ensures.items c.push_reserved.new.self.items
       c.push_reserved.ensures.items c.take_from.new.left.items c.take_from.ensures (vec_capacity c.push_reserved-2.new.self)
       (vec_capacity c.push_reserved.new.self) c.push_reserved-2.ensures.capacity c.push_reserved.ensures.capacity

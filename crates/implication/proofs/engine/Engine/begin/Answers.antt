@@ -18,8 +18,8 @@ invariant_of-self g c = (
   let call = c.begin-self-inside in
       kept_begun g.A.Algebra.algebra c.self.invariant.0 c.args.self.now c.self.view_is c.requires.idle c.args.begun c.requires.source c.requires.told
       call.new.board call.new.self call.ensures.board.inside call.ensures.board.links call.ensures.board.lines call.ensures.board.at_rest c.set_kind.new.self c.set_kind.ensures
-      c.netlist.result.now c.netlist.ensures c.rules.result.now c.rules.ensures call.result call.ensures.hull call.ensures.none_empty
-      call.ensures.emptied call.ensures.stands c.self.inside.closings,
+      c.netlist.result.now c.netlist.ensures c.rules.result.now c.rules.ensures call.result call.ensures.start.hull call.ensures.start.none_empty
+      call.ensures.start.emptied call.ensures.stands c.self.inside.closings,
   c.self.invariant.1,
 )
 
@@ -36,5 +36,5 @@ returns-clause-four_states g c = λ unlinked.
     let call = c.begin-self-inside in
     free_begun g.A.Algebra.algebra c.self.invariant.0 c.args.self.now c.self.view_is c.requires.idle c.args.begun c.requires.source c.requires.told
     call.new.board call.new.self call.ensures.board.inside call.ensures.board.links call.ensures.board.lines call.ensures.board.at_rest c.set_kind.new.self c.set_kind.ensures
-    c.netlist.result.now c.netlist.ensures c.rules.result.now c.rules.ensures call.result call.ensures.hull call.ensures.none_empty
-    call.ensures.emptied call.ensures.stands (ap (λ (s : Standing). links_of s.rules) c.self.view_is ∙ unlinked)
+    c.netlist.result.now c.netlist.ensures c.rules.result.now c.rules.ensures call.result call.ensures.start.hull call.ensures.start.none_empty
+    call.ensures.start.emptied call.ensures.stands (ap (λ (s : Standing). links_of s.rules) c.self.view_is ∙ unlinked)

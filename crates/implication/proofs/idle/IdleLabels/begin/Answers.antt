@@ -10,22 +10,30 @@ use Rattle.implication.specs.Idling.{StandsBy}
 use Rattle.implication.proofs.Idling.{as_many, stands_on, unlaunched_emptied, stuck_emptied, idle_ready, unlinked_from, idle_within, cut_begun_hull, cut_begun_emptied, launched_hull, launched_some, launched_stands, launched_board}
 use Rattle.implication.proofs.idle.IdleLabels.begin.Goals as goal
 
-pub returns-then-eq-clause-emptied : goal.returns-then-eq-clause-emptied
-returns-then-eq-clause-emptied g c =
-    let launched = c.launching_states-launched.result in (
-      omega (arith, c.requires.source),
-      unlaunched_emptied g.A.Algebra.algebra c.args.net.now c.args.rules.now (is_inside c.args.board.now.inside) c.args.board.now.links
-          c.args.conditions.now.kind c.args.begun.source c.requires.source c.args.begun.direction launched c.launching_states-launched.ensures.means
-          (is_none c.eq.result launched launched c.eq.ensures c.if-eq.true refl),
-    )
+pub returns-then-eq-clause-start : goal.returns-then-eq-clause-start
+returns-then-eq-clause-start g c = record {
+  hull = tt;
+  none_empty = tt;
+  emptied =
+      let launched = c.launching_states-launched.result in (
+        omega (arith, c.requires.source),
+        unlaunched_emptied g.A.Algebra.algebra c.args.net.now c.args.rules.now (is_inside c.args.board.now.inside) c.args.board.now.links
+            c.args.conditions.now.kind c.args.begun.source c.requires.source c.args.begun.direction launched c.launching_states-launched.ensures.means
+            (is_none c.eq.result launched launched c.eq.ensures c.if-eq.true refl),
+      );
+}
 
-pub returns-in-Some-clause-emptied : goal.returns-in-Some-clause-emptied
-returns-in-Some-clause-emptied g c =
-    let stuck = c.in-Some.ensures.stuck in (
-      omega (arith, stuck.0),
-      stuck_emptied g.A.Algebra.algebra c.args.net.now c.args.rules.now (is_inside c.args.board.now.inside) c.args.board.now.links
-          c.args.conditions.now.kind c.args.begun.source c.requires.source c.args.begun.direction c.in-Some.other.0 stuck.0 stuck.1 stuck.2,
-    )
+pub returns-in-Some-clause-start : goal.returns-in-Some-clause-start
+returns-in-Some-clause-start g c = record {
+  hull = tt;
+  none_empty = tt;
+  emptied =
+      let stuck = c.in-Some.ensures.stuck in (
+        omega (arith, stuck.0),
+        stuck_emptied g.A.Algebra.algebra c.args.net.now c.args.rules.now (is_inside c.args.board.now.inside) c.args.board.now.links
+            c.args.conditions.now.kind c.args.begun.source c.requires.source c.args.begun.direction c.in-Some.other.0 stuck.0 stuck.1 stuck.2,
+      );
+}
 
 pub begin_forward-requires-clause-within : goal.begin_forward-requires-clause-within
 begin_forward-requires-clause-within g c =
@@ -40,33 +48,34 @@ not_common : (answer : Bool) (left common launched label : StateSet) → answer 
 not_common answer left common launched label is differs cut had same =
     false≢true (sym differs ∙ is ∙ eq-eqb common.0 launched.0 (cut ∙ ap (λ (s : StateSet). bit_and s.0 launched.0) had ∙ ap (λ (s : StateSet). s.0) same))
 
-pub returns-clause-hull : goal.returns-clause-hull
-returns-clause-hull g c =
-    let launched = c.launching_states-launched.result in
-    launched_hull g.A.Algebra.algebra g.met.A.Algebra.laws c.args.net.now c.stuck_source.ensures.circuit c.args.rules.now c.args.self.now
-    c.args.board.now c.requires.idle c.args.begun.source c.requires.source c.args.begun.direction launched
-    c.launching_states-launched.ensures.within c.launching_states-launched.ensures.means c.in_default.ensures.none
-    (unlinked_from g.A.Algebra.algebra g.met.A.Algebra.laws c.args.net.now c.stuck_source.ensures.circuit c.args.rules.now c.args.self.now
-    c.args.board.now c.requires.idle c.args.begun.source c.requires.source c.args.begun.direction launched
-    c.launching_states-launched.ensures.within c.launching_states-launched.ensures.means c.in_default.ensures.none c.requires.links
-    (not_common c.eq-2.result c.get.result c.intersect-common.result launched _ c.eq-2.ensures c.if-eq-2.false c.intersect-common.ensures
-    c.get.ensures.set))
-    (is_some c.eq.result launched launched c.eq.ensures c.if-eq.false refl) c.begin_forward.new.self.reached c.begin_forward.new.board
-    c.begin_forward.ensures.launched c.args.conditions.now.kind
-
-pub returns-clause-none_empty : goal.returns-clause-none_empty
-returns-clause-none_empty g c =
-    let launched = c.launching_states-launched.result in
-    launched_some g.A.Algebra.algebra g.met.A.Algebra.laws c.args.net.now c.stuck_source.ensures.circuit c.args.rules.now c.args.self.now
-    c.args.board.now c.requires.idle c.args.begun.source c.requires.source c.args.begun.direction launched
-    c.launching_states-launched.ensures.within c.launching_states-launched.ensures.means c.in_default.ensures.none
-    (unlinked_from g.A.Algebra.algebra g.met.A.Algebra.laws c.args.net.now c.stuck_source.ensures.circuit c.args.rules.now c.args.self.now
-    c.args.board.now c.requires.idle c.args.begun.source c.requires.source c.args.begun.direction launched
-    c.launching_states-launched.ensures.within c.launching_states-launched.ensures.means c.in_default.ensures.none c.requires.links
-    (not_common c.eq-2.result c.get.result c.intersect-common.result launched _ c.eq-2.ensures c.if-eq-2.false c.intersect-common.ensures
-    c.get.ensures.set))
-    (is_some c.eq.result launched launched c.eq.ensures c.if-eq.false refl) c.begin_forward.new.self.reached c.begin_forward.new.board
-    c.begin_forward.ensures.launched
+pub returns-clause-start : goal.returns-clause-start
+returns-clause-start g c = record {
+  hull =
+      let launched = c.launching_states-launched.result in
+      launched_hull g.A.Algebra.algebra g.met.A.Algebra.laws c.args.net.now c.stuck_source.ensures.circuit c.args.rules.now c.args.self.now
+      c.args.board.now c.requires.idle c.args.begun.source c.requires.source c.args.begun.direction launched
+      c.launching_states-launched.ensures.within c.launching_states-launched.ensures.means c.in_default.ensures.none
+      (unlinked_from g.A.Algebra.algebra g.met.A.Algebra.laws c.args.net.now c.stuck_source.ensures.circuit c.args.rules.now c.args.self.now
+      c.args.board.now c.requires.idle c.args.begun.source c.requires.source c.args.begun.direction launched
+      c.launching_states-launched.ensures.within c.launching_states-launched.ensures.means c.in_default.ensures.none c.requires.links
+      (not_common c.eq-2.result c.get.result c.intersect-common.result launched _ c.eq-2.ensures c.if-eq-2.false c.intersect-common.ensures
+      c.get.ensures.set))
+      (is_some c.eq.result launched launched c.eq.ensures c.if-eq.false refl) c.begin_forward.new.self.reached c.begin_forward.new.board
+      c.begin_forward.ensures.launched c.args.conditions.now.kind;
+  none_empty =
+      let launched = c.launching_states-launched.result in
+      launched_some g.A.Algebra.algebra g.met.A.Algebra.laws c.args.net.now c.stuck_source.ensures.circuit c.args.rules.now c.args.self.now
+      c.args.board.now c.requires.idle c.args.begun.source c.requires.source c.args.begun.direction launched
+      c.launching_states-launched.ensures.within c.launching_states-launched.ensures.means c.in_default.ensures.none
+      (unlinked_from g.A.Algebra.algebra g.met.A.Algebra.laws c.args.net.now c.stuck_source.ensures.circuit c.args.rules.now c.args.self.now
+      c.args.board.now c.requires.idle c.args.begun.source c.requires.source c.args.begun.direction launched
+      c.launching_states-launched.ensures.within c.launching_states-launched.ensures.means c.in_default.ensures.none c.requires.links
+      (not_common c.eq-2.result c.get.result c.intersect-common.result launched _ c.eq-2.ensures c.if-eq-2.false c.intersect-common.ensures
+      c.get.ensures.set))
+      (is_some c.eq.result launched launched c.eq.ensures c.if-eq.false refl) c.begin_forward.new.self.reached c.begin_forward.new.board
+      c.begin_forward.ensures.launched;
+  emptied = tt;
+}
 
 pub returns-clause-stands : goal.returns-clause-stands
 returns-clause-stands g c =
@@ -116,39 +125,40 @@ narrow_on_cut-requires-clause-ready g c =
     c.get.ensures.set)
     c.args.conditions.now.kind c.args.conditions.now.steps c.requires.no_steps c.requires.links
 
-pub returns-then-eq-2-clause-hull : goal.returns-then-eq-2-clause-hull
-returns-then-eq-2-clause-hull g c =
-    let launched = c.launching_states-launched.result in
-    cut_begun_hull g.A.Algebra.algebra g.met.A.Algebra.laws c.args.net.now c.stuck_source.ensures.circuit c.args.rules.now c.args.self.now
-    c.args.board.now c.requires.idle c.args.begun.source c.requires.source c.args.begun.direction launched
-    c.launching_states-launched.ensures.within c.launching_states-launched.ensures.means c.in_default.ensures.none
-    (all_common c.eq-2.result c.get.result c.intersect-common.result launched _ c.eq-2.ensures c.if-eq-2.true c.intersect-common.ensures
-    c.get.ensures.set)
-    c.args.conditions.now.kind c.args.conditions.now.steps c.requires.no_steps c.narrow_on_cut.new.board c.narrow_on_cut.result
-    c.narrow_on_cut.ensures.narrowed
-
-pub returns-then-eq-2-clause-emptied : goal.returns-then-eq-2-clause-emptied
-returns-then-eq-2-clause-emptied g c =
-    let launched = c.launching_states-launched.result in
-    cut_begun_emptied g.A.Algebra.algebra g.met.A.Algebra.laws c.args.net.now c.stuck_source.ensures.circuit c.args.rules.now c.args.self.now
-    c.args.board.now c.requires.idle c.args.begun.source c.requires.source c.args.begun.direction launched
-    c.launching_states-launched.ensures.within c.launching_states-launched.ensures.means c.in_default.ensures.none
-    (all_common c.eq-2.result c.get.result c.intersect-common.result launched _ c.eq-2.ensures c.if-eq-2.true c.intersect-common.ensures
-    c.get.ensures.set)
-    c.args.conditions.now.kind c.args.conditions.now.steps c.requires.no_steps c.narrow_on_cut.new.board c.narrow_on_cut.result
-    c.narrow_on_cut.ensures.narrowed
+pub returns-then-eq-2-clause-start : goal.returns-then-eq-2-clause-start
+returns-then-eq-2-clause-start g c = record {
+  hull =
+      let launched = c.launching_states-launched.result in
+      cut_begun_hull g.A.Algebra.algebra g.met.A.Algebra.laws c.args.net.now c.stuck_source.ensures.circuit c.args.rules.now c.args.self.now
+      c.args.board.now c.requires.idle c.args.begun.source c.requires.source c.args.begun.direction launched
+      c.launching_states-launched.ensures.within c.launching_states-launched.ensures.means c.in_default.ensures.none
+      (all_common c.eq-2.result c.get.result c.intersect-common.result launched _ c.eq-2.ensures c.if-eq-2.true c.intersect-common.ensures
+      c.get.ensures.set)
+      c.args.conditions.now.kind c.args.conditions.now.steps c.requires.no_steps c.narrow_on_cut.new.board c.narrow_on_cut.result
+      c.narrow_on_cut.ensures.narrowed;
+  none_empty = c.narrow_on_cut.ensures.narrowed.settled.none_empty;
+  emptied =
+      let launched = c.launching_states-launched.result in
+      cut_begun_emptied g.A.Algebra.algebra g.met.A.Algebra.laws c.args.net.now c.stuck_source.ensures.circuit c.args.rules.now c.args.self.now
+      c.args.board.now c.requires.idle c.args.begun.source c.requires.source c.args.begun.direction launched
+      c.launching_states-launched.ensures.within c.launching_states-launched.ensures.means c.in_default.ensures.none
+      (all_common c.eq-2.result c.get.result c.intersect-common.result launched _ c.eq-2.ensures c.if-eq-2.true c.intersect-common.ensures
+      c.get.ensures.set)
+      c.args.conditions.now.kind c.args.conditions.now.steps c.requires.no_steps c.narrow_on_cut.new.board c.narrow_on_cut.result
+      c.narrow_on_cut.ensures.narrowed;
+}
 
 pub returns-then-eq-2-clause-stands : goal.returns-then-eq-2-clause-stands
 returns-then-eq-2-clause-stands g c =
     stands_on g.A.Algebra.algebra c.args.net.now c.args.rules.now c.args.self.now c.args.board.now c.narrow_on_cut.new.board
-    c.requires.idle.stands c.narrow_on_cut.ensures.follows c.narrow_on_cut.ensures.inside c.narrow_on_cut.ensures.links
+    c.requires.idle.stands c.narrow_on_cut.ensures.board.follows c.narrow_on_cut.ensures.board.inside c.narrow_on_cut.ensures.board.links
 
 pub returns-then-eq-2-clause-board : goal.returns-then-eq-2-clause-board
 returns-then-eq-2-clause-board g c = record {
-  inside = c.narrow_on_cut.ensures.inside;
-  links = c.narrow_on_cut.ensures.links;
-  lines = as_many c.args.board.now c.narrow_on_cut.new.board c.narrow_on_cut.ensures.follows;
-  at_rest = c.narrow_on_cut.ensures.at_rest;
+  inside = c.narrow_on_cut.ensures.board.inside;
+  links = c.narrow_on_cut.ensures.board.links;
+  lines = as_many c.args.board.now c.narrow_on_cut.new.board c.narrow_on_cut.ensures.board.follows;
+  at_rest = c.narrow_on_cut.ensures.board.at_rest;
 }
 
 pub returns-in-Some-clause-stands : goal.returns-in-Some-clause-stands

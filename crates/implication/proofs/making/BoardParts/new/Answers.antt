@@ -35,4 +35,4 @@ returns-clause-idle g c =
     c.in_ok-idle.ensures.board.inside ∙ ap (λ (b : OnBoard). b.inside) c.in_ok-board.ensures ∙ append-nil flags in
     idle_linked g.A.Algebra.algebra c.args.net.now c.new.ensures.circuit c.args.rules.now c.in_ok-idle.idle old c.in_ok-board-2.board
     c.args.links.now c.in_ok-idle.ensures.idle (ap length inside ∙ c.requires.gates) c.requires.of
-    (omega (arith, ap length inside, c.requires.few)) c.in_ok-board-2.ensures
+    c.in_ok-board-2.ensures

@@ -30,12 +30,12 @@ returns-in-Err-clause-tried g c =
     let before = standing c.args.scope.now in
     let pin = get_or c.steps.result.now c.args.count no_pin in
     let is = pin_read c.steps.result.now path.steps c.args.count no_pin c.steps.ensures c.requires.more in
-    let closes = c.in-Err.ensures.err (free_along g.A.Algebra.algebra before path c.requires.along c.requires.at.free) in (
+    let closes = c.in-Err.ensures.tells.err (free_along g.A.Algebra.algebra before path c.requires.along c.requires.at.free) in (
       left_again g.A.Algebra.algebra before c.args.self.now path c.args.count pin c.requires.along c.requires.at c.requires.more is
           (standing c.enter.new.self) c.in-Err.field-0.0 closes (standing c.back_to.new.self) c.mark-mark.result.at c.mark-mark.ensures
           c.back_to.ensures.back,
       tried_closes g.A.Algebra.algebra before c.args.self.now path c.args.count pin c.requires.along c.requires.at c.requires.more is
-          (standing c.enter.new.self) c.in-Err.field-0.0 closes c.in-Err.ensures.emptied,
+          (standing c.enter.new.self) c.in-Err.field-0.0 closes c.in-Err.ensures.tells.emptied,
     )
 
 pub note-requires : goal.note-requires
@@ -47,4 +47,4 @@ returns-in_ok-note-in-Ok-clause-tried g c =
     entered_more g.A.Algebra.algebra (standing c.args.scope.now) c.args.self.now path c.args.count (get_or c.steps.result.now c.args.count no_pin)
     c.requires.along c.requires.at c.requires.more
     (pin_read c.steps.result.now path.steps c.args.count no_pin c.steps.ensures c.requires.more)
-    (standing c.enter.new.self) c.note.new.self c.in-Ok.ensures.ok c.in_ok-note-in-Ok.ensures c.in-Ok.ensures.open
+    (standing c.enter.new.self) c.note.new.self c.in-Ok.ensures.tells.ok c.in_ok-note-in-Ok.ensures c.in-Ok.ensures.tells.left_open

@@ -1,6 +1,5 @@
 -- The engine is idle as it is made, and the room for trials is made for its circuit and rules.
-use Rattle.std.proofs.Common.{◌<◌, ◌^◌, length, sym, ap, subst, subst₂}
-use Rattle.pd_base.specs.Links.{links_of}
+use Rattle.std.proofs.Common.{sym, ap, subst₂}
 use Rattle.pd_base.specs.declared.rules.Rules.{Rules}
 use Rattle.netlist.specs.Circuit.{Circuit}
 use Rattle.implication.specs.Standing.{Standing}
@@ -12,10 +11,8 @@ pub invariant_of-result : goal.invariant_of-result
 invariant_of-result g c =
     let made = c.in_ok-engine.ensures in
     let net = ap (λ (s : Standing). s.net) made in let rules = ap (λ (s : Standing). s.rules) made in
-    let F : Rules → Type 0 = λ r. length (links_of r) < 2 ^ 30 in
     let R : Circuit → Rules → Type 0 = λ n r. IsTrialRoomFor g.A.Algebra.algebra n r c.in_ok-room.room in
     record {
-      few = subst F (sym rules) c.requires.few;
       idle = ap (λ (s : Standing). s.beginning) made;
       room = subst₂ R (sym net) (sym rules) c.in_ok-room.ensures;
     }

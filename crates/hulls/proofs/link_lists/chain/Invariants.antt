@@ -1,6 +1,6 @@
 use Rattle.std.proofs.Common.{◌≡◌, length}
 use Rattle.hulls.specs.Links.{IsChained}
-use Rattle.hulls.proofs.tie_lists.chain.Given as goal
+use Rattle.hulls.proofs.link_lists.chain.Given as goal
 
 abbrev pub invariant-loop-link : goal.invariant-loop-link
 invariant-loop-link l = record {

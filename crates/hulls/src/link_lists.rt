@@ -3,7 +3,7 @@
 // there is no link.
 ghost use Rattle.std.specs.Prelude.{◌≡◌, ◌≢◌, ◌<◌, ◌≤◌, ◌+◌, ◌^◌, ◌∷◌, ◌⊎◌, [], ℕ, true, length, slice_index_or, All, Contains, IfOk, IsTrue};
 ghost use Rattle.hulls.specs.Awaiting.{is_inside, IsMore};
-ghost use Rattle.hulls.specs.Links.{IsChained, IsInChain, tied_line, link_at, link_lines};
+ghost use Rattle.hulls.specs.Links.{IsChained, IsInChain, chained_line, link_at, link_lines};
 
 use crate::waiting::Waiting;
 use pd_base::{GateId, LineId, OutOfMemory};
@@ -12,7 +12,7 @@ use std::marker::Model;
 
 /// Links of sources and lines. Contracts see them in order.
 #[derive(Drop)]
-pub(crate) struct Ties {
+pub(crate) struct LinkLists {
     links: Vec<(LineId, LineId)>,
     by_source: Chains,
     by_line: Chains,
@@ -25,34 +25,34 @@ struct Chains {
     nexts: Vec<u32>,
 }
 
-impl Model for Ties {
+impl Model for LinkLists {
     ghost use Rattle.std.specs.Prelude.{length};
     ghost use Rattle.std.specs.Prelude.{false, true};
     ghost use Rattle.pd_base.specs.Links.{LinkList};
-    ghost use Rattle.hulls.specs.Links.{AreTied};
+    ghost use Rattle.hulls.specs.Links.{AreChained};
 
     ghost Value = { LinkList };
 
-    ghost view = { λ t. t.links.items };
+    ghost view = { λ l. l.links.items };
 
-    ghost invariant = { λ t. AreTied t.links.items t.by_source.heads.items t.by_source.nexts.items t.by_line.heads.items t.by_line.nexts.items };
+    ghost invariant = { λ l. AreChained l.links.items l.by_source.heads.items l.by_source.nexts.items l.by_line.heads.items l.by_line.nexts.items };
 }
 
-impl Ties {
+impl LinkLists {
     /// These links of a netlist with so many lines. It fails only where memory runs out.
     pub(crate) fn new(
         alloc: Global,
         lines: usize,
         links: &[(LineId, LineId)],
-    ) -> Result<Ties, OutOfMemory>
+    ) -> Result<LinkLists, OutOfMemory>
         requires few { length links.now < 2 ^ 31 }
         requires sources { All (λ link. link.0.0 < lines) links.now }
         requires lines { All (λ link. link.1.0 < lines) links.now }
-        ensures { IfOk result (λ t. t ≡ links.now) }
+        ensures { IfOk result (λ lists. lists ≡ links.now) }
     {
         let by_source = chain(alloc, lines, links, false)?;
         let by_line = chain(alloc, lines, links, true)?;
-        Ok(Ties {
+        Ok(LinkLists {
             links: Vec::from_slice(alloc, links)?,
             by_source,
             by_line,
@@ -75,12 +75,28 @@ impl Ties {
     }
 
     /// Lets all links wait that have this line among their two. They are numbered on from the number of gates. Takes no memory, and
-    /// costs what there are of them. Inlined: without links it is two comparisons.
+    /// costs what there are of them. Inlined: each cut that takes states comes here, and without links it is one comparison.
     #[inline(always)]
     pub(crate) fn wake(&self, waiting: &mut Waiting, gates: u32, line: LineId)
         requires room { gates + length self.now ≤ length waiting.old.inside }
         requires few { length waiting.old.inside < 2 ^ 32 }
-        requires ties { (link : ℕ) → link < length self.now → is_inside waiting.old.inside (gates + link) ≡ true }
+        requires links_inside { (link : ℕ) → link < length self.now → is_inside waiting.old.inside (gates + link) ≡ true }
+        ensures more { IsMore waiting.old waiting.new }
+        ensures waits { (link : ℕ) → link < length self.now → Contains (link_lines self.now link) line
+            → Contains waiting.new.waiting (record { 0 = gates + link }) }
+    {
+        if self.links.is_empty() {
+            return;
+        }
+        self.wake_some(waiting, gates, line);
+    }
+
+    // The same where there are links: a call, so that a cut is small where there are none.
+    #[inline(never)]
+    fn wake_some(&self, waiting: &mut Waiting, gates: u32, line: LineId)
+        requires room { gates + length self.now ≤ length waiting.old.inside }
+        requires few { length waiting.old.inside < 2 ^ 32 }
+        requires links_inside { (link : ℕ) → link < length self.now → is_inside waiting.old.inside (gates + link) ≡ true }
         ensures more { IsMore waiting.old waiting.new }
         ensures waits { (link : ℕ) → link < length self.now → Contains (link_lines self.now link) line
             → Contains waiting.new.waiting (record { 0 = gates + link }) }
@@ -91,11 +107,10 @@ impl Ties {
 }
 
 // Lets all links of the chain of this line wait.
-#[inline(always)]
 fn walk(chains: &Chains, waiting: &mut Waiting, gates: u32, line: LineId)
     requires room { gates + length chains.now.nexts.items ≤ length waiting.old.inside }
     requires few { length waiting.old.inside < 2 ^ 32 }
-    requires ties { (link : ℕ) → link < length chains.now.nexts.items → is_inside waiting.old.inside (gates + link) ≡ true }
+    requires links_inside { (link : ℕ) → link < length chains.now.nexts.items → is_inside waiting.old.inside (gates + link) ≡ true }
     requires falls { (link : ℕ) → link < length chains.now.nexts.items → slice_index_or chains.now.nexts.items link 0 ≤ link }
     requires heads { (at : ℕ) → slice_index_or chains.now.heads.items at 0 ≤ length chains.now.nexts.items }
     ensures more { IsMore waiting.old waiting.new }
@@ -126,7 +141,7 @@ fn chain(
     second: bool,
 ) -> Result<Chains, OutOfMemory>
     requires few { length links.now < 2 ^ 31 }
-    requires lines { All (λ link. (tied_line second link).0 < lines) links.now }
+    requires lines { All (λ link. (chained_line second link).0 < lines) links.now }
     ensures { IfOk result (λ c. IsChained second links.now (length links.now) c.heads.items c.nexts.items) }
 {
     if links.is_empty() {
@@ -155,7 +170,7 @@ fn no_chains(alloc: Global) -> Chains
 
 // The second line of a link, or the first.
 fn line_of(link: (LineId, LineId), second: bool) -> LineId
-    ensures { result ≡ tied_line second link }
+    ensures { result ≡ chained_line second link }
 {
     if second { link.1 } else { link.0 }
 }

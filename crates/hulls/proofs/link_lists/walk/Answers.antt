@@ -6,7 +6,7 @@ use Rattle.hulls.specs.Awaiting.{is_inside}
 use Rattle.hulls.specs.Links.{IsInChain}
 use Rattle.hulls.proofs.Chains.{on_step}
 use Rattle.hulls.proofs.Readers.{more_on}
-use Rattle.hulls.proofs.tie_lists.walk.Goals as goal
+use Rattle.hulls.proofs.link_lists.walk.Goals as goal
 
 pub loop-at-preserved : goal.loop-at-preserved
 loop-at-preserved c =
@@ -23,7 +23,7 @@ loop-at-preserved c =
           (λ (rest : IsInChain nexts link at). ⊎_elim
           (λ (same : link ≡ first).
           inl (subst (λ (n : ℕ). Contains new (record { 0 = gates + n })) (sym same)
-          (c.add.ensures.waits (ap (λ flags. is_inside flags (gates + first)) c.loop-at.invariant.more.inside ∙ c.requires.ties first inside))))
+          (c.add.ensures.waits (ap (λ flags. is_inside flags (gates + first)) c.loop-at.invariant.more.inside ∙ c.requires.links_inside first inside))))
           (λ (further : IsInChain nexts link (get_or nexts first 0)). inr (subst (IsInChain nexts link) (sym next) further))
           (on_step nexts link at first is rest))
           (c.loop-at.invariant.waits link on);

@@ -27,16 +27,16 @@ use Rattle.hulls.specs.Links.{link_at, link_lines}
 use Rattle.hulls.proofs.Changing.{cut_shrunk, shrunk_on, some_left}
 use Rattle.hulls.proofs.Cuts.{has_after_cut, had_before_cut}
 use Rattle.hulls.proofs.Narrowed.{awake_on, link_stands, link_rests_after}
-use Rattle.hulls.proofs.Ties.{link_narrowed}
+use Rattle.hulls.proofs.LinkCuts.{link_narrowed}
 
 module _ (a : StateAlgebra) (c : Circuit) (kind : Kind) (steps : List PinRef) (old : OnBoard) (of : IsBoardOf c old)
     (sets : AreWithin a.count old.labels) (link : ℕ) (stands : link < length old.links)
-    (tie : LineId × LineId) (is : tie ≡ link_at old.links link) where
+    (two : LineId × LineId) (is : two ≡ link_at old.links link) where
   abbrev source : ℕ
-  source = tie.0.0
+  source = two.0.0
 
   abbrev line : ℕ
-  line = tie.1.0
+  line = two.1.0
 
   is_link : IsLink old.links source line
   is_link = subst (λ (t : LineId × LineId). IsLink old.links t.0.0 t.1.0) (sym is) (link_stands old.links link stands)
@@ -73,8 +73,8 @@ module _ (a : StateAlgebra) (c : Circuit) (kind : Kind) (steps : List PinRef) (o
           subst (λ (l : List StateSet). Has a.count (label_at l at) state) (sym first.labels)
           (has_after_cut old.labels source source_within (both_sets (label_at old.labels source) at_source) a.count at_source refl at state
           (lies at state has)
-          (λ here. let tie = kept.at_source here in
-          (sources state).1 (has.in_range, (tie.0, lies line tie.0 tie.1, tie.2))));
+          (λ here. let two = kept.at_source here in
+          (sources state).1 (has.in_range, (two.0, lies line two.0 two.1, two.2))));
     }
 
     pub conflict_at_source : label_at mid.labels source ≡ no_states → IsConflict a c kind steps old mid source
@@ -113,21 +113,21 @@ module _ (a : StateAlgebra) (c : Circuit) (kind : Kind) (steps : List PinRef) (o
           (λ (same : All (IsSameAt old.labels new.labels) (link_lines old.links link)).
           inr (link_rests_after a old.links link old.labels new.labels same
           (subst (λ (t : LineId × LineId). IsLinkNarrowing a t.0.0 t.1.0 old.labels new.labels) is is_narrowing)))
-          (shrunk.wakes.tied link stands)
+          (shrunk.wakes.links_woken link stands)
 
-      pub tied_done : IsAwakeBut a c kind steps (link_turn c link).0 old → HasNoEmptySet c old.labels
+      pub link_done : IsAwakeBut a c kind steps (link_turn c link).0 old → HasNoEmptySet c old.labels
           → label_at mid.labels source ≢ no_states → label_at new.labels line ≢ no_states → IsTurn a c kind steps old new
-      tied_done awake some left_source left_line =
+      link_done awake some left_source left_line =
           let but = awake_on a c kind steps (link_turn c link).0 None tt old new shrunk.inside shrunk.links shrunk.wakes awake in
           record {
             narrowed = narrowed;
             awake = record {
               gates = λ gate within here. but.gates gate within here (λ same. absurd (omega (arith, same, within)));
-              ties = λ other inside. ⊎_elim
+              links = λ other inside. ⊎_elim
                   (λ (same : other ≡ link).
                   subst (λ (n : ℕ). Contains new.waiting (link_turn c n) ⊎ RestsAlong a new.links new.labels n) (sym same)
                   (subst (λ (ls : LinkList). Contains new.waiting (link_turn c link) ⊎ RestsAlong a ls new.labels link) (sym shrunk.links) awake_here))
-                  (λ (away : other ≢ link). but.ties other inside (λ same. away (omega (arith, same))))
+                  (λ (away : other ≢ link). but.links other inside (λ same. away (omega (arith, same))))
                   (cases_eq other link);
             };
             some = some_left c None a.count line at_line mid new second

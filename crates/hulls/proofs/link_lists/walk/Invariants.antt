@@ -2,7 +2,7 @@ use Rattle.std.proofs.Common.{ℕ, ◌≤◌, ◌+◌, ◌⊎◌, length, slice_
 use Rattle.std.specs.List.{Contains}
 use Rattle.hulls.specs.Awaiting.{IsMore}
 use Rattle.hulls.specs.Links.{IsInChain}
-use Rattle.hulls.proofs.tie_lists.walk.Given as goal
+use Rattle.hulls.proofs.link_lists.walk.Given as goal
 
 abbrev pub invariant-loop-at : goal.invariant-loop-at
 invariant-loop-at l = record {

@@ -3,15 +3,15 @@ use Rattle.std.proofs.Common.{◌≡◌, ◌<◌, ◌+◌, ℕ, ◌∷◌, [], �
 use Rattle.std.proofs.Math.ListN.{set}
 use Rattle.std.proofs.lemmas.List.{length-set, get_or_read}
 use Rattle.pd_base.specs.declared.ids.LineId.{LineId}
-use Rattle.hulls.specs.Links.{IsChained, tied_line, link_at}
+use Rattle.hulls.specs.Links.{IsChained, chained_line, link_at}
 use Rattle.hulls.proofs.Chains.{chained_more, chained_none}
-use Rattle.hulls.proofs.tie_lists.chain.Goals as goal
+use Rattle.hulls.proofs.link_lists.chain.Goals as goal
 
 pub loop-link-preserved : goal.loop-link-preserved
 loop-link-preserved c =
     let links = c.args.links.now in let at = c.loop-link.link in let heads = c.loop-link.heads.items in let nexts = c.loop-link.nexts.items in
     let line = c.line_of-line.result.0 in
-    let at_line : (tied_line c.args.second (link_at links at)).0 ≡ line = ap (λ (l : LineId). l.0) (sym c.line_of-line.ensures) in
+    let at_line : (chained_line c.args.second (link_at links at)).0 ≡ line = ap (λ (l : LineId). l.0) (sym c.line_of-line.ensures) in
     let low : line < c.args.lines =
     subst (λ (n : ℕ). n < c.args.lines) at_line (c.requires.lines at (record { 0 = 0 }, record { 0 = 0 }) c.loop-link-test.true) in
     let inside : line < length heads = omega (arith, low, c.loop-link.invariant.lines) in
