@@ -77,26 +77,26 @@ module _ (command : InputCommand) where
       (then_whole command role.Net net_name net.text (begun (work_on_inputs command) old) net.read) (accepts_net net.text.items [] c net.holds)
 
   module _ (columns : Columns) (net_name delays_name : List ℕ) (c : Circuit) (old mid new : FilesSeen) (net : GivesNet net_name c old mid)
-      where
-    -- DELAYS gives no delays
-    pub columns_fail : (behind : List (Stage (Requirement command.Own)))
-        → command.stages ≡ delays_stages columns net_name delays_name ++ behind → (ending : Ending)
-        → FailsToGive columns delays_name c ending mid new → Stops (work_on_inputs command) ending old new
-    columns_fail behind place ending (judging.not_read fails) =
-        stops_unwhole command role.Delays delays_name ending (net_passed net_name c old mid net) (_, place) fails
-    columns_fail behind place ending (judging.gives_none file read fails) =
-        stops_judged command (SpellsDelays columns) (HasNoDelaysFor c columns file.items) ending
-        (then_whole command role.Delays delays_name file (net_passed net_name c old mid net) read) (_, place)
-        (λ refusal why. record { circuit = c; has = net.holds; none = why }) fails
+    where
+      -- DELAYS gives no delays
+      pub columns_fail : (behind : List (Stage (Requirement command.Own)))
+          → command.stages ≡ delays_stages columns net_name delays_name ++ behind → (ending : Ending)
+          → FailsToGive columns delays_name c ending mid new → Stops (work_on_inputs command) ending old new
+      columns_fail behind place ending (judging.not_read fails) =
+          stops_unwhole command role.Delays delays_name ending (net_passed net_name c old mid net) (_, place) fails
+      columns_fail behind place ending (judging.gives_none file read fails) =
+          stops_judged command (SpellsDelays columns) (HasNoDelaysFor c columns file.items) ending
+          (then_whole command role.Delays delays_name file (net_passed net_name c old mid net) read) (_, place)
+          (λ refusal why. record { circuit = c; has = net.holds; none = why }) fails
 
-    -- both were read and judged
-    pub columns_passed : (Holds : List ℕ → Type 0) (direction : Direction) (given : Delays)
-        → ((text : List ℕ) → Holds text → HasDelaysOn c columns direction text given) → (delays : GivesFrom role.Delays delays_name Holds mid new)
-        → HasPassed (work_on_inputs command) (delays_stages columns net_name delays_name) (net.text.items ∷ delays.text.items ∷ []) old new
-    columns_passed Holds direction given has delays =
-        then_required (work_on_inputs command) (SpellsDelays columns)
-        (then_whole command role.Delays delays_name delays.text (net_passed net_name c old mid net) delays.read)
-        (accepts_given columns direction net.text.items delays.text.items [] c given net.holds (has delays.text.items delays.holds))
+      -- both were read and judged
+      pub columns_passed : (Holds : List ℕ → Type 0) (direction : Direction) (given : Delays)
+          → ((text : List ℕ) → Holds text → HasDelaysOn c columns direction text given) → (delays : GivesFrom role.Delays delays_name Holds mid new)
+          → HasPassed (work_on_inputs command) (delays_stages columns net_name delays_name) (net.text.items ∷ delays.text.items ∷ []) old new
+      columns_passed Holds direction given has delays =
+          then_required (work_on_inputs command) (SpellsDelays columns)
+          (then_whole command role.Delays delays_name delays.text (net_passed net_name c old mid net) delays.read)
+          (accepts_given columns direction net.text.items delays.text.items [] c given net.holds (has delays.text.items delays.holds))
 
   -- the same, where DELAYS is to have one delay for each pin
   module _ (net_name delays_name : List ℕ) (c : Circuit) (old mid new : FilesSeen) (net : GivesNet net_name c old mid) where

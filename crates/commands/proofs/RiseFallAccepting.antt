@@ -1,12 +1,9 @@
 -- Where the lines change few times under the pairs of the tests, rfreplay refuses no test, whichever way its inputs are read.
-use Rattle.std.proofs.Common.{◌≡◌, ℕ, Bool, true, false, List, [], ◌∷◌, sym, ap, subst, ◌∙◌}
+use Rattle.std.proofs.Common.{◌≡◌, ℕ, true, false, List, [], ◌∷◌, sym, subst, ◌∙◌}
 use Rattle.pd_base.specs.declared.fault.Direction.TheVariants.{Rise, Fall}
-use Rattle.pd_base.specs.declared.ids.PinRef.{PinRef}
 use Rattle.pd_base.specs.declared.test.Test.{Test}
 use Rattle.netlist.specs.Circuit.{Circuit}
 use Rattle.netlist.specs.Lawful.{IsCircuit}
-use Rattle.netlist.specs.Pins.{IsPinOn}
-use Rattle.netlist.specs.Waves.{Wave}
 use Rattle.bench_reader.proofs.Answering.{one_circuit}
 use Rattle.bench_reader.proofs.LawfulCircuits.{is_circuit}
 use Rattle.delay_annotation.specs.DelayFile.{HasRiseFall}
@@ -28,20 +25,15 @@ use Rattle.commands.proofs.SameDelays.{PinsAgree, all_few_agree}
 abbrev pub four : FourTexts → List (List ℕ)
 four texts = texts.net ∷ texts.delays ∷ texts.tests ∷ texts.report ∷ []
 
--- the delays of a pin are told by its rise delay and its fall delay
-two_delays : (a b : Bool → ℕ) → a true ≡ b true → a false ≡ b false → a ≡ b
-two_delays a b rises falls = λ i bit. each bit i where
-  each : (bit : Bool) → a bit ≡ b bit
-  each true = rises
-  each false = falls
-
 -- two rise and fall delays that a file has make pins agree that read a line
 copies_agree : (c : Circuit) → IsCircuit c → (bytes : List ℕ) (a b : RiseFallDelays) → HasRiseFall c bytes a → HasRiseFall c bytes b
     → PinsAgree c (rise_fall_copy a) (rise_fall_copy b)
 copies_agree c circuit bytes a b has other pin line on =
-    let rises = delays_on_agree c RiseAndFall circuit Rise bytes (λ pin. a pin true) (λ pin. b pin true) has.0 other.0 pin line on in
-    let falls = delays_on_agree c RiseAndFall circuit Fall bytes (λ pin. a pin false) (λ pin. b pin false) has.1 other.1 pin line on in
-    ap (λ (delays : Bool → ℕ) (wave : Wave). risen_fallen (delays true) (delays false) wave) (two_delays (a pin) (b pin) rises falls)
+    let rises : a pin true ≡ b pin true =
+    delays_on_agree c RiseAndFall circuit Rise bytes (λ p. a p true) (λ p. b p true) has.0 other.0 pin line on in
+    let falls : a pin false ≡ b pin false =
+    delays_on_agree c RiseAndFall circuit Fall bytes (λ p. a p false) (λ p. b p false) has.1 other.1 pin line on in
+    λ i wave. risen_fallen (rises i) (falls i) wave
 
 module _ (texts : FourTexts) (read : RiseFallInputs) (are : AreReadAs texts read)
     (few : HaveFewOf read.circuit (waves_under read) read.tests) where

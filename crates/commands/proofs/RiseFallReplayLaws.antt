@@ -36,8 +36,7 @@ accepted call now can =
       passed =
           delays_pass command RiseAndFall Rise now call.net call.delays
           (tests_and_report_stages call.tests call.report ++ tests_and_report_forms 2 ++ Require (own FewChanges) ∷ [])
-          can.read.circuit (λ pin. can.read.delays pin true) (four texts) can.within.net can.are.has can.within.delays can.are.gives.0
-          (
+          can.read.circuit (λ pin. can.read.delays pin true) (four texts) can.within.net can.are.has can.within.delays can.are.gives.0 (
             texts.tests,
             refl,
             (

@@ -49,7 +49,7 @@ fn prepare_behind_net<F: Files>(
     requires { HasRiseFallReplayNumbers (rise_fall_replay_call_of command.now) }
     ensures { (begun : FilesSeen) → GivesNet command.now.net.now net.now begun (files_seen F.Files files.old)
         → Prepares printed_text (rise_fall_replay_work (rise_fall_replay_call_of command.now)) result begun
-            (files_seen F.Files files.new) }
+        (files_seen F.Files files.new) }
 {
     let delays = rise_fall_from(alloc, files, net, command.delays)?;
     let texts = tests_and_report_from(alloc, files, command.tests, command.report)?;
