@@ -142,7 +142,7 @@ module _ (c : Circuit) where
   shorter_lines : {tests kept : List Test} → LeavesOut tests kept → (number less : ℕ) → less ≤ number → number + length tests < 2 ^ 64
       → length (lines_text (tests_form c) less kept) ≤ length (lines_text (tests_form c) number tests)
   shorter_lines nothing number less below small = omega arith
-  shorter_lines (stays {test} {tests} {kept} more) number less below small =
+  shorter_lines (stays {x = test} {items = tests} {kept} more) number less below small =
       omega (
         arith,
         length-append (line (test_text less test)) (lines_text (tests_form c) (less + 1) kept),
@@ -150,7 +150,7 @@ module _ (c : Circuit) where
         shorter_line number less test below (omega arith),
         shorter_lines more (number + 1) (less + 1) (omega arith) (omega arith),
       )
-  shorter_lines (goes {test} {tests} {kept} more) number less below small =
+  shorter_lines (goes {x = test} {items = tests} {kept} more) number less below small =
       omega (
         arith,
         length-append (line (test_text number test)) (lines_text (tests_form c) (number + 1) tests),

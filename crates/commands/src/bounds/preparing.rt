@@ -1,5 +1,5 @@
 // The stages of `bounds` in their order, up to the text that is to be printed. Nothing is written here.
-ghost use Rattle.std.specs.Prelude.{◌≡◌, ◌≤◌, All, IfErr, IfOk, length};
+ghost use Rattle.std.specs.Prelude.{◌≡◌, ◌<◌, ◌≤◌, ◌^◌, All, IfErr, IfOk, length};
 ghost use Rattle.pd_io.specs.Seen.{files_seen};
 ghost use Rattle.netlist.specs.Lawful.{IsCircuit};
 ghost use Rattle.runs.specs.Lawful.{AreLawfulTests};
@@ -20,7 +20,7 @@ use calls::{Ending, Role};
 use command_line::BoundsCommand;
 use delay_bounds::{LogRow, bounds, read_log};
 use netlist::Netlist;
-use pd_base::OutOfMemory;
+use pd_base::{OutOfMemory, Test};
 use pd_io::Files;
 use std::alloc::Global;
 
@@ -38,17 +38,18 @@ pub(crate) fn prepare_bounds<F: Files>(
     let texts = tests_and_report_from(alloc, files, command.tests, command.report)?;
     let log = text_from(alloc, files, Role::Log, command.log)?;
     let listed = graded_in(alloc, b"bounds", &net, &texts)?;
-    let rows = log_in(alloc, listed.tests.len() as u32, log.as_slice())?;
+    let rows = log_in(alloc, listed.tests.as_slice(), log.as_slice())?;
     Ok(text_for(alloc, &net, &listed, rows.as_slice())?)
 }
 
-// The rows of the log of so many tests that the text of LOG is. A text is refused exactly where it is none.
-fn log_in(alloc: Global, tests: u32, text: &[u8]) -> Result<Vec<LogRow>, Ending>
-    requires { length text.now ≤ INPUT_LIMIT }
-    ensures log { IfOk result (λ rows. IsLog tests text.now rows.items) }
-    ensures fails { IfErr result (FailsLog tests text.now) }
+// The rows of the log of these tests that the text of LOG is. A text is refused exactly where it is none.
+fn log_in(alloc: Global, tests: &[Test], text: &[u8]) -> Result<Vec<LogRow>, Ending>
+    requires few { length tests.now < 2 ^ 32 }
+    requires within { length text.now ≤ INPUT_LIMIT }
+    ensures log { IfOk result (λ rows. IsLog (length tests.now) text.now rows.items) }
+    ensures fails { IfErr result (FailsLog (length tests.now) text.now) }
 {
-    match read_log(alloc, tests, text) {
+    match read_log(alloc, tests.len() as u32, text) {
         Ok(rows) => Ok(rows),
         Err(fault) => Err(log_ending(fault)),
     }

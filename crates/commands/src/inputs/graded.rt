@@ -52,8 +52,7 @@ fn require_paths(command: &'static [u8], net: &Netlist, paths: &[ListedPath]) ->
     match first_wrong_path(net, paths) {
         None => Ok(()),
         Some(number) => {
-            let refusal = wrong_item(command, b": path ", number, b" WrongPath");
-            Err(Ending::Refused(refusal))
+            Err(Ending::Refused(wrong_item(command, b": path ", number, b" WrongPath")))
         }
     }
 }
@@ -86,8 +85,7 @@ fn require_expected(
     match first_wrong_expected(alloc, net, tests)? {
         None => Ok(()),
         Some(number) => {
-            let refusal = wrong_item(command, b": test ", number, b" WrongExpected");
-            Err(Ending::Refused(refusal))
+            Err(Ending::Refused(wrong_item(command, b": test ", number, b" WrongExpected")))
         }
     }
 }

@@ -23,5 +23,5 @@ returns-in-Ok g c =
     let whole = subst (λ (tests : List Test). AreWhole (out_due call made.net tests ∷ [])
     (files_seen g.F.Files c.args.files.now) (files_seen g.F.Files c.write_out.new.files)) c.as_slice.ensures.value c.in-Ok.ensures.whole in
     let prints = subst (λ (text : List ℕ). Prints text c.print.result (sink_seen g.O.Sink c.args.out.now)
-    (sink_seen g.O.Sink c.print.new.out)) c.as_slice-2.ensures.value c.print.ensures in
+    (sink_seen g.O.Sink c.print.new.out)) c.as_slice-in-Ok.ensures.value c.print.ensures in
     printed (kept_products call made) _ _ _ whole prints
