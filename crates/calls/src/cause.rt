@@ -16,7 +16,7 @@ pub enum Cause {
     Netlist,
     /// The delay file.
     Delays,
-    /// A length, or a number of changes, over its limit.
+    /// A length, a number of changes, or tests times faults, over its limit.
     Size,
     /// The tester's log.
     Log,

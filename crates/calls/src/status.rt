@@ -7,7 +7,8 @@ ghost use Rattle.calls.specs.Lines.{number_of};
 pub enum Status {
     /// The work was done.
     Done = 0,
-    /// A claim file is malformed, or the run that the claim files spell is not good.
+    /// A claim file is malformed, the run that the claim files spell is not good, a listed path is none of the netlist, or a test expects
+    /// other bits than the values of the observed lines.
     Refused = 1,
     /// The words were refused.
     Words = 2,
@@ -21,9 +22,10 @@ pub enum Status {
     WriteFault = 6,
     /// Memory ran out.
     NoMemory = 7,
-    /// An input has more bytes than are read of it, the texts may be too long, or a line changes too often under a test.
+    /// An input has more bytes than are read of it, the texts may be too long, a line changes too often under a test, or there are too many
+    /// tests for so many faults.
     Size = 8,
-    /// The log says nothing of the tests.
+    /// The log is refused: it is no log of these tests.
     Log = 12,
 }
 

@@ -113,6 +113,5 @@ module _ (at : RiseFallSampling) where
     pub keeps_late_promises : (own : JudgedTest) → IsWordOn at own.test own.word → KeepsLatePromises at own
     keeps_late_promises own is = record {
       shown = λ late. shown_late own.test (subst (IsWordOn at own.test) late is);
-      always = λ listed robust.
-          robust_detects_rise_fall at.circuit circuit listed.path own.test.dir own.test.pair robust.is_path.prefix robust.meets;
+      always = λ path direction prefix meets. robust_detects_rise_fall at.circuit circuit path direction own.test.pair prefix meets;
     }

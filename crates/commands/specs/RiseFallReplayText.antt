@@ -2,12 +2,14 @@
 -- path that the test is for is late at the time of sampling (this project's own format). How long a path is, is told by the values to which
 -- its lines go: a step counts its pin's rise delay where the pin's line ends at 1, and else its fall delay.
 use Rattle.std.specs.Prelude.{◌≡◌, ℕ, ◌<◌, ◌≤◌, pos, Bool, List, ◌++◌, codes, map, Some, slice_get, All}
+use Rattle.pd_base.specs.declared.fault.Direction.{Direction}
 use Rattle.pd_base.specs.declared.fault.Kind.TheVariants.{Robust}
 use Rattle.pd_base.specs.declared.test.Test.{Test}
+use Rattle.pd_base.specs.Route.{Route}
 use Rattle.pd_base.specs.Target.{target_of}
 use Rattle.netlist.specs.Circuit.{Circuit, observed_lines}
 use Rattle.netlist.specs.Conditions.{Meets}
-use Rattle.netlist.specs.Paths.{IsPath, end_of}
+use Rattle.netlist.specs.Paths.{IsPath, IsPrefix, end_of}
 use Rattle.netlist.specs.Values.{value}
 use Rattle.delay_replay.specs.Settling.{observed_under}
 use Rattle.rise_fall.specs.Showing.{IsLateAt}
@@ -86,8 +88,9 @@ pub record IsShownLate (at : RiseFallSampling) (test : Test) : Type 0 where
       → slice_get test.expected place ≡ Some (value at.circuit test.pair.second (end_of at.circuit listed.path))
       → agreement_word (samples_of at test) test.expected ≡ codes "differs"
 
--- What a line promises: where it says `late`, that; and a robust test for its listed path shows the path late under whatever rise and fall
--- delays of the pins, at each time below its length for the final values.
+-- What a line promises: where it says `late`, that; and each path for which the test's pair meets the robust conditions is shown late by it,
+-- under whatever rise and fall delays of the pins, at each time below the path's length for the final values.
 pub record KeepsLatePromises (at : RiseFallSampling) (own : JudgedTest) : Type 0 where
   pub shown : own.word ≡ Late → IsShownLate at own.test
-  pub always : (listed : ListedPath) → IsRobustFor at own.test listed → DetectsRiseFall at.circuit listed.path own.test.pair
+  pub always : (path : Route) (direction : Direction) → IsPrefix at.circuit path → Meets at.circuit (target_of path direction Robust) own.test.pair
+      → DetectsRiseFall at.circuit path own.test.pair

@@ -19,8 +19,8 @@ use std::alloc::Global;
 /// nonrobust one does where its side pins have settled, too; the refutation of an untestable fault excludes every pair of vectors; an
 /// aborted fault spent its budget; and a nonrobust or aborted one tells why no robust test was found (`gen_work` in specs/Gen.antt).
 ///
-/// NET or DELAYS of more than 33,554,432 bytes are refused, other files that are read over 268,435,456 bytes, and so are a netlist that has no circuit, a delay file that gives its pins
-/// no delays, and a circuit whose texts might grow too long.
+/// NET, DELAYS or LOG of more than 33,554,432 bytes are refused, other files that are read over 268,435,456 bytes, and so are a netlist
+/// that has no circuit, a delay file that gives its pins no delays, and a circuit whose texts might grow too long.
 ///
 /// `check NET DELAYS TESTS REPORT PROOFS` reads all five files and writes none. At status 0, and only then, out has the word `good`: the
 /// last three spell one run, which is good for NET and DELAYS and for as many paths and the budget as are asked for, judged from NET and
@@ -35,8 +35,17 @@ use std::alloc::Global;
 /// 0 out has a line for each test of TESTS, with what `replay` says of it under such delays and a word on the path that REPORT lists under
 /// its number: `late` where the test's pair is a robust test for that path and the path is longer than TIME for the values to which its
 /// lines go, `met` where it is no longer, and `none` else. Where it says `late`, what was sampled at the path's end isn't its final value;
-/// and a robust test shows its path late in this way under every rise and fall delay of each pin (`rise_fall_replay_work` in
-/// specs/RiseFallReplay.antt).
+/// and each path for which a pair meets the robust conditions is shown late in this way under every rise and fall delay of each pin
+/// (`rise_fall_replay_work` in specs/RiseFallReplay.antt).
+///
+/// `compact NET TESTS REPORT OUT` reads the first three files and writes OUT, then how many tests were kept on out. At status 0 OUT has
+/// tests of TESTS in their order: each fault of REPORT that a test of TESTS serves is served by one of them, and none could be left out
+/// (`compact_work` in specs/Compact.antt).
+///
+/// `bounds NET TESTS REPORT LOG` reads these four files and writes none. At status 0 out has a line for each fault of REPORT: the least time
+/// of a row of LOG by which a test passed that covers the fault, or a dash. Under all delays that agree with LOG the path is no longer than
+/// that (`bounds_work` in specs/Bounds.antt). Both refuse a listed path that is no path of NET, a test that expects other bits than the
+/// values under its second vector, and more than 1,000,000 tests times faults.
 ///
 /// `make N` does the work of `gen` on a ladder of N stages, with a delay of 1 at each pin, and prints one line that counts the verdicts of a
 /// good run (`make_work` in specs/Make.antt). No words but refused ones, failed writes on out and want of memory keep it from status 0.
@@ -71,8 +80,8 @@ pub fn run<F: Files, O: Sink, E: Sink>(
         (outside F.Files O.Sink E.Sink files.old out.old err.old)
         (outside F.Files O.Sink E.Sink files.new out.new err.new) }
 
-    // What the command promises beside this: which inputs it accepts, when check answers 0 and when 1, and that check, replay and rfreplay
-    // take what gen left.
+    // What the command promises beside this: which inputs it accepts, when check answers 0 and when 1, that the later commands take what gen
+    // left, and that compact keeps all of what it left itself.
     ensures own { KeepsAskedLaws (bytes_of_words words.now) result
         (outside F.Files O.Sink E.Sink files.old out.old err.old)
         (outside F.Files O.Sink E.Sink files.new out.new err.new) }

@@ -1,7 +1,8 @@
 // The inputs that commands read and judge alike: each read within its limit (reading.rt), NET's circuit and the delays of its pins
-// (judging.rt), the claim files (claims.rt), TESTS and REPORT together (listed.rt), which may have to be such that tests can be graded (graded.rt), and the two products that bound the texts of a run (sizes.rt). What is required so, and how it
-// is refused, is said in specs/InputRequirements.antt and InputRefusals.antt; a command puts its stages together of those, and cites the
-// lemmas of proofs/InputStages.antt.
+// (judging.rt), the claim files (claims.rt), TESTS and REPORT together (listed.rt), which may have to be such that tests can be graded
+// (graded.rt), and the two products that bound the texts of a run (sizes.rt). What is required so, and how it is refused, is said in
+// specs/InputRequirements.antt and InputRefusals.antt; a command puts its stages together of those, and cites the lemmas of
+// proofs/InputStages.antt.
 mod claims;
 mod delays_ending;
 mod graded;

@@ -14,6 +14,8 @@ use Rattle.delay_annotation.specs.declared.field.TheConstants.{MOST_PIN_DIGITS, 
 use Rattle.delay_replay.specs.declared.gate.TheConstants.{MOST_CHANGES}
 use Rattle.delay_replay.specs.declared.line_waves.TheConstants.{MOST_CHANGES_OF_ALL}
 use Rattle.delay_replay.specs.declared.wave.TheConstants.{LATEST_CHANGE}
+use Rattle.delay_bounds.specs.declared.log_row.TheConstants.{MOST_TEST_DIGITS, MOST_TIME_DIGITS as MOST_LOG_TIME_DIGITS}
+use Rattle.commands.specs.declared.inputs.graded.TheConstants.{MOST_GRADES}
 use Rattle.commands.specs.declared.inputs.reading.TheConstants.{INPUT_LIMIT}
 use Rattle.commands.specs.declared.making.TheConstants.{LADDER_BUDGET, LADDER_PATHS}
 use Rattle.commands.specs.declared.inputs.sizes.TheConstants.{MOST_PATH_TEXT, MOST_TEST_TEXT, STEP_BYTES}
@@ -53,6 +55,16 @@ most_pin_digits = refl
 
 most_number_digits : MOST_NUMBER_DIGITS ≡ 7
 most_number_digits = refl
+
+-- of logs, and of tests beside faults
+most_test_digits : MOST_TEST_DIGITS ≡ 5
+most_test_digits = refl
+
+most_log_time_digits : MOST_LOG_TIME_DIGITS ≡ 10
+most_log_time_digits = refl
+
+most_grades : MOST_GRADES ≡ 1000000
+most_grades = refl
 
 -- of replays
 most_changes : MOST_CHANGES ≡ 65536
@@ -105,7 +117,6 @@ most_test_text = refl
 step_bytes : STEP_BYTES ≡ 6
 step_bytes = refl
 
--- of the files of a run, read back
 -- of ladders
 most_stages : MOST_STAGES ≡ 1000
 most_stages = refl

@@ -1,4 +1,4 @@
-// How a call ends whose log says nothing of the tests: refused for a fault of the text, or for want of memory.
+// How a call ends whose LOG is no log of the tests: refused for a fault of the text, or for want of memory.
 ghost use Rattle.std.specs.Prelude.{◌≡◌};
 ghost use Rattle.commands.specs.Bounds.{log_ending, wrong_row};
 

@@ -17,9 +17,9 @@ use netlist::Netlist;
 use pd_base::{OutOfMemory, Pair, Test};
 use std::alloc::Global;
 
-/// The text of a replay of these tests, which are lawful ones of the netlist and have numbers of 32 bits: for each its number, what its observed lines have at
-/// the time, and whether these are the bits that it expects. Refused with `TooManyChanges` exactly where some test's lines change
-/// too often, at the first such test.
+/// The text of a replay of these tests, which are lawful ones of the netlist and have numbers of 32 bits: for each its number, what its
+/// observed lines have at the time, and whether these are the bits that it expects. Refused with `TooManyChanges` exactly where some
+/// test's lines change too often, at the first such test.
 pub(crate) fn replay_text(
     alloc: Global,
     net: &Netlist,
