@@ -53,7 +53,8 @@ module _ (call : BoundsCall) (now : Folder) where
   accepted can = record {
     told = tt;
     inputs = bounds_inputs call now;
-    passed = reads_pass (bounds_command call) now call.net call.tests call.report _ can.circuit (bounds_inputs call now) can.are.has
+    passed = reads_pass (bounds_command call) now call.net call.tests call.report
+        (read_stages role.Log call.log ++ graded_stages ++ Require (own SpellsLog) ∷ []) can.circuit (bounds_inputs call now) can.are.has
         can.net_within can.tests_within can.report_within (
           log,
           refl,
@@ -83,8 +84,8 @@ module _ (call : BoundsCall) (now : Folder) where
     -- LOG was read
     log_read : Pass (bounds_work call) (Some now) up_to_log [] (bounds_inputs call now)
     log_read =
-        reads_pass (bounds_command call) now call.net call.tests call.report _ it.circuit (bounds_inputs call now) it.has
-        it.net_within it.tests_within it.report_within (log, refl, refl)
+        reads_pass (bounds_command call) now call.net call.tests call.report (Read role.Log call.log ∷ []) it.circuit
+        (bounds_inputs call now) it.has it.net_within it.tests_within it.report_within (log, refl, refl)
 
     -- it is too long
     abbrev too_long_log : INPUT_LIMIT < length log → LeadsToRefusal (bounds_work call) (Some now)
@@ -104,7 +105,9 @@ module _ (call : BoundsCall) (now : Folder) where
       -- the tests can be graded but for their number
       before_grades : Pass (bounds_work call) (Some now) up_to_grades [] (bounds_inputs call now)
       before_grades =
-          reads_pass (bounds_command call) now call.net call.tests call.report _ it.circuit (bounds_inputs call now) it.has
+          reads_pass (bounds_command call) now call.net call.tests call.report
+          (read_stages role.Log call.log ++ tests_and_report_forms 1 ++ Require ListsPaths ∷ Require ExpectRight ∷ []) it.circuit
+          (bounds_inputs call now) it.has
           it.net_within it.tests_within it.report_within (
             log,
             refl,
@@ -139,7 +142,8 @@ module _ (call : BoundsCall) (now : Folder) where
       -- or not
       all_but_log : grades it.listed it.paths ≤ MOST_GRADES → Pass (bounds_work call) (Some now) up_to_rows [] (bounds_inputs call now)
       all_but_log few =
-          reads_pass (bounds_command call) now call.net call.tests call.report _ it.circuit (bounds_inputs call now) it.has
+          reads_pass (bounds_command call) now call.net call.tests call.report (read_stages role.Log call.log ++ graded_stages) it.circuit
+          (bounds_inputs call now) it.has
           it.net_within it.tests_within it.report_within (
             log,
             refl,

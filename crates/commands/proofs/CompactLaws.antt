@@ -27,7 +27,7 @@ use Rattle.calls.proofs.LaterStages.{answered_at}
 use Rattle.commands.specs.declared.inputs.reading.TheConstants.{INPUT_LIMIT}
 use Rattle.commands.specs.Compact.{GivesCompact, GivesKept, compact_command, compact_stages, compact_work, kept_line, out_due}
 use Rattle.commands.specs.CompactLaws.{CanBeCompacted, FindsKept, KeepsAll, KeepsCompactLaws, compact_inputs}
-use Rattle.commands.specs.InputRequirements.{ExpectRight, FewGrades, ListsPaths, Requirement, net_stages, tests_and_report_forms, tests_and_report_stages}
+use Rattle.commands.specs.InputRequirements.{ExpectRight, FewGrades, ListsPaths, Requirement, graded_stages, net_stages, tests_and_report_forms, tests_and_report_stages}
 use Rattle.commands.specs.SpelledRuns.{SpellTestsAndPaths, SpellsReport}
 use Rattle.commands.specs.SpelledTests.{SpellsTests}
 use Rattle.commands.proofs.CompactLeft.{KeptFiles, left_by_compact}
@@ -40,7 +40,7 @@ module _ (call : CompactCall) (now : Folder) where
   -- what can be compacted is accepted
   all_pass : CanBeCompacted call now → Pass (compact_work call) (Some now) (compact_stages call) [] (compact_inputs call now)
   all_pass can =
-      reads_pass (compact_command call) now call.net call.tests call.report _ can.circuit (compact_inputs call now) can.are.has
+      reads_pass (compact_command call) now call.net call.tests call.report (graded_stages ++ []) can.circuit (compact_inputs call now) can.are.has
       can.net_within can.tests_within can.report_within
       (pass_graded (compact_command call) (Some now) (bytes_at now.held call.net) can.circuit can.are.has (bytes_at now.held call.tests)
       (bytes_at now.held call.report) [] can.listed can.paths can.are.spell [] (compact_inputs call now) can.are.graded refl)
@@ -58,7 +58,8 @@ module _ (call : CompactCall) (now : Folder) where
   front_passes : HoldsGradable call.net call.tests call.report now
       → Pass (compact_work call) (Some now) front [] (compact_inputs call now)
   front_passes it =
-      reads_pass (compact_command call) now call.net call.tests call.report _ it.circuit (compact_inputs call now) it.has
+      reads_pass (compact_command call) now call.net call.tests call.report
+      (tests_and_report_forms 1 ++ Require ListsPaths ∷ Require ExpectRight ∷ [] ++ []) it.circuit (compact_inputs call now) it.has
       it.net_within it.tests_within it.report_within
       (pass_before_grades (compact_command call) (Some now) (bytes_at now.held call.net) it.circuit it.has (bytes_at now.held call.tests)
       (bytes_at now.held call.report) [] it.listed it.paths it.spell [] (compact_inputs call now) it.are_paths it.expect refl)

@@ -75,7 +75,7 @@ module _ (call : RunCall) (numbers : HasRunNumbers call) (left now : Folder) (it
         net_is = is_net;
         delays_is = is_delays;
         goes_on = λ all same.
-            (net, is_net, (net_size, (circuit, (delays, is_delays, (delays_size, (spells, (tests, sym (finds.tests ∙ it.tests_is), (accepts_size command role.Tests (net ∷ delays ∷ []) tests short.tests, (report, sym (finds.report ∙ it.report_is), (accepts_size command role.Report (net ∷ delays ∷ tests ∷ []) report short.report, (formed.0, (formed.1, same)))))))))))));
+            (net, is_net, (net_size, (circuit, (delays, is_delays, (delays_size, (spells, (tests, sym (finds.tests ∙ it.tests_is), (accepts_size command role.Tests (net ∷ delays ∷ []) tests short.tests, (report, sym (finds.report ∙ it.report_is), (accepts_size command role.Report (net ∷ delays ∷ tests ∷ []) report short.report, (formed.0, (formed.1, same))))))))))));
       }
 
   passes : PassesFront
