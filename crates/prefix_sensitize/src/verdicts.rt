@@ -81,10 +81,19 @@ impl Writer {
         match robust {
             Outcome::Unsearched => unreachable!(),
             Outcome::Tested(pair) => {
-                let test = add_test(self.alloc, &mut self.tests, number, direction, Kind::Robust, pair)?;
+                let test = add_test(
+                    self.alloc,
+                    &mut self.tests,
+                    number,
+                    direction,
+                    Kind::Robust,
+                    pair,
+                )?;
                 Ok(Verdict::Robust { test })
             }
-            Outcome::Proved(proof) => { self.not_robust(net, number, path, direction, proof, nonrobust) }
+            Outcome::Proved(proof) => {
+                self.not_robust(net, number, path, direction, proof, nonrobust)
+            }
         }
     }
 
@@ -142,7 +151,14 @@ impl Writer {
         let _ = net.sources();
         let refuted = !self.found[proof].spent;
         if is_robust(net, path, direction, refuted, &pair, &mut self.judge) {
-            let test = add_test(self.alloc, &mut self.tests, number, direction, Kind::Robust, pair)?;
+            let test = add_test(
+                self.alloc,
+                &mut self.tests,
+                number,
+                direction,
+                Kind::Robust,
+                pair,
+            )?;
             return Ok(Verdict::Robust { test });
         }
         let proof = self.numbering.cite(proof)?;

@@ -3,7 +3,6 @@ use Rattle.std.proofs.Common.{◌≡◌, ℕ, Bool, List, length, sym, subst}
 use Rattle.netlist.specs.Circuit.{Circuit}
 use Rattle.netlist.specs.Lawful.{IsCircuit}
 use Rattle.prefix_sensitize.specs.declared.course.Course.{Course}
-use Rattle.prefix_sensitize.specs.declared.outcome.Findings.{Findings}
 use Rattle.prefix_sensitize.specs.Outcomes.{AreOutcomes}
 use Rattle.prefix_sensitize.specs.PathOrder.{IsOrder}
 use Rattle.prefix_sensitize.specs.Walks.{AreExcused}
