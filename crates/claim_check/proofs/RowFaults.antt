@@ -45,9 +45,9 @@ module _ (c : Circuit) (run : Run) where
 
     -- what is said of the fault as it is judged, and what of that of the run, is the same
     of_run : (P : ℕ → Direction → Route → Verdict → Type 0)
-        → P fault.number fault.dir fault.path.now fault.verdict ↔ P (row + 1) direction is.listed.path (verdict_for is.listed direction)
+        → P fault.number fault.direction fault.path.now fault.verdict ↔ P (row + 1) direction is.listed.path (verdict_for is.listed direction)
     of_run P =
-        let Q : ℕ → Type 0 = λ number. P number fault.dir fault.path.now fault.verdict in
+        let Q : ℕ → Type 0 = λ number. P number fault.direction fault.path.now fault.verdict in
         let R : Direction → Type 0 = λ its. P (row + 1) its fault.path.now fault.verdict in
         let S : Route → Type 0 = λ path. P (row + 1) direction path fault.verdict in
         let T : Verdict → Type 0 = λ verdict. P (row + 1) direction is.listed.path verdict in (
@@ -59,7 +59,7 @@ module _ (c : Circuit) (run : Run) where
 
     -- and so of each fault of its number
     fault_same : (item : ℕ) → IsFaultNumber (row + 1) direction item → (reason : Reason)
-        → IsRightVerdict c run fault.number fault.dir fault.path.now fault.verdict reason ↔ IsRightFaultAt c run item reason
+        → IsRightVerdict c run fault.number fault.direction fault.path.now fault.verdict reason ↔ IsRightFaultAt c run item reason
     fault_same item at reason =
         let here = of_run (λ number its path verdict. IsRightVerdict c run number its path verdict reason) in (
           λ right number listed its_direction numbered its_at.
@@ -76,8 +76,8 @@ module _ (c : Circuit) (run : Run) where
 
     -- what is told of it is told of its number
     pub fault_told : (item : ℕ) → IsFaultNumber (row + 1) direction item → (found : Option Reason)
-        → TellsOfItem (IsRightVerdict c run fault.number fault.dir fault.path.now fault.verdict) found
+        → TellsOfItem (IsRightVerdict c run fault.number fault.direction fault.path.now fault.verdict) found
         → TellsOfItem (IsRightFaultAt c run item) found
     fault_told item at found =
-        tells_same (IsRightVerdict c run fault.number fault.dir fault.path.now fault.verdict) (IsRightFaultAt c run item) (fault_same item at)
+        tells_same (IsRightVerdict c run fault.number fault.direction fault.path.now fault.verdict) (IsRightFaultAt c run item) (fault_same item at)
         found

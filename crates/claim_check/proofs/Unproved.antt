@@ -20,11 +20,11 @@ proofs_right run none c budget item reason = λ proof is.
     absurd (omega arith)
 
 -- nor does one apply to a path
-pub none_apply : (run : Run) → run.proofs ≡ [] → (dir : Direction) (kind : Kind) (count : ℕ) (least : List (Option ℕ))
-    → least ≡ replicate count None → AreLeastRefutations (routes_of run) run.proofs dir kind least
-none_apply run none dir kind count least is = λ row path listed.
+pub none_apply : (run : Run) → run.proofs ≡ [] → (direction : Direction) (kind : Kind) (count : ℕ) (least : List (Option ℕ))
+    → least ≡ replicate count None → AreLeastRefutations (routes_of run) run.proofs direction kind least
+none_apply run none direction kind count least is = λ row path listed.
     let nothing : get_or least row None ≡ None = grind (arith, common_steps, is) in
-    subst (IsLeastRefutation (routes_of run) run.proofs (target_of path dir kind)) (sym nothing)
+    subst (IsLeastRefutation (routes_of run) run.proofs (target_of path direction kind)) (sym nothing)
     (λ number proof numbered.
     let inside = slice_get_within run.proofs (number - 1) proof numbered.found in
     let empty = ap length none in

@@ -35,10 +35,10 @@ pub record IsFaultInRow (run : Run) (row : ℕ) (direction : Direction) (fault :
   pub is_listed : slice_get run.paths row ≡ Some listed
   pub is_number : fault.number ≡ row + 1
   pub is_path : fault.path.now ≡ listed.path
-  pub is_direction : fault.dir ≡ direction
+  pub is_direction : fault.direction ≡ direction
   pub is_verdict : fault.verdict ≡ verdict_for listed direction
-  pub least_robust : IsLeastRefutation (routes_of run) run.proofs (target_of fault.path.now fault.dir kinds.Robust) fault.robust
-  pub least_nonrobust : IsLeastRefutation (routes_of run) run.proofs (target_of fault.path.now fault.dir kinds.Nonrobust) fault.nonrobust
+  pub least_robust : IsLeastRefutation (routes_of run) run.proofs (target_of fault.path.now fault.direction kinds.Robust) fault.robust
+  pub least_nonrobust : IsLeastRefutation (routes_of run) run.proofs (target_of fault.path.now fault.direction kinds.Nonrobust) fault.nonrobust
 
 -- a proof says that the budget was spent on a listed path of this number
 pub record SaysSpentOn (kind : Kind) (direction : Direction) (path_number : ℕ) (proof : Proof) : Type 0 where

@@ -14,16 +14,16 @@ pub(crate) fn least_refutations(
     paths: &[Path],
     prefixes: &PrefixTree,
     proofs: &[Proof],
-    dir: Direction,
+    direction: Direction,
     kind: Kind,
 ) -> Result<Vec<Option<u32>>, OutOfMemory>
     requires nodes { AreTreeNodes paths.now prefixes.now }
     requires few { length proofs.now < 2 ^ 32 }
     requires names { All (NamesPrefix paths.now) proofs.now }
     ensures one_each { IfOk result (λ least. length least.items ≡ length paths.now) }
-    ensures least { IfOk result (λ least. AreLeastRefutations paths.now proofs.now dir kind least.items) }
+    ensures least { IfOk result (λ least. AreLeastRefutations paths.now proofs.now direction kind least.items) }
 {
-    let marks = marks_of(alloc, prefixes, proofs, dir, kind)?;
+    let marks = marks_of(alloc, prefixes, proofs, direction, kind)?;
     least_by_rows(alloc, prefixes, paths.len(), marks.as_slice())
 }
 
@@ -52,15 +52,15 @@ fn marks_of(
     alloc: Global,
     prefixes: &PrefixTree,
     proofs: &[Proof],
-    dir: Direction,
+    direction: Direction,
     kind: Kind,
 ) -> Result<Vec<Option<u32>>, OutOfMemory>
     requires few { length proofs.now < 2 ^ 32 }
     requires nodes { All (HasItsNode prefixes.now) proofs.now }
-    ensures { IfOk result (λ marks. AreLeastMarks prefixes.now proofs.now kind dir marks.items) }
+    ensures { IfOk result (λ marks. AreLeastMarks prefixes.now proofs.now kind direction marks.items) }
 {
     let mut marks = no_numbers(alloc, prefixes.count() as usize)?;
-    mark_refutations(prefixes, proofs, dir, kind, marks.as_mut_slice());
+    mark_refutations(prefixes, proofs, direction, kind, marks.as_mut_slice());
     Ok(marks)
 }
 
@@ -75,18 +75,18 @@ pub(crate) fn no_numbers(alloc: Global, count: usize) -> Result<Vec<Option<u32>>
 fn mark_refutations(
     prefixes: &PrefixTree,
     proofs: &[Proof],
-    dir: Direction,
+    direction: Direction,
     kind: Kind,
     marks: &mut [Option<u32>],
 )
     requires few { length proofs.now < 2 ^ 32 }
     requires nodes { All (HasItsNode prefixes.now) proofs.now }
     requires none { marks.old ≡ replicate prefixes.now.count None }
-    ensures { AreLeastMarks prefixes.now proofs.now kind dir marks.new }
+    ensures { AreLeastMarks prefixes.now proofs.now kind direction marks.new }
 {
     for place in 0..proofs.len() {
         let proof = &proofs[place];
-        if refutes_about(proof, dir, kind) {
+        if refutes_about(proof, direction, kind) {
             let node = node_of_proof(prefixes, proof) as usize;
             marks[node] = lesser(marks[node], Some(place as u32 + 1));
         }
@@ -103,10 +103,10 @@ fn node_of_proof(prefixes: &PrefixTree, proof: &Proof) -> u32
 }
 
 // Whether a proof is a refutation of this kind and direction.
-fn refutes_about(proof: &Proof, dir: Direction, kind: Kind) -> bool
-    ensures { IsTrue result ↔ IsRefutationAbout kind dir proof.now }
+fn refutes_about(proof: &Proof, direction: Direction, kind: Kind) -> bool
+    ensures { IsTrue result ↔ IsRefutationAbout kind direction proof.now }
 {
-    !proof.spent && proof.kind == kind && proof.dir == dir
+    !proof.spent && proof.kind == kind && proof.dir == direction
 }
 
 // The least number with which these nodes are marked, if any is.

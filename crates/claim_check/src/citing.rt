@@ -15,9 +15,9 @@ use runs::{Proof, Run, Verdict};
 
 // Whether the verdict on a fault cites the proofs that it has to.
 pub(crate) fn shares_proofs(run: &Run, fault: &Fault) -> bool
-    requires robust { IsLeastRefutation (routes_of run.now) run.now.proofs (target_of fault.now.path.now fault.now.dir Kind.Robust) fault.now.robust }
-    requires nonrobust { IsLeastRefutation (routes_of run.now) run.now.proofs (target_of fault.now.path.now fault.now.dir Kind.Nonrobust) fault.now.nonrobust }
-    ensures { IsTrue result ↔ CitesItsProofs run.now fault.now.number fault.now.dir fault.now.path.now fault.now.verdict }
+    requires robust { IsLeastRefutation (routes_of run.now) run.now.proofs (target_of fault.now.path.now fault.now.direction Kind.Robust) fault.now.robust }
+    requires nonrobust { IsLeastRefutation (routes_of run.now) run.now.proofs (target_of fault.now.path.now fault.now.direction Kind.Nonrobust) fault.now.nonrobust }
+    ensures { IsTrue result ↔ CitesItsProofs run.now fault.now.number fault.now.direction fault.now.path.now fault.now.verdict }
 {
     match fault.verdict {
         Verdict::Robust { .. } => true,
@@ -41,15 +41,15 @@ fn is_number(found: Option<u32>, number: u32) -> bool
 
 // Whether the proof of this number shows that the fault was given no robust test.
 fn has_robust_proof(run: &Run, fault: &Fault, proof: u32) -> bool
-    requires { IsLeastRefutation (routes_of run.now) run.now.proofs (target_of fault.now.path.now fault.now.dir Kind.Robust) fault.now.robust }
-    ensures { IsTrue result ↔ HasRobustProof run.now fault.now.number fault.now.dir fault.now.path.now proof }
+    requires { IsLeastRefutation (routes_of run.now) run.now.proofs (target_of fault.now.path.now fault.now.direction Kind.Robust) fault.now.robust }
+    ensures { IsTrue result ↔ HasRobustProof run.now fault.now.number fault.now.direction fault.now.path.now proof }
 {
     match fault.robust {
         Some(least) => proof == least,
         None => cites_spent(
             run.proofs.as_slice(),
             Kind::Robust,
-            fault.dir,
+            fault.direction,
             fault.number,
             proof,
         ),
@@ -58,15 +58,15 @@ fn has_robust_proof(run: &Run, fault: &Fault, proof: u32) -> bool
 
 // Whether the proof of this number spent the budget on a nonrobust test, and no refutation applies.
 fn has_nonrobust_proof(run: &Run, fault: &Fault, proof: u32) -> bool
-    requires { IsLeastRefutation (routes_of run.now) run.now.proofs (target_of fault.now.path.now fault.now.dir Kind.Nonrobust) fault.now.nonrobust }
-    ensures { IsTrue result ↔ HasNonrobustProof run.now fault.now.number fault.now.dir fault.now.path.now proof }
+    requires { IsLeastRefutation (routes_of run.now) run.now.proofs (target_of fault.now.path.now fault.now.direction Kind.Nonrobust) fault.now.nonrobust }
+    ensures { IsTrue result ↔ HasNonrobustProof run.now fault.now.number fault.now.direction fault.now.path.now proof }
 {
     match fault.nonrobust {
         Some(_) => false,
         None => cites_spent(
             run.proofs.as_slice(),
             Kind::Nonrobust,
-            fault.dir,
+            fault.direction,
             fault.number,
             proof,
         ),
@@ -74,18 +74,18 @@ fn has_nonrobust_proof(run: &Run, fault: &Fault, proof: u32) -> bool
 }
 
 // Whether the proof of this number says that the budget was spent on the listed path of another number.
-fn cites_spent(proofs: &[Proof], kind: Kind, dir: Direction, path: u32, number: u32) -> bool
-    ensures { IsTrue result ↔ CitesSpent proofs.now kind dir path number }
+fn cites_spent(proofs: &[Proof], kind: Kind, direction: Direction, path: u32, number: u32) -> bool
+    ensures { IsTrue result ↔ CitesSpent proofs.now kind direction path number }
 {
     match numbered(proofs, number) {
-        Some(proof) => is_spent_on(proof, kind, dir, path),
+        Some(proof) => is_spent_on(proof, kind, direction, path),
         None => false,
     }
 }
 
 // Whether a proof says that the budget was spent on a listed path.
-fn is_spent_on(proof: &Proof, kind: Kind, dir: Direction, path: u32) -> bool
-    ensures { IsTrue result ↔ SaysSpentOn kind dir path proof.now }
+fn is_spent_on(proof: &Proof, kind: Kind, direction: Direction, path: u32) -> bool
+    ensures { IsTrue result ↔ SaysSpentOn kind direction path proof.now }
 {
-    proof.spent && proof.kind == kind && proof.dir == dir && proof.path == path
+    proof.spent && proof.kind == kind && proof.dir == direction && proof.path == path
 }

@@ -8,7 +8,7 @@ use runs::Verdict;
 pub(crate) struct Fault<'p> {
     pub(crate) number: u32,
     pub(crate) path: &'p Path,
-    pub(crate) dir: Direction,
+    pub(crate) direction: Direction,
     pub(crate) verdict: Verdict,
     pub(crate) robust: Option<u32>,
     pub(crate) nonrobust: Option<u32>,

@@ -24,7 +24,7 @@ pub(crate) fn has_its_test(net: &Netlist, run: &Run, fault: &Fault, judge: &mut 
     requires prefix { IsPrefix net.now fault.now.path.now }
     requires lawful { AreLawfulTests net.now run.now.tests }
     requires judge { IsJudgeOf 4 net.now judge.old }
-    ensures tests { IsTrue result ↔ HasItsTest net.now run.now fault.now.number fault.now.dir fault.now.path.now fault.now.verdict }
+    ensures tests { IsTrue result ↔ HasItsTest net.now run.now fault.now.number fault.now.direction fault.now.path.now fault.now.verdict }
     ensures judge { IsJudgeOf 4 net.now judge.new }
 {
     match fault.verdict {
@@ -47,7 +47,7 @@ fn has_test(
     requires prefix { IsPrefix net.now fault.now.path.now }
     requires lawful { AreLawfulTests net.now tests.now }
     requires judge { IsJudgeOf 4 net.now judge.old }
-    ensures tests { IsTrue result ↔ HasTest net.now tests.now fault.now.number (target_of fault.now.path.now fault.now.dir Kind.Robust) number }
+    ensures tests { IsTrue result ↔ HasTest net.now tests.now fault.now.number (target_of fault.now.path.now fault.now.direction Kind.Robust) number }
     ensures judge { IsJudgeOf 4 net.now judge.new }
 {
     match numbered(tests, number) {
@@ -67,13 +67,13 @@ fn has_nonrobust_test(
     requires prefix { IsPrefix net.now fault.now.path.now }
     requires lawful { AreLawfulTests net.now tests.now }
     requires judge { IsJudgeOf 4 net.now judge.old }
-    ensures tests { IsTrue result ↔ HasNonrobustTest net.now tests.now fault.now.number fault.now.dir fault.now.path.now number }
+    ensures tests { IsTrue result ↔ HasNonrobustTest net.now tests.now fault.now.number fault.now.direction fault.now.path.now number }
     ensures judge { IsJudgeOf 4 net.now judge.new }
 {
     match numbered(tests, number) {
         Some(test) => {
             is_test_of(net, fault, Kind::Nonrobust, test, judge)
-                && !judge.meets(net, fault.path, fault.dir, Kind::Robust, &test.pair)
+                && !judge.meets(net, fault.path, fault.direction, Kind::Robust, &test.pair)
         }
         None => false,
     }
@@ -84,13 +84,13 @@ fn is_test_of(net: &Netlist, fault: &Fault, kind: Kind, test: &Test, judge: &mut
     requires prefix { IsPrefix net.now fault.now.path.now }
     requires lawful { IsLawfulTest net.now test.now }
     requires judge { IsJudgeOf 4 net.now judge.old }
-    ensures tests { IsTrue result ↔ IsTestOf net.now fault.now.number (target_of fault.now.path.now fault.now.dir kind) test.now }
+    ensures tests { IsTrue result ↔ IsTestOf net.now fault.now.number (target_of fault.now.path.now fault.now.direction kind) test.now }
     ensures judge { IsJudgeOf 4 net.now judge.new }
 {
     test.path == fault.number
-        && test.dir == fault.dir
+        && test.dir == fault.direction
         && test.kind == kind
-        && judge.meets(net, fault.path, fault.dir, kind, &test.pair)
+        && judge.meets(net, fault.path, fault.direction, kind, &test.pair)
 }
 
 // Whether the test of a verdict, if it has one, expects what the observed lines have under its second vector, where a flag for each test

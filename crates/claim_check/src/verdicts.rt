@@ -102,7 +102,7 @@ fn wrong_against(
 // No refutation for any listed path, where there are no proofs.
 fn no_refutations(alloc: Global, run: &Run) -> Result<Least, OutOfMemory>
     requires { run.now.proofs ≡ [] }
-    ensures { IfOk result (λ least. (dir : Direction) → AreLeastFor run.now dir least) }
+    ensures { IfOk result (λ least. (direction : Direction) → AreLeastFor run.now direction least) }
 {
     let count = run.paths.as_slice().len();
     Ok(Least {
@@ -117,18 +117,18 @@ fn least_of(
     run: &Run,
     paths: &[Path],
     prefixes: &PrefixTree,
-    dir: Direction,
+    direction: Direction,
 ) -> Result<Least, OutOfMemory>
     requires routes { paths.now ≡ routes_of run.now }
     requires nodes { AreTreeNodes paths.now prefixes.now }
     requires few_proofs { length run.now.proofs < 2 ^ 32 }
     requires names { All (NamesPrefix paths.now) run.now.proofs }
-    ensures { IfOk result (AreLeastFor run.now dir) }
+    ensures { IfOk result (AreLeastFor run.now direction) }
 {
     let proofs = run.proofs.as_slice();
     Ok(Least {
-        robust: least_refutations(alloc, paths, prefixes, proofs, dir, Kind::Robust)?,
-        nonrobust: least_refutations(alloc, paths, prefixes, proofs, dir, Kind::Nonrobust)?,
+        robust: least_refutations(alloc, paths, prefixes, proofs, direction, Kind::Robust)?,
+        nonrobust: least_refutations(alloc, paths, prefixes, proofs, direction, Kind::Nonrobust)?,
     })
 }
 
@@ -186,31 +186,31 @@ fn fault_in_row<'p>(
     run: &Run,
     path: &'p Path,
     row: usize,
-    dir: Direction,
+    direction: Direction,
     least: &Least,
 ) -> Fault<'p>
     requires path { slice_get (routes_of run.now) row ≡ Some path.now }
     requires few { row < MOST_PATHS }
-    requires least { AreLeastFor run.now dir least.now }
-    ensures fault { IsFaultInRow run.now row dir result }
+    requires least { AreLeastFor run.now direction least.now }
+    ensures fault { IsFaultInRow run.now row direction result }
     ensures path { result.path.now ≡ path.now }
 {
     let listed = &run.paths.as_slice()[row];
     Fault {
         number: row as u32 + 1,
         path,
-        dir,
-        verdict: verdict_for(listed, dir),
+        direction,
+        verdict: verdict_for(listed, direction),
         robust: least.robust[row],
         nonrobust: least.nonrobust[row],
     }
 }
 
 // The verdict on a listed path for a direction.
-fn verdict_for(listed: &ListedPath, dir: Direction) -> Verdict
-    ensures { result ≡ verdict_for listed.now dir }
+fn verdict_for(listed: &ListedPath, direction: Direction) -> Verdict
+    ensures { result ≡ verdict_for listed.now direction }
 {
-    match dir {
+    match direction {
         Direction::Rise => listed.rise,
         Direction::Fall => listed.fall,
     }
@@ -219,11 +219,11 @@ fn verdict_for(listed: &ListedPath, dir: Direction) -> Verdict
 // What is wrong with the verdict on a fault.
 fn wrong_fault(net: &Netlist, run: &Run, fault: &Fault, judge: &mut TestJudge) -> Option<Reason>
     requires prefix { IsPrefix net.now fault.now.path.now }
-    requires robust { IsLeastRefutation (routes_of run.now) run.now.proofs (target_of fault.now.path.now fault.now.dir Kind.Robust) fault.now.robust }
-    requires nonrobust { IsLeastRefutation (routes_of run.now) run.now.proofs (target_of fault.now.path.now fault.now.dir Kind.Nonrobust) fault.now.nonrobust }
+    requires robust { IsLeastRefutation (routes_of run.now) run.now.proofs (target_of fault.now.path.now fault.now.direction Kind.Robust) fault.now.robust }
+    requires nonrobust { IsLeastRefutation (routes_of run.now) run.now.proofs (target_of fault.now.path.now fault.now.direction Kind.Nonrobust) fault.now.nonrobust }
     requires lawful { AreLawfulTests net.now run.now.tests }
     requires judge { JudgesTests net.now run.now.tests judge.old }
-    ensures wrong { TellsOfItem (IsRightVerdict net.now run.now fault.now.number fault.now.dir fault.now.path.now fault.now.verdict) result }
+    ensures wrong { TellsOfItem (IsRightVerdict net.now run.now fault.now.number fault.now.direction fault.now.path.now fault.now.verdict) result }
     ensures judge { JudgesTests net.now run.now.tests judge.new }
 {
     if !shares_proofs(run, fault) {

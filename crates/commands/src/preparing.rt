@@ -125,7 +125,6 @@ pub(crate) fn run_of(
         net,
         delays,
         first,
-        paths,
         budget,
         Rules::Two,
         &mut steps,

@@ -86,7 +86,7 @@ module _ (c : Circuit) (rules : Rules) (ends : Option (List LineId)) (course : C
         → HasSomeTest c rules (target_for course.aim another) → ¬ IsPrefixOf (prefix_of count route) another
     not_tested at other another there test begins =
         let path : IsPath c another = all_at (IsPath c) course.paths.now other another is_course.searchable.are_paths there.is_listed in
-        refutation_excludes_path c is_course.circuit rules is_course.fit course.aim.kind (prefix_of count route) another path.prefix begins course.aim.dir
+        refutation_excludes_path c is_course.circuit rules is_course.fit course.aim.kind (prefix_of count route) another path.prefix begins course.aim.direction
         tree refutes.refutes test.pair test.of_rules test.meets
 
     -- so the paths that have it stand from here on

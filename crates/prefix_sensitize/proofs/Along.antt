@@ -9,20 +9,19 @@ use Rattle.pd_base.specs.declared.rules.Rules.{Rules}
 use Rattle.pd_base.specs.Route.{Route}
 use Rattle.netlist.specs.declared.limits.TheConstants.{MOST_LEVELS}
 use Rattle.netlist.specs.Circuit.{Circuit}
-use Rattle.runs.specs.declared.run.Proof.{Proof}
 use Rattle.implication.specs.declared.assumption.Beginning.{Beginning}
 use Rattle.implication.specs.Standing.{Standing}
 use Rattle.prefix_sensitize.specs.declared.course.Course.{Course}
 use Rattle.prefix_sensitize.specs.declared.descent.Ended.{Ended}
 use Rattle.prefix_sensitize.specs.declared.descent.Ended.TheVariants.{Test, Spent, Refuted}
 use Rattle.prefix_sensitize.specs.declared.outcome.Aim.{Aim}
-use Rattle.prefix_sensitize.specs.declared.outcome.Outcome.{Outcome}
+use Rattle.prefix_sensitize.specs.declared.outcome.Findings.{Findings}
 use Rattle.prefix_sensitize.specs.Coming.{HasComeAlong, HasComeApart, HasComeOn}
 use Rattle.prefix_sensitize.specs.Courses.{BeginsAt, IsBegunAt, IsCourse}
 use Rattle.prefix_sensitize.specs.Entering.{CountsPins, HasGone, HasMovedOn, IsEnded, IsSameBeginning}
-use Rattle.prefix_sensitize.specs.Outcomes.{AddsProofs}
 use Rattle.prefix_sensitize.specs.PathOrder.{StandsInOrder}
 use Rattle.prefix_sensitize.specs.Settling.{HasItsSteps, Settles}
+use Rattle.prefix_sensitize.specs.Walking.{ComesOn}
 use Rattle.prefix_sensitize.specs.Walks.{CountsPrefixes}
 use Rattle.prefix_sensitize.proofs.Ahead.{low}
 use Rattle.prefix_sensitize.proofs.Ended.{visited}
@@ -56,8 +55,8 @@ same_source beginning first second direction kind one two =
     (record { source = second; direction = direction; kind = kind }) (sym one ∙ two))
 
 module _ (old : Standing) (course : Course) (is_course : IsCourse old.net old.rules old.ends course) (begin place row : ℕ) (route : Route)
-    (here : StandsInOrder course.paths.now course.order.now place row route) (pins : List PinRef) (before : List Outcome)
-    (proofs : List Proof) (steps : ℕ) (come : HasComeAlong old course begin place pins before proofs steps) where
+    (here : StandsInOrder course.paths.now course.order.now place row route) (pins : List PinRef) (before : Findings)
+    (steps : ℕ) (come : HasComeAlong old course begin place pins before steps) where
   -- there is room to count the path's steps
   pub room_for : begin + length course.paths.now * MOST_LEVELS < 2 ^ 64 → steps + length route.steps < 2 ^ 64
   room_for room =
@@ -72,7 +71,7 @@ module _ (old : Standing) (course : Course) (is_course : IsCourse old.net old.ru
   pub counted_on : (after : ℕ) → CountsPins pins route steps after → CountsPrefixes course.paths.now begin after
   counted_on after counted =
       let its_low =
-      low old.net old.rules old.ends course is_course begin place row route here before proofs steps come.come.come come.source pins
+      low old.net old.rules old.ends course is_course begin place row route here before.outcomes.items before.proofs.items steps come.come.come come.source pins
       come.come.on counted.shared counted.is_shared in
       let entering =
       enters_all course.paths.now route (among course.paths.now row route here.is_listed) counted.shared come.come.come.entered
@@ -88,12 +87,12 @@ module _ (old : Standing) (course : Course) (is_course : IsCourse old.net old.ru
       }
 
   module _ (begun : IsBegunAt old course place) where
-    began : old.beginning ≡ Some (record { source = route.source; direction = course.aim.dir; kind = course.aim.kind })
+    began : old.beginning ≡ Some (record { source = route.source; direction = course.aim.direction; kind = course.aim.kind })
     began =
         let same : begun.route ≡ route =
         (stands_once course.paths.now course.order.now place begun.row row begun.route route begun.stands here).1 in
         begun.begun
-        ∙ (λ i. Some (record { source = (same i).source; direction = course.aim.dir; kind = course.aim.kind }))
+        ∙ (λ i. Some (record { source = (same i).source; direction = course.aim.direction; kind = course.aim.kind }))
 
     -- the scope stands on the way to the path
     pub gone_to : HasGone old route course.aim pins
@@ -103,31 +102,30 @@ module _ (old : Standing) (course : Course) (is_course : IsCourse old.net old.ru
     pub visited_along : (new : Standing) → IsSameBeginning old new → (pins' : List PinRef) (ended : Ended)
         → IsEnded old.net old.rules course.aim route ended → HasGone new route course.aim pins'
         → (steps' : ℕ) → (more : ℕ) × (steps' ≡ steps + more) × HasMovedOn pins pins' route ended more
-        → (end : ℕ) (after : List Outcome) (proofs' : List Proof) → Settles course place row route ended end before after proofs proofs'
-        → HasComeAlong new course begin end pins' after proofs' steps' × (place < end) × (end ≤ length course.order.now)
-        × AddsProofs course.aim proofs proofs'
-    visited_along new same pins' ended is_ended gone steps' moved end after proofs' settles =
+        → (end : ℕ) (after : Findings)
+        → Settles course place row route ended end before.outcomes.items after.outcomes.items before.proofs.items after.proofs.items
+        → HasComeAlong new course begin end pins' after steps' × ComesOn course place end before after
+    visited_along new same pins' ended is_ended gone steps' moved end after settles =
         let source : route.source ≡ come.source =
-        same_source old.beginning route.source come.source course.aim.dir course.aim.kind began come.gone.beginning in
+        same_source old.beginning route.source come.source course.aim.direction course.aim.kind began come.gone.beginning in
         let then =
-        visited old.net old.rules old.ends course is_course begin place row route here before proofs steps come.source source pins
-        come.come pins' ended moved.0 is_ended moved.2 end after proofs' settles steps' moved.1 in
+        visited old.net old.rules old.ends course is_course begin place row route here before.outcomes.items before.proofs.items steps
+        come.source source pins come.come pins' ended moved.0 is_ended moved.2 end after.outcomes.items after.proofs.items settles steps' moved.1 in
         let P : Circuit → Rules → Type 0 =
-        λ c rules. HasComeOn c rules course begin end (record { source = come.source; steps = pins' }) after proofs' steps' in (
+        λ c rules. HasComeOn c rules course begin end (record { source = come.source; steps = pins' }) after.outcomes.items
+        after.proofs.items steps' in (
           record {
             source = come.source;
             gone = record {
               beginning =
                   gone.beginning
-                  ∙ (λ i. Some (record { source = source i; direction = course.aim.dir; kind = course.aim.kind }));
+                  ∙ (λ i. Some (record { source = source i; direction = course.aim.direction; kind = course.aim.kind }));
               entered = gone.entered;
               free = gone.free;
             };
             come = subst₂ P (sym same.net) (sym same.rules) then.come;
           },
-          then.further,
-          then.within,
-          then.adds,
+          record { on = then.further; within = then.within; adds = then.adds },
         )
 
 -- the scope that the walk comes along has begun at its source
@@ -140,20 +138,20 @@ begun_at old new same course source pins gone place at = record {
   stands = at.stands;
   begun =
       same.beginning ∙ gone.beginning
-      ∙ (λ i. Some (record { source = sym at.source i; direction = course.aim.dir; kind = course.aim.kind }));
+      ∙ (λ i. Some (record { source = sym at.source i; direction = course.aim.direction; kind = course.aim.kind }));
 }
 
 -- where no path begins at the source from here on, the walk is done with it
 pub come_behind : (old new : Standing) → IsSameBeginning old new → (course : Course) → IsCourse old.net old.rules old.ends course
     → (source : LineId) (first : List PinRef) → HasGone old (record { source = source; steps = first }) course.aim first
-    → (begin place : ℕ) (pins : List PinRef) (outcomes : List Outcome) (proofs : List Proof) (steps : ℕ)
-    → HasComeAlong new course begin place pins outcomes proofs steps → ¬ BeginsAt course place source
-    → HasComeApart old.net old.rules course begin place outcomes proofs steps
-come_behind old new same course is_course source first gone begin place pins outcomes proofs steps come no_more =
+    → (begin place : ℕ) (pins : List PinRef) (found : Findings) (steps : ℕ)
+    → HasComeAlong new course begin place pins found steps → ¬ BeginsAt course place source
+    → HasComeApart old.net old.rules course begin place found steps
+come_behind old new same course is_course source first gone begin place pins found steps come no_more =
     let its : come.source ≡ source =
-    same_source new.beginning come.source source course.aim.dir course.aim.kind come.gone.beginning (same.beginning ∙ gone.beginning) in
+    same_source new.beginning come.source source course.aim.direction course.aim.kind come.gone.beginning (same.beginning ∙ gone.beginning) in
     let P : LineId → Type 0 = λ line. ¬ BeginsAt course place line in
-    let Q : Circuit → Rules → Type 0 = λ c rules. HasComeApart c rules course begin place outcomes proofs steps in
+    let Q : Circuit → Rules → Type 0 = λ c rules. HasComeApart c rules course begin place found steps in
     subst₂ Q same.net same.rules
-    (come_apart new.net new.rules course is_course.order begin place outcomes proofs steps come.source pins come.come
+    (come_apart new.net new.rules course is_course.order begin place found steps come.source pins come.come
     (subst P (sym its) no_more))

@@ -42,8 +42,8 @@ outcome_kept c rules routes old more new grown row target none (Proved index) is
 kinds_differ : Robust ≡ Nonrobust → ⊥
 kinds_differ same = cc
 
-ways_differ : Rise ≡ Fall → ⊥
-ways_differ same = cc
+directions_differ : Rise ≡ Fall → ⊥
+directions_differ same = cc
 
 -- before all searches no proof was found
 pub none_found : (c : Circuit) (rules : Rules) (budget : ℕ) (routes : List Route) (proofs : List Proof) → proofs ≡ []
@@ -62,12 +62,12 @@ none_is_for direction proofs none =
 pub fall_is_new : (old new : List Proof) → old ≡ [] → AddsProofsFor Rise old new → NoneIsFor Fall new
 fall_is_new old new none adds =
     let all : new ≡ adds.more = adds.adds ∙ ap (λ (list : List Proof). list ++ adds.more) none in
-    subst (NoneIsFor Fall) (sym all) (λ place d within falls. ways_differ (sym (adds.aimed place d within) ∙ falls))
+    subst (NoneIsFor Fall) (sym all) (λ place d within falls. directions_differ (sym (adds.aimed place d within) ∙ falls))
 
 module _ (c : Circuit) (rules : Rules) (routes : List Route) (direction : Direction) (budget : ℕ) where
   -- what is searched for
   abbrev aim_for : Kind → Aim
-  aim_for kind = record { kind = kind; dir = direction; budget = budget }
+  aim_for kind = record { kind = kind; direction = direction; budget = budget }
 
   -- where all outcomes are needed
   module _ (needed : List Bool) (all : needed ≡ replicate (length routes) true) where
@@ -186,4 +186,4 @@ rises_stay c rules routes middle new rises adds are = record {
     none_more : (route : Route) (kind : Kind) → NoneApplies routes adds.more (target_of route Rise kind)
     none_more route kind number proof numbered applies =
         let falls = all_at_number (λ (p : Proof). p.dir ≡ Fall) adds.more number proof adds.aimed numbered in
-        ways_differ (sym applies.is_about.of_direction ∙ falls)
+        directions_differ (sym applies.is_about.of_direction ∙ falls)

@@ -96,7 +96,7 @@ still_closes old new path same closes = record {
 module _ (a : StateAlgebra) (old : Standing) (of_rules : a ≡ algebra_of old.rules) (path : Route) (aim : Aim) (pins : List PinRef) (gone : HasGone old path aim pins) where
   -- with what the scope began
   abbrev begun : Beginning
-  begun = record { source = path.source; direction = aim.dir; kind = aim.kind }
+  begun = record { source = path.source; direction = aim.direction; kind = aim.kind }
 
   pub leads_along : IsPath old.net path → IsTold old (end_of old.net path) → LeadsAlong a old path
   leads_along is_path is_told =

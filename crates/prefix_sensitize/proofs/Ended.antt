@@ -276,11 +276,11 @@ module _ (c : Circuit) (rules : Rules) (ends : Option (List LineId)) (course : C
   inside : place + 1 ≤ length course.order.now
   inside = let within = slice_get_within course.order.now place row here.is_placed in omega (arith, within)
 
-  adds_one : (proof : Proof) → IsAbout course.aim.kind course.aim.dir proof → AddsProofs course.aim old (old ++ proof ∷ [])
+  adds_one : (proof : Proof) → IsAbout course.aim.kind course.aim.direction proof → AddsProofs course.aim old (old ++ proof ∷ [])
   adds_one proof about = record {
     more = proof ∷ [];
     adds = refl;
-    aimed = All-cons (IsAbout course.aim.kind course.aim.dir) proof [] about (All-nil (IsAbout course.aim.kind course.aim.dir));
+    aimed = All-cons (IsAbout course.aim.kind course.aim.direction) proof [] about (All-nil (IsAbout course.aim.kind course.aim.direction));
   }
 
   module _ (kept more : ℕ) (end : ℕ) (after : List Outcome) (new : List Proof) where
@@ -303,7 +303,7 @@ module _ (c : Circuit) (rules : Rules) (ends : Option (List LineId)) (course : C
               come.come.found (λ other target was is. is) (λ target none. none) (λ target none. none) is_ended;
           further = omega arith;
           within = inside;
-          adds = record { more = []; adds = sym (append-nil old); aimed = All-nil (IsAbout course.aim.kind course.aim.dir) };
+          adds = record { more = []; adds = sym (append-nil old); aimed = All-nil (IsAbout course.aim.kind course.aim.direction) };
         })
     by_end (Spent tree) is_ended shared stays is_shared reach settles =
         let added = found_proof course.aim true row (length route.steps) tree in

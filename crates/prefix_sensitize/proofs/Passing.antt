@@ -15,7 +15,7 @@ use Rattle.good_runs.specs.Faults.{IsAbout}
 use Rattle.good_runs.proofs.Numbers.{all_at_number}
 use Rattle.prefix_sensitize.specs.declared.course.Course.{Course}
 use Rattle.prefix_sensitize.specs.declared.outcome.Aim.{Aim}
-use Rattle.prefix_sensitize.specs.declared.outcome.Outcome.{Outcome}
+use Rattle.prefix_sensitize.specs.declared.outcome.Findings.{Findings}
 use Rattle.prefix_sensitize.specs.declared.outcome.Outcome.TheVariants.{Unsearched}
 use Rattle.prefix_sensitize.specs.Coming.{HasCome, HasComeApart, HasComeOn}
 use Rattle.prefix_sensitize.specs.Courses.{BeginsAt}
@@ -29,7 +29,7 @@ use Rattle.prefix_sensitize.proofs.RoutePrefixes.{fewer_steps}
 
 -- nothing is added
 pub adds_none : (aim : Aim) (proofs : List Proof) → AddsProofs aim proofs proofs
-adds_none aim proofs = record { more = []; adds = sym (append-nil proofs); aimed = All-nil (IsAbout aim.kind aim.dir) }
+adds_none aim proofs = record { more = []; adds = sym (append-nil proofs); aimed = All-nil (IsAbout aim.kind aim.direction) }
 
 -- what is added to what was added
 pub adds_on : (aim : Aim) (first second third : List Proof) → AddsProofs aim first second → AddsProofs aim second third
@@ -37,13 +37,13 @@ pub adds_on : (aim : Aim) (first second third : List Proof) → AddsProofs aim f
 adds_on aim first second third one two = record {
   more = one.more ++ two.more;
   adds = two.adds ∙ ap (λ (list : List Proof). list ++ two.more) one.adds ∙ append_assoc first one.more two.more;
-  aimed = All-append (IsAbout aim.kind aim.dir) one.more two.more one.aimed two.aimed;
+  aimed = All-append (IsAbout aim.kind aim.direction) one.more two.more one.aimed two.aimed;
 }
 
 module _ (c : Circuit) (rules : Rules) (course : Course) (is_order : IsOrder course.paths.now course.order.now) (begin place : ℕ)
-    (outcomes : List Outcome) (proofs : List Proof) (steps : ℕ) where
+    (found : Findings) (steps : ℕ) where
   module _ (row : ℕ) (route : Route) (here : StandsInOrder course.paths.now course.order.now place row route) (not : ¬ IsNeeded course.needed.now row)
-      (along : Route) (come : HasComeOn c rules course begin place along outcomes proofs steps) where
+      (along : Route) (come : HasComeOn c rules course begin place along found.outcomes.items found.proofs.items steps) where
     one_earlier : (at other : ℕ) (another : Route) → StandsInOrder course.paths.now course.order.now at other another → at < place + 1
         → IsNeeded course.needed.now other → at < place
     one_earlier at other another there less need =
@@ -58,7 +58,7 @@ module _ (c : Circuit) (rules : Rules) (course : Course) (is_order : IsOrder cou
         (cases_lt at place)
 
     -- a path that needs no outcome is passed by
-    pub come_past : HasComeOn c rules course begin (place + 1) along outcomes proofs steps
+    pub come_past : HasComeOn c rules course begin (place + 1) along found.outcomes.items found.proofs.items steps
     come_past = record {
       come = record {
         one_each = come.come.one_each;
@@ -94,8 +94,8 @@ module _ (c : Circuit) (rules : Rules) (course : Course) (is_order : IsOrder cou
     }
 
   -- where nothing that was entered goes on, it stands on a source, and the other way round where no path begins at the source from here on
-  pub come_from : (source : LineId) → HasComeApart c rules course begin place outcomes proofs steps
-      → HasComeOn c rules course begin place (record { source = source; steps = [] }) outcomes proofs steps
+  pub come_from : (source : LineId) → HasComeApart c rules course begin place found steps
+      → HasComeOn c rules course begin place (record { source = source; steps = [] }) found.outcomes.items found.proofs.items steps
   come_from source come = record {
     come = come.come;
     on = record {
@@ -106,8 +106,8 @@ module _ (c : Circuit) (rules : Rules) (course : Course) (is_order : IsOrder cou
     };
   }
 
-  pub come_alone : (source : LineId) → HasComeOn c rules course begin place (record { source = source; steps = [] }) outcomes proofs steps
-      → HasComeApart c rules course begin place outcomes proofs steps
+  pub come_alone : (source : LineId) → HasComeOn c rules course begin place (record { source = source; steps = [] }) found.outcomes.items found.proofs.items steps
+      → HasComeApart c rules course begin place found steps
   come_alone source come = record {
     come = come.come;
     apart =
@@ -121,8 +121,8 @@ module _ (c : Circuit) (rules : Rules) (course : Course) (is_order : IsOrder cou
   }
 
   pub come_apart : (source : LineId) (pins : List PinRef)
-      → HasComeOn c rules course begin place (record { source = source; steps = pins }) outcomes proofs steps
-      → ¬ BeginsAt course place source → HasComeApart c rules course begin place outcomes proofs steps
+      → HasComeOn c rules course begin place (record { source = source; steps = pins }) found.outcomes.items found.proofs.items steps
+      → ¬ BeginsAt course place source → HasComeApart c rules course begin place found steps
   come_apart source pins come no_more = record {
     come = come.come;
     apart =
@@ -139,24 +139,24 @@ module _ (c : Circuit) (rules : Rules) (course : Course) (is_order : IsOrder cou
   }
 
 -- each prefix that was entered is counted once
-pub all_counted : (c : Circuit) (rules : Rules) (course : Course) (begin place : ℕ) (outcomes : List Outcome) (proofs : List Proof)
-    (steps : ℕ) → HasCome c rules course begin place outcomes proofs steps → CountsPrefixes course.paths.now begin steps
-all_counted c rules course begin place outcomes proofs steps come =
+pub all_counted : (c : Circuit) (rules : Rules) (course : Course) (begin place : ℕ) (found : Findings) (steps : ℕ)
+    → HasCome c rules course begin place found.outcomes.items found.proofs.items steps → CountsPrefixes course.paths.now begin steps
+all_counted c rules course begin place found steps come =
     record { entered = come.entered; are_prefixes = come.are_prefixes; counts = come.counts }
 
 -- no walk yet
-module _ (c : Circuit) (rules : Rules) (course : Course) (proofs : List Proof) (steps : ℕ) where
-  pub come_none : (outcomes : List Outcome) → outcomes ≡ replicate (length course.paths.now) Unsearched
-      → AreFoundProofs c rules course.aim.budget course.paths.now proofs → NoneIsAbout course.aim proofs
-      → HasComeApart c rules course steps 0 outcomes proofs steps
-  come_none outcomes none found fresh = record {
+module _ (c : Circuit) (rules : Rules) (course : Course) (found : Findings) (steps : ℕ) where
+  pub come_none : found.outcomes.items ≡ replicate (length course.paths.now) Unsearched
+      → AreFoundProofs c rules course.aim.budget course.paths.now found.proofs.items → NoneIsAbout course.aim found.proofs.items
+      → HasComeApart c rules course steps 0 found steps
+  come_none none are fresh = record {
     come = record {
       one_each = ap length none ∙ length-replicate (length course.paths.now) Unsearched;
-      found = found;
+      found = are;
       settled = λ at row route stands less need. absurd (omega (arith, less));
       none_ahead =
           λ at row route stands behind number proof is applies.
-          all_at_number (λ (p : Proof). ¬ IsAbout course.aim.kind course.aim.dir p) proofs number proof fresh is
+          all_at_number (λ (p : Proof). ¬ IsAbout course.aim.kind course.aim.direction p) found.proofs.items number proof fresh is
           (record { of_kind = applies.is_about.of_kind; of_direction = applies.is_about.of_direction });
       entered = [];
       are_prefixes = record { each = All-nil (IsListedPrefix course.paths.now); once = λ i j d less within. absurd (omega (arith, within)) };
@@ -170,9 +170,9 @@ module _ (c : Circuit) (rules : Rules) (course : Course) (proofs : List Proof) (
 
 -- the whole walk
 module _ (c : Circuit) (rules : Rules) (course : Course) (is_order : IsOrder course.paths.now course.order.now) (begin : ℕ)
-    (outcomes : List Outcome) (proofs : List Proof) (steps : ℕ)
-    (come : HasComeApart c rules course begin (length course.order.now) outcomes proofs steps) where
-  pub all_outcomes : AreOutcomes c rules course.paths.now proofs course.needed.now course.aim outcomes
+    (found : Findings) (steps : ℕ)
+    (come : HasComeApart c rules course begin (length course.order.now) found steps) where
+  pub all_outcomes : AreOutcomes c rules course.paths.now found.proofs.items course.needed.now course.aim found.outcomes.items
   all_outcomes = record {
     one_each = come.come.one_each;
     each =

@@ -12,15 +12,15 @@ use Rattle.implication.specs.Standing.{IsToldBy, Standing}
 use Rattle.justify.specs.declared.desk.Desk.{Desk}
 use Rattle.justify.specs.Desks.{IsDeskFor}
 use Rattle.prefix_sensitize.specs.Entering.{IsIdleAgain}
-use Rattle.prefix_sensitize.specs.PathOrder.{OrderedPaths}
+use Rattle.prefix_sensitize.specs.declared.course.PathsInOrder.{PathsInOrder}
 use Rattle.prefix_sensitize.specs.Readiness.{IsReadyFor}
 use Rattle.prefix_sensitize.specs.Walks.{AreSearchablePaths}
 
 -- the paths can be searched again, once no scope is open any more
-pub ready_again : (a : StateAlgebra) (routes : List Route) (ordered : OrderedPaths) (budget : ℕ) (old new : Standing) (before after : Desk)
-    → IsReadyFor a routes ordered budget old before → IsIdleAgain old new → IsDeskFor a old.net old.rules after
-    → IsReadyFor a routes ordered budget new after
-ready_again a routes ordered budget old new before after ready rest desk =
+pub ready_again : (a : StateAlgebra) (in_order : PathsInOrder) (budget : ℕ) (old new : Standing) (before after : Desk)
+    → IsReadyFor a in_order budget old before → IsIdleAgain old new → IsDeskFor a old.net old.rules after → IsReadyFor a in_order budget new after
+ready_again a in_order budget old new before after ready rest desk =
+    let routes = in_order.paths.now in
     let S : Circuit → Type 0 = λ c. AreSearchablePaths c routes in
     let T : Circuit → Rules → Type 0 = λ c r. All (λ (route : Route). IsToldBy c (links_of r) old.ends (end_of c route)) routes in
     let E : Option (List LineId) → Type 0 =

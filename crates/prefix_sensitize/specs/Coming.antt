@@ -11,6 +11,7 @@ use Rattle.runs.specs.declared.run.Proof.{Proof}
 use Rattle.implication.specs.Standing.{Standing}
 use Rattle.good_runs.specs.Faults.{NoneApplies}
 use Rattle.prefix_sensitize.specs.declared.course.Course.{Course}
+use Rattle.prefix_sensitize.specs.declared.outcome.Findings.{Findings}
 use Rattle.prefix_sensitize.specs.declared.outcome.Outcome.{Outcome}
 use Rattle.prefix_sensitize.specs.Entering.{HasGone}
 use Rattle.prefix_sensitize.specs.Outcomes.{AreFoundProofs, IsNeeded, IsOutcome, outcome_at, target_for}
@@ -60,15 +61,15 @@ pub record HasComeOn (c : Circuit) (rules : Rules) (course : Course) (begin plac
   pub on : StandsOn course place come.entered along
 
 -- so it has within a scope, which has entered these pins
-pub record HasComeAlong (standing : Standing) (course : Course) (begin place : ℕ) (pins : List PinRef) (outcomes : List Outcome)
-    (proofs : List Proof) (steps : ℕ) : Type 0 where
+pub record HasComeAlong (standing : Standing) (course : Course) (begin place : ℕ) (pins : List PinRef) (found : Findings) (steps : ℕ)
+    : Type 0 where
   pub source : LineId
   pub gone : HasGone standing (record { source = source; steps = pins }) course.aim pins
-  pub come : HasComeOn standing.net standing.rules course begin place (record { source = source; steps = pins }) outcomes proofs steps
+  pub come : HasComeOn standing.net standing.rules course begin place (record { source = source; steps = pins }) found.outcomes.items
+      found.proofs.items steps
 
 -- the walk has come to this place, and no path from here on has a prefix that was entered
-pub record HasComeApart (c : Circuit) (rules : Rules) (course : Course) (begin place : ℕ) (outcomes : List Outcome) (proofs : List Proof)
-    (steps : ℕ) : Type 0 where
-  pub come : HasCome c rules course begin place outcomes proofs steps
+pub record HasComeApart (c : Circuit) (rules : Rules) (course : Course) (begin place : ℕ) (found : Findings) (steps : ℕ) : Type 0 where
+  pub come : HasCome c rules course begin place found.outcomes.items found.proofs.items steps
   pub apart : (prefix : Route) → Contains come.entered prefix → (at row : ℕ) (route : Route)
       → StandsInOrder course.paths.now course.order.now at row route → place ≤ at → ¬ IsPrefixOf prefix route

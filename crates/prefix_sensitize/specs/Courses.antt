@@ -38,4 +38,4 @@ pub record IsBegunAt (standing : Standing) (course : Course) (place : ℕ) : Typ
   pub row : ℕ
   pub route : Route
   pub stands : StandsInOrder course.paths.now course.order.now place row route
-  pub begun : standing.beginning ≡ Some (record { source = route.source; direction = course.aim.dir; kind = course.aim.kind })
+  pub begun : standing.beginning ≡ Some (record { source = route.source; direction = course.aim.direction; kind = course.aim.kind })

@@ -28,7 +28,7 @@ use Rattle.prefix_sensitize.specs.Walks.{IsBudget}
 
 -- the scope was begun for the aim at the source of the path, and these pins were entered since; no conflict stands
 pub record HasGone (standing : Standing) (path : Route) (aim : Aim) (pins : List PinRef) : Type 0 where
-  pub beginning : standing.beginning ≡ Some (record { source = path.source; direction = aim.dir; kind = aim.kind })
+  pub beginning : standing.beginning ≡ Some (record { source = path.source; direction = aim.direction; kind = aim.kind })
   pub entered : standing.assumptions ≡ map Entered pins
   pub free : standing.conflict ≡ None
 

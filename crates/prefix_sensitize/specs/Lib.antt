@@ -14,3 +14,4 @@ pub mod Answers
 pub mod Listed
 pub mod Readiness
 pub mod Walking
+pub mod SearchedRuns

@@ -18,7 +18,7 @@ use Rattle.prefix_sensitize.specs.declared.outcome.Outcome.TheVariants.{Unsearch
 
 -- what is searched for on a path
 abbrev pub target_for : Aim → Route → Target
-target_for aim path = target_of path aim.dir aim.kind
+target_for aim path = target_of path aim.direction aim.kind
 
 -- a proof that was found: a refutation, at its shortest, or a tree that spent the budget
 pub record IsFoundProof (c : Circuit) (rules : Rules) (budget : ℕ) (routes : List Route) (proof : Proof) : Type 0 where
@@ -65,10 +65,10 @@ pub record AreOutcomes (c : Circuit) (rules : Rules) (routes : List Route) (proo
 
 -- no proof is about this aim
 abbrev pub NoneIsAbout : Aim → List Proof → Type 0
-NoneIsAbout aim proofs = All (λ proof. ¬ IsAbout aim.kind aim.dir proof) proofs
+NoneIsAbout aim proofs = All (λ proof. ¬ IsAbout aim.kind aim.direction proof) proofs
 
 -- there may be more proofs, all about this aim
 pub record AddsProofs (aim : Aim) (old new : List Proof) : Type 0 where
   pub more : List Proof
   pub adds : new ≡ old ++ more
-  pub aimed : All (IsAbout aim.kind aim.dir) more
+  pub aimed : All (IsAbout aim.kind aim.direction) more

@@ -1,6 +1,8 @@
 -- What stands between the searches for one aim and those for the next (this project's own).
 use Rattle.std.specs.Prelude.{◌≡◌, ℕ, ◌+◌, ◌*◌, ◌≤◌, List, ◌++◌, length, None, All}
 use Rattle.state_sets.specs.StateAlgebra.{StateAlgebra}
+use Rattle.pd_base.specs.declared.rules.Rules.{Rules}
+use Rattle.netlist.specs.Circuit.{Circuit}
 use Rattle.trees.specs.Unlinked.{IsUnlinked}
 use Rattle.netlist.specs.LinkedPairs.{FitRules}
 use Rattle.trees.specs.Algebras.{algebra_of}
@@ -11,6 +13,8 @@ use Rattle.runs.specs.declared.run.Proof.{Proof}
 use Rattle.implication.specs.Standing.{Standing}
 use Rattle.justify.specs.declared.desk.Desk.{Desk}
 use Rattle.justify.specs.Desks.{IsDeskFor}
+use Rattle.prefix_sensitize.specs.declared.course.PathsInOrder.{PathsInOrder}
+use Rattle.prefix_sensitize.specs.Outcomes.{AreFoundProofs}
 use Rattle.prefix_sensitize.specs.PathOrder.{IsOrder, OrderedPaths}
 use Rattle.prefix_sensitize.specs.Prefixes.{HasPrefixes}
 use Rattle.prefix_sensitize.specs.Walks.{AreSearchablePaths, AreToldPaths, IsBudget}
@@ -29,18 +33,24 @@ pub record IsSet (a : StateAlgebra) (standing : Standing) : Type 0 where
   pub idle : standing.beginning ≡ None
 
 -- the paths can be searched with this engine and this desk: the rules, whose kind of states this is, are not linked; no scope is open on it, and it tells the end of each path
-pub record IsReadyFor (a : StateAlgebra) (routes : List Route) (ordered : OrderedPaths) (budget : ℕ) (standing : Standing) (on : Desk) : Type 0 where
+pub record IsReadyFor (a : StateAlgebra) (in_order : PathsInOrder) (budget : ℕ) (standing : Standing) (on : Desk) : Type 0 where
   pub unlinked : IsUnlinked standing.rules
   pub idle : standing.beginning ≡ None
-  pub listed : AreSearchablePaths standing.net routes
-  pub told : AreToldPaths standing routes
+  pub listed : AreSearchablePaths standing.net in_order.paths.now
+  pub told : AreToldPaths standing in_order.paths.now
   pub desk : IsDeskFor a standing.net standing.rules on
-  pub tree : IsTreeFor routes ordered
+  pub tree : IsTreeFor in_order.paths.now in_order.tree.now
   pub within : IsBudget budget
 
 -- no proof is about this direction
 abbrev pub NoneIsFor : Direction → List Proof → Type 0
 NoneIsFor direction proofs = All (λ proof. ¬ (proof.dir ≡ direction)) proofs
+
+-- proofs were found, and none of them is about this direction yet
+pub record AreBeforeDirection (c : Circuit) (rules : Rules) (budget : ℕ) (routes : List Route) (direction : Direction) (proofs : List Proof)
+    : Type 0 where
+  pub found : AreFoundProofs c rules budget routes proofs
+  pub fresh : NoneIsFor direction proofs
 
 -- there may be more proofs, all about this direction
 pub record AddsProofsFor (direction : Direction) (old new : List Proof) : Type 0 where

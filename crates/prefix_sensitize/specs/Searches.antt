@@ -13,9 +13,11 @@ use Rattle.runs.specs.declared.run.Proof.{Proof}
 use Rattle.prefix_sensitize.specs.declared.outcome.Outcome.{Outcome}
 use Rattle.prefix_sensitize.specs.declared.outcome.Outcome.TheVariants.{Unsearched, Tested, Proved}
 use Rattle.prefix_sensitize.specs.declared.all_outcomes.BothOutcomes.{BothOutcomes}
+use Rattle.prefix_sensitize.specs.declared.all_outcomes.DirectionFindings.{DirectionFindings}
 use Rattle.prefix_sensitize.specs.declared.all_outcomes.FaultOutcomes.{FaultOutcomes}
 use Rattle.prefix_sensitize.specs.declared.all_outcomes.AllOutcomes.{AllOutcomes}
 use Rattle.prefix_sensitize.specs.Outcomes.{AreFoundProofs, IsOutcome, outcome_at}
+use Rattle.prefix_sensitize.specs.Readiness.{AddsProofsFor}
 
 -- what outcomes speak of: the rules for pairs, the budget of each search, the listed paths, and the proofs that were found
 pub record Searches : Type 0 where
@@ -63,3 +65,10 @@ pub record AreBothOutcomesFrom (c : Circuit) (rules : Rules) (routes : List Rout
   pub nonrobust : length outcomes.nonrobust.items ≡ length routes
   pub each : (row : ℕ) (route : Route) → from ≤ row → slice_get routes row ≡ Some route
       → AreFaultOutcomes c rules routes proofs row direction route (fault_outcomes outcomes row)
+
+-- the outcomes for this direction; and the proofs are those from before, and behind them some about it
+pub record AreDirectionFindings (c : Circuit) (rules : Rules) (budget : ℕ) (routes : List Route) (direction : Direction) (before : List Proof)
+    (found : DirectionFindings) : Type 0 where
+  pub outcomes : AreBothOutcomesFrom c rules routes found.proofs.items direction 0 found.outcomes
+  pub proofs : AreFoundProofs c rules budget routes found.proofs.items
+  pub adds : AddsProofsFor direction before found.proofs.items

@@ -18,7 +18,7 @@ abbrev pub found_proof : Aim → Bool → ℕ → ℕ → List Node → Proof
 found_proof aim spent row steps tree = record {
   spent = spent;
   kind = aim.kind;
-  dir = aim.dir;
+  dir = aim.direction;
   path = row + 1;
   steps = steps;
   tree = tree;

@@ -12,9 +12,10 @@ use Rattle.justify.specs.declared.desk.Desk.{Desk}
 use Rattle.justify.specs.Desks.{IsDeskFor}
 use Rattle.prefix_sensitize.specs.declared.course.Course.{Course}
 use Rattle.prefix_sensitize.specs.declared.outcome.Aim.{Aim}
+use Rattle.prefix_sensitize.specs.declared.outcome.Findings.{Findings}
 use Rattle.prefix_sensitize.specs.Courses.{IsCourse}
 use Rattle.prefix_sensitize.specs.Entering.{IsSameBeginning}
-use Rattle.prefix_sensitize.specs.Outcomes.{AddsProofs, AreFoundProofs, NoneIsAbout}
+use Rattle.prefix_sensitize.specs.Outcomes.{AddsProofs, AreFoundProofs, AreOutcomes, NoneIsAbout}
 use Rattle.prefix_sensitize.specs.Walks.{AreExcused, CountsPrefixes}
 
 -- A course, and a desk for it; and from where the count of steps stood when the walk began there is room to count all prefixes.
@@ -31,10 +32,10 @@ pub record HasWalked (a : StateAlgebra) (course : Course) (begin : ℕ) (old new
   pub counted : CountsPrefixes course.paths.now begin steps
 
 -- From one place it comes to a later one, not beyond the order, and adds no proofs but some about the aim.
-pub record ComesOn (course : Course) (place end : ℕ) (before after : List Proof) : Type 0 where
+pub record ComesOn (course : Course) (place end : ℕ) (before after : Findings) : Type 0 where
   pub on : place < end
   pub within : end ≤ length course.order.now
-  pub adds : AddsProofs course.aim before after
+  pub adds : AddsProofs course.aim before.proofs.items after.proofs.items
 
 -- Outcomes are asked for on some of these paths; and on each other one there is a test.
 pub record AreAsked (c : Circuit) (rules : Rules) (aim : Aim) (routes : List Route) (needed : List Bool) : Type 0 where
@@ -46,7 +47,9 @@ pub record AreBeforeAim (c : Circuit) (rules : Rules) (aim : Aim) (routes : List
   pub found : AreFoundProofs c rules aim.budget routes proofs
   pub fresh : NoneIsAbout aim proofs
 
--- Proofs were found, and what is behind the old ones is about the aim.
-pub record AreBehindAim (c : Circuit) (rules : Rules) (aim : Aim) (routes : List Route) (old new : List Proof) : Type 0 where
-  pub found : AreFoundProofs c rules aim.budget routes new
-  pub adds : AddsProofs aim old new
+-- There is an outcome for each path that needs one; and the proofs are those from before, and behind them some about the aim.
+pub record AreFindings (c : Circuit) (rules : Rules) (aim : Aim) (routes : List Route) (needed : List Bool) (before : List Proof)
+    (found : Findings) : Type 0 where
+  pub outcomes : AreOutcomes c rules routes found.proofs.items needed aim found.outcomes.items
+  pub proofs : AreFoundProofs c rules aim.budget routes found.proofs.items
+  pub adds : AddsProofs aim before found.proofs.items

@@ -25,6 +25,15 @@ pub(crate) struct BothOutcomes {
     pub(crate) nonrobust: Vec<Outcome>,
 }
 
+/// What the searches for one transition found.
+#[derive(Drop)]
+pub(crate) struct DirectionFindings {
+    /// Their outcomes.
+    pub(crate) outcomes: BothOutcomes,
+    /// The proofs that outcomes name, in the order of finding. Those that stand first were found before, for the other transition.
+    pub(crate) proofs: Vec<Proof>,
+}
+
 /// All that the searches found.
 #[derive(Drop)]
 pub(crate) struct AllOutcomes {

@@ -96,7 +96,15 @@ impl Descent {
                 tree,
             });
         }
-        let found = search_at(alloc, scope, desk, path, aim.dir, aim.kind, aim.budget)?;
+        let found = search_at(
+            alloc,
+            scope,
+            desk,
+            path,
+            aim.direction,
+            aim.kind,
+            aim.budget,
+        )?;
         Ok(ended_by(found, kept))
     }
 

@@ -1,12 +1,9 @@
 // The run: the listed paths in order, each with its length and its two verdicts, and the tests and proofs that these name.
-ghost use Rattle.std.specs.Prelude.{◌≡◌, ◌-◌, ℕ, [], IfOk};
+ghost use Rattle.std.specs.Prelude.{◌≡◌, ◌-◌, [], IfOk};
 ghost use Rattle.delay_annotation.specs.Annotation.{delays_of, Fits};
-ghost use Rattle.netlist.specs.Order.{AreFirst};
-ghost use Rattle.good_runs.specs.GoodRun.{IsGoodRun};
-ghost use Rattle.good_runs.specs.Shortest.{IsShortestRun};
-ghost use Rattle.runs.specs.Lawful.{IsLawfulRun};
 ghost use Rattle.prefix_sensitize.specs.Answers.{AreWritten, IsWriterFor, written_by};
 ghost use Rattle.prefix_sensitize.specs.Listed.{AreAllOutcomes, ArePathsAnswered, IsNextPath, IsPathAnswered, IsRunWith};
+ghost use Rattle.prefix_sensitize.specs.SearchedRuns.{IsSearchedRun};
 ghost use Rattle.prefix_sensitize.specs.Searches.{AreBothOutcomesFrom, AreFaultOutcomes, AreSearches, Searches};
 
 use crate::all_outcomes::{AllOutcomes, BothOutcomes, FaultOutcomes};
@@ -34,11 +31,7 @@ pub(crate) fn run_of(
     requires rules { rules ≡ searches.rules }
     requires paths { paths.items ≡ searches.routes }
     requires outcomes { AreAllOutcomes net.now searches outcomes }
-    ensures good { IfOk result (λ run. (count : ℕ) → AreFirst net.now (delays_of net.now delays.now) count searches.routes
-        → IsGoodRun net.now (delays_of net.now delays.now) count searches.budget run) }
-    ensures lawful { IfOk result (λ run. IsLawfulRun net.now run) }
-    ensures rules { IfOk result (λ run. run.rules ≡ rules) }
-    ensures shortest { IfOk result (λ run. IsShortestRun net.now run) }
+    ensures { IfOk result (IsSearchedRun net.now (delays_of net.now delays.now) searches.routes searches.budget searches.rules) }
 {
     let AllOutcomes {
         budget: _,

@@ -1,5 +1,6 @@
-// What searches are for, and what each ends with.
+// What searches are for, what each ends with, and what a walk over the listed paths has found.
 use pd_base::{Direction, Kind, Pair};
+use runs::Proof;
 
 /// Which tests are searched for, and how many splits each search may make.
 #[derive(Clone, Copy)]
@@ -7,7 +8,7 @@ pub(crate) struct Aim {
     /// The conditions.
     pub(crate) kind: Kind,
     /// The transition at the source of each path.
-    pub(crate) dir: Direction,
+    pub(crate) direction: Direction,
     /// The most splits of a search.
     pub(crate) budget: u32,
 }
@@ -21,4 +22,14 @@ pub(crate) enum Outcome {
     Tested(Pair),
     /// The proof of this index, from 0, among those found: a refutation that applies to the path, or a tree that spent the budget on it.
     Proved(usize),
+}
+
+/// What a walk for an aim has found: an outcome for each row of the listed paths, and the proofs that outcomes name, in the order of
+/// finding. Those that stand first are of the walks before it.
+#[derive(Drop)]
+pub(crate) struct Findings {
+    /// The outcomes, by row.
+    pub(crate) outcomes: Vec<Outcome>,
+    /// The proofs.
+    pub(crate) proofs: Vec<Proof>,
 }

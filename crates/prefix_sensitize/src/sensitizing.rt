@@ -1,23 +1,19 @@
-// All searches for the first paths of a circuit, and the run that they make. How many paths were asked for is handed in beside the paths:
-// there may be fewer, and a good run is one for the number that was asked for.
+// All searches for the first paths of a circuit, and the run that they make. For how many paths it was asked no search needs to know:
+// there may be fewer, and the run is good for each number of paths of which these are the first ones.
 ghost use Rattle.std.specs.Prelude.{◌≡◌, ◌+◌, ◌*◌, ◌<◌, ◌≤◌, ◌^◌, None, length, map, not, IfOk, OnOk};
-ghost use Rattle.pd_base.specs.declared.limits.TheConstants.{MOST_PATHS};
 ghost use Rattle.netlist.specs.declared.limits.TheConstants.{MOST_LEVELS};
 ghost use Rattle.delay_annotation.specs.Annotation.{delays_of, Fits};
-ghost use Rattle.netlist.specs.Order.{AreFirst};
-ghost use Rattle.good_runs.specs.GoodRun.{IsGoodRun};
-ghost use Rattle.good_runs.specs.Shortest.{IsShortestRun};
-ghost use Rattle.runs.specs.Lawful.{IsLawfulRun};
 ghost use Rattle.trees.specs.Unlinked.{IsUnlinked};
 ghost use Rattle.justify.specs.Desks.{IsDeskFor};
 ghost use Rattle.prefix_sensitize.specs.Entering.{IsIdleAgain};
 ghost use Rattle.prefix_sensitize.specs.Listed.{AreAllOutcomes};
-ghost use Rattle.prefix_sensitize.specs.Outcomes.{AreFoundProofs};
-ghost use Rattle.prefix_sensitize.specs.Readiness.{AddsProofsFor, CountsAtMost, IsReadyFor, IsSet, NoneIsFor};
-ghost use Rattle.prefix_sensitize.specs.Searches.{AreBothOutcomesFrom, is_test, searches_of};
+ghost use Rattle.prefix_sensitize.specs.Readiness.{AreBeforeDirection, CountsAtMost, IsReadyFor, IsSet};
+ghost use Rattle.prefix_sensitize.specs.SearchedRuns.{AreFirstOnes, IsSearchedRun};
+ghost use Rattle.prefix_sensitize.specs.Searches.{AreDirectionFindings, is_test, searches_of};
 ghost use Rattle.prefix_sensitize.specs.Walks.{AreSearchablePaths, AreToldPaths, IsBudget};
 
-use crate::all_outcomes::{AllOutcomes, BothOutcomes};
+use crate::all_outcomes::{AllOutcomes, BothOutcomes, DirectionFindings};
+use crate::course::PathsInOrder;
 use crate::listing::run_of;
 use crate::outcome::{Aim, Outcome};
 use crate::path_tree::PathTree;
@@ -32,7 +28,7 @@ use runs::{Proof, Run};
 use state_sets::{Algebra, FourStates};
 use std::alloc::Global;
 
-/// A good run for the first `count` paths of a circuit, which are given, at most `MOST_PATHS` of them, and a budget of splits for each
+/// A good run for the first paths of a circuit, which are given, for some number of at most `MOST_PATHS`, and a budget of splits for each
 /// search, 1 to `MOST_BUDGET`: each verdict has the test or the proofs that it asks for, and each test and each proof is what it says,
 /// under these rules (this project's own). The run can be written as files. A refutation whose prefix implication alone refutes is one
 /// closed leaf, at the shortest prefix of its path that implication alone refutes.
@@ -45,21 +41,16 @@ pub fn sensitize_all<L>(
     net: &Netlist,
     delays: &Delays,
     paths: Vec<Path>,
-    count: u32,
     budget: u32,
     rules: Rules,
     steps: &mut Steps<L>,
 ) -> Result<Run, OutOfMemory>
     requires fits { Fits net.now delays.now }
-    requires first { AreFirst net.now (delays_of net.now delays.now) count paths.items }
-    requires count { count ≤ MOST_PATHS }
+    requires first { AreFirstOnes net.now (delays_of net.now delays.now) paths.items }
     requires budget { IsBudget budget }
     requires unlinked { IsUnlinked rules }
     requires steps { steps.old ≤ 2 ^ 63 }
-    ensures good { IfOk result (λ run. IsGoodRun net.now (delays_of net.now delays.now) count budget run) }
-    ensures lawful { IfOk result (λ run. IsLawfulRun net.now run) }
-    ensures rules { IfOk result (λ run. run.rules ≡ rules) }
-    ensures shortest { IfOk result (λ run. IsShortestRun net.now run) }
+    ensures run { IfOk result (IsSearchedRun net.now (delays_of net.now delays.now) paths.items budget rules) }
     ensures steps { CountsAtMost paths.items 4 steps.old steps.new }
 {
     // a netlist has few levels, and so its paths have few steps
@@ -141,95 +132,85 @@ fn search_in_order<A: Algebra, S: Setting, L>(
     ensures steps { CountsAtMost paths.now 4 steps.old steps.new }
 {
     let tree = PathTree::new(alloc, paths)?;
-    search_all(alloc, engine, desk, paths, &tree, budget, steps)
+    let listed = PathsInOrder {
+        alloc,
+        paths,
+        tree: &tree,
+    };
+    search_all(engine, desk, &listed, budget, steps)
 }
 
 // Searches for the tests of both transitions.
 fn search_all<A: Algebra, S: Setting, L>(
-    alloc: Global,
     engine: &mut Engine<A, S>,
     desk: &mut Desk,
-    paths: &[Path],
-    tree: &PathTree,
+    listed: &PathsInOrder,
     budget: u32,
     steps: &mut Steps<L>,
 ) -> Result<AllOutcomes, OutOfMemory>
-    requires ready { IsReadyFor A.algebra paths.now tree.now budget engine.old desk.old }
+    requires ready { IsReadyFor A.algebra listed.now budget engine.old desk.old }
     requires steps { steps.old ≤ 2 ^ 63 }
-    ensures outcomes { IfOk result (λ outcomes. AreAllOutcomes engine.old.net (searches_of engine.old.rules budget paths.now outcomes) outcomes) }
-    ensures steps { steps.new ≤ steps.old + 4 * tree.now.prefixes }
+    ensures outcomes { IfOk result (λ outcomes. AreAllOutcomes engine.old.net (searches_of engine.old.rules budget listed.now.paths.now outcomes) outcomes) }
+    ensures steps { steps.new ≤ steps.old + 4 * listed.now.tree.now.prefixes }
 {
-    let mut proofs = Vec::new(alloc);
-    let rises = search_way(
-        alloc,
+    let none = Vec::new(listed.alloc);
+    let rises = search_direction(engine, desk, listed, Direction::Rise, budget, none, steps)?;
+    let falls = search_direction(
         engine,
         desk,
-        paths,
-        tree,
-        Direction::Rise,
-        budget,
-        &mut proofs,
-        steps,
-    )?;
-    let falls = search_way(
-        alloc,
-        engine,
-        desk,
-        paths,
-        tree,
+        listed,
         Direction::Fall,
         budget,
-        &mut proofs,
+        rises.proofs,
         steps,
     )?;
     Ok(AllOutcomes {
         budget,
-        rises,
-        falls,
-        proofs,
+        rises: rises.outcomes,
+        falls: falls.outcomes,
+        proofs: falls.proofs,
     })
 }
 
 // Searches for the robust tests of a transition, and then for nonrobust ones where there is none.
-fn search_way<A: Algebra, S: Setting, L>(
-    alloc: Global,
+fn search_direction<A: Algebra, S: Setting, L>(
     engine: &mut Engine<A, S>,
     desk: &mut Desk,
-    paths: &[Path],
-    tree: &PathTree,
-    dir: Direction,
+    listed: &PathsInOrder,
+    direction: Direction,
     budget: u32,
-    proofs: &mut Vec<Proof>,
+    proofs: Vec<Proof>,
     steps: &mut Steps<L>,
-) -> Result<BothOutcomes, OutOfMemory>
-    requires ready { IsReadyFor A.algebra paths.now tree.now budget engine.old desk.old }
-    requires found { AreFoundProofs engine.old.net engine.old.rules budget paths.now proofs.old.items }
-    requires fresh { NoneIsFor dir proofs.old.items }
-    requires room { steps.old + 2 * (length paths.now * MOST_LEVELS) < 2 ^ 64 }
-    ensures ready { OnOk result (IsReadyFor A.algebra paths.now tree.now budget engine.new desk.new) }
+) -> Result<DirectionFindings, OutOfMemory>
+    requires ready { IsReadyFor A.algebra listed.now budget engine.old desk.old }
+    requires before { AreBeforeDirection engine.old.net engine.old.rules budget listed.now.paths.now direction proofs.items }
+    requires room { steps.old + 2 * (length listed.now.paths.now * MOST_LEVELS) < 2 ^ 64 }
+    ensures ready { OnOk result (IsReadyFor A.algebra listed.now budget engine.new desk.new) }
     ensures rest { OnOk result (IsIdleAgain engine.old engine.new) }
-    ensures outcomes { IfOk result (λ outcomes. AreBothOutcomesFrom engine.old.net engine.old.rules paths.now proofs.new.items dir 0 outcomes) }
-    ensures found { OnOk result (AreFoundProofs engine.old.net engine.old.rules budget paths.now proofs.new.items) }
-    ensures adds { OnOk result (AddsProofsFor dir proofs.old.items proofs.new.items) }
-    ensures steps { steps.new ≤ steps.old + 2 * tree.now.prefixes }
+    ensures found { IfOk result (AreDirectionFindings engine.old.net engine.old.rules budget listed.now.paths.now direction proofs.items) }
+    ensures steps { steps.new ≤ steps.old + 2 * listed.now.tree.now.prefixes }
 {
     let aim = Aim {
         kind: Kind::Robust,
-        dir,
+        direction,
         budget,
     };
-    let all = vec![in alloc; true; paths.len()]?;
-    let robust = walk(alloc, engine, desk, paths, tree, all, aim, proofs, steps)?;
+    let all = vec![in listed.alloc; true; listed.paths.len()]?;
+    let robust = walk(engine, desk, listed, all, aim, proofs, steps)?;
     let aim = Aim {
         kind: Kind::Nonrobust,
-        dir,
+        direction,
         budget,
     };
-    let untested = untested(alloc, robust.as_slice())?;
-    let nonrobust = walk(
-        alloc, engine, desk, paths, tree, untested, aim, proofs, steps,
-    )?;
-    Ok(BothOutcomes { robust, nonrobust })
+    let untested = untested(listed.alloc, robust.outcomes.as_slice())?;
+    let nonrobust = walk(engine, desk, listed, untested, aim, robust.proofs, steps)?;
+    Ok(DirectionFindings {
+        outcomes: BothOutcomes {
+            robust: robust.outcomes,
+            nonrobust: nonrobust.outcomes,
+        },
+        proofs: nonrobust.proofs,
+    })
 }
 
 // For which paths no test was found.

@@ -7,7 +7,7 @@ ghost use Rattle.prefix_sensitize.specs.Settling.{AddsProof, HasItsSteps, Settle
 
 use crate::course::Course;
 use crate::descent::Ended;
-use crate::outcome::{Aim, Outcome};
+use crate::outcome::{Aim, Findings, Outcome};
 use crate::stretch::stretch_from;
 use pd_base::OutOfMemory;
 use runs::Proof;
@@ -18,33 +18,33 @@ pub(crate) fn settle(
     course: &Course,
     place: usize,
     ended: Ended,
-    outcomes: &mut [Outcome],
-    proofs: &mut Vec<Proof>,
+    found: &mut Findings,
 ) -> Result<usize, OutOfMemory>
     requires order { IsOrder course.now.paths.now course.now.order.now }
     requires few { length course.now.paths.now < 2 ^ 32 }
     requires short { All (λ route. length route.steps ≤ MOST_LEVELS) course.now.paths.now }
     requires place { place < length course.now.order.now }
-    requires one_each { length outcomes.old ≡ length course.now.paths.now }
+    requires one_each { length found.old.outcomes.items ≡ length course.now.paths.now }
     requires steps { (row : ℕ) (route : Route) → StandsInOrder course.now.paths.now course.now.order.now place row route → HasItsSteps route ended }
     ensures { IfOk result (λ end. (row : ℕ) (route : Route) → StandsInOrder course.now.paths.now course.now.order.now place row route
-        → Settles course.now place row route ended end outcomes.old outcomes.new proofs.old.items proofs.new.items) }
+        → Settles course.now place row route ended end found.old.outcomes.items found.new.outcomes.items
+        found.old.proofs.items found.new.proofs.items) }
 {
     let row = course.order[place];
     match ended {
         Ended::Test(pair) => {
-            outcomes[row] = Outcome::Tested(pair);
+            found.outcomes[row] = Outcome::Tested(pair);
             Ok(place + 1)
         }
         Ended::Spent(tree) => {
             let steps = course.paths[row].steps().len();
             let proof = found_proof(course.aim, true, row, steps, tree);
-            add_proof(course.order, place, place + 1, proof, outcomes, proofs)
+            add_proof(course.order, place, place + 1, proof, found)
         }
         Ended::Refuted { steps, tree } => {
             let stretch = stretch_from(course.paths, course.order, place, steps);
             let proof = found_proof(course.aim, false, stretch.least, steps, tree);
-            add_proof(course.order, place, stretch.end, proof, outcomes, proofs)
+            add_proof(course.order, place, stretch.end, proof, found)
         }
     }
 }
@@ -58,7 +58,7 @@ fn found_proof(aim: Aim, spent: bool, row: usize, steps: usize, tree: Tree) -> P
     Proof {
         spent,
         kind: aim.kind,
-        dir: aim.dir,
+        dir: aim.direction,
         path: row as u32 + 1,
         steps: steps as u32,
         tree,
@@ -71,18 +71,18 @@ fn add_proof(
     place: usize,
     end: usize,
     proof: Proof,
-    outcomes: &mut [Outcome],
-    proofs: &mut Vec<Proof>,
+    found: &mut Findings,
 ) -> Result<usize, OutOfMemory>
-    requires rows { All (λ row. row < length outcomes.old) order.now }
+    requires rows { All (λ row. row < length found.old.outcomes.items) order.now }
     requires places { place ≤ end }
     requires end { end ≤ length order.now }
-    ensures { IfOk result (λ to. (to ≡ end) × AddsProof order.now place end proof outcomes.old outcomes.new proofs.old.items proofs.new.items) }
+    ensures { IfOk result (λ to. (to ≡ end) × AddsProof order.now place end proof found.old.outcomes.items found.new.outcomes.items
+        found.old.proofs.items found.new.proofs.items) }
 {
-    let index = proofs.len();
-    proofs.push(proof)?;
+    let index = found.proofs.len();
+    found.proofs.push(proof)?;
     for at in place..end {
-        outcomes[order[at]] = Outcome::Proved(index);
+        found.outcomes[order[at]] = Outcome::Proved(index);
     }
     Ok(end)
 }

@@ -68,23 +68,32 @@ impl Writer {
         net: &Netlist,
         number: u32,
         path: &Path,
-        dir: Direction,
+        direction: Direction,
         outcomes: FaultOutcomes,
     ) -> Result<Verdict, OutOfMemory>
         ghost searches: { Searches }
         requires asked { IsAsked net.now searches number path.now self.old }
-        requires outcomes { AreFaultOutcomes net.now searches.rules searches.routes searches.proofs (number - 1) dir path.now outcomes }
-        ensures answered { IfOk result (λ verdict. IsAnswered net.now searches number dir path.now (written_by self.old) (written_by self.new) verdict) }
+        requires outcomes { AreFaultOutcomes net.now searches.rules searches.routes searches.proofs (number - 1) direction path.now outcomes }
+        ensures answered { IfOk result (λ verdict. IsAnswered net.now searches number direction path.now (written_by self.old) (written_by self.new) verdict) }
         ensures writer { IfOk result (λ _. IsWriterFor net.now searches self.new) }
     {
         let FaultOutcomes { robust, nonrobust } = outcomes;
         match robust {
             Outcome::Unsearched => unreachable!(),
             Outcome::Tested(pair) => {
-                let test = add_test(self.alloc, &mut self.tests, number, dir, Kind::Robust, pair)?;
+                let test = add_test(
+                    self.alloc,
+                    &mut self.tests,
+                    number,
+                    direction,
+                    Kind::Robust,
+                    pair,
+                )?;
                 Ok(Verdict::Robust { test })
             }
-            Outcome::Proved(proof) => { self.not_robust(net, number, path, dir, proof, nonrobust) }
+            Outcome::Proved(proof) => {
+                self.not_robust(net, number, path, direction, proof, nonrobust)
+            }
         }
     }
 
@@ -94,20 +103,20 @@ impl Writer {
         net: &Netlist,
         number: u32,
         path: &Path,
-        dir: Direction,
+        direction: Direction,
         proof: usize,
         nonrobust: Outcome,
     ) -> Result<Verdict, OutOfMemory>
         ghost searches: { Searches }
         requires asked { IsAsked net.now searches number path.now self.old }
-        requires robust { HasProof searches.routes searches.proofs number (target_of path.now dir Kind.Robust) (proof + 1) }
-        requires nonrobust { IsOutcome net.now searches.rules searches.routes searches.proofs (number - 1) (target_of path.now dir Kind.Nonrobust) nonrobust }
-        ensures answered { IfOk result (λ verdict. IsAnswered net.now searches number dir path.now (written_by self.old) (written_by self.new) verdict) }
+        requires robust { HasProof searches.routes searches.proofs number (target_of path.now direction Kind.Robust) (proof + 1) }
+        requires nonrobust { IsOutcome net.now searches.rules searches.routes searches.proofs (number - 1) (target_of path.now direction Kind.Nonrobust) nonrobust }
+        ensures answered { IfOk result (λ verdict. IsAnswered net.now searches number direction path.now (written_by self.old) (written_by self.new) verdict) }
         ensures writer { IfOk result (λ _. IsWriterFor net.now searches self.new) }
     {
         match nonrobust {
             Outcome::Unsearched => unreachable!(),
-            Outcome::Tested(pair) => self.by_pair(net, number, path, dir, proof, pair),
+            Outcome::Tested(pair) => self.by_pair(net, number, path, direction, proof, pair),
             Outcome::Proved(index) => {
                 if self.found[index].spent {
                     let robust = self.numbering.cite(proof)?;
@@ -127,22 +136,29 @@ impl Writer {
         net: &Netlist,
         number: u32,
         path: &Path,
-        dir: Direction,
+        direction: Direction,
         proof: usize,
         pair: Pair,
     ) -> Result<Verdict, OutOfMemory>
         ghost searches: { Searches }
         requires asked { IsAsked net.now searches number path.now self.old }
-        requires robust { HasProof searches.routes searches.proofs number (target_of path.now dir Kind.Robust) (proof + 1) }
-        requires nonrobust { IsTestPair net.now searches.rules (target_of path.now dir Kind.Nonrobust) pair }
-        ensures answered { IfOk result (λ verdict. IsAnswered net.now searches number dir path.now (written_by self.old) (written_by self.new) verdict) }
+        requires robust { HasProof searches.routes searches.proofs number (target_of path.now direction Kind.Robust) (proof + 1) }
+        requires nonrobust { IsTestPair net.now searches.rules (target_of path.now direction Kind.Nonrobust) pair }
+        ensures answered { IfOk result (λ verdict. IsAnswered net.now searches number direction path.now (written_by self.old) (written_by self.new) verdict) }
         ensures writer { IfOk result (λ _. IsWriterFor net.now searches self.new) }
     {
         // a netlist is a circuit
         let _ = net.sources();
         let refuted = !self.found[proof].spent;
-        if is_robust(net, path, dir, refuted, &pair, &mut self.judge) {
-            let test = add_test(self.alloc, &mut self.tests, number, dir, Kind::Robust, pair)?;
+        if is_robust(net, path, direction, refuted, &pair, &mut self.judge) {
+            let test = add_test(
+                self.alloc,
+                &mut self.tests,
+                number,
+                direction,
+                Kind::Robust,
+                pair,
+            )?;
             return Ok(Verdict::Robust { test });
         }
         let proof = self.numbering.cite(proof)?;
@@ -150,7 +166,7 @@ impl Writer {
             self.alloc,
             &mut self.tests,
             number,
-            dir,
+            direction,
             Kind::Nonrobust,
             pair,
         )?;
@@ -181,22 +197,22 @@ impl Writer {
 fn is_robust(
     net: &Netlist,
     path: &Path,
-    dir: Direction,
+    direction: Direction,
     refuted: bool,
     pair: &Pair,
     judge: &mut ConeJudge,
 ) -> bool
     requires prefix { IsPrefix net.now path.now }
-    requires refuted { IsTrue refuted → ¬ Meets net.now (target_of path.now dir Kind.Robust) pair.now }
+    requires refuted { IsTrue refuted → ¬ Meets net.now (target_of path.now direction Kind.Robust) pair.now }
     requires bits { length pair.now.first ≡ source_count net.now }
     requires judge { IsJudgeOf 4 net.now judge.old }
-    ensures robust { IsTrue result ↔ Meets net.now (target_of path.now dir Kind.Robust) pair.now }
+    ensures robust { IsTrue result ↔ Meets net.now (target_of path.now direction Kind.Robust) pair.now }
     ensures judge { IsJudgeOf 4 net.now judge.new }
 {
     if refuted {
         return false;
     }
-    judge.meets(net, path, dir, Kind::Robust, pair)
+    judge.meets(net, path, direction, Kind::Robust, pair)
 }
 
 // Adds a test under the next number. It expects no bits yet.
@@ -204,16 +220,16 @@ fn add_test(
     alloc: Global,
     tests: &mut Vec<Test>,
     path: u32,
-    dir: Direction,
+    direction: Direction,
     kind: Kind,
     pair: Pair,
 ) -> Result<u32, OutOfMemory>
     requires { length tests.old.items + 1 < 2 ^ 32 }
-    ensures { IfOk result (λ number. AddsTest tests.old.items tests.new.items path dir kind pair number) }
+    ensures { IfOk result (λ number. AddsTest tests.old.items tests.new.items path direction kind pair number) }
 {
     tests.push(Test {
         path,
-        dir,
+        dir: direction,
         kind,
         pair,
         expected: Items::new(Vec::new(alloc)),

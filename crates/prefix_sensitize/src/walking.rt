@@ -7,19 +7,18 @@ ghost use Rattle.justify.specs.Desks.{IsDeskFor};
 ghost use Rattle.prefix_sensitize.specs.Coming.{HasComeAlong, HasComeApart};
 ghost use Rattle.prefix_sensitize.specs.Courses.{BeginsAt, IsBegunAt, IsCourse};
 ghost use Rattle.prefix_sensitize.specs.Entering.{HasGone, IsIdleAgain, IsSameBeginning};
-ghost use Rattle.prefix_sensitize.specs.Outcomes.{AddsProofs, AreFoundProofs, AreOutcomes, NoneIsAbout};
+ghost use Rattle.prefix_sensitize.specs.Outcomes.{AddsProofs};
 ghost use Rattle.prefix_sensitize.specs.Readiness.{IsReadyFor};
-ghost use Rattle.prefix_sensitize.specs.Walking.{AreAsked, AreBeforeAim, AreBehindAim, CanWalk, ComesOn, HasWalked};
-ghost use Rattle.prefix_sensitize.specs.Walks.{AreExcused, CountsPrefixes};
+ghost use Rattle.prefix_sensitize.specs.Walking.{AreAsked, AreBeforeAim, AreFindings, CanWalk, ComesOn, HasWalked};
+ghost use Rattle.prefix_sensitize.specs.Walks.{CountsPrefixes};
 
-use crate::course::{Course, begins_at};
+use crate::course::{Course, PathsInOrder, begins_at};
 use crate::descent::Descent;
-use crate::outcome::{Aim, Outcome};
-use crate::path_tree::PathTree;
+use crate::outcome::{Aim, Findings, Outcome};
 use crate::settling::settle;
 use implication::{Engine, Scope, Setting};
 use justify::Desk;
-use pd_base::{LineId, OutOfMemory, Path, Steps};
+use pd_base::{LineId, OutOfMemory, Steps};
 use runs::Proof;
 use state_sets::Algebra;
 use std::alloc::Global;
@@ -32,45 +31,36 @@ use std::alloc::Global;
 /// Afterwards no scope is open, the desk serves as before, and each proof is one that was found for these paths. The one error is that
 /// memory ran out; promised is then only how far the count of steps rose: no prefix was counted twice.
 pub(crate) fn walk<A: Algebra, S: Setting, L>(
-    alloc: Global,
     engine: &mut Engine<A, S>,
     desk: &mut Desk,
-    paths: &[Path],
-    tree: &PathTree,
+    listed: &PathsInOrder,
     needed: Vec<bool>,
     aim: Aim,
-    proofs: &mut Vec<Proof>,
+    proofs: Vec<Proof>,
     steps: &mut Steps<L>,
-) -> Result<Vec<Outcome>, OutOfMemory>
-    requires ready { IsReadyFor A.algebra paths.now tree.now aim.budget engine.old desk.old }
-    requires asked { AreAsked engine.old.net engine.old.rules aim paths.now needed.items }
-    requires before { AreBeforeAim engine.old.net engine.old.rules aim paths.now proofs.old.items }
-    requires room { steps.old + length paths.now * MOST_LEVELS < 2 ^ 64 }
-    ensures ready { OnOk result (IsReadyFor A.algebra paths.now tree.now aim.budget engine.new desk.new) }
+) -> Result<Findings, OutOfMemory>
+    requires ready { IsReadyFor A.algebra listed.now aim.budget engine.old desk.old }
+    requires asked { AreAsked engine.old.net engine.old.rules aim listed.now.paths.now needed.items }
+    requires before { AreBeforeAim engine.old.net engine.old.rules aim listed.now.paths.now proofs.items }
+    requires room { steps.old + length listed.now.paths.now * MOST_LEVELS < 2 ^ 64 }
+    ensures ready { OnOk result (IsReadyFor A.algebra listed.now aim.budget engine.new desk.new) }
     ensures rest { OnOk result (IsIdleAgain engine.old engine.new) }
-    ensures outcomes { IfOk result (λ outcomes. AreOutcomes engine.old.net engine.old.rules paths.now proofs.new.items needed.items aim outcomes.items) }
-    ensures behind { OnOk result (AreBehindAim engine.old.net engine.old.rules aim paths.now proofs.old.items proofs.new.items) }
-    ensures counted { CountsPrefixes paths.now steps.old steps.new }
+    ensures found { IfOk result (AreFindings engine.old.net engine.old.rules aim listed.now.paths.now needed.items proofs.items) }
+    ensures counted { CountsPrefixes listed.now.paths.now steps.old steps.new }
 {
     // the netlist knows itself as a circuit
     let _ = engine.net().lines();
-    let mut outcomes = unsearched(alloc, paths.len())?;
+    let outcomes = unsearched(listed.alloc, listed.paths.len())?;
+    let mut found = Findings { outcomes, proofs };
     let course = Course {
-        alloc,
-        paths,
-        order: tree.order(),
+        alloc: listed.alloc,
+        paths: listed.paths,
+        order: listed.tree.order(),
         needed: needed.as_slice(),
         aim,
     };
-    walk_course(
-        engine,
-        desk,
-        &course,
-        outcomes.as_mut_slice(),
-        proofs,
-        steps,
-    )?;
-    Ok(outcomes)
+    walk_course(engine, desk, &course, &mut found, steps)?;
+    Ok(found)
 }
 
 // No outcome yet for each of so many paths.
@@ -89,23 +79,22 @@ fn walk_course<A: Algebra, S: Setting, L>(
     engine: &mut Engine<A, S>,
     desk: &mut Desk,
     course: &Course,
-    outcomes: &mut [Outcome],
-    proofs: &mut Vec<Proof>,
+    found: &mut Findings,
     steps: &mut Steps<L>,
 ) -> Result<(), OutOfMemory>
     ghost begin: { ℕ }
     requires idle { engine.old.beginning ≡ None }
     requires walking { CanWalk A.algebra engine.old.net engine.old.rules engine.old.ends course.now begin desk.old }
-    requires come { HasComeApart engine.old.net engine.old.rules course.now begin 0 outcomes.old proofs.old.items steps.old }
+    requires come { HasComeApart engine.old.net engine.old.rules course.now begin 0 found.old steps.old }
     ensures desk { OnOk result (IsDeskFor A.algebra engine.old.net engine.old.rules desk.new) }
     ensures rest { OnOk result (IsIdleAgain engine.old engine.new) }
-    ensures come { OnOk result (HasComeApart engine.old.net engine.old.rules course.now begin (length course.now.order.now) outcomes.new proofs.new.items steps.new) }
-    ensures adds { OnOk result (AddsProofs course.now.aim proofs.old.items proofs.new.items) }
+    ensures come { OnOk result (HasComeApart engine.old.net engine.old.rules course.now begin (length course.now.order.now) found.new steps.new) }
+    ensures adds { OnOk result (AddsProofs course.now.aim found.old.proofs.items found.new.proofs.items) }
     ensures counted { CountsPrefixes course.now.paths.now begin steps.new }
 {
     let mut place = 0;
     while place < course.order.len() {
-        place = walk_source(engine, desk, course, place, outcomes, proofs, steps)?;
+        place = walk_source(engine, desk, course, place, found, steps)?;
     }
     Ok(())
 }
@@ -117,19 +106,18 @@ fn walk_source<A: Algebra, S: Setting, L>(
     desk: &mut Desk,
     course: &Course,
     place: usize,
-    outcomes: &mut [Outcome],
-    proofs: &mut Vec<Proof>,
+    found: &mut Findings,
     steps: &mut Steps<L>,
 ) -> Result<usize, OutOfMemory>
     ghost begin: { ℕ }
     requires idle { engine.old.beginning ≡ None }
     requires walking { CanWalk A.algebra engine.old.net engine.old.rules engine.old.ends course.now begin desk.old }
     requires place { place < length course.now.order.now }
-    requires come { HasComeApart engine.old.net engine.old.rules course.now begin place outcomes.old proofs.old.items steps.old }
+    requires come { HasComeApart engine.old.net engine.old.rules course.now begin place found.old steps.old }
     ensures desk { IsDeskFor A.algebra engine.old.net engine.old.rules desk.new }
     ensures rest { IsIdleAgain engine.old engine.new }
-    ensures come { IfOk result (λ end. HasComeApart engine.old.net engine.old.rules course.now begin end outcomes.new proofs.new.items steps.new) }
-    ensures on { IfOk result (λ end. ComesOn course.now place end proofs.old.items proofs.new.items) }
+    ensures come { IfOk result (λ end. HasComeApart engine.old.net engine.old.rules course.now begin end found.new steps.new) }
+    ensures on { IfOk result (λ end. ComesOn course.now place end found.old found.new) }
     ensures counted { CountsPrefixes course.now.paths.now begin steps.new }
 {
     let row = course.order[place];
@@ -137,10 +125,8 @@ fn walk_source<A: Algebra, S: Setting, L>(
         return Ok(place + 1);
     }
     let source = course.paths[row].source();
-    let mut scope = Scope::begin(engine, source, course.aim.dir, course.aim.kind);
-    walk_from(
-        &mut scope, desk, course, source, place, outcomes, proofs, steps,
-    )
+    let mut scope = Scope::begin(engine, source, course.aim.direction, course.aim.kind);
+    walk_from(&mut scope, desk, course, source, place, found, steps)
 }
 
 // Goes along the paths from a source, at which a scope has begun. The answer is the place behind the last of them.
@@ -150,8 +136,7 @@ fn walk_from<A: Algebra, S: Setting, L>(
     course: &Course,
     source: LineId,
     place: usize,
-    outcomes: &mut [Outcome],
-    proofs: &mut Vec<Proof>,
+    found: &mut Findings,
     steps: &mut Steps<L>,
 ) -> Result<usize, OutOfMemory>
     ghost begin: { ℕ }
@@ -159,25 +144,16 @@ fn walk_from<A: Algebra, S: Setting, L>(
     requires gone { HasGone (standing scope.old) (record { source = source; steps = [] }) course.now.aim [] }
     requires walking { CanWalk A.algebra (standing scope.old).net (standing scope.old).rules (standing scope.old).ends course.now begin desk.old }
     requires place { BeginsAt course.now place source }
-    requires come { HasComeApart (standing scope.old).net (standing scope.old).rules course.now begin place outcomes.old proofs.old.items steps.old }
+    requires come { HasComeApart (standing scope.old).net (standing scope.old).rules course.now begin place found.old steps.old }
     ensures walked { HasWalked A.algebra course.now begin (standing scope.old) (standing scope.new) desk.new steps.new }
     ensures scope { IsSameScope scope.old scope.new }
-    ensures come { IfOk result (λ end. HasComeApart (standing scope.old).net (standing scope.old).rules course.now begin end outcomes.new proofs.new.items steps.new) }
-    ensures on { IfOk result (λ end. ComesOn course.now place end proofs.old.items proofs.new.items) }
+    ensures come { IfOk result (λ end. HasComeApart (standing scope.old).net (standing scope.old).rules course.now begin end found.new steps.new) }
+    ensures on { IfOk result (λ end. ComesOn course.now place end found.old found.new) }
 {
     let mut descent = Descent::new(course.alloc);
     let mut at = place;
     'paths: while begins_at(course, at, source) {
-        at = visit(
-            scope,
-            desk,
-            &mut descent,
-            course,
-            at,
-            outcomes,
-            proofs,
-            steps,
-        )?;
+        at = visit(scope, desk, &mut descent, course, at, found, steps)?;
     }
     Ok(at)
 }
@@ -189,19 +165,18 @@ fn visit<A: Algebra, S: Setting, L>(
     descent: &mut Descent,
     course: &Course,
     place: usize,
-    outcomes: &mut [Outcome],
-    proofs: &mut Vec<Proof>,
+    found: &mut Findings,
     steps: &mut Steps<L>,
 ) -> Result<usize, OutOfMemory>
     ghost begin: { ℕ }
     requires begun { scope.old.origin ≡ Begun }
     requires walking { CanWalk A.algebra (standing scope.old).net (standing scope.old).rules (standing scope.old).ends course.now begin desk.old }
-    requires come { HasComeAlong (standing scope.old) course.now begin place descent.old outcomes.old proofs.old.items steps.old }
+    requires come { HasComeAlong (standing scope.old) course.now begin place descent.old found.old steps.old }
     requires place { IsBegunAt (standing scope.old) course.now place }
     ensures walked { HasWalked A.algebra course.now begin (standing scope.old) (standing scope.new) desk.new steps.new }
     ensures scope { IsSameScope scope.old scope.new }
-    ensures come { IfOk result (λ end. HasComeAlong (standing scope.new) course.now begin end descent.new outcomes.new proofs.new.items steps.new) }
-    ensures on { IfOk result (λ end. ComesOn course.now place end proofs.old.items proofs.new.items) }
+    ensures come { IfOk result (λ end. HasComeAlong (standing scope.new) course.now begin end descent.new found.new steps.new) }
+    ensures on { IfOk result (λ end. ComesOn course.now place end found.old found.new) }
 {
     let row = course.order[place];
     if !course.needed[row] {
@@ -215,5 +190,5 @@ fn visit<A: Algebra, S: Setting, L>(
         course.aim,
         steps,
     )?;
-    settle(course, place, ended, outcomes, proofs)
+    settle(course, place, ended, found)
 }

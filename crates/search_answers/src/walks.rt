@@ -106,7 +106,6 @@ fn steps_of(alloc: Global, net: &Netlist, delays: &Delays, count: u32) -> Result
         net,
         delays,
         paths,
-        count,
         BUDGET,
         Rules::One,
         &mut steps,

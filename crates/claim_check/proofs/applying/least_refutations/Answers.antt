@@ -29,12 +29,12 @@ pub returns-clause-least : goal.returns-clause-least
 returns-clause-least c =
     let routes = c.args.paths.now in
     let nodes = c.args.prefixes.now in
-    let P : List (Option ℕ) → Type 0 = λ marks. AreLeastMarks nodes c.args.proofs.now c.args.kind c.args.dir marks in
+    let P : List (Option ℕ) → Type 0 = λ marks. AreLeastMarks nodes c.args.proofs.now c.args.kind c.args.direction marks in
     IfOk-weaker c.least_by_rows.result
     (λ (least : Vec (Option ℕ) Global).
     (row : ℕ) → row < length routes → IsLeastMark c.as_slice.result.now (get_or nodes.rows row []) (get_or least.items row None))
-    (λ (least : Vec (Option ℕ) Global). AreLeastRefutations routes c.args.proofs.now c.args.dir c.args.kind least.items)
+    (λ (least : Vec (Option ℕ) Global). AreLeastRefutations routes c.args.proofs.now c.args.direction c.args.kind least.items)
     (λ least found.
-    least_are routes nodes c.requires.nodes c.args.proofs.now c.requires.names c.args.kind c.args.dir c.as_slice.result.now
+    least_are routes nodes c.requires.nodes c.args.proofs.now c.requires.names c.args.kind c.args.direction c.as_slice.result.now
     (subst P (sym c.as_slice.ensures.value) c.in_ok-marks.ensures) least.items found)
     c.least_by_rows.ensures.least

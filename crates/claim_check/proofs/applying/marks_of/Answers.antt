@@ -17,4 +17,4 @@ returns c =
     let count = ap length c.in_ok-marks.ensures ∙ length-replicate c.count.result none ∙ c.count.ensures in
     let marks = with_items_is c.in_ok-marks.marks c.mark_refutations.new.marks
     (omega (arith, c.mark_refutations.ensures.one_each, count, c.in_ok-marks.marks.ok.0)) in
-    subst (AreLeastMarks prefixes c.args.proofs.now c.args.kind c.args.dir) (sym marks) c.mark_refutations.ensures
+    subst (AreLeastMarks prefixes c.args.proofs.now c.args.kind c.args.direction) (sym marks) c.mark_refutations.ensures

@@ -9,5 +9,5 @@ pub returns-in-Some : goal.returns-in-Some
 returns-in-Some c =
     let run = c.args.run.now in
     let fault = c.args.fault.now in
-    robust_by_least (routes_of run) run.proofs (target_of fault.path.now fault.dir kinds.Robust) fault.number c.in-Some.least fault.robust
+    robust_by_least (routes_of run) run.proofs (target_of fault.path.now fault.direction kinds.Robust) fault.number c.in-Some.least fault.robust
     c.in-Some.is c.requires c.args.proof

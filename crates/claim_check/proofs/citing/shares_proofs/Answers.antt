@@ -13,8 +13,8 @@ returns-in-Untestable c =
     let run = c.args.run.now in
     let fault = c.args.fault.now in
     let exact =
-    cited_by_least (routes_of run) run.proofs (target_of fault.path.now fault.dir kinds.Nonrobust) fault.nonrobust c.requires.nonrobust
+    cited_by_least (routes_of run) run.proofs (target_of fault.path.now fault.direction kinds.Nonrobust) fault.nonrobust c.requires.nonrobust
     c.in-Untestable.proof in
-    let P : Verdict → Type 0 = λ verdict. IsTrue c.is_number.result ↔ CitesItsProofs run fault.number fault.dir fault.path.now verdict in
+    let P : Verdict → Type 0 = λ verdict. IsTrue c.is_number.result ↔ CitesItsProofs run fault.number fault.direction fault.path.now verdict in
     subst P (sym c.in-Untestable.is)
     (λ found. exact.0 (c.is_number.ensures.0 found), λ cites. c.is_number.ensures.1 (exact.1 cites))

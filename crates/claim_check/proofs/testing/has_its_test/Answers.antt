@@ -20,16 +20,16 @@ pub returns-in-Robust-clause-tests : goal.returns-in-Robust-clause-tests
 returns-in-Robust-clause-tests c =
     let fault = c.args.fault.now in
     subst (λ (verdict : Verdict). IsTrue c.has_test.result
-    ↔ HasItsTest c.args.net.now c.args.run.now fault.number fault.dir fault.path.now verdict) (sym c.in-Robust.is)
+    ↔ HasItsTest c.args.net.now c.args.run.now fault.number fault.direction fault.path.now verdict) (sym c.in-Robust.is)
     (subst (λ (tests : List Test). IsTrue c.has_test.result
-    ↔ HasTest c.args.net.now tests fault.number (target_of fault.path.now fault.dir Robust) c.in-Robust.test)
+    ↔ HasTest c.args.net.now tests fault.number (target_of fault.path.now fault.direction Robust) c.in-Robust.test)
     c.as_slice.ensures c.has_test.ensures.tests)
 
 pub returns-in-Nonrobust-clause-tests : goal.returns-in-Nonrobust-clause-tests
 returns-in-Nonrobust-clause-tests c =
     let fault = c.args.fault.now in
     subst (λ (verdict : Verdict). IsTrue c.has_nonrobust_test.result
-    ↔ HasItsTest c.args.net.now c.args.run.now fault.number fault.dir fault.path.now verdict) (sym c.in-Nonrobust.is)
+    ↔ HasItsTest c.args.net.now c.args.run.now fault.number fault.direction fault.path.now verdict) (sym c.in-Nonrobust.is)
     (subst (λ (tests : List Test). IsTrue c.has_nonrobust_test.result
-    ↔ HasNonrobustTest c.args.net.now tests fault.number fault.dir fault.path.now c.in-Nonrobust.test)
+    ↔ HasNonrobustTest c.args.net.now tests fault.number fault.direction fault.path.now c.in-Nonrobust.test)
     c.as_slice-in-Nonrobust.ensures c.has_nonrobust_test.ensures.tests)

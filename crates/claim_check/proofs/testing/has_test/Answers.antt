@@ -16,6 +16,6 @@ returns-in-Some-clause-tests c = (
   λ has.
       let fault = c.args.fault.now in
       c.is_test_of.ensures.tests.1
-      (subst (IsTestOf c.args.net.now fault.number (target_of fault.path.now fault.dir Robust))
+      (subst (IsTestOf c.args.net.now fault.number (target_of fault.path.now fault.direction Robust))
       (number_same c.args.tests.now c.args.number has.test c.in-Some.test.now has.is_test c.in-Some.ensures) has.of_fault),
 )

@@ -24,7 +24,7 @@ returns-clause-fault c =
     subst (λ (list : List ListedPath). listed ≡ get_or list row listed) c.as_slice.ensures c.index-as_slice-row.is in
     let is_listed : slice_get run.paths row ≡ Some listed = slice_get_read run.paths (length run.paths) row listed refl (omega arith) at in
     let Refutes : Kind → Option ℕ → Type 0 =
-    λ kind number. IsLeastRefutation (routes_of run) run.proofs (target_of path c.args.dir kind) number in
+    λ kind number. IsLeastRefutation (routes_of run) run.proofs (target_of path c.args.direction kind) number in
     let in_robust : row < length least.robust.items = let each = c.requires.least.robust_each in omega arith in
     let in_nonrobust : row < length least.nonrobust.items = let each = c.requires.least.nonrobust_each in omega arith in
     let robust : get_or least.robust.items row None ≡ c.index.result.now =

@@ -15,12 +15,12 @@ returns c =
     let run = c.args.run.now in
     let each : length c.args.paths.now ≡ length run.paths =
     ap length c.requires.routes ∙ length-map run.paths (λ (listed : ListedPath). listed.path) in
-    let Least : Kind → List (Option ℕ) → Type 0 = λ kind least. AreLeastRefutations (routes_of run) run.proofs c.args.dir kind least in
+    let Least : Kind → List (Option ℕ) → Type 0 = λ kind least. AreLeastRefutations (routes_of run) run.proofs c.args.direction kind least in
     let of_run : (kind : Kind) (least : List (Option ℕ))
-    → AreLeastRefutations c.args.paths.now c.as_slice-proofs.result.now c.args.dir kind least → Least kind least =
+    → AreLeastRefutations c.args.paths.now c.as_slice-proofs.result.now c.args.direction kind least → Least kind least =
     λ kind least are.
-    subst (λ (routes : List Route). AreLeastRefutations routes run.proofs c.args.dir kind least) c.requires.routes
-    (subst (λ (proofs : List Proof). AreLeastRefutations c.args.paths.now proofs c.args.dir kind least) c.as_slice-proofs.ensures are) in
+    subst (λ (routes : List Route). AreLeastRefutations routes run.proofs c.args.direction kind least) c.requires.routes
+    (subst (λ (proofs : List Proof). AreLeastRefutations c.args.paths.now proofs c.args.direction kind least) c.as_slice-proofs.ensures are) in
     record {
       robust_each = c.in_ok-least_refutations.ensures.one_each ∙ each;
       nonrobust_each = c.in_ok-least_refutations-2.ensures.one_each ∙ each;

@@ -1,45 +1,29 @@
 -- What is listed and written of the searches is good and lawful, and stands at its shortest.
-use Rattle.std.proofs.Common.{ℕ}
 use Rattle.std.proofs.lemmas.Result.{IfOk-weaker}
 use Rattle.delay_annotation.specs.Annotation.{delays_of}
-use Rattle.netlist.specs.Order.{AreFirst}
-use Rattle.good_runs.specs.GoodRun.{IsGoodRun}
-use Rattle.good_runs.specs.Shortest.{IsShortestRun}
-use Rattle.runs.specs.Lawful.{IsLawfulRun}
 use Rattle.runs.specs.declared.run.Run.{Run}
 use Rattle.prefix_sensitize.specs.Answers.{written_by}
 use Rattle.prefix_sensitize.specs.Listed.{IsRunWith}
+use Rattle.prefix_sensitize.specs.SearchedRuns.{IsSearchedRun}
 use Rattle.prefix_sensitize.proofs.GoodRuns.{run_is_good, run_is_shortest}
 use Rattle.prefix_sensitize.proofs.LawfulRuns.{run_is_lawful}
 use Rattle.prefix_sensitize.proofs.listing.run_of.Goals as goal
 
-pub returns-clause-good : goal.returns-clause-good
-returns-clause-good g c =
-    IfOk-weaker c.run_with.result
-    (λ (run : Run). IsRunWith c.args.net.now g.searches c.in_ok-listed.listed.items (written_by c.list_paths.new.writer) run)
-    (λ (run : Run). (count : ℕ) → AreFirst c.args.net.now (delays_of c.args.net.now c.args.delays.now) count g.searches.routes
-    → IsGoodRun c.args.net.now (delays_of c.args.net.now c.args.delays.now) count g.searches.budget run)
+pub returns : goal.returns
+returns g c =
+    let net = c.args.net.now in
+    let delays = delays_of net c.args.delays.now in
+    let are = c.requires.1.1.1.are_searches in
+    let listed = c.in_ok-listed.listed.items in
+    let written = written_by c.list_paths.new.writer in
+    IfOk-weaker c.run_with.result (λ (run : Run). IsRunWith net g.searches listed written run)
+    (λ (run : Run). IsSearchedRun net delays g.searches.routes g.searches.budget g.searches.rules run)
     (λ run is.
-    run_is_good c.args.net.now (delays_of c.args.net.now c.args.delays.now) g.searches c.requires.1.1.1.are_searches
-    c.in_ok-listed.listed.items (written_by c.list_paths.new.writer) c.in_ok-listed.ensures.listed run is)
-    c.run_with.ensures
-
-pub returns-clause-lawful : goal.returns-clause-lawful
-returns-clause-lawful g c =
-    IfOk-weaker c.run_with.result
-    (λ (run : Run). IsRunWith c.args.net.now g.searches c.in_ok-listed.listed.items (written_by c.list_paths.new.writer) run)
-    (λ (run : Run). IsLawfulRun c.args.net.now run)
-    (λ run is.
-    run_is_lawful c.args.net.now c.in_ok-writer.ensures.circuit (delays_of c.args.net.now c.args.delays.now) g.searches c.requires.1.1.1.are_searches
-    c.in_ok-listed.listed.items (written_by c.list_paths.new.writer) c.in_ok-listed.ensures.listed run is)
-    c.run_with.ensures
-
-pub returns-clause-shortest : goal.returns-clause-shortest
-returns-clause-shortest g c =
-    IfOk-weaker c.run_with.result
-    (λ (run : Run). IsRunWith c.args.net.now g.searches c.in_ok-listed.listed.items (written_by c.list_paths.new.writer) run)
-    (λ (run : Run). IsShortestRun c.args.net.now run)
-    (λ run is.
-    run_is_shortest c.args.net.now (delays_of c.args.net.now c.args.delays.now) g.searches c.requires.1.1.1.are_searches
-    c.in_ok-listed.listed.items (written_by c.list_paths.new.writer) c.in_ok-listed.ensures.listed run is)
+    record {
+      good = run_is_good net delays g.searches are listed written c.in_ok-listed.ensures.listed run is;
+      lawful =
+          run_is_lawful net c.in_ok-writer.ensures.circuit delays g.searches are listed written c.in_ok-listed.ensures.listed run is;
+      of_rules = is.rules;
+      shortest = run_is_shortest net delays g.searches are listed written c.in_ok-listed.ensures.listed run is;
+    })
     c.run_with.ensures

@@ -1,5 +1,5 @@
 -- The engine is made within the last lines of the paths, and tells each of them.
-use Rattle.std.proofs.Common.{◌≡◌, ◌<◌, List, All, Some, sym, ap, subst, subst₂, length, arith, ◌∙◌}
+use Rattle.std.proofs.Common.{◌≡◌, ◌<◌, List, All, Some, sym, ap, subst, subst₂, ◌∙◌}
 use Rattle.std.proofs.lemmas.Result.{IfOk-weaker}
 use Rattle.pd_base.specs.Links.{links_of}
 use Rattle.netlist.specs.LinkedPairs.{FitRules}
@@ -28,9 +28,6 @@ within-requires-clause-ends g c =
 
 pub within-requires-clause-fit : goal.within-requires-clause-fit
 within-requires-clause-fit g c = unlinked_fit c.args.net.now c.args.rules.now (no_links c.args.rules.now c.requires.unlinked)
-
-pub within-requires-clause-few : goal.within-requires-clause-few
-within-requires-clause-few g c = let none = ap length (no_links c.args.rules.now c.requires.unlinked) in omega (arith, none)
 
 pub search_on-outcomes-requires-clause-told : goal.search_on-outcomes-requires-clause-told
 search_on-outcomes-requires-clause-told g c =

@@ -105,10 +105,10 @@ pub returns-in-Test : goal.returns-in-Test
 returns-in-Test c row route stands =
     let course = c.args.course.now in
     let place = c.args.place in
-    let old = c.args.outcomes.now in
+    let old = c.args.found.now.outcomes.items in
     let new = set old (get_or course.order.now place 0) (Tested c.in-Test.pair) in
     let P : Ended → Type 0 =
-    λ e. Settles course place row route e (place + 1) old new c.args.proofs.now.items c.args.proofs.now.items in
+    λ e. Settles course place row route e (place + 1) old new c.args.found.now.proofs.items c.args.found.now.proofs.items in
     subst P (sym c.in-Test.is)
     (refl, refl, one_written course place c.requires.order c.requires.place (Tested c.in-Test.pair) old c.requires.one_each)
 
@@ -116,10 +116,10 @@ pub returns-in-Spent : goal.returns-in-Spent
 returns-in-Spent c =
     let course = c.args.course.now in
     let place = c.args.place in
-    let old = c.args.outcomes.now in
-    let new = c.add_proof.new.outcomes in
-    let before = c.args.proofs.now.items in
-    let after = c.add_proof.new.proofs.items in
+    let old = c.args.found.now.outcomes.items in
+    let new = c.add_proof.new.found.outcomes.items in
+    let before = c.args.found.now.proofs.items in
+    let after = c.add_proof.new.found.proofs.items in
     IfOk-weaker c.add_proof.result
     (λ (end : ℕ). (end ≡ place + 1) × AddsProof course.order.now place (place + 1) c.found_proof-proof.result old new before after)
     (λ (end : ℕ).
@@ -144,10 +144,10 @@ returns-in-Refuted c =
     let place = c.args.place in
     let to = c.stretch_from-stretch.result.end in
     let least = c.stretch_from-stretch.result.least in
-    let old = c.args.outcomes.now in
-    let new = c.add_proof-in-Refuted.new.outcomes in
-    let before = c.args.proofs.now.items in
-    let after = c.add_proof-in-Refuted.new.proofs.items in
+    let old = c.args.found.now.outcomes.items in
+    let new = c.add_proof-in-Refuted.new.found.outcomes.items in
+    let before = c.args.found.now.proofs.items in
+    let after = c.add_proof-in-Refuted.new.found.proofs.items in
     IfOk-weaker c.add_proof-in-Refuted.result
     (λ (end : ℕ). (end ≡ to) × AddsProof course.order.now place to c.found_proof-proof-in-Refuted.result old new before after)
     (λ (end : ℕ).

@@ -1,5 +1,5 @@
 -- The path at this place is passed by or visited.
-use Rattle.std.proofs.Common.{ℕ, false, true≢false, get_or, refl, sym, ap, subst, ◌∙◌, arith}
+use Rattle.std.proofs.Common.{ℕ, false, true≢false, IfOk, get_or, refl, sym, ap, subst, ◌∙◌, arith}
 use Rattle.std.proofs.lemmas.Option.{get_or_from_slice_get, slice_get_within}
 use Rattle.std.proofs.lemmas.Result.{IfOk-weaker}
 use Rattle.pd_base.specs.Route.{Route}
@@ -12,6 +12,8 @@ use Rattle.prefix_sensitize.proofs.Along.{counted_on, gone_to, its_steps, room_f
 use Rattle.prefix_sensitize.proofs.Descents.{same_at_once}
 use Rattle.prefix_sensitize.proofs.Passing.{adds_none, all_counted, come_past}
 use Rattle.prefix_sensitize.proofs.PathOrder.{stands_once, stands_there}
+use Rattle.prefix_sensitize.proofs.walking.visit.Given.{Over}
+use Rattle.prefix_sensitize.proofs.walking.visit.Goals.{After-settle}
 use Rattle.prefix_sensitize.proofs.walking.visit.Goals as goal
 
 pub returns-then-not-course-row-clause-come : goal.returns-then-not-course-row-clause-come
@@ -25,7 +27,7 @@ returns-then-not-course-row-clause-come g c =
       source = come.source;
       gone = come.gone;
       come =
-          come_past old.net old.rules course c.requires.1.1.1.1.0.is_course.order g.begin place c.args.outcomes.now c.args.proofs.now.items c.args.steps.now
+          come_past old.net old.rules course c.requires.1.1.1.1.0.is_course.order g.begin place c.args.found.now c.args.steps.now
           at.row at.route at.stands
           (λ need.
           let same = get_or_from_slice_get course.order.now place at.row 0 at.stands.is_placed in
@@ -72,52 +74,48 @@ settle-requires-clause-steps g c row route stands =
     subst P (stands_once course.paths.now course.order.now place (get_or course.order.now place 0) row path route here stands).1
     (its_steps old.net old.rules course.aim path c.in_ok-ended.ended c.in_ok-ended.ensures.searched.is_ended)
 
+-- once the end of the search is settled, the walk has come on
+module _ (g : Over) (c : After-settle g) where
+  abbrev Comes : ℕ → Type 0
+  Comes end =
+      HasComeAlong (standing c.search.new.scope) c.args.course.now g.begin end c.search.new.self c.settle.new.found c.search.new.steps
+      × ComesOn c.args.course.now c.args.place end c.args.found.now c.settle.new.found
+
+  comes_on : IfOk c.settle.result Comes
+  comes_on =
+      let course = c.args.course.now in
+      let place = c.args.place in
+      let is_course = c.requires.1.1.1.1.0.is_course in
+      let at = c.requires.1.1.1.1.1.1 in
+      let within = slice_get_within course.order.now place at.row at.stands.is_placed in
+      let row = get_or course.order.now place 0 in
+      let path = get_or course.paths.now row c.index-course-row.result in
+      let here = stands_there course.paths.now course.order.now is_course.order.inside place 0 c.index-course-row.result within in
+      let searched = c.in_ok-ended.ensures.searched in
+      IfOk-weaker c.settle.result
+      (λ (end : ℕ). (row : ℕ) (route : Route) → StandsInOrder course.paths.now course.order.now place row route
+      → Settles course place row route c.in_ok-ended.ended end c.args.found.now.outcomes.items c.settle.new.found.outcomes.items
+      c.args.found.now.proofs.items c.settle.new.found.proofs.items)
+      Comes
+      (λ end settles.
+      visited_along (standing c.args.scope.now) course is_course g.begin place row path here c.args.descent.now c.args.found.now
+      c.args.steps.now c.requires.1.1.1.1.1.0 at (standing c.search.new.scope) c.in_ok-ended.ensures.same c.search.new.self
+      c.in_ok-ended.ended searched.is_ended searched.gone c.search.new.steps searched.moved end c.settle.new.found (settles row path here))
+      c.settle.ensures
+
 pub returns-clause-come : goal.returns-clause-come
 returns-clause-come g c =
-    let course = c.args.course.now in
-    let place = c.args.place in
-    let at = c.requires.1.1.1.1.1.1 in
-    let old = standing c.args.scope.now in
-    let within = slice_get_within course.order.now place at.row at.stands.is_placed in
-    let row = get_or course.order.now place 0 in
-    let path = get_or course.paths.now row c.index-course-row.result in
-    let here = stands_there course.paths.now course.order.now c.requires.1.1.1.1.0.is_course.order.inside place 0 c.index-course-row.result within in
-    IfOk-weaker c.settle.result
-    (λ end. (row : ℕ) (route : Route) → StandsInOrder course.paths.now course.order.now place row route
-    → Settles course place row route c.in_ok-ended.ended end c.args.outcomes.now c.settle.new.outcomes c.args.proofs.now.items
-    c.settle.new.proofs.items)
-    (λ end. HasComeAlong (standing c.search.new.scope) c.args.course.now g.begin end c.search.new.self c.settle.new.outcomes c.settle.new.proofs.items
+    let at = (goal.at.returns-clause-come g c).After-settle in
+    IfOk-weaker c.settle.result (Comes g at)
+    (λ (end : ℕ). HasComeAlong (standing c.search.new.scope) c.args.course.now g.begin end c.search.new.self c.settle.new.found
     c.search.new.steps)
-    (λ end settles.
-    (visited_along old course c.requires.1.1.1.1.0.is_course g.begin place row path here c.args.descent.now c.args.outcomes.now c.args.proofs.now.items
-    c.args.steps.now c.requires.1.1.1.1.1.0 at (standing c.search.new.scope) c.in_ok-ended.ensures.same c.search.new.self c.in_ok-ended.ended
-    c.in_ok-ended.ensures.searched.is_ended c.in_ok-ended.ensures.searched.gone c.search.new.steps c.in_ok-ended.ensures.searched.moved end c.settle.new.outcomes
-    c.settle.new.proofs.items (settles row path here)).0)
-    c.settle.ensures
+    (λ end on. on.0) (comes_on g at)
 
 pub returns-clause-on : goal.returns-clause-on
 returns-clause-on g c =
-    let course = c.args.course.now in
-    let place = c.args.place in
-    let at = c.requires.1.1.1.1.1.1 in
-    let old = standing c.args.scope.now in
-    let within = slice_get_within course.order.now place at.row at.stands.is_placed in
-    let row = get_or course.order.now place 0 in
-    let path = get_or course.paths.now row c.index-course-row.result in
-    let here = stands_there course.paths.now course.order.now c.requires.1.1.1.1.0.is_course.order.inside place 0 c.index-course-row.result within in
-    IfOk-weaker c.settle.result
-    (λ end. (row : ℕ) (route : Route) → StandsInOrder course.paths.now course.order.now place row route
-    → Settles course place row route c.in_ok-ended.ended end c.args.outcomes.now c.settle.new.outcomes c.args.proofs.now.items
-    c.settle.new.proofs.items)
-    (λ end. ComesOn c.args.course.now c.args.place end c.args.proofs.now.items c.settle.new.proofs.items)
-    (λ end settles.
-    let on =
-    visited_along old course c.requires.1.1.1.1.0.is_course g.begin place row path here c.args.descent.now c.args.outcomes.now c.args.proofs.now.items
-    c.args.steps.now c.requires.1.1.1.1.1.0 at (standing c.search.new.scope) c.in_ok-ended.ensures.same c.search.new.self c.in_ok-ended.ended
-    c.in_ok-ended.ensures.searched.is_ended c.in_ok-ended.ensures.searched.gone c.search.new.steps c.in_ok-ended.ensures.searched.moved end c.settle.new.outcomes
-    c.settle.new.proofs.items (settles row path here) in
-    record { on = on.1; within = on.2; adds = on.3 })
-    c.settle.ensures
+    let at = (goal.at.returns-clause-on g c).After-settle in
+    IfOk-weaker c.settle.result (Comes g at)
+    (λ (end : ℕ). ComesOn c.args.course.now c.args.place end c.args.found.now c.settle.new.found) (λ end on. on.1) (comes_on g at)
 
 pub bounds-course-place : goal.bounds-course-place
 bounds-course-place g c =
@@ -154,7 +152,7 @@ returns-then-not-course-row-clause-walked g c = record {
   counted =
       (let old = standing c.args.scope.now in
       let come = c.requires.1.1.1.1.1.0 in
-      all_counted old.net old.rules c.args.course.now g.begin c.args.place c.args.outcomes.now c.args.proofs.now.items c.args.steps.now
+      all_counted old.net old.rules c.args.course.now g.begin c.args.place c.args.found.now c.args.steps.now
       come.come.come);
 }
 
@@ -171,7 +169,7 @@ returns-in_err-ended-clause-walked g c = record {
       counted_on (standing c.args.scope.now) course c.requires.1.1.1.1.0.is_course g.begin place row
       (get_or course.paths.now row c.index-course-row.result)
       (stands_there course.paths.now course.order.now c.requires.1.1.1.1.0.is_course.order.inside place 0 c.index-course-row.result within)
-      c.args.descent.now c.args.outcomes.now c.args.proofs.now.items c.args.steps.now c.requires.1.1.1.1.1.0 c.search.new.steps
+      c.args.descent.now c.args.found.now c.args.steps.now c.requires.1.1.1.1.1.0 c.search.new.steps
       c.search.ensures.counted);
 }
 
@@ -188,7 +186,7 @@ returns-clause-walked g c = record {
       counted_on (standing c.args.scope.now) course c.requires.1.1.1.1.0.is_course g.begin place row
       (get_or course.paths.now row c.index-course-row.result)
       (stands_there course.paths.now course.order.now c.requires.1.1.1.1.0.is_course.order.inside place 0 c.index-course-row.result within)
-      c.args.descent.now c.args.outcomes.now c.args.proofs.now.items c.args.steps.now c.requires.1.1.1.1.1.0 c.search.new.steps
+      c.args.descent.now c.args.found.now c.args.steps.now c.requires.1.1.1.1.1.0 c.search.new.steps
       c.search.ensures.counted);
 }
 
@@ -198,7 +196,7 @@ returns-then-not-course-row-clause-on g c = record {
   within = (let at = c.requires.1.1.1.1.1.1 in
       let within = slice_get_within c.args.course.now.order.now c.args.place at.row at.stands.is_placed in
       omega (arith, within));
-  adds = adds_none c.args.course.now.aim c.args.proofs.now.items;
+  adds = adds_none c.args.course.now.aim c.args.found.now.proofs.items;
 }
 
 pub search-requires-clause-can : goal.search-requires-clause-can
@@ -226,7 +224,7 @@ search-requires-clause-can g c = record {
       let path = get_or course.paths.now row c.index-course-row.result in
       gone_to (standing c.args.scope.now) course c.requires.1.1.1.1.0.is_course g.begin place row path
       (stands_there course.paths.now course.order.now c.requires.1.1.1.1.0.is_course.order.inside place 0 c.index-course-row.result within) c.args.descent.now
-      c.args.outcomes.now c.args.proofs.now.items c.args.steps.now c.requires.1.1.1.1.1.0 at);
+      c.args.found.now c.args.steps.now c.requires.1.1.1.1.1.0 at);
   room =
       (let course = c.args.course.now in
       let place = c.args.place in
@@ -236,5 +234,5 @@ search-requires-clause-can g c = record {
       let path = get_or course.paths.now row c.index-course-row.result in
       room_for (standing c.args.scope.now) course c.requires.1.1.1.1.0.is_course g.begin place row path
       (stands_there course.paths.now course.order.now c.requires.1.1.1.1.0.is_course.order.inside place 0 c.index-course-row.result within) c.args.descent.now
-      c.args.outcomes.now c.args.proofs.now.items c.args.steps.now c.requires.1.1.1.1.1.0 c.requires.1.1.1.1.0.room);
+      c.args.found.now c.args.steps.now c.requires.1.1.1.1.1.0 c.requires.1.1.1.1.0.room);
 }

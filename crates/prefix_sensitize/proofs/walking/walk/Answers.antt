@@ -1,10 +1,8 @@
 -- The walk begins with nothing found for its aim, and ends with an outcome for each path that needs one.
-use Rattle.std.proofs.Common.{◌≡◌, ℕ, Bool, List, ◌++◌, length, take, drop, sym, ap, subst, ◌∙◌, arith}
-use Rattle.std.proofs.Math.Seq.{take-append_seam}
+use Rattle.std.proofs.Common.{◌≡◌, ℕ, Bool, List, length, sym, subst}
 use Rattle.netlist.specs.Circuit.{Circuit}
 use Rattle.netlist.specs.Lawful.{IsCircuit}
 use Rattle.prefix_sensitize.specs.declared.course.Course.{Course}
-use Rattle.prefix_sensitize.specs.declared.outcome.Outcome.{Outcome}
 use Rattle.prefix_sensitize.specs.Outcomes.{AreOutcomes}
 use Rattle.prefix_sensitize.specs.PathOrder.{IsOrder}
 use Rattle.prefix_sensitize.specs.Walks.{AreExcused}
@@ -16,11 +14,12 @@ use Rattle.prefix_sensitize.proofs.walking.walk.Goals as goal
 pub walk_course-requires : goal.walk_course-requires
 walk_course-requires g c κs lives =
     let engine = c.args.engine.now in
-    let course : Course = record { alloc = c.args.alloc; paths = c.args.paths; order = c.order.result; needed = c.as_slice.result; aim = c.args.aim } in
+    let listed = c.args.listed.now in
+    let course : Course = record { alloc = listed.alloc; paths = listed.paths; order = c.order.result; needed = c.as_slice.result; aim = c.args.aim } in
     let C : Circuit → Type 0 = λ n. IsCircuit n in
-    let O : List ℕ → Type 0 = λ order. IsOrder c.args.paths.now order in
-    let N : List Bool → Type 0 = λ needed. length needed ≡ length c.args.paths.now in
-    let X : List Bool → Type 0 = λ needed. AreExcused engine.net engine.rules c.args.aim c.args.paths.now needed in (
+    let O : List ℕ → Type 0 = λ order. IsOrder c.args.listed.now.paths.now order in
+    let N : List Bool → Type 0 = λ needed. length needed ≡ length c.args.listed.now.paths.now in
+    let X : List Bool → Type 0 = λ needed. AreExcused engine.net engine.rules c.args.aim c.args.listed.now.paths.now needed in (
       lives.0,
       (
         lives.1.0,
@@ -44,53 +43,45 @@ walk_course-requires g c κs lives =
                 is_desk = c.requires.ready.desk;
                 room = c.requires.room;
               },
-              come_none engine.net engine.rules course c.args.proofs.now.items c.args.steps.now c.as_mut_slice.result.now
-                  (c.as_mut_slice.ensures.value ∙ c.in_ok-outcomes.ensures) c.requires.before.found c.requires.before.fresh,
+              come_none engine.net engine.rules course (record { outcomes = c.in_ok-outcomes.outcomes; proofs = c.args.proofs }) c.args.steps.now
+                  c.in_ok-outcomes.ensures c.requires.before.found c.requires.before.fresh,
             ),
           ),
         ),
       ),
     )
 
-pub returns-clause-outcomes : goal.returns-clause-outcomes
-returns-clause-outcomes g c =
+pub returns-clause-found : goal.returns-clause-found
+returns-clause-found g c =
     let engine = c.args.engine.now in
-    let course : Course = record { alloc = c.args.alloc; paths = c.args.paths; order = c.order.result; needed = c.as_slice.result; aim = c.args.aim } in
-    let before = c.in_ok-outcomes.outcomes.items in
-    let after = c.walk_course.new.outcomes in
-    let proofs = c.walk_course.new.proofs.items in
-    let O : List ℕ → Type 0 = λ order. IsOrder c.args.paths.now order in
-    let P : List Outcome → Type 0 = λ o. AreOutcomes engine.net engine.rules c.args.paths.now proofs c.args.needed.items c.args.aim o in
-    let N : List Bool → Type 0 = λ needed. AreOutcomes engine.net engine.rules c.args.paths.now proofs needed c.args.aim after in
-    let many = c.as_mut_slice.ensures.len in
-    let same = c.walk_course.auto.outcomes in
-    let long : c.in_ok-outcomes.outcomes.len ≡ length after = omega (arith, many, same) in
-    let back : take c.in_ok-outcomes.outcomes.len (after ++ drop (length after) before) ≡ after =
-    ap (λ (n : ℕ). take n (after ++ drop (length after) before)) long ∙ take-append_seam after (drop (length after) before) in
-    subst P (sym back)
-    (subst N c.as_slice.ensures.value
-    (all_outcomes engine.net engine.rules course (subst O (sym c.order.ensures) c.requires.ready.tree.order) c.args.steps.now after proofs
-    c.walk_course.new.steps c.in_ok-walk_course.ensures.come))
+    let listed = c.args.listed.now in
+    let course : Course = record { alloc = listed.alloc; paths = listed.paths; order = c.order.result; needed = c.as_slice.result; aim = c.args.aim } in
+    let after = c.walk_course.new.found in
+    let come = c.in_ok-walk_course.ensures.come in
+    let O : List ℕ → Type 0 = λ order. IsOrder listed.paths.now order in
+    let N : List Bool → Type 0 =
+    λ needed. AreOutcomes engine.net engine.rules listed.paths.now after.proofs.items needed c.args.aim after.outcomes.items in
+    record {
+      outcomes = subst N c.as_slice.ensures.value
+          (all_outcomes engine.net engine.rules course (subst O (sym c.order.ensures) c.requires.ready.tree.order) c.args.steps.now after
+          c.walk_course.new.steps come);
+      proofs = come.come.found;
+      adds = c.in_ok-walk_course.ensures.adds;
+    }
 
 pub returns-clause-ready : goal.returns-clause-ready
 returns-clause-ready g c =
-    ready_again g.A.Algebra.algebra c.args.paths.now c.args.tree.now c.args.aim.budget c.args.engine.now c.walk_course.new.engine c.args.desk.now
+    ready_again g.A.Algebra.algebra c.args.listed.now c.args.aim.budget c.args.engine.now c.walk_course.new.engine c.args.desk.now
     c.walk_course.new.desk c.requires.ready c.in_ok-walk_course.ensures.rest c.in_ok-walk_course.ensures.desk
 
 pub returns-clause-rest : goal.returns-clause-rest
 returns-clause-rest g c = c.in_ok-walk_course.ensures.rest
 
 pub returns-in_err-outcomes-clause-counted : goal.returns-in_err-outcomes-clause-counted
-returns-in_err-outcomes-clause-counted g c = none_counted c.args.paths.now c.args.steps.now
+returns-in_err-outcomes-clause-counted g c = none_counted c.args.listed.now.paths.now c.args.steps.now
 
 pub returns-in_err-walk_course-clause-counted : goal.returns-in_err-walk_course-clause-counted
 returns-in_err-walk_course-clause-counted g c = c.walk_course.ensures.counted
 
 pub returns-clause-counted : goal.returns-clause-counted
 returns-clause-counted g c = c.in_ok-walk_course.ensures.counted
-
-pub returns-clause-behind : goal.returns-clause-behind
-returns-clause-behind g c = record {
-  found = (let come = c.in_ok-walk_course.ensures.come in come.come.found);
-  adds = c.in_ok-walk_course.ensures.adds;
-}

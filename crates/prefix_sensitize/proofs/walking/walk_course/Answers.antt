@@ -14,7 +14,7 @@ loop-place-init g c = record {
   rest = record { net = refl; rules = refl; ends = refl; idle = c.requires.1.1.1.0 };
   desk = c.requires.1.1.1.1.0.is_desk;
   come = c.requires.1.1.1.1.1;
-  adds = adds_none c.args.course.now.aim c.args.proofs.now.items;
+  adds = adds_none c.args.course.now.aim c.args.found.now.proofs.items;
   within = omega arith;
 }
 
@@ -27,7 +27,7 @@ walk_source-requires g c κs lives =
     let D : Circuit → Rules → Type 0 = λ n r. IsDeskFor g.A.Algebra.algebra n r c.loop-place.desk in
     let H : Circuit → Rules → Type 0 =
     λ n rules.
-    HasComeApart n rules course g.begin c.loop-place.place c.loop-place.outcomes c.loop-place.proofs.items c.loop-place.steps in (
+    HasComeApart n rules course g.begin c.loop-place.place c.loop-place.found c.loop-place.steps in (
       lives.0,
       (
         lives.1.0,
@@ -59,7 +59,7 @@ loop-place-preserved g c =
     let D : Circuit → Rules → Type 0 = λ n r. IsDeskFor g.A.Algebra.algebra n r c.walk_source.new.desk in
     let H : Circuit → Rules → Type 0 =
     λ n rules.
-    HasComeApart n rules course g.begin c.in_ok-place.place c.walk_source.new.outcomes c.walk_source.new.proofs.items c.walk_source.new.steps in
+    HasComeApart n rules course g.begin c.in_ok-place.place c.walk_source.new.found c.walk_source.new.steps in
     record {
       rest = record {
         net = after.rest.net ∙ rest.net;
@@ -70,7 +70,7 @@ loop-place-preserved g c =
       desk = subst₂ D rest.net rest.rules after.desk;
       come = subst₂ H rest.net rest.rules after.come;
       adds =
-          adds_on course.aim c.args.proofs.now.items c.loop-place.proofs.items c.walk_source.new.proofs.items c.loop-place.invariant.adds
+          adds_on course.aim c.args.found.now.proofs.items c.loop-place.found.proofs.items c.walk_source.new.found.proofs.items c.loop-place.invariant.adds
           after.on.adds;
       within = after.on.within;
     }
@@ -88,7 +88,7 @@ returns-clause-come g c =
     let end : c.loop-place.place ≡ length course.order.now = omega (arith, within, c.loop-place-test.false) in
     let P : ℕ → Type 0 =
     λ n.
-    HasComeApart c.args.engine.now.net c.args.engine.now.rules course g.begin n c.loop-place.outcomes c.loop-place.proofs.items
+    HasComeApart c.args.engine.now.net c.args.engine.now.rules course g.begin n c.loop-place.found
     c.loop-place.steps in
     subst P end c.loop-place.invariant.come
 
@@ -96,5 +96,5 @@ pub returns-clause-counted : goal.returns-clause-counted
 returns-clause-counted g c =
     let old = c.args.engine.now in
     let come = c.loop-place.invariant.come in
-    all_counted old.net old.rules c.args.course.now g.begin c.loop-place.place c.loop-place.outcomes c.loop-place.proofs.items
+    all_counted old.net old.rules c.args.course.now g.begin c.loop-place.place c.loop-place.found
     c.loop-place.steps come.come

@@ -13,8 +13,8 @@ abbrev pub invariant-loop-place : goal.invariant-loop-place
 invariant-loop-place g l = record {
   rest : IsIdleAgain l.fn.engine l.engine;
   desk : IsDeskFor g.A.Algebra.algebra l.fn.engine.net l.fn.engine.rules l.desk;
-  come : HasComeApart l.fn.engine.net l.fn.engine.rules l.course g.begin l.place l.outcomes l.proofs.items l.steps;
-  adds : AddsProofs l.course.aim l.fn.proofs.items l.proofs.items;
+  come : HasComeApart l.fn.engine.net l.fn.engine.rules l.course g.begin l.place l.found l.steps;
+  adds : AddsProofs l.course.aim l.fn.found.proofs.items l.found.proofs.items;
   within : l.place ≤ length l.course.order.now;
 }
 

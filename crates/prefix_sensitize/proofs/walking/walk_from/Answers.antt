@@ -24,7 +24,7 @@ paths-init g c =
     let at = c.requires.1.1.1.1.1.1.0 in
     let within = slice_get_within course.order.now place at.row at.stands.is_placed in
     let P : List PinRef → Type 0 =
-    λ pins. HasComeAlong old course g.begin place pins c.args.outcomes.now c.args.proofs.now.items c.args.steps.now in
+    λ pins. HasComeAlong old course g.begin place pins c.args.found.now c.args.steps.now in
     record {
       scope = record { engine = refl; origin = refl };
       same = record { net = refl; rules = refl; ends = refl; beginning = refl };
@@ -35,10 +35,10 @@ paths-init g c =
             source = c.args.source;
             gone = c.requires.1.1.1.1.0;
             come =
-                come_from old.net old.rules course is_course.order g.begin place c.args.outcomes.now c.args.proofs.now.items
+                come_from old.net old.rules course is_course.order g.begin place c.args.found.now
                 c.args.steps.now c.args.source c.requires.1.1.1.1.1.1.1;
           });
-      adds = adds_none course.aim c.args.proofs.now.items;
+      adds = adds_none course.aim c.args.found.now.proofs.items;
       behind = omega arith;
       within = omega (arith, within);
     }
@@ -88,7 +88,7 @@ paths-preserved g c =
       desk = subst₂ P before.same.net before.same.rules after.walked.is_desk;
       come = after.come;
       adds =
-          adds_on c.args.course.now.aim c.args.proofs.now.items c.paths.proofs.items c.visit.new.proofs.items before.adds after.on.adds;
+          adds_on c.args.course.now.aim c.args.found.now.proofs.items c.paths.found.proofs.items c.visit.new.found.proofs.items before.adds after.on.adds;
       behind = omega (arith, low, on);
       within = after.on.within;
     }
@@ -108,7 +108,7 @@ returns-in_err-at-clause-scope g c = same_scope_twice c.paths.invariant.scope c.
 pub returns-clause-come : goal.returns-clause-come
 returns-clause-come g c =
     come_behind (standing c.args.scope.now) (standing c.paths.scope) c.paths.invariant.same c.args.course.now c.requires.1.1.1.1.1.0.is_course
-    c.args.source [] c.requires.1.1.1.1.0 g.begin c.paths.at c.paths.descent c.paths.outcomes c.paths.proofs.items c.paths.steps
+    c.args.source [] c.requires.1.1.1.1.0 g.begin c.paths.at c.paths.descent c.paths.found c.paths.steps
     c.paths.invariant.come
     (λ at. true≢false (sym (c.begins_at.ensures.1 at) ∙ c.paths-test.false))
 
@@ -129,7 +129,7 @@ returns-clause-walked g c = record {
   counted =
       (let new = standing c.paths.scope in
       let come = c.paths.invariant.come in
-      all_counted new.net new.rules c.args.course.now g.begin c.paths.at c.paths.outcomes c.paths.proofs.items c.paths.steps come.come.come);
+      all_counted new.net new.rules c.args.course.now g.begin c.paths.at c.paths.found c.paths.steps come.come.come);
 }
 
 pub returns-clause-on : goal.returns-clause-on

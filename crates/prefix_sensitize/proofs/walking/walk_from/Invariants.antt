@@ -15,8 +15,8 @@ invariant-paths g l = record {
   scope : IsSameScope l.fn.scope l.scope;
   same : IsSameBeginning (standing l.fn.scope) (standing l.scope);
   desk : IsDeskFor g.A.Algebra.algebra (standing l.fn.scope).net (standing l.fn.scope).rules l.desk;
-  come : HasComeAlong (standing l.scope) l.course g.begin l.at l.descent l.outcomes l.proofs.items l.steps;
-  adds : AddsProofs l.course.aim l.fn.proofs.items l.proofs.items;
+  come : HasComeAlong (standing l.scope) l.course g.begin l.at l.descent l.found l.steps;
+  adds : AddsProofs l.course.aim l.fn.found.proofs.items l.found.proofs.items;
   behind : l.place ≤ l.at;
   within : l.at ≤ length l.course.order.now;
 }

@@ -28,11 +28,11 @@ returns-then-not-course-row-clause-come g c =
     let source : LineId = record { 0 = 0 } in
     let none : Route = record { source = source; steps = [] } in
     let row = get_or course.order.now place 0 in
-    come_alone old.net old.rules course is_order g.begin (place + 1) c.args.outcomes.now c.args.proofs.now.items c.args.steps.now source
-    (come_past old.net old.rules course is_order g.begin place c.args.outcomes.now c.args.proofs.now.items c.args.steps.now row
+    come_alone old.net old.rules course is_order g.begin (place + 1) c.args.found.now c.args.steps.now source
+    (come_past old.net old.rules course is_order g.begin place c.args.found.now c.args.steps.now row
     (get_or course.paths.now row none) (stands_there course.paths.now course.order.now is_order.inside place 0 none c.requires.1.1.1.1.1.0)
     (λ need. true≢false (sym need ∙ c.if-not-course-row.true)) (record { source = source; steps = [] })
-    (come_from old.net old.rules course is_order g.begin place c.args.outcomes.now c.args.proofs.now.items c.args.steps.now source
+    (come_from old.net old.rules course is_order g.begin place c.args.found.now c.args.steps.now source
     c.requires.1.1.1.1.1.1))
 
 pub begin-scope-requires-clause-source : goal.begin-scope-requires-clause-source
@@ -70,7 +70,7 @@ walk_from-requires g c κs lives =
     let E : Option (List LineId) → Type 0 = λ ends. IsCourse (standing c.begin-scope.result).net (standing c.begin-scope.result).rules ends course in
     let D : Circuit → Rules → Type 0 = λ n r. IsDeskFor g.A.Algebra.algebra n r c.args.desk.now in
     let H : Circuit → Rules → Type 0 =
-    λ n rules. HasComeApart n rules course g.begin place c.args.outcomes.now c.args.proofs.now.items c.args.steps.now in (
+    λ n rules. HasComeApart n rules course g.begin place c.args.found.now c.args.steps.now in (
       lives.0,
       (
         lives.1.0,
@@ -122,11 +122,11 @@ returns-clause-come g c =
     let new = standing c.begin-scope.result in
     let begun = c.begin-scope.ensures.begun in
     IfOk-weaker c.walk_from.result
-    (λ (end : ℕ). HasComeApart new.net new.rules course g.begin end c.walk_from.new.outcomes c.walk_from.new.proofs.items c.walk_from.new.steps)
-    (λ (end : ℕ). HasComeApart old.net old.rules course g.begin end c.walk_from.new.outcomes c.walk_from.new.proofs.items c.walk_from.new.steps)
+    (λ (end : ℕ). HasComeApart new.net new.rules course g.begin end c.walk_from.new.found c.walk_from.new.steps)
+    (λ (end : ℕ). HasComeApart old.net old.rules course g.begin end c.walk_from.new.found c.walk_from.new.steps)
     (λ end come.
     let H : Circuit → Rules → Type 0 =
-    λ n rules. HasComeApart n rules course g.begin end c.walk_from.new.outcomes c.walk_from.new.proofs.items c.walk_from.new.steps in
+    λ n rules. HasComeApart n rules course g.begin end c.walk_from.new.found c.walk_from.new.steps in
     subst₂ H begun.net begun.rules come)
     c.walk_from.ensures.come
 
@@ -134,7 +134,7 @@ pub returns-then-not-course-row-clause-counted : goal.returns-then-not-course-ro
 returns-then-not-course-row-clause-counted g c =
     let old = c.args.engine.now in
     let come = c.requires.1.1.1.1.1.1 in
-    all_counted old.net old.rules c.args.course.now g.begin c.args.place c.args.outcomes.now c.args.proofs.now.items c.args.steps.now
+    all_counted old.net old.rules c.args.course.now g.begin c.args.place c.args.found.now c.args.steps.now
     come.come
 
 pub bounds-course-row : goal.bounds-course-row
@@ -154,7 +154,7 @@ pub returns-then-not-course-row-clause-on : goal.returns-then-not-course-row-cla
 returns-then-not-course-row-clause-on g c = record {
   on = omega arith;
   within = (let place = c.requires.1.1.1.1.1.0 in omega (arith, place));
-  adds = adds_none c.args.course.now.aim c.args.proofs.now.items;
+  adds = adds_none c.args.course.now.aim c.args.found.now.proofs.items;
 }
 
 pub returns-clause-counted : goal.returns-clause-counted
