@@ -75,7 +75,7 @@ module _ (call : RunCall) (numbers : HasRunNumbers call) (left now : Folder) (it
         net_is = is_net;
         delays_is = is_delays;
         goes_on = λ all same.
-            (net, is_net, (net_size, (circuit, (delays, is_delays, (delays_size, (spells, (tests, sym (finds.tests ∙ it.tests_is), (accepts_size command role.Tests (net ∷ delays ∷ []) tests short.tests, (report, sym (finds.report ∙ it.report_is), (accepts_size command role.Report (net ∷ delays ∷ tests ∷ []) report short.report, (formed.0, (formed.1, same))))))))))));
+            (net, is_net, (net_size, (circuit, (delays, is_delays, (delays_size, (spells, (tests, sym (finds.tests ∙ it.tests_is), (accepts_size command role.Tests (net ∷ delays ∷ []) tests short.tests, (report, sym (finds.report ∙ it.report_is), (accepts_size command role.Report (net ∷ delays ∷ tests ∷ []) report short.report, (formed.0, (formed.1, sym same))))))))))));
       }
 
   passes : PassesFront
@@ -97,4 +97,4 @@ module _ (call : RunCall) (numbers : HasRunNumbers call) (apart : HasNamesApart 
       → AnswersAt (rise_fall_replay_work replay) (own FewChanges) (rise_fall_inputs replay now) status old.err new.err
   rise_fall_answers status old new told ends none =
       answered_at (rise_fall_replay_work replay) (Some now) (rise_fall_front replay) (rise_fall_inputs replay now) tt
-      (front_passes call numbers left now (files_left call apart left done_by) replay finds) (own FewChanges) refl status old new told ends none
+      (front_passes call numbers left now (files_left call apart left done_by) replay finds) (own FewChanges) refl status old new ends told none
