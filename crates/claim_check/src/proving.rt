@@ -200,7 +200,7 @@ fn refutes_prefix<A: Algebra>(
     requires steps { proof.now.steps ≤ length path.now.steps }
     ensures same { judge.new ≡ judge.old }
     ensures refutes { IfOk result (λ refutes. IsTrue refutes
-        ↔ IsRefutation judge.old.net judge.old.rules (target_of (prefix_of proof.now.steps path.now) proof.now.direction proof.now.kind) proof.now.tree) }
+        ↔ IsRefutation judge.old.net judge.old.rules (target_of (prefix_of proof.now.steps path.now) proof.now.dir proof.now.kind) proof.now.tree) }
 {
     let prefix = Path::new(alloc, path.source(), &path.steps()[..proof.steps as usize])?;
     let check = judge.check_tree(&prefix, proof.dir, proof.kind, &proof.tree)?;

@@ -101,14 +101,6 @@ fn steps_of(alloc: Global, net: &Netlist, delays: &Delays, count: u32) -> Result
 {
     let paths = first_paths(alloc, net, delays, count)?;
     let mut steps = Steps::start(());
-    sensitize_all(
-        alloc,
-        net,
-        delays,
-        paths,
-        BUDGET,
-        Rules::One,
-        &mut steps,
-    )?;
+    sensitize_all(alloc, net, delays, paths, BUDGET, Rules::One, &mut steps)?;
     Ok(steps.count())
 }

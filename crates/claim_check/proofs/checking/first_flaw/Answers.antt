@@ -1,6 +1,5 @@
 -- Part by part.
-use Rattle.std.proofs.Common.{ℕ, List, length, get_or, refl, sym, ap, subst, ◌∙◌, arith}
-use Rattle.pd_base.specs.declared.ids.LineId.{LineId}
+use Rattle.std.proofs.Common.{ℕ, List, length, get_or, refl, sym, ap, subst, ◌∙◌}
 use Rattle.trees.proofs.Unlinked.{no_links, unlinked_fit}
 use Rattle.std.proofs.lemmas.Bool.{eqb-true}
 use Rattle.std.proofs.lemmas.List.{nil_from_length}
@@ -124,7 +123,3 @@ returns c =
 pub wrong_proof-requires-clause-fit : goal.wrong_proof-requires-clause-fit
 wrong_proof-requires-clause-fit c =
     let rules = c.args.run.now.rules in unlinked_fit c.args.net.now rules (no_links rules c.requires.unlinked)
-
-pub wrong_proof-requires-clause-links : goal.wrong_proof-requires-clause-links
-wrong_proof-requires-clause-links c =
-    let none = ap (length {A = LineId × LineId}) (no_links c.args.run.now.rules c.requires.unlinked) in omega (arith, none)
