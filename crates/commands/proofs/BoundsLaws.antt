@@ -3,7 +3,7 @@ use Rattle.std.proofs.Common.{◌≡◌, ⊎_elim, ℕ, ◌<◌, ◌≤◌, List
 use Rattle.std.proofs.lemmas.Bool.{cases_lt}
 use Rattle.pd_io.specs.Folder.{Folder, bytes_at}
 use Rattle.pd_io.specs.Seen.{Outside, SinkSeen}
-use Rattle.command_line.specs.Words.{BoundsCall, RunCall}
+use Rattle.command_line.specs.Words.{BoundsCall}
 use Rattle.calls.specs.declared.role.Role.TheVariants as role
 use Rattle.calls.specs.declared.status.Status.{Status}
 use Rattle.calls.specs.Calls as calls

@@ -1,6 +1,6 @@
 -- The stages of `bounds` behind NET: what is passed up to its text, and how the call ends there.
 use Rattle.std.proofs.Common.{◌≡◌, ℕ, List, [], ◌∷◌, ◌++◌, codes, length, refl, sym, ap, subst, ◌∙◌}
-use Rattle.std.specs.Prelude.{Option, Vec}
+use Rattle.std.specs.Prelude.{Vec}
 use Rattle.std.specs.declared.alloc.Global.{Global}
 use Rattle.pd_base.specs.declared.test.Test.{Test}
 use Rattle.pd_io.specs.Seen.{FilesSeen}
@@ -8,7 +8,6 @@ use Rattle.netlist.specs.Circuit.{Circuit}
 use Rattle.bench_reader.specs.Circuits.{HasCircuit}
 use Rattle.bench_reader.proofs.Answering.{one_circuit}
 use Rattle.runs.specs.declared.run.ListedPath.{ListedPath}
-use Rattle.delay_bounds.specs.Bounds.{AreBounds}
 use Rattle.delay_bounds.specs.LogFile.{IsLog, RefusesLog}
 use Rattle.delay_bounds.specs.declared.log_fault.LogFault.{LogFault}
 use Rattle.delay_bounds.specs.declared.log_fault.LogFault.TheVariants as log
@@ -22,10 +21,9 @@ use Rattle.calls.specs.declared.role.Role.TheVariants as role
 use Rattle.calls.specs.Passing.{Accepts, HasPassed}
 use Rattle.calls.specs.Preparing.{IsPrepared}
 use Rattle.calls.specs.Stopping.{Stops}
-use Rattle.calls.specs.Work.{Products, Stage}
+use Rattle.calls.specs.Work.{Stage}
 use Rattle.calls.proofs.Stages.{stops_for_memory, then_required}
-use Rattle.commands.specs.Bounds.{BoundsRequirement, HasNoLog, HasNoLogFor, SpellsLog, bounds_command, bounds_reads, bounds_stages, bounds_work, log_ending}
-use Rattle.commands.specs.BoundsText.{bounds_text}
+use Rattle.commands.specs.Bounds.{BoundsRequirement, HasNoLogFor, SpellsLog, bounds_command, bounds_reads, bounds_stages, bounds_work, log_ending}
 use Rattle.commands.specs.Grading.{CanBeGraded}
 use Rattle.commands.specs.InputRequirements.{Requirement, graded_stages, net_stages, own, tests_and_report_stages}
 use Rattle.commands.specs.Inside.BoundsJudging.{FailsLog, TellsBounds}

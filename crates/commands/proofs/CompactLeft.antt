@@ -1,5 +1,5 @@
 -- What a call of compact left that was done: in NET and REPORT what it found there, and in OUT tests of which none can be left out.
-use Rattle.std.proofs.Common.{◌≡◌, ◌≢◌, Result, Err, ℕ, ◌*◌, ◌<◌, ◌≤◌, List, [], ◌∷◌, ◌++◌, length, All, AllPairs, None, Ok, Option, Some, codes, take, refl, sym, ap, subst, ◌∙◌, arith}
+use Rattle.std.proofs.Common.{◌≡◌, ◌≢◌, Result, Err, ℕ, ◌*◌, ◌≤◌, List, [], ◌∷◌, ◌++◌, length, All, AllPairs, None, Ok, Option, Some, codes, take, refl, sym, ap, subst, ◌∙◌, arith}
 use Rattle.std.proofs.lemmas.Nat.{mul-le}
 use Rattle.pd_base.specs.declared.limits.TheConstants.{MOST_BYTES}
 use Rattle.pd_base.specs.declared.test.Test.{Test}

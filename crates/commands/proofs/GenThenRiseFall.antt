@@ -1,6 +1,6 @@
 -- The tests and the report that gen wrote, rfreplay replays: with the same NET, and whatever DELAYS it accepts, it refuses none of them but
 -- where lines change too often.
-use Rattle.std.proofs.Common.{◌≡◌, ℕ, List, [], ◌∷◌, ◌++◌, Some, refl, sym, subst, ◌∙◌}
+use Rattle.std.proofs.Common.{◌≡◌, ℕ, List, [], ◌∷◌, Some, refl, sym, subst, ◌∙◌}
 use Rattle.pd_io.specs.Folder.{bytes_at, Folder}
 use Rattle.pd_io.specs.Seen.{Outside}
 use Rattle.bench_reader.specs.Circuits.{HasCircuit}
@@ -14,10 +14,9 @@ use Rattle.calls.specs.declared.status.Status.{Status}
 use Rattle.calls.specs.Calls.{Ends, NoneFailed}
 use Rattle.calls.specs.Laws.{AnswersAt}
 use Rattle.calls.specs.Passing.{Pass}
-use Rattle.calls.specs.Work.{Stage}
 use Rattle.calls.proofs.LaterStages.{answered_at}
-use Rattle.commands.specs.InputRequirements.{Requirement, delays_stages, own}
-use Rattle.commands.specs.Replay.{FewChanges, ReplayRequirement}
+use Rattle.commands.specs.InputRequirements.{delays_stages, own}
+use Rattle.commands.specs.Replay.{FewChanges}
 use Rattle.commands.specs.RiseFallReplay.{rise_fall_front, rise_fall_replay_command, rise_fall_replay_work}
 use Rattle.commands.specs.RiseFallReplayLaws.{rise_fall_inputs}
 use Rattle.commands.specs.SpelledRuns.{SpellTestsAndPaths}

@@ -1,5 +1,5 @@
 -- What gen left, as a later call finds it in NET, TESTS and REPORT: tests that can be graded, but for their number.
-use Rattle.std.proofs.Common.{◌≡◌, ℕ, ◌≤◌, List, [], length, map, All, get_or, Some, sym, subst, ◌∙◌, arith}
+use Rattle.std.proofs.Common.{ℕ, ◌≤◌, List, length, map, All, sym, subst, ◌∙◌, arith}
 use Rattle.std.proofs.lemmas.List.{get_or-map, length-map}
 use Rattle.pd_base.specs.declared.limits.TheConstants.{MOST_BYTES}
 use Rattle.pd_base.specs.declared.test.Test.{Test}

@@ -13,7 +13,6 @@ use Rattle.pattern_writer.proofs.TestFiles.{tests_once}
 use Rattle.verdict_report.proofs.ReportOnce.{report_once}
 use Rattle.calls.specs.declared.role.Role.TheVariants as role
 use Rattle.calls.specs.declared.ending.Ending.{Ending}
-use Rattle.calls.specs.declared.refusal.Refusal.{Refusal}
 use Rattle.calls.specs.Work.{Stage, Require}
 use Rattle.calls.specs.Passing.{Accepts, HasPassed}
 use Rattle.calls.specs.Stopping.{Stops}

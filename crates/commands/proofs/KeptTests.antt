@@ -1,18 +1,18 @@
 -- Tests with some left out: what holds of all holds of those that are left, and their text is no longer. Of tests of which none can be left
 -- out none is left out.
-use Rattle.std.proofs.Common.{◌≡◌, ◌≢◌, ◌⊎◌, ⊎_elim, inl, inr, ℕ, zero, suc, ◌+◌, ◌*◌, ◌/◌, ◌%◌, ◌<◌, ◌≤◌, ◌^◌, List, [], ◌∷◌, ◌++◌, length, All, Contains, Some, slice_get, decimal, refl, sym, ap, subst, ◌∙◌, arith}
+use Rattle.std.proofs.Common.{◌≡◌, ◌≢◌, ◌⊎◌, ⊎_elim, inl, inr, ℕ, zero, suc, ◌+◌, ◌/◌, ◌%◌, ◌<◌, ◌≤◌, ◌^◌, List, [], ◌∷◌, ◌++◌, length, All, Contains, Some, slice_get, decimal, refl, ap, ◌∙◌, arith}
 use Rattle.std.specs.List.{AllByRecursion}
 use Rattle.std.proofs.lemmas.Bool.{cases_lt}
 use Rattle.std.proofs.lemmas.Fmt.{decimal_by_steps, decimal_digit, decimal_step}
 use Rattle.std.proofs.lemmas.List.{length-append}
-use Rattle.std.proofs.lemmas.List.Elements.{All-from_recursion, recursion_from_All, Contains-get_or}
+use Rattle.std.proofs.lemmas.List.Elements.{All-from_recursion, recursion_from_All}
 use Rattle.std.proofs.lemmas.Option.{get_or_from_slice_get, slice_get-get_or, slice_get_within}
 use Rattle.pd_base.specs.declared.test.Test.{Test}
 use Rattle.netlist.specs.Circuit.{Circuit}
 use Rattle.pattern_writer.specs.TestsText.{test_text, tests_form, tests_headings, tests_text}
 use Rattle.test_grade.specs.Compacted.{IsCompacted, LeavesOut}
 use Rattle.test_grade.specs.Compacted.LeavesOut.{goes, nothing, stays}
-use Rattle.text_pieces.specs.LineFiles.{headed, lines_text}
+use Rattle.text_pieces.specs.LineFiles.{lines_text}
 use Rattle.text_pieces.specs.Tokens.{digits, direction_word, kind_word, line, space}
 use Rattle.commands.proofs.TextBounds.{headed_length, joined_length, line_length}
 

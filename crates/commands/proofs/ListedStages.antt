@@ -1,7 +1,5 @@
 -- TESTS and REPORT read, and then judged, behind stages of a command that were passed: what is passed then, and how the call ends there.
 use Rattle.std.proofs.Common.{◌≡◌, ℕ, ◌+◌, List, [], ◌∷◌, ◌++◌, sym, subst}
-use Rattle.std.specs.Prelude.{Vec}
-use Rattle.std.specs.declared.alloc.Global.{Global}
 use Rattle.pd_base.specs.declared.test.Test.{Test}
 use Rattle.pd_io.specs.Seen.{FilesSeen}
 use Rattle.pd_io.specs.Telling.{IsFrontOf}

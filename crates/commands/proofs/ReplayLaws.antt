@@ -1,5 +1,5 @@
 -- Which inputs `replay` accepts, and what holds of its calls.
-use Rattle.std.proofs.Common.{◌≡◌, ℕ, ◌≤◌, List, [], length, Some, refl, sym, subst}
+use Rattle.std.proofs.Common.{ℕ, ◌≤◌, List, length, Some, refl, sym, subst}
 use Rattle.pd_base.specs.declared.test.Test.{Test}
 use Rattle.pd_io.specs.Folder.{Folder, bytes_at}
 use Rattle.pd_io.specs.Seen.{Outside}

@@ -1,7 +1,6 @@
 -- Where the lines change few times under the pairs of the tests, rfreplay refuses no test, whichever way its inputs are read.
 use Rattle.std.proofs.Common.{◌≡◌, ℕ, true, false, List, [], ◌∷◌, sym, subst, ◌∙◌}
 use Rattle.pd_base.specs.declared.fault.Direction.TheVariants.{Rise, Fall}
-use Rattle.pd_base.specs.declared.test.Test.{Test}
 use Rattle.netlist.specs.Circuit.{Circuit}
 use Rattle.netlist.specs.Lawful.{IsCircuit}
 use Rattle.bench_reader.proofs.Answering.{one_circuit}

@@ -1,5 +1,5 @@
 -- Which inputs `rfreplay` accepts, and what holds of its calls.
-use Rattle.std.proofs.Common.{◌≡◌, ℕ, true, List, [], ◌∷◌, ◌++◌, Some, refl, sym, subst}
+use Rattle.std.proofs.Common.{true, [], ◌∷◌, ◌++◌, Some, refl, sym, subst}
 use Rattle.pd_base.specs.declared.fault.Direction.TheVariants.{Rise}
 use Rattle.pd_io.specs.Folder.{Folder}
 use Rattle.pd_io.specs.Seen.{Outside}
@@ -14,7 +14,7 @@ use Rattle.calls.specs.Work.{Require}
 use Rattle.commands.specs.LaterCalls.{HasNamesApart}
 use Rattle.commands.specs.Replay.{FewChanges}
 use Rattle.commands.specs.RiseFallReplay.{rise_fall_replay_command, rise_fall_replay_work}
-use Rattle.commands.specs.RiseFallReplayLaws.{CanBeRiseFallReplayed, KeepsRiseFallReplayLaws, rise_fall_inputs, texts_at}
+use Rattle.commands.specs.RiseFallReplayLaws.{CanBeRiseFallReplayed, KeepsRiseFallReplayLaws, texts_at}
 use Rattle.commands.proofs.AskedRuns.{asks_for}
 use Rattle.commands.proofs.GenThenRiseFall.{rise_fall_answers}
 use Rattle.commands.proofs.InputStages.{delays_pass}

@@ -1,8 +1,7 @@
 -- The stages of `rfreplay` behind NET and DELAYS: what is passed up to its text, and how the call ends there.
-use Rattle.std.proofs.Common.{◌≡◌, ℕ, true, List, [], ◌∷◌, ◌++◌, codes, Result, Ok, Err, IfOk, IfErr, refl, sym, ap, subst}
+use Rattle.std.proofs.Common.{◌≡◌, ℕ, true, List, [], ◌∷◌, ◌++◌, codes, Result, Ok, Err, IfOk, IfErr, refl, sym, subst}
 use Rattle.std.specs.Prelude.{Vec}
 use Rattle.std.specs.declared.alloc.Global.{Global}
-use Rattle.std.specs.List.{All}
 use Rattle.pd_base.specs.declared.test.Test.{Test}
 use Rattle.pd_io.specs.Seen.{FilesSeen}
 use Rattle.netlist.specs.Circuit.{Circuit}
@@ -18,9 +17,9 @@ use Rattle.calls.specs.declared.ending.Ending.{Ending}
 use Rattle.calls.specs.Passing.{HasPassed}
 use Rattle.calls.specs.Preparing.{IsPrepared, Prepares}
 use Rattle.calls.specs.Stopping.{Stops}
-use Rattle.calls.specs.Work.{Products, Stage}
+use Rattle.calls.specs.Work.{Stage}
 use Rattle.calls.proofs.Stages.{then_required, stops_refused, stops_for_memory}
-use Rattle.commands.specs.InputRequirements.{Requirement, delays_stages, own, tests_and_report_forms, tests_and_report_stages}
+use Rattle.commands.specs.InputRequirements.{Requirement, delays_stages, own, tests_and_report_stages}
 use Rattle.pd_base.specs.declared.fault.Direction.TheVariants.{Rise}
 use Rattle.commands.specs.Inside.InputJudging.{GivesNet, GivesRiseFall}
 use Rattle.commands.proofs.InputStages.{columns_passed}

@@ -1,6 +1,6 @@
 -- The text of `rfreplay`, test by test; and why its lines keep what they promise.
-use Rattle.std.proofs.Common.{◌≡◌, ◌≢◌, ℕ, suc, ◌+◌, ◌<◌, Bool, true, false, List, [], ◌∷◌, ◌++◌, map, length, Some, refl, sym, ap, ap₂, subst, ◌∙◌, append-nil, append_assoc, arith, ⊎_elim}
-use Rattle.std.specs.Prelude.{codes, pos, slice_get, if◌then◌else◌}
+use Rattle.std.proofs.Common.{◌≡◌, ◌≢◌, ℕ, suc, ◌+◌, ◌<◌, Bool, true, false, List, [], ◌∷◌, ◌++◌, length, Some, refl, sym, ap, ap₂, subst, ◌∙◌, append-nil, append_assoc, arith, ⊎_elim}
+use Rattle.std.specs.Prelude.{codes, pos, slice_get}
 use Rattle.std.specs.Bool.{beq}
 use Rattle.std.specs.Cmp.Lexicographic.{pointwise}
 use Rattle.std.proofs.lemmas.Bool.{cases_Bool}
@@ -23,7 +23,6 @@ use Rattle.rise_fall.proofs.LatePaths.{robust_detects_rise_fall}
 use Rattle.commands.specs.ReplayText.{agreement_word, numbered_lines}
 use Rattle.commands.specs.RiseFallReplayText.{HasPathLength, IsRiseFallText, IsShownLate, IsWordOn, JudgedTest, KeepsLatePromises, RiseFallSampling, judged_line, samples_of}
 use Rattle.commands.specs.declared.rise_fall_replay.path_word.PathWord.{PathWord}
-use Rattle.commands.specs.declared.rise_fall_replay.path_word.PathWord.TheVariants.{Late}
 
 -- the lines of items with one more behind them
 lines_push : {A : Type 0} (line_for : ℕ → A → List ℕ) (number : ℕ) (items : List A) (item : A)

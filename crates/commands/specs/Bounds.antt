@@ -1,8 +1,7 @@
 -- The command `bounds`: its stages, what it refuses, and what it gives. Where a call ends with status 0, out has a line for each fault of
 -- REPORT: the least time of a row of LOG by which a test passed that covers the fault, or a dash where there is no such row; and under all
 -- delays that agree with LOG the path is no longer than the time that is printed (this project's own).
-use Rattle.std.specs.Prelude.{◌≡◌, ℕ, List, [], ◌∷◌, ◌++◌, length, codes, decimal, Option, Vec}
-use Rattle.std.specs.declared.alloc.Global.{Global}
+use Rattle.std.specs.Prelude.{◌≡◌, ℕ, List, [], ◌∷◌, ◌++◌, length, codes, decimal, Option}
 use Rattle.pd_base.specs.declared.test.Test.{Test}
 use Rattle.netlist.specs.Circuit.{Circuit}
 use Rattle.bench_reader.specs.Circuits.{HasCircuit}

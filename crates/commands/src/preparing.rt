@@ -120,13 +120,5 @@ pub(crate) fn run_of(
 {
     let first = first_paths(alloc, net, delays, paths)?;
     let mut steps = Steps::start(());
-    sensitize_all(
-        alloc,
-        net,
-        delays,
-        first,
-        budget,
-        Rules::Two,
-        &mut steps,
-    )
+    sensitize_all(alloc, net, delays, first, budget, Rules::Two, &mut steps)
 }

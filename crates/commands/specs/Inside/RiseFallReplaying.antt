@@ -1,5 +1,5 @@
 -- What the functions of `rfreplay` take and find (this project's own).
-use Rattle.std.specs.Prelude.{◌≤◌, ℕ, All}
+use Rattle.std.specs.Prelude.{◌≤◌, All}
 use Rattle.delay_annotation.specs.RiseFall.{BothFit, rise_fall_of}
 use Rattle.runs.specs.Lawful.{IsNameable}
 use Rattle.command_line.specs.declared.time.TheConstants.{MOST_TIME}

@@ -1,9 +1,7 @@
 -- What is passed at each stage, and how the call ends there.
-use Rattle.std.proofs.Common.{◌≡◌, ◌<◌, ◌≤◌, ◌^◌, ℕ, List, [], All, length, refl, sym, subst, arith}
-use Rattle.std.proofs.lemmas.Result.{IfOk-weaker, err_from_is_err_and}
-use Rattle.bench_reader.proofs.LawfulCircuits.{is_circuit}
+use Rattle.std.proofs.Common.{◌<◌, ◌^◌, ℕ, List, All, length, refl, sym, subst}
+use Rattle.std.proofs.lemmas.Result.{err_from_is_err_and}
 use Rattle.command_line.specs.BoundsForm.{bounds_call_of}
-use Rattle.calls.specs.declared.role.Role.TheVariants as role
 use Rattle.pd_base.specs.declared.test.Test.{Test}
 use Rattle.delay_bounds.specs.Bounds.{NamesTest}
 use Rattle.delay_bounds.specs.LogFile.{IsLog}
@@ -11,10 +9,8 @@ use Rattle.delay_bounds.specs.declared.log_row.LogRow.{LogRow}
 use Rattle.delay_bounds.proofs.LogLaws.{log_names}
 use Rattle.commands.specs.Bounds.{bounds_command}
 use Rattle.commands.specs.Inside.BoundsJudging.{FailsLog, TellsBounds}
-use Rattle.commands.specs.declared.inputs.reading.TheConstants.{INPUT_LIMIT}
 use Rattle.commands.proofs.BoundsStages.{log_unread, no_log, no_memory, prepared, ungraded, unread}
 use Rattle.commands.proofs.InputStages.{net_fails}
-use Rattle.commands.proofs.StageReads.{read_is_within}
 use Rattle.commands.proofs.TestCounts.{few_tests}
 use Rattle.commands.proofs.bounds.preparing.prepare_bounds.Goals as goal
 

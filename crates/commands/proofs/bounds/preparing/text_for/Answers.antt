@@ -1,10 +1,9 @@
 -- The tests fit the netlist, and the text tells the bounds.
-use Rattle.std.proofs.Common.{◌≡◌, ◌*◌, ℕ, List, All, length, ap, sym, subst, ◌∙◌, arith}
+use Rattle.std.proofs.Common.{◌≡◌, List, All, length, sym, subst}
 use Rattle.netlist.specs.Circuit.{source_count}
 use Rattle.pd_base.specs.declared.test.Test.{Test}
 use Rattle.runs.specs.declared.run.ListedPath.{ListedPath}
 use Rattle.delay_bounds.specs.Bounds.{NamesTest}
-use Rattle.delay_bounds.specs.declared.log_row.LogRow.{LogRow}
 use Rattle.commands.specs.Grading.{ListsPath}
 use Rattle.commands.proofs.bounds.preparing.text_for.Goals as goal
 

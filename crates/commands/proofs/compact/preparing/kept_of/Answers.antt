@@ -1,8 +1,6 @@
 -- The tests fit the netlist, and what is kept of them is a compact list.
-use Rattle.std.proofs.Common.{◌≡◌, List, All, length, sym, subst}
-use Rattle.netlist.specs.Circuit.{source_count}
+use Rattle.std.proofs.Common.{List, All, sym, subst}
 use Rattle.netlist.specs.Paths.{IsPrefix}
-use Rattle.pd_base.specs.declared.test.Test.{Test}
 use Rattle.runs.specs.declared.run.ListedPath.{ListedPath}
 use Rattle.test_grade.specs.Compacted.{IsCompacted}
 use Rattle.test_grade.specs.Serving.{Serves}

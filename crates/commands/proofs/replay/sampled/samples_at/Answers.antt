@@ -1,5 +1,5 @@
 -- All places were filled in with what the observed lines have.
-use Rattle.std.proofs.Common.{◌≡◌, ◌++◌, take, length, sym, ap, ◌∙◌, append-nil, arith, to_z, of_z, w64}
+use Rattle.std.proofs.Common.{◌≡◌, ◌++◌, take, length, ap, ◌∙◌, append-nil, arith, to_z, of_z, w64}
 use Rattle.std.proofs.lemmas.Int.{to_z-of_z}
 use Rattle.std.proofs.lemmas.List.{drop_all, take_all, length-map}
 use Rattle.pd_base.specs.declared.ids.LineId.{LineId}

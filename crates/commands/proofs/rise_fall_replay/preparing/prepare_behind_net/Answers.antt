@@ -1,9 +1,7 @@
 -- What is passed at each stage, and how the call ends there.
 use Rattle.std.proofs.Common.{List, ◌<◌, ◌^◌, ◌++◌, ◌∷◌, [], length, refl, sym, subst}
 use Rattle.std.proofs.lemmas.Result.{err_from_is_err_and}
-use Rattle.pd_base.specs.declared.fault.Direction.TheVariants.{Rise}
 use Rattle.pd_base.specs.declared.test.Test.{Test}
-use Rattle.delay_annotation.specs.DelayFile.{HasRiseFall}
 use Rattle.delay_annotation.specs.declared.setting.Columns.TheVariants.{RiseAndFall}
 use Rattle.delay_annotation.specs.RiseFall.{rise_fall_of}
 use Rattle.runs.specs.Lawful.{AreLawfulTests, IsNameable}

@@ -1,4 +1,4 @@
-use Rattle.std.proofs.Common.{◌≡◌, ℕ, take}
+use Rattle.std.proofs.Common.{◌≡◌, take}
 use Rattle.netlist.specs.Circuit.{line_count}
 use Rattle.commands.specs.Inside.RiseFallReplaying.{sampled_waves, sampling_of}
 use Rattle.commands.specs.RiseFallReplayText.{IsRiseFallText}
