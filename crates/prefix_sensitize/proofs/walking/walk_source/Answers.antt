@@ -152,7 +152,7 @@ module _ (g : Over) (c : After-settle_start g) where
       (λ (end : ℕ). (row : ℕ) (route : Route) → StandsInOrder course.paths.now course.order.now place row route
       → Settles course place row route (Refuted 0 (Closed ∷ [])) end c.args.found.now.outcomes.items c.settle_start.new.found.outcomes.items
       c.args.found.now.proofs.items c.settle_start.new.found.proofs.items)
-      (Comes)
+      Comes
       (λ end settles.
       start_settled old.net old.rules old.ends course is_course g.begin place row route here closes c.args.found.now c.settle_start.new.found
       c.args.steps.now c.requires.1.1.1.1.1.1 end (settles row route here))
