@@ -11,9 +11,9 @@ use Rattle.trees.specs.Unlinked.{IsUnlinked}
 use Rattle.good_runs.specs.GoodRun.{IsGoodRun}
 use Rattle.bench_reader.specs.Circuits.{HasCircuit}
 use Rattle.delay_annotation.specs.DelayFile.{HasDelays}
-use Rattle.pattern_writer.specs.TestsText.{tests_text}
-use Rattle.verdict_report.specs.ProofsText.{proofs_text}
-use Rattle.verdict_report.specs.ReportText.{report_text}
+use Rattle.run_files.specs.TestsText.{tests_text}
+use Rattle.run_files.specs.ProofsText.{proofs_text}
+use Rattle.run_files.specs.ReportText.{report_text}
 use Rattle.command_line.specs.Words.{RunCall}
 use Rattle.calls.specs.declared.role.Role.{Role}
 use Rattle.calls.specs.declared.role.Role.TheVariants as role

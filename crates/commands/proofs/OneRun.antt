@@ -3,9 +3,9 @@ use Rattle.std.proofs.Common.{◌≡◌, ℕ, ◌<◌, ◌^◌, List, sym, ◌�
 use Rattle.netlist.specs.Circuit.{Circuit, source_count}
 use Rattle.netlist.specs.Lawful.{IsCircuit}
 use Rattle.runs.specs.declared.run.Run.{Run}
-use Rattle.pattern_writer.proofs.TestFiles.{tests_once}
-use Rattle.verdict_report.proofs.ProofFiles.{proofs_once}
-use Rattle.verdict_report.proofs.ReportOnce.{report_once}
+use Rattle.run_files.proofs.TestFiles.{tests_once}
+use Rattle.run_files.proofs.ProofFiles.{proofs_once}
+use Rattle.run_files.proofs.ReportOnce.{report_once}
 use Rattle.commands.specs.SpelledRuns.{SpellsRun}
 
 -- three texts spell one run at most

@@ -10,13 +10,13 @@ use Rattle.runs.specs.declared.run.Proof.{Proof}
 use Rattle.runs.specs.declared.run.Run.{Run}
 use Rattle.trees.specs.Unlinked.{IsUnlinked}
 use Rattle.text_pieces.specs.Reads.{Reads}
-use Rattle.verdict_report.specs.ProofsReading.{ProofsAnswer, ReadsProofs}
-use Rattle.verdict_report.specs.ProofsText.{version_of}
-use Rattle.verdict_report.specs.ReportForm.{IsSpelledReport}
-use Rattle.verdict_report.specs.ReportReading.{ReportAnswer}
-use Rattle.verdict_report.specs.ReportText.{report_text}
-use Rattle.verdict_report.specs.declared.fault.TextFault.{TextFault}
-use Rattle.verdict_report.specs.declared.fault.TextFault.TheVariants.{Malformed}
+use Rattle.run_files.specs.ProofsReading.{ProofsAnswer, ReadsProofs}
+use Rattle.run_files.specs.ProofsText.{version_of}
+use Rattle.run_files.specs.ReportForm.{IsSpelledReport}
+use Rattle.run_files.specs.ReportReading.{ReportAnswer}
+use Rattle.run_files.specs.ReportText.{report_text}
+use Rattle.run_files.specs.declared.fault.TextFault.{TextFault}
+use Rattle.run_files.specs.declared.fault.TextFault.TheVariants.{Malformed}
 use Rattle.commands.specs.SpelledRuns.{IsMalformedProofs, IsMalformedReport, SpellsProofs, SpellsReport, SpellsRun}
 
 module _ (c : Circuit) (text : List ℕ) where

@@ -9,10 +9,10 @@ use Rattle.runs.specs.declared.run.Proof.{Proof}
 use Rattle.runs.specs.declared.run.Run.{Run}
 use Rattle.trees.specs.Unlinked.{IsUnlinked}
 use Rattle.text_pieces.specs.LineFiles.{IsFirstBadLine}
-use Rattle.verdict_report.specs.ProofsReading.{AreSpelledProofs, IsFirstBadProofLine}
-use Rattle.verdict_report.specs.ProofsText.{proofs_text}
-use Rattle.verdict_report.specs.ReportForm.{IsSpelledReport, report_form, report_headings, report_start}
-use Rattle.verdict_report.specs.ReportText.{report_text}
+use Rattle.run_files.specs.ProofsReading.{AreSpelledProofs, IsFirstBadProofLine}
+use Rattle.run_files.specs.ProofsText.{proofs_text}
+use Rattle.run_files.specs.ReportForm.{IsSpelledReport, report_form, report_headings, report_start}
+use Rattle.run_files.specs.ReportText.{report_text}
 use Rattle.commands.specs.SpelledTests.{SpellsTests}
 
 -- the text is the report of these paths, which a report of the circuit may list
