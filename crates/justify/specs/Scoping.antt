@@ -15,6 +15,11 @@ pub record IsStart (target : Target) (standing : Standing) : Type 0 where
   pub entered : standing.assumptions ≡ entered_steps target.path
   pub free : standing.conflict ≡ None
 
+-- the rules fit the circuit, and this kind of states is theirs
+pub record SuitsRules (a : StateAlgebra) (standing : Standing) : Type 0 where
+  pub of_rules : a ≡ algebra_of standing.rules
+  pub fit : FitRules standing.net standing.rules
+
 -- The target's path is one of the circuit, and its end is told. The rules fit the circuit, and this kind of states is theirs.
 pub record SuitsSearch (a : StateAlgebra) (target : Target) (standing : Standing) : Type 0 where
   pub of_rules : a ≡ algebra_of standing.rules

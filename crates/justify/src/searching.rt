@@ -11,11 +11,12 @@ ghost use Rattle.implication.specs.Clients.{IsRestored};
 ghost use Rattle.justify.specs.Answers.{IsFound, CountsConflicts, IsOutcomeOf};
 ghost use Rattle.justify.specs.Desks.{IsDeskFor, IsDesk};
 ghost use Rattle.justify.specs.Ends.{is_spent};
-ghost use Rattle.justify.specs.Scoping.{IsStart, SuitsSearch};
+ghost use Rattle.justify.specs.Scoping.{IsStart, SuitsRules, SuitsSearch};
 ghost use Rattle.justify.specs.Searches.{IsSearching, SearchGoesOn, LeavesSearch, IsGrowthOf};
 ghost use Rattle.justify.specs.Tasks.{task_target};
 ghost use Rattle.justify.specs.Tests.{IsFitTest};
 ghost use Rattle.trees.specs.Unlinked.{IsUnlinked};
+ghost use Rattle.state_sets.specs.SixStates.{six_states};
 
 use crate::Found;
 use crate::desk::Desk;
@@ -28,7 +29,7 @@ use implication::{Scope, Setting};
 use pair_judging::{take_least, take_preferred};
 use pd_base::{Direction, Kind, LineId, OutOfMemory, Pair, Path};
 use search_hints::{Effort, Sight};
-use state_sets::{Algebra, FourStates, State};
+use state_sets::{Algebra, FourStates, SixStates, State};
 use std::alloc::Global;
 
 /// Searches for a test of a kind for a path and a transition, on a scope that has begun with these and has entered the path's pins.
@@ -38,7 +39,7 @@ use std::alloc::Global;
 /// The scope is afterwards as before, also where memory runs out, which is the one error; but conflicts are counted, as long as the
 /// count is not at its end: at least one for each closed leaf of a refutation, and one for each node of a spent tree.
 ///
-/// The rules of the engine are not linked ones; under those, and where many searches share a desk: `search_at`.
+/// The rules of the engine are not linked ones. Under those: `search_linked`; where many searches share a desk: `search_at`.
 pub fn search<S: Setting>(
     alloc: Global,
     scope: &mut Scope<FourStates, S>,
@@ -58,6 +59,30 @@ pub fn search<S: Setting>(
     ensures restored { IsRestored (standing scope.old) (standing scope.new) }
 {
     let mut desk = Desk::new::<FourStates>(alloc, scope.net(), scope.rules())?;
+    search_at(alloc, scope, &mut desk, path, dir, kind, budget)
+}
+
+/// The same under linked rules, which fit the engine's netlist, with six states: a test is a pair of the rules, and a refutation excludes
+/// the pairs of the rules.
+pub fn search_linked<S: Setting>(
+    alloc: Global,
+    scope: &mut Scope<SixStates, S>,
+    path: &Path,
+    dir: Direction,
+    kind: Kind,
+    budget: u32,
+) -> Result<Found, OutOfMemory>
+    requires prefix { IsPrefix (standing scope.old).net path.now }
+    requires start { IsStart (target_of path.now dir kind) (standing scope.old) }
+    requires some_budget { 1 ≤ budget }
+    requires budget { budget ≤ MOST_BUDGET }
+    requires rules { SuitsRules six_states (standing scope.old) }
+    ensures found { IfOk result (IsFound (standing scope.old).net (standing scope.old).rules (target_of path.now dir kind) budget) }
+    ensures counted { IfOk result (λ found. CountsConflicts budget found (standing scope.old) (standing scope.new)) }
+    ensures scope { IsSameScope scope.old scope.new }
+    ensures restored { IsRestored (standing scope.old) (standing scope.new) }
+{
+    let mut desk = Desk::new::<SixStates>(alloc, scope.net(), scope.rules())?;
     search_at(alloc, scope, &mut desk, path, dir, kind, budget)
 }
 

@@ -3,7 +3,6 @@ use Rattle.std.specs.Prelude.{◌≡◌, ℕ, ◌+◌, ◌*◌, ◌≤◌, List,
 use Rattle.state_sets.specs.StateAlgebra.{StateAlgebra}
 use Rattle.pd_base.specs.declared.rules.Rules.{Rules}
 use Rattle.netlist.specs.Circuit.{Circuit}
-use Rattle.trees.specs.Unlinked.{IsUnlinked}
 use Rattle.netlist.specs.LinkedPairs.{FitRules}
 use Rattle.trees.specs.Algebras.{algebra_of}
 use Rattle.netlist.specs.declared.limits.TheConstants.{MOST_LEVELS}
@@ -25,16 +24,14 @@ pub record IsTreeFor (routes : List Route) (tree : OrderedPaths) : Type 0 where
   pub prefixes : HasPrefixes routes tree.prefixes
   pub few : tree.prefixes ≤ length routes * MOST_LEVELS
 
--- an engine with this kind of states, which is that of its rules; these are not linked and fit the circuit, and no scope is open
+-- an engine with this kind of states, which is that of its rules; these fit the circuit, and no scope is open
 pub record IsSet (a : StateAlgebra) (standing : Standing) : Type 0 where
   pub of_rules : a ≡ algebra_of standing.rules
   pub fit : FitRules standing.net standing.rules
-  pub unlinked : IsUnlinked standing.rules
   pub idle : standing.beginning ≡ None
 
--- the paths can be searched with this engine and this desk: the rules, whose kind of states this is, are not linked; no scope is open on it, and it tells the end of each path
+-- the paths can be searched with this engine and this desk: no scope is open on it, and it tells the end of each path
 pub record IsReadyFor (a : StateAlgebra) (in_order : PathsInOrder) (budget : ℕ) (standing : Standing) (on : Desk) : Type 0 where
-  pub unlinked : IsUnlinked standing.rules
   pub idle : standing.beginning ≡ None
   pub listed : AreSearchablePaths standing.net in_order.paths.now
   pub told : AreToldPaths standing in_order.paths.now

@@ -221,7 +221,7 @@ impl Descent {
 }
 
 // The tree that is one closed leaf.
-fn closed_leaf(alloc: Global) -> Result<Tree, OutOfMemory>
+pub(crate) fn closed_leaf(alloc: Global) -> Result<Tree, OutOfMemory>
     ensures { IfOk result (λ tree. tree ≡ Node.Closed ∷ []) }
 {
     let nodes = vec![in alloc; Node::Closed]?;

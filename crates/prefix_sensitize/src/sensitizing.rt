@@ -3,7 +3,8 @@
 ghost use Rattle.std.specs.Prelude.{◌≡◌, ◌+◌, ◌*◌, ◌<◌, ◌≤◌, ◌^◌, None, length, map, not, IfOk, OnOk};
 ghost use Rattle.netlist.specs.declared.limits.TheConstants.{MOST_LEVELS};
 ghost use Rattle.delay_annotation.specs.Annotation.{delays_of, Fits};
-ghost use Rattle.trees.specs.Unlinked.{IsUnlinked};
+ghost use Rattle.netlist.specs.LinkedPairs.{FitRules};
+ghost use Rattle.trees.specs.Algebras.{algebra_of};
 ghost use Rattle.justify.specs.Desks.{IsDeskFor};
 ghost use Rattle.prefix_sensitize.specs.Entering.{IsIdleAgain};
 ghost use Rattle.prefix_sensitize.specs.Listed.{AreAllOutcomes};
@@ -25,13 +26,14 @@ use netlist::Netlist;
 use pair_judging::ends_of;
 use pd_base::{Direction, Kind, OutOfMemory, Path, Rules, Steps};
 use runs::{Proof, Run};
-use state_sets::{Algebra, FourStates};
+use state_sets::{Algebra, FourStates, SixStates};
 use std::alloc::Global;
 
 /// A good run for the first paths of a circuit, which are given, for some number of at most `MOST_PATHS`, and a budget of splits for each
 /// search, 1 to `MOST_BUDGET`: each verdict has the test or the proofs that it asks for, and each test and each proof is what it says,
-/// under these rules (this project's own). The run can be written as files. A refutation whose prefix implication alone refutes is one
-/// closed leaf, at the shortest prefix of its path that implication alone refutes.
+/// under these rules (this project's own), which fit the circuit. The run can be written as files. A refutation whose prefix implication
+/// alone refutes is one closed leaf, at the shortest prefix of its path that implication alone refutes. Under linked rules that may be the
+/// source alone, before a pin is entered: the refutation has 0 steps then, and serves all paths from the source.
 ///
 /// `steps` stands at no more than 2^63, and counts the pins that are entered: at most four times as many as the paths have different
 /// prefixes of at least one step, once for each transition and kind of test, whatever the answer is. The one error is that memory ran
@@ -48,7 +50,7 @@ pub fn sensitize_all<L>(
     requires fits { Fits net.now delays.now }
     requires first { AreFirstOnes net.now (delays_of net.now delays.now) paths.items }
     requires budget { IsBudget budget }
-    requires unlinked { IsUnlinked rules }
+    requires fit { FitRules net.now rules }
     requires steps { steps.old ≤ 2 ^ 63 }
     ensures run { IfOk result (IsSearchedRun net.now (delays_of net.now delays.now) paths.items budget rules) }
     ensures steps { CountsAtMost paths.items 4 steps.old steps.new }
@@ -59,7 +61,7 @@ pub fn sensitize_all<L>(
     run_of(alloc, net, delays, rules, paths, outcomes)
 }
 
-// Searches for all tests of these paths.
+// Searches for all tests of these paths, with the kind of states that the rules choose.
 fn search_paths<L>(
     alloc: Global,
     net: &Netlist,
@@ -70,7 +72,32 @@ fn search_paths<L>(
 ) -> Result<AllOutcomes, OutOfMemory>
     requires listed { AreSearchablePaths net.now paths.now }
     requires budget { IsBudget budget }
-    requires unlinked { IsUnlinked rules.now }
+    requires fit { FitRules net.now rules.now }
+    requires steps { steps.old ≤ 2 ^ 63 }
+    ensures outcomes { IfOk result (λ outcomes. AreAllOutcomes net.now (searches_of rules.now budget paths.now outcomes) outcomes) }
+    ensures steps { CountsAtMost paths.now 4 steps.old steps.new }
+{
+    match rules {
+        Rules::One | Rules::Two => {
+            search_by::<FourStates, L>(alloc, net, paths, budget, rules, steps)
+        }
+        Rules::Linked(_) => search_by::<SixStates, L>(alloc, net, paths, budget, rules, steps),
+    }
+}
+
+// Does so with this kind of states.
+fn search_by<A: Algebra, L>(
+    alloc: Global,
+    net: &Netlist,
+    paths: &[Path],
+    budget: u32,
+    rules: &Rules,
+    steps: &mut Steps<L>,
+) -> Result<AllOutcomes, OutOfMemory>
+    requires listed { AreSearchablePaths net.now paths.now }
+    requires budget { IsBudget budget }
+    requires states { A.algebra ≡ algebra_of rules.now }
+    requires fit { FitRules net.now rules.now }
     requires steps { steps.old ≤ 2 ^ 63 }
     ensures outcomes { IfOk result (λ outcomes. AreAllOutcomes net.now (searches_of rules.now budget paths.now outcomes) outcomes) }
     ensures steps { CountsAtMost paths.now 4 steps.old steps.new }
@@ -79,11 +106,7 @@ fn search_paths<L>(
     let _ = net.sources();
     let ends = ends_of(alloc, net, paths)?;
     let setting = RuledNetlist { net, rules };
-    let mut engine: Engine<FourStates, RuledNetlist> = Engine::within(
-        alloc,
-        setting,
-        ends.as_slice(),
-    )?;
+    let mut engine: Engine<A, RuledNetlist> = Engine::within(alloc, setting, ends.as_slice())?;
     let outcomes = search_on(alloc, &mut engine, paths, budget, steps);
     // a call ends it, so that its many parts needn't be ended in this function's proof
     drop(engine);

@@ -1,17 +1,17 @@
 // What the end of a search settles: the outcomes of paths, and a proof more.
-ghost use Rattle.std.specs.Prelude.{◌≡◌, ℕ, ◌+◌, ◌<◌, ◌≤◌, ◌^◌, All, IfOk, length};
+ghost use Rattle.std.specs.Prelude.{◌≡◌, ℕ, ◌+◌, ◌<◌, ◌≤◌, ◌^◌, ◌∷◌, [], All, IfOk, length};
 ghost use Rattle.pd_base.specs.Route.{Route};
 ghost use Rattle.netlist.specs.declared.limits.TheConstants.{MOST_LEVELS};
 ghost use Rattle.prefix_sensitize.specs.PathOrder.{IsOrder, StandsInOrder};
 ghost use Rattle.prefix_sensitize.specs.Settling.{AddsProof, HasItsSteps, Settles, found_proof};
 
 use crate::course::Course;
-use crate::descent::Ended;
+use crate::descent::{Ended, closed_leaf};
 use crate::outcome::{Aim, Findings, Outcome};
 use crate::stretch::stretch_from;
 use pd_base::OutOfMemory;
 use runs::Proof;
-use trees::Tree;
+use trees::{Node, Tree};
 
 // Takes down the end of a search for the path at this place. The answer is the place up to which paths are settled then.
 pub(crate) fn settle(
@@ -47,6 +47,26 @@ pub(crate) fn settle(
             add_proof(course.order, place, stretch.end, proof, found)
         }
     }
+}
+
+// Takes down that the start closes at the source of the path at this place, before a pin is entered: one closed leaf refutes all paths
+// from there. The answer is the place up to which paths are settled then.
+pub(crate) fn settle_start(
+    course: &Course,
+    place: usize,
+    found: &mut Findings,
+) -> Result<usize, OutOfMemory>
+    requires order { IsOrder course.now.paths.now course.now.order.now }
+    requires few { length course.now.paths.now < 2 ^ 32 }
+    requires short { All (λ route. length route.steps ≤ MOST_LEVELS) course.now.paths.now }
+    requires place { place < length course.now.order.now }
+    requires one_each { length found.old.outcomes.items ≡ length course.now.paths.now }
+    ensures { IfOk result (λ end. (row : ℕ) (route : Route) → StandsInOrder course.now.paths.now course.now.order.now place row route
+        → Settles course.now place row route (Ended.Refuted 0 (Node.Closed ∷ [])) end found.old.outcomes.items found.new.outcomes.items
+        found.old.proofs.items found.new.proofs.items) }
+{
+    let tree = closed_leaf(course.alloc)?;
+    settle(course, place, Ended::Refuted { steps: 0, tree }, found)
 }
 
 // The proof by this tree, for an aim and so many steps of the path in this row.

@@ -15,7 +15,7 @@ ghost use Rattle.prefix_sensitize.specs.Walks.{CountsPrefixes};
 use crate::course::{Course, PathsInOrder, begins_at};
 use crate::descent::Descent;
 use crate::outcome::{Aim, Findings, Outcome};
-use crate::settling::settle;
+use crate::settling::{settle, settle_start};
 use implication::{Engine, Scope, Setting};
 use justify::Desk;
 use pd_base::{LineId, OutOfMemory, Steps};
@@ -25,7 +25,8 @@ use std::alloc::Global;
 
 /// Searches for tests of the listed paths, as far as outcomes are needed, and gives for each path its outcome. Each prefix is entered at
 /// most once, and counts one step. A refutation that comes up at a prefix settles all paths that have it: none of them is searched, and
-/// the one proof that is added to the list names the first listed path that has the prefix. No scope is open, and no proof is about this
+/// the one proof that is added to the list names the first listed path that has the prefix. One may come up at a source, before a pin is
+/// entered: it has no steps, and settles all paths from there. No scope is open, and no proof is about this
 /// aim yet; where no outcome is needed there is a test.
 ///
 /// Afterwards no scope is open, the desk serves as before, and each proof is one that was found for these paths. The one error is that
@@ -99,8 +100,8 @@ fn walk_course<A: Algebra, S: Setting, L>(
     Ok(())
 }
 
-// Opens a scope at the source of the path at this place, if the path needs an outcome, and goes along the paths from it. The answer is the
-// place that is come to.
+// Opens a scope at the source of the path at this place, if the path needs an outcome, and goes along the paths from it, unless the start
+// closes there. The answer is the place that is come to.
 fn walk_source<A: Algebra, S: Setting, L>(
     engine: &mut Engine<A, S>,
     desk: &mut Desk,
@@ -126,6 +127,9 @@ fn walk_source<A: Algebra, S: Setting, L>(
     }
     let source = course.paths[row].source();
     let mut scope = Scope::begin(engine, source, course.aim.direction, course.aim.kind);
+    if scope.conflict().is_some() {
+        return settle_start(course, place, found);
+    }
     walk_from(&mut scope, desk, course, source, place, found, steps)
 }
 

@@ -95,6 +95,7 @@ fn are_short(paths: &[Path]) -> bool
 }
 
 // How many steps a walk over the first paths counts. It promises nothing either.
+#[tactic(auto, using(crate::proofs::Told::fits))]
 fn steps_of(alloc: Global, net: &Netlist, delays: &Delays, count: u32) -> Result<u64, OutOfMemory>
     requires fits { Fits net.now delays.now }
     requires count { count ≤ MOST_PATHS }
