@@ -4,52 +4,63 @@ use Rattle.std.specs.List.{All, AllByRecursion}
 use Rattle.std.proofs.lemmas.List.{append_cancel_left}
 use Rattle.std.proofs.lemmas.List.Elements.{recursion_from_All, All-from_recursion}
 use Rattle.std.proofs.lemmas.Option.{none-some, same_Some}
-use Rattle.pd_base.specs.declared.rules.Rules.{Rules}
-use Rattle.pd_base.specs.declared.rules.Rules.TheVariants.{One, Two, Linked}
 use Rattle.netlist.specs.Circuit.{Circuit, source_count}
 use Rattle.runs.specs.declared.run.Proof.{Proof}
 use Rattle.runs.specs.Lawful.{IsLawfulProof, IsOnSource}
 use Rattle.trees.specs.Trees.{IsTree}
-use Rattle.trees.specs.Unlinked.{IsUnlinked}
 use Rattle.text_pieces.specs.Tokens.{line}
 use Rattle.text_pieces.specs.LineFiles.{lines_text, IsWhole}
 use Rattle.text_pieces.specs.Reads.{Reads}
 use Rattle.text_pieces.proofs.ReadLines.{lines_once}
 use Rattle.verdict_report.specs.ProofsText.{proofs_form, proofs_text, version_line}
-use Rattle.verdict_report.specs.ProofsReading.{spelled_form, version_at_front, AreSpelledProofs, IsFirstBadProofLine, IsSpelledFile, IsSpelledProof, ProofLinesAnswer, ProofsAnswer, ReadsProofs}
+use Rattle.verdict_report.specs.ProofsReading.{spelled_form, version_at_front, AreSpelledProofs, IsFirstBadProofLine, IsSpelledProof, ProofLinesAnswer, ProofsAnswer, ReadsProofs}
 use Rattle.verdict_report.specs.ProofsReading.IsFirstBadProofLine.{no_proof, no_version}
 use Rattle.verdict_report.specs.declared.fault.TextFault.{TextFault}
 use Rattle.verdict_report.specs.declared.fault.TextFault.TheVariants.{Malformed, NoMemory}
+use Rattle.verdict_report.specs.declared.version.ProofsVersion.{ProofsVersion}
+use Rattle.verdict_report.specs.declared.version.ProofsVersion.TheVariants.{First, Second, Third}
 use Rattle.verdict_report.proofs.ProofLines.{one_line, proofs_fit, proofs_lawful, same_lines, told_apart}
 
 -- ---- the version
 
 -- a text begins with the line of one version
-version_once : (rules other : Rules) (rest more : List ℕ) → IsUnlinked rules → IsUnlinked other → line (version_line rules) ++ rest ≡ line (version_line other) ++ more → (rules ≡ other) × (rest ≡ more)
-version_once One One rest more read read' same = (refl, append_cancel_left (line (version_line One)) rest more same)
-version_once One Two rest more read read' same = absurd (omega (arith, ap (λ text. get_or text 14 0) same))
-version_once Two One rest more read read' same = absurd (omega (arith, ap (λ text. get_or text 14 0) same))
-version_once Two Two rest more read read' same = (refl, append_cancel_left (line (version_line Two)) rest more same)
-version_once (Linked links) other rest more read read' same = absurd read
-version_once One (Linked links) rest more read read' same = absurd read'
-version_once Two (Linked links) rest more read read' same = absurd read'
+version_once : (version other : ProofsVersion) (rest more : List ℕ) → line (version_line version) ++ rest ≡ line (version_line other) ++ more → (version ≡ other) × (rest ≡ more)
+version_once First First rest more same = (refl, append_cancel_left (line (version_line First)) rest more same)
+version_once Second Second rest more same = (refl, append_cancel_left (line (version_line Second)) rest more same)
+version_once Third Third rest more same = (refl, append_cancel_left (line (version_line Third)) rest more same)
+version_once First Second rest more same = absurd (omega (arith, ap (λ text. get_or text 14 0) same))
+version_once First Third rest more same = absurd (omega (arith, ap (λ text. get_or text 14 0) same))
+version_once Second First rest more same = absurd (omega (arith, ap (λ text. get_or text 14 0) same))
+version_once Second Third rest more same = absurd (omega (arith, ap (λ text. get_or text 14 0) same))
+version_once Third First rest more same = absurd (omega (arith, ap (λ text. get_or text 14 0) same))
+version_once Third Second rest more same = absurd (omega (arith, ap (λ text. get_or text 14 0) same))
 
-abbrev pub ReadsVersion : List ℕ → Option (Rules × List ℕ) → Type 0
-ReadsVersion text read = Reads version_at_front (λ read. IsUnlinked read.0) text read
+abbrev pub ReadsVersion : List ℕ → Option (ProofsVersion × List ℕ) → Type 0
+ReadsVersion text read = Reads version_at_front (λ read. Unit {0}) text read
 
-abbrev pub ReadsBehind : Rules → List ℕ → Option (List ℕ) → Type 0
-ReadsBehind rules text read = Reads (λ (rest : List ℕ). line (version_line rules) ++ rest) (λ rest. Unit {0}) text read
+abbrev pub ReadsBehind : ProofsVersion → List ℕ → Option (List ℕ) → Type 0
+ReadsBehind version text read = Reads (λ (rest : List ℕ). line (version_line version) ++ rest) (λ rest. Unit {0}) text read
 
--- neither stands there
-no_version_read : (rules : Rules) (text rest : List ℕ) → IsUnlinked rules → ReadsBehind One text None → ReadsBehind Two text None → text ≢ line (version_line rules) ++ rest
-no_version_read One text rest unlinked first second is = none-some rest (first.only rest tt is)
-no_version_read Two text rest unlinked first second is = none-some rest (second.only rest tt is)
-no_version_read (Linked links) text rest unlinked first second is = absurd unlinked
+-- the line of a version that was read stands there
+pub version_read : (version : ProofsVersion) (text rest : List ℕ) → ReadsBehind version text (Some rest) → ReadsVersion text (Some (version, rest))
+version_read version text rest reads = record {
+  found = reads.found;
+  only = λ read h is.
+      let same = version_once version read.0 rest read.1 (sym reads.found.1 ∙ is) in
+      (λ i. Some (same.0 i, same.1 i));
+}
 
-pub version_unread : (text : List ℕ) → ReadsBehind One text None → ReadsBehind Two text None → ReadsVersion text None
-version_unread text first second = record {
+-- none stands there
+no_version_read : (version : ProofsVersion) (text rest : List ℕ) → ReadsBehind First text None → ReadsBehind Second text None → ReadsBehind Third text None
+    → text ≢ line (version_line version) ++ rest
+no_version_read First text rest first second third is = none-some rest (first.only rest tt is)
+no_version_read Second text rest first second third is = none-some rest (second.only rest tt is)
+no_version_read Third text rest first second third is = none-some rest (third.only rest tt is)
+
+pub version_unread : (text : List ℕ) → ReadsBehind First text None → ReadsBehind Second text None → ReadsBehind Third text None → ReadsVersion text None
+version_unread text first second third = record {
   found = tt;
-  only = λ read h is. absurd (no_version_read read.0 text read.1 h first second is);
+  only = λ read h is. absurd (no_version_read read.0 text read.1 first second third is);
 }
 
 module _ (c : Circuit) where
@@ -93,25 +104,25 @@ module _ (c : Circuit) where
   -- where there is no version the first line is the bad one
   pub no_version_answer : (text : List ℕ) → ReadsVersion text None → ProofsAnswer c text (Err (Malformed 1))
   no_version_answer text reads =
-      let none : (rules : Rules) (rest : List ℕ) → IsUnlinked rules → text ≢ line (version_line rules) ++ rest =
-      λ rules rest unlinked is. none-some _ (reads.only (rules, rest) unlinked is) in
-      (record { found = tt; only = λ file spelled is. absurd (none file.0 _ spelled.unlinked is) }, no_version none)
+      let none : (version : ProofsVersion) (rest : List ℕ) → text ≢ line (version_line version) ++ rest =
+      λ version rest is. none-some _ (reads.only (version, rest) tt is) in
+      (record { found = tt; only = λ file spelled is. absurd (none file.0 _ is) }, no_version none)
 
-  module _ (text : List ℕ) (rules : Rules) (rest : List ℕ) (version : ReadsVersion text (Some (rules, rest))) where
+  module _ (text : List ℕ) (version : ProofsVersion) (rest : List ℕ) (reads_version : ReadsVersion text (Some (version, rest))) where
     -- behind it the lines are read
     file_read : (read : Option (List Proof)) → Reads (lines_text (spelled_form c) 1) (IsWhole (spelled_form c) 1) rest read
-        → (file : Rules × List Proof) → IsSpelledFile c file → text ≡ proofs_text file.0 file.1 → (rules ≡ file.0) × (read ≡ Some file.1)
+        → (file : ProofsVersion × List Proof) → AreSpelledProofs c file.1 → text ≡ proofs_text file.0 file.1 → (version ≡ file.0) × (read ≡ Some file.1)
     file_read read reads file spelled is =
-        let same = version_once rules file.0 rest (lines_text (proofs_form IsLawfulProof) 1 file.1) version.found.0 spelled.unlinked (sym version.found.1 ∙ is) in
-        let each = each_spelled file.1 spelled.proofs in
+        let same = version_once version file.0 rest (lines_text (proofs_form IsLawfulProof) 1 file.1) (sym reads_version.found.1 ∙ is) in
+        let each = each_spelled file.1 spelled in
         (same.0, reads.only file.1 (record { each = proofs_fit (IsSpelledProof c) 1 file.1 each; ends = tt }) (same.1 ∙ same_lines (IsSpelledProof c) 1 file.1))
 
     pub proofs_read : (proofs : List Proof) → Reads (lines_text (spelled_form c) 1) (IsWhole (spelled_form c) 1) rest (Some proofs)
-        → ReadsProofs c text (Some (rules, proofs))
+        → ReadsProofs c text (Some (version, proofs))
     proofs_read proofs reads = record {
       found = (
-        record { unlinked = version.found.0; proofs = all_spelled proofs (proofs_lawful (IsSpelledProof c) 1 proofs reads.found.0.each) },
-        version.found.1 ∙ ap (λ (behind : List ℕ). line (version_line rules) ++ behind) (reads.found.1 ∙ sym (same_lines (IsSpelledProof c) 1 proofs)),
+        all_spelled proofs (proofs_lawful (IsSpelledProof c) 1 proofs reads.found.0.each),
+        reads_version.found.1 ∙ ap (λ (behind : List ℕ). line (version_line version) ++ behind) (reads.found.1 ∙ sym (same_lines (IsSpelledProof c) 1 proofs)),
       );
       only = λ file spelled is.
           let same = file_read (Some proofs) reads file spelled is in
@@ -123,15 +134,15 @@ module _ (c : Circuit) where
     pub lines_fault_answer : (fault : TextFault) → ProofLinesAnswer c rest (Err fault) → ProofsAnswer c text (Err fault)
     lines_fault_answer (Malformed number) lines = (
       record { found = tt; only = λ file spelled is. absurd (none-some _ (file_read None lines.0 file spelled is).1) },
-      subst (λ (n : ℕ). IsFirstBadProofLine c text n) (sym lines.1.1) (no_proof rules rest lines.1.0 version.found.0 version.found.1 lines.1.2),
+      subst (λ (n : ℕ). IsFirstBadProofLine c text n) (sym lines.1.1) (no_proof version rest lines.1.0 reads_version.found.1 lines.1.2),
     )
     lines_fault_answer NoMemory lines = tt
 
-  -- two lists of proofs with one text are one, and are judged under the same rules
-  pub proofs_once : source_count c < 2 ^ 64 → (rules other : Rules) (proofs others : List Proof) → IsUnlinked rules → IsUnlinked other
-      → AreSpelledProofs c proofs → AreSpelledProofs c others → proofs_text rules proofs ≡ proofs_text other others → (rules ≡ other) × (proofs ≡ others)
-  proofs_once few rules other proofs others unlinked unlinked' spelled spelled' is =
-      let same = version_once rules other (lines_text (proofs_form IsLawfulProof) 1 proofs) (lines_text (proofs_form IsLawfulProof) 1 others) unlinked unlinked' is in
+  -- two lists of proofs with one text are one, and their files have one version
+  pub proofs_once : source_count c < 2 ^ 64 → (version other : ProofsVersion) (proofs others : List Proof) → AreSpelledProofs c proofs
+      → AreSpelledProofs c others → proofs_text version proofs ≡ proofs_text other others → (version ≡ other) × (proofs ≡ others)
+  proofs_once few version other proofs others spelled spelled' is =
+      let same = version_once version other (lines_text (proofs_form IsLawfulProof) 1 proofs) (lines_text (proofs_form IsLawfulProof) 1 others) is in
       let lines : lines_text (spelled_form c) 1 proofs ≡ lines_text (spelled_form c) 1 others =
       sym (same_lines (IsSpelledProof c) 1 proofs) ∙ same.1 ∙ same_lines (IsSpelledProof c) 1 others in (
         same.0,

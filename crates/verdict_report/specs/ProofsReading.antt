@@ -2,23 +2,22 @@
 use Rattle.std.specs.Prelude.{◌≡◌, ◌≢◌, ◌≤◌, ⊤, ℕ, ◌+◌, List, ◌∷◌, ◌++◌, All, decimal, Option, Some, None, Result, Ok, Err}
 use Rattle.std.specs.Borrow.{Bor}
 use Rattle.std.specs.Global.{Vec}
-use Rattle.pd_base.specs.declared.rules.Rules.{Rules}
 use Rattle.netlist.specs.Circuit.{Circuit}
 use Rattle.runs.specs.declared.run.Proof.{Proof}
 use Rattle.runs.specs.Lawful.{AreLawfulProofsOf, IsLawfulProof, IsOnSource, IsPathNumber}
 use Rattle.trees.specs.Trees.{IsTree}
-use Rattle.trees.specs.Unlinked.{IsUnlinked}
 use Rattle.netlist.specs.declared.limits.TheConstants.{MOST_LEVELS}
 use Rattle.text_pieces.specs.Tokens.{direction_word, kind_word, line}
 use Rattle.text_pieces.specs.LineFiles.{Form, lines_text, IsWhole, LacksForm}
 use Rattle.text_pieces.specs.Cuts.{words_left}
 use Rattle.text_pieces.specs.Reads.{Reads}
-use Rattle.verdict_report.specs.ProofsText.{claim_word, proofs_form, proofs_text, version_line, version_of}
+use Rattle.verdict_report.specs.ProofsText.{claim_word, proofs_form, proofs_text, version_line, version_number}
 use Rattle.verdict_report.specs.declared.fault.TextFault.{TextFault}
 use Rattle.verdict_report.specs.declared.fault.TextFault.TheVariants.{Malformed, NoMemory}
 use Rattle.verdict_report.specs.declared.proof_head.ProofClaim.{ProofClaim}
 use Rattle.verdict_report.specs.declared.proof_head.ProofHead.{ProofHead}
 use Rattle.verdict_report.specs.declared.proof_head.ProofPrefix.{ProofPrefix}
+use Rattle.verdict_report.specs.declared.version.ProofsVersion.{ProofsVersion}
 
 -- a proof that a proofs file of this circuit may list. That its nodes are those of one tree is known of each value of the
 -- program, and is said here of any value
@@ -32,31 +31,27 @@ pub record AreSpelledProofs (c : Circuit) (proofs : List Proof) : Type 0 where
   pub lawful : AreLawfulProofsOf c proofs
   pub whole : All (λ proof. IsTree proof.tree) proofs
 
--- the rules and the proofs of a file that is read: no file under linked rules is
-pub record IsSpelledFile (c : Circuit) (file : Rules × List Proof) : Type 0 where
-  pub unlinked : IsUnlinked file.0
-  pub proofs : AreSpelledProofs c file.1
-
 -- how such proofs stand one behind another
 abbrev pub spelled_form : Circuit → Form ℕ Proof
 spelled_form c = proofs_form (IsSpelledProof c)
 
--- The line of this number is the first one of a proofs file that lacks its form: the text begins with the line of no version that is
--- read, or the line is one behind it.
+-- The line of this number is the first one of a proofs file that lacks its form: the text begins with the line of no version, or the
+-- line is one behind it.
 pub data IsFirstBadProofLine (c : Circuit) (text : List ℕ) : ℕ → Type 0 where
-  no_version : ((rules : Rules) (rest : List ℕ) → IsUnlinked rules → text ≢ line (version_line rules) ++ rest)
-      → IsFirstBadProofLine c text 1
-  no_proof : (rules : Rules) (rest : List ℕ) (number : ℕ) → IsUnlinked rules → text ≡ line (version_line rules) ++ rest
+  no_version : ((version : ProofsVersion) (rest : List ℕ) → text ≢ line (version_line version) ++ rest) → IsFirstBadProofLine c text 1
+  no_proof : (version : ProofsVersion) (rest : List ℕ) (number : ℕ) → text ≡ line (version_line version) ++ rest
       → LacksForm (spelled_form c) 1 rest number → IsFirstBadProofLine c text (number + 1)
 
--- what a text is read as: the rules whose version it has, and proofs
-abbrev pub ReadsProofs : Circuit → List ℕ → Option (Rules × List Proof) → Type 0
-ReadsProofs c text read = Reads (λ (file : Rules × List Proof). proofs_text file.0 file.1) (IsSpelledFile c) text read
+-- what a text is read as: its version, and the proofs that it spells
+abbrev pub ReadsProofs : Circuit → List ℕ → Option (ProofsVersion × List Proof) → Type 0
+ReadsProofs c text read =
+    Reads (λ (file : ProofsVersion × List Proof). proofs_text file.0 file.1) (λ file. AreSpelledProofs c file.1) text read
 
 -- What a reader of proofs files answers of a text: its version, and the lawful proofs whose file it is; or, where it is that of no
 -- lawful proofs, the first line that lacks its form; or that memory ran out.
 abbrev pub ProofsAnswer : Circuit → List ℕ → Result (ℕ × Vec Proof) TextFault → Type 0
-ProofsAnswer c text (Ok read) = (rules : Rules) × (read.0 ≡ version_of rules) × ReadsProofs c text (Some (rules, read.1.items))
+ProofsAnswer c text (Ok read) =
+    (version : ProofsVersion) × (read.0 ≡ version_number version) × ReadsProofs c text (Some (version, read.1.items))
 ProofsAnswer c text (Err (Malformed number)) = ReadsProofs c text None × IsFirstBadProofLine c text number
 ProofsAnswer c text (Err NoMemory) = ⊤
 
@@ -69,11 +64,11 @@ ProofLinesAnswer c text (Err (Malformed number)) =
 ProofLinesAnswer c text (Err NoMemory) = ⊤
 
 -- the first line of a version, and a text behind it
-abbrev pub version_at_front : Rules × List ℕ → List ℕ
+abbrev pub version_at_front : ProofsVersion × List ℕ → List ℕ
 version_at_front read = line (version_line read.0) ++ read.1
 
 -- what was read of the first line, with the text that is left
-abbrev pub version_lent : Rules × Bor (List ℕ) → Rules × List ℕ
+abbrev pub version_lent : ProofsVersion × Bor (List ℕ) → ProofsVersion × List ℕ
 version_lent read = (read.0, read.1.now)
 
 -- the words of a proof's line, where those of its tree are these

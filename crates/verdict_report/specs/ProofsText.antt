@@ -10,6 +10,8 @@ use Rattle.trees.specs.declared.tree.Node.TheVariants.{Closed, Waiting, Value, S
 use Rattle.runs.specs.Lawful.{IsLawfulProof}
 use Rattle.text_pieces.specs.Tokens.{space, line, direction_word, kind_word}
 use Rattle.text_pieces.specs.LineFiles.{Form, lines_text}
+use Rattle.verdict_report.specs.declared.version.ProofsVersion.{ProofsVersion}
+use Rattle.verdict_report.specs.declared.version.ProofsVersion.TheVariants.{First, Second, Third}
 
 -- a closed leaf X, an open one O, a split on a source's final value V, or on its steadiness H
 abbrev pub node_text : Node → List ℕ
@@ -43,17 +45,23 @@ proofs_form Lawful = record {
 }
 
 -- the version of the file of proofs that are judged under these rules; which links linked rules have, no version tells
-abbrev pub version_of : Rules → ℕ
-version_of One = 1
-version_of Two = 2
-version_of (Linked links) = 3
+abbrev pub version_of : Rules → ProofsVersion
+version_of One = First
+version_of Two = Second
+version_of (Linked links) = Third
+
+-- its number
+abbrev pub version_number : ProofsVersion → ℕ
+version_number First = 1
+version_number Second = 2
+version_number Third = 3
 
 -- its first line
-abbrev pub version_line : Rules → List ℕ
-version_line One = codes "pdfgen proofs 1"
-version_line Two = codes "pdfgen proofs 2"
-version_line (Linked links) = codes "pdfgen proofs 3"
+abbrev pub version_line : ProofsVersion → List ℕ
+version_line First = codes "pdfgen proofs 1"
+version_line Second = codes "pdfgen proofs 2"
+version_line Third = codes "pdfgen proofs 3"
 
 -- the whole file
-abbrev pub proofs_text : Rules → List Proof → List ℕ
-proofs_text rules proofs = line (version_line rules) ++ lines_text (proofs_form IsLawfulProof) 1 proofs
+abbrev pub proofs_text : ProofsVersion → List Proof → List ℕ
+proofs_text version proofs = line (version_line version) ++ lines_text (proofs_form IsLawfulProof) 1 proofs

@@ -19,6 +19,7 @@ mod report_verdicts;
 mod rows;
 mod steps;
 mod summary;
+mod version;
 
 pub use fault::TextFault;
 pub use ladder::ladder_line;

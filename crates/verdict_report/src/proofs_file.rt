@@ -1,10 +1,11 @@
-// The proofs file, written piece by piece. It is read in proofs_reading.rt.
+// The proofs file, written piece by piece. Its versions stand in version.rt, and it is read in proofs_reading.rt.
 ghost use Rattle.std.specs.Prelude.{◌≡◌, ◌+◌, ◌++◌, IfOk, OnOk, decimal, drop, flat_map, length};
 ghost use Rattle.runs.specs.Lawful.{AreLawfulProofs, IsLawfulProof};
-ghost use Rattle.verdict_report.specs.ProofsText.{claim_word, node_text, proof_text, proofs_form, proofs_text, version_line};
+ghost use Rattle.verdict_report.specs.ProofsText.{claim_word, node_text, proof_text, proofs_form, proofs_text, version_of};
 ghost use Rattle.text_pieces.specs.LineFiles.{lines_text};
 ghost use Rattle.text_pieces.specs.Tokens.{after_space, line};
 
+use crate::version::ProofsVersion;
 use pd_base::{OutOfMemory, Rules, push_decimal};
 use pd_io::{Pieces, whole_text};
 use runs::{Proof, Run};
@@ -24,7 +25,7 @@ pub struct ProofsPieces<'a> {
 impl Pieces for ProofsPieces<'_> {
     ghost can_spell = { λ pieces. AreLawfulProofs pieces.proofs.now };
 
-    ghost text = { λ pieces. proofs_text pieces.rules.now pieces.proofs.now };
+    ghost text = { λ pieces. proofs_text (version_of pieces.rules.now) pieces.proofs.now };
 
     ghost total = { λ pieces. length pieces.proofs.now };
 
@@ -35,7 +36,7 @@ impl Pieces for ProofsPieces<'_> {
     }
 
     fn push_head(&self, out: &mut Vec<u8>) -> Result<(), OutOfMemory> {
-        Ok(out.extend_from_slice(version_line(self.rules))?)
+        Ok(out.extend_from_slice(ProofsVersion::of(self.rules).line())?)
     }
 
     fn push_item(&self, index: usize, out: &mut Vec<u8>) -> Result<(), OutOfMemory> {
@@ -43,28 +44,17 @@ impl Pieces for ProofsPieces<'_> {
     }
 }
 
-/// The text of the proofs file of a run, whole. The proofs must be lawful as far as no circuit is asked. It fails only where memory
-/// runs out.
+/// The text of the proofs file of a run, whole, in the version of its rules. The proofs must be lawful as far as no circuit is asked. It
+/// fails only where memory runs out.
 pub fn proofs_text(alloc: Global, run: &Run) -> Result<Vec<u8>, OutOfMemory>
     requires { AreLawfulProofs run.now.proofs }
-    ensures { IfOk result (λ text. text.items ≡ proofs_text run.now.rules run.now.proofs) }
+    ensures { IfOk result (λ text. text.items ≡ proofs_text (version_of run.now.rules) run.now.proofs) }
 {
     let pieces = ProofsPieces {
         rules: &run.rules,
         proofs: run.proofs.as_slice(),
     };
     whole_text(alloc, &pieces)
-}
-
-/// The first line of a file of proofs that are judged under these rules, with its LF.
-pub(crate) fn version_line(rules: &Rules) -> &'static [u8]
-    ensures { result.now ≡ line (version_line rules.now) }
-{
-    match rules {
-        Rules::One => b"pdfgen proofs 1\n",
-        Rules::Two => b"pdfgen proofs 2\n",
-        Rules::Linked(_) => b"pdfgen proofs 3\n",
-    }
 }
 
 // Appends the line of a proof. If memory runs out, a part of it may have been written.

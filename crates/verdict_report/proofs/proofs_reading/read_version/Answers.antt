@@ -1,11 +1,12 @@
--- Where neither version's line stands first no version is read.
+-- Where the line of no version stands first no version is read, else the one whose line stands there.
 use Rattle.std.proofs.Common.{None}
-use Rattle.pd_base.specs.declared.rules.Rules.TheVariants.{One, Two}
+use Rattle.verdict_report.specs.declared.version.ProofsVersion.TheVariants.{First, Second, Third}
 use Rattle.verdict_report.proofs.ProofFiles.{version_unread, ReadsBehind}
 use Rattle.verdict_report.proofs.proofs_reading.read_version.Goals as goal
 
 pub returns-in_err-lines-clause-reads : goal.returns-in_err-lines-clause-reads
 returns-in_err-lines-clause-reads c =
-    let first : ReadsBehind One c.args.bytes.now None = rw c.version_line.ensures at c.in_default.ensures in
-    let second : ReadsBehind Two c.args.bytes.now None = rw c.version_line-2.ensures at c.in_err-lines.ensures in
-    rw c.from_residual.ensures (version_unread c.args.bytes.now first second)
+    let first : ReadsBehind First c.args.bytes.now None = rw c.line.ensures at c.in_default.ensures in
+    let second : ReadsBehind Second c.args.bytes.now None = rw c.line-2.ensures at c.in_default-2.ensures in
+    let third : ReadsBehind Third c.args.bytes.now None = rw c.line-3.ensures at c.in_err-lines.ensures in
+    rw c.from_residual.ensures (version_unread c.args.bytes.now first second third)
