@@ -4,7 +4,8 @@ use Rattle.std.proofs.lemmas.Fmt.{decimal_digit}
 use Rattle.pd_base.specs.declared.ids.PinRef.{PinRef}
 use Rattle.pd_base.specs.declared.fault.Direction.TheVariants.{Rise, Fall}
 use Rattle.pd_base.specs.declared.fault.Kind.TheVariants as kind
-use Rattle.pd_base.specs.declared.rules.Rules.TheVariants.{One, Two}
+use Rattle.pd_base.specs.declared.links.Links.{Links}
+use Rattle.pd_base.specs.declared.rules.Rules.TheVariants.{One, Two, Linked}
 use Rattle.netlist.specs.declared.kind.GateKind.TheVariants.{Not}
 use Rattle.netlist.specs.Circuit.{Circuit}
 use Rattle.runs.specs.declared.run.ListedPath.{ListedPath}
@@ -14,7 +15,7 @@ use Rattle.runs.specs.declared.run.Verdict.{Verdict}
 use Rattle.runs.specs.declared.run.Verdict.TheVariants.{Robust, Nonrobust, Untestable, Aborted}
 use Rattle.trees.specs.declared.tree.Node.TheVariants.{Closed, Waiting, Value, Steadiness}
 use Rattle.verdict_report.specs.ReportText.{report_text}
-use Rattle.verdict_report.specs.ProofsText.{proofs_text}
+use Rattle.verdict_report.specs.ProofsText.{proofs_text, version_of}
 use Rattle.verdict_report.specs.Summary.{summary_text}
 
 -- an input a, and an inverter n that is the output
@@ -61,12 +62,28 @@ spent = record {
   tree = Value 1 ∷ Waiting ∷ Steadiness 0 ∷ Closed ∷ Waiting ∷ [];
 }
 
-two_proofs : proofs_text One (refutation ∷ spent ∷ [])
+two_proofs : proofs_text (version_of One) (refutation ∷ spent ∷ [])
     ≡ codes "pdfgen proofs 1\n1 refutes nonrobust fall 1 2 X\n2 spent robust rise 9 2 V1 O H0 X O\n"
 two_proofs = rw (decimal_digit 0 (lit< tt), decimal_digit 1 (lit< tt), decimal_digit 2 (lit< tt), decimal_digit 9 (lit< tt)) refl
 
-no_proofs_of_steady_sources : proofs_text Two [] ≡ codes "pdfgen proofs 2\n"
+no_proofs_of_steady_sources : proofs_text (version_of Two) [] ≡ codes "pdfgen proofs 2\n"
 no_proofs_of_steady_sources = refl
+
+-- a refutation at a source without steps
+abbrev at_the_source : Proof
+at_the_source = record {
+  spent = false;
+  kind = kind.Nonrobust;
+  dir = Rise;
+  path = 2;
+  steps = 0;
+  tree = Closed ∷ [];
+}
+
+-- whatever is linked
+proof_of_linked_sources : (links : Links) → proofs_text (version_of (Linked links)) (at_the_source ∷ [])
+    ≡ codes "pdfgen proofs 3\n1 refutes nonrobust rise 2 0 X\n"
+proof_of_linked_sources links = rw (decimal_digit 0 (lit< tt), decimal_digit 1 (lit< tt), decimal_digit 2 (lit< tt)) refl
 
 -- a run of these paths, as far as a summary counts it
 abbrev run_of : List ListedPath → Run

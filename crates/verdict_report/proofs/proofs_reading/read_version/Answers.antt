@@ -7,6 +7,6 @@ use Rattle.verdict_report.proofs.proofs_reading.read_version.Goals as goal
 pub returns-in_err-lines-clause-reads : goal.returns-in_err-lines-clause-reads
 returns-in_err-lines-clause-reads c =
     let first : ReadsBehind First c.args.bytes.now None = rw c.line.ensures at c.in_default.ensures in
-    let second : ReadsBehind Second c.args.bytes.now None = rw c.line-2.ensures at c.in_default-2.ensures in
+    let second : ReadsBehind Second c.args.bytes.now None = rw c.line-2.ensures at c.in_default-text_behind.ensures in
     let third : ReadsBehind Third c.args.bytes.now None = rw c.line-3.ensures at c.in_err-lines.ensures in
     rw c.from_residual.ensures (version_unread c.args.bytes.now first second third)
