@@ -29,3 +29,4 @@ pub use report::{ReportPieces, report_text};
 pub use report_reading::read_report;
 pub use steps::steps_text;
 pub use summary::summary_text;
+pub use version::ProofsVersion;
