@@ -1,5 +1,5 @@
 -- The rules of a mode: they fit their circuit, a version has at most one of them, and a run under them keeps the mode.
-use Rattle.std.proofs.Common.{◌≡◌, ℕ, true, refl, sym, subst, ◌∙◌}
+use Rattle.std.proofs.Common.{◌≡◌, ◌≢◌, ℕ, true, refl, sym, ap, subst, ◌∙◌}
 use Rattle.pd_base.specs.Pair.{Vectors}
 use Rattle.pd_base.specs.Route.{Route}
 use Rattle.pd_base.specs.Target.{target_of}
@@ -35,16 +35,27 @@ pub unlinked_rules_fit : (c : Circuit) (rules : Rules) → IsUnlinked rules → 
 unlinked_rules_fit c rules unlinked = unlinked_fit c rules (no_links rules unlinked)
 
 -- a number is that of one version
-pub version_once : (version other : ProofsVersion) → version_number version ≡ version_number other → version ≡ other
-version_once First First same = refl
-version_once Second Second same = refl
-version_once Third Third same = refl
-version_once First Second same = absurd cc
-version_once First Third same = absurd cc
-version_once Second First same = absurd cc
-version_once Second Third same = absurd cc
-version_once Third First same = absurd cc
-version_once Third Second same = absurd cc
+pub version_by_number : (version other : ProofsVersion) → version_number version ≡ version_number other → version ≡ other
+version_by_number First First same = refl
+version_by_number Second Second same = refl
+version_by_number Third Third same = refl
+version_by_number First Second same = absurd cc
+version_by_number First Third same = absurd cc
+version_by_number Second First same = absurd cc
+version_by_number Second Third same = absurd cc
+version_by_number Third First same = absurd cc
+version_by_number Third Second same = absurd cc
+
+-- the numbers that are those of no rules of a mode
+pub none_enhanced : (c : Circuit) (number : ℕ) → number ≢ 1 → number ≢ 2 → (rules : Rules) → AreRulesOf Enhanced c rules
+    → version_number (version_of rules) ≢ number
+none_enhanced c number no_first no_second One of same = no_first (sym same)
+none_enhanced c number no_first no_second Two of same = no_second (sym same)
+none_enhanced c number no_first no_second (Linked links) of same = absurd of
+
+pub none_broadside : (c : Circuit) (number : ℕ) → number ≢ 3 → (rules : Rules) → AreRulesOf Broadside c rules
+    → version_number (version_of rules) ≢ number
+none_broadside c number no_third rules of same = no_third (sym same ∙ ap (λ (r : Rules). version_number (version_of r)) of)
 
 -- rules without links that have one version are the same
 unlinked_once : (rules other : Rules) → IsUnlinked rules → IsUnlinked other → version_of rules ≡ version_of other → rules ≡ other

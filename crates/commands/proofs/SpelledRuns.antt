@@ -19,7 +19,7 @@ use Rattle.verdict_report.specs.declared.version.ProofsVersion.{ProofsVersion}
 use Rattle.command_line.specs.declared.mode.Mode.{Mode}
 use Rattle.commands.specs.Inside.Checking.{SpellsNumbered}
 use Rattle.commands.specs.SpelledRuns.{IsMalformedProofs, IsMalformedReport, SpellsProofs, SpellsReport, SpellsRun}
-use Rattle.commands.proofs.ModeRules.{version_once}
+use Rattle.commands.proofs.ModeRules.{version_by_number}
 
 module _ (c : Circuit) (text : List ℕ) where
   pub spells_report : (paths : List ListedPath) → Reads (report_text c) (IsSpelledReport c) text (Some paths) → SpellsReport c text paths
@@ -56,7 +56,7 @@ module _ (c : Circuit) (text : List ℕ) where
 pub in_version : (c : Circuit) (text : List ℕ) (number : ℕ) (proofs : List Proof) (rules : Rules) → SpellsNumbered c text number proofs
     → version_number (version_of rules) ≡ number → SpellsProofs c text (version_of rules) proofs
 in_version c text number proofs rules read is =
-    let same = version_once read.version (version_of rules) (sym read.is_number ∙ sym is) in
+    let same = version_by_number read.version (version_of rules) (sym read.is_number ∙ sym is) in
     subst (λ (version : ProofsVersion). SpellsProofs c text version proofs) same read.spells
 
 -- the files can spell the run

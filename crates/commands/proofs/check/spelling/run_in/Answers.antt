@@ -1,10 +1,11 @@
 -- The first text that has not its form is told, behind those that have, and last another version; or what they spell.
-use Rattle.std.proofs.Common.{ℕ, List, codes, subst}
+use Rattle.std.proofs.Common.{ℕ, List, codes, subst, sym}
 use Rattle.std.proofs.lemmas.Result.{err_from_is_err_and}
 use Rattle.commands.specs.Inside.InputJudging.{FailsProofs, FailsReport, FailsTests}
 use Rattle.commands.specs.SpelledTests.{SpellsTests}
 use Rattle.commands.specs.Inside.Checking as checking
-use Rattle.commands.specs.SpelledRuns.{SpellsReport}
+use Rattle.verdict_report.specs.ProofsText.{version_of}
+use Rattle.commands.specs.SpelledRuns.{SpellsProofs, SpellsReport}
 use Rattle.commands.specs.Inside.Checking.{SpellsNumbered}
 use Rattle.commands.proofs.SpelledRuns.{in_version}
 use Rattle.commands.proofs.check.spelling.run_in.Goals as goal
@@ -46,12 +47,14 @@ returns-in_err-rules-clause-fails c =
 
 pub returns-clause-spells : goal.returns-clause-spells
 returns-clause-spells c = record {
-  tests_are = subst (λ (text : List ℕ). SpellsTests c.args.net.now text c.in_ok-tests.tests.items) c.as_slice.ensures.value c.in_ok-tests.ensures.spells;
-  report_is = subst (λ (text : List ℕ). SpellsReport c.args.net.now text c.in_ok-paths.paths.items) c.as_slice-2.ensures.value
-      c.in_ok-paths.ensures.spells;
+  tests_are = subst (SpellsTests c.args.net.now c.args.texts.now.tests.items) (sym c.new-2.ensures)
+      (subst (λ (text : List ℕ). SpellsTests c.args.net.now text c.in_ok-tests.tests.items) c.as_slice.ensures.value c.in_ok-tests.ensures.spells);
+  report_is = subst (SpellsReport c.args.net.now c.args.texts.now.report.items) (sym c.new.ensures)
+      (subst (λ (text : List ℕ). SpellsReport c.args.net.now text c.in_ok-paths.paths.items) c.as_slice-2.ensures.value c.in_ok-paths.ensures.spells);
   of_mode = c.in_ok-rules.ensures.rules;
-  proofs_are = in_version c.args.net.now c.args.texts.now.proofs.items c.in_ok-versioned.versioned.version c.in_ok-versioned.versioned.proofs.items
+  proofs_are = subst (SpellsProofs c.args.net.now c.args.texts.now.proofs.items (version_of c.in_ok-rules.rules)) (sym c.new-3.ensures)
+      (in_version c.args.net.now c.args.texts.now.proofs.items c.in_ok-versioned.versioned.version c.in_ok-versioned.versioned.proofs.items
       c.in_ok-rules.rules
       (subst (λ (text : List ℕ). SpellsNumbered c.args.net.now text c.in_ok-versioned.versioned.version c.in_ok-versioned.versioned.proofs.items)
-      c.as_slice-3.ensures.value c.in_ok-versioned.ensures.spells) c.in_ok-rules.ensures.version;
+      c.as_slice-3.ensures.value c.in_ok-versioned.ensures.spells) c.in_ok-rules.ensures.version);
 }
