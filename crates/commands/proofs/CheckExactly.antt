@@ -4,7 +4,7 @@ use Rattle.std.proofs.Common.{◌≡◌, ◌≢◌, ℕ, List, [], ◌∷◌, �
 use Rattle.std.specs.Prelude.{◌↔◌}
 use Rattle.pd_io.specs.Folder.{Folder}
 use Rattle.pd_io.specs.Seen.{Outside}
-use Rattle.verdict_report.specs.ProofsText.{version_of}
+use Rattle.run_files.specs.ProofsText.{version_of}
 use Rattle.command_line.specs.Words.{RunCall, asked_call, check}
 use Rattle.calls.specs.declared.cause.Cause.TheVariants as cause
 use Rattle.calls.specs.declared.refusal.Refusal.{Refusal}

@@ -8,7 +8,7 @@ use Rattle.delay_annotation.specs.DelayFile.{HasDelays}
 use Rattle.runs.specs.declared.run.Run.{Run}
 use Rattle.good_runs.specs.GoodRun.{IsGoodRun}
 use Rattle.pd_base.specs.declared.limits.TheConstants.{MOST_BYTES}
-use Rattle.verdict_report.specs.ProofsText.{version_of}
+use Rattle.run_files.specs.ProofsText.{version_of}
 use Rattle.command_line.specs.Words.{RunCall}
 use Rattle.calls.specs.declared.role.Role.TheVariants as role
 use Rattle.calls.specs.Calls.{HasAcceptedInputs}

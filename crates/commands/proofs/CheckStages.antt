@@ -19,9 +19,9 @@ use Rattle.good_runs.specs.GoodRun.{IsGoodRun}
 use Rattle.claim_check.specs.Claims.{TellsOfRun}
 use Rattle.claim_check.specs.declared.claim.Claim.TheVariants.{Holds, Fails}
 use Rattle.claim_check.proofs.Agreeing.{claims_agree}
-use Rattle.verdict_report.specs.ProofsText.{version_number, version_of}
-use Rattle.verdict_report.specs.declared.version.ProofsVersion.{ProofsVersion}
-use Rattle.verdict_report.proofs.ProofFiles.{proofs_once}
+use Rattle.run_files.specs.ProofsText.{version_number, version_of}
+use Rattle.run_files.specs.declared.version.ProofsVersion.{ProofsVersion}
+use Rattle.run_files.proofs.ProofFiles.{proofs_once}
 use Rattle.command_line.specs.Words.{RunCall}
 use Rattle.calls.specs.declared.ending.Ending.{Ending}
 use Rattle.calls.specs.declared.refusal.Refusal.{Refusal}

@@ -13,7 +13,7 @@ use Rattle.bench_reader.proofs.Answering.{one_circuit}
 use Rattle.runs.specs.declared.run.ListedPath.{ListedPath}
 use Rattle.test_grade.specs.Compacted.{IsCompacted}
 use Rattle.test_grade.specs.Serving.{Serves}
-use Rattle.pattern_writer.specs.TestsText.{tests_text}
+use Rattle.run_files.specs.TestsText.{tests_text}
 use Rattle.command_line.specs.Words.{CompactCall}
 use Rattle.calls.specs.declared.role.Role.TheVariants as role
 use Rattle.calls.specs.declared.status.Status.{Status}

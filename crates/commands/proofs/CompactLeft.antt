@@ -12,7 +12,7 @@ use Rattle.runs.specs.Lawful.{IsLawfulTest}
 use Rattle.runs.specs.declared.run.ListedPath.{ListedPath}
 use Rattle.test_grade.specs.Compacted.{IsCompacted}
 use Rattle.test_grade.specs.Serving.{Serves}
-use Rattle.pattern_writer.specs.TestsText.{tests_text}
+use Rattle.run_files.specs.TestsText.{tests_text}
 use Rattle.command_line.specs.CompactForm.{compact_call, compact_form}
 use Rattle.command_line.specs.Scan.{Texts, accepted_texts, then_taken}
 use Rattle.command_line.specs.Words.{Call, CompactCall, asked_call, compact}

@@ -7,7 +7,7 @@ use Rattle.netlist.specs.Circuit.{Circuit}
 use Rattle.pd_base.specs.declared.limits.TheConstants.{MOST_BYTES}
 use Rattle.runs.specs.declared.run.ListedPath.{ListedPath}
 use Rattle.text_pieces.specs.Tokens.{comma}
-use Rattle.verdict_report.specs.ReportText.{header_fields, path_rows, report_rows, row_line}
+use Rattle.run_files.specs.ReportText.{header_fields, path_rows, report_rows, row_line}
 use Rattle.commands.specs.SpelledRuns.{SpellsReport}
 use Rattle.commands.proofs.TestCounts.{line_long}
 

@@ -10,9 +10,9 @@ use Rattle.runs.specs.Lawful.{IsLawfulRun}
 use Rattle.good_runs.specs.GoodRun.{IsGoodRun}
 use Rattle.bench_reader.specs.Circuits.{HasCircuit}
 use Rattle.delay_annotation.specs.DelayFile.{HasDelays}
-use Rattle.pattern_writer.specs.TestsText.{tests_text}
-use Rattle.verdict_report.specs.ProofsText.{proofs_text, version_of}
-use Rattle.verdict_report.specs.ReportText.{report_text}
+use Rattle.run_files.specs.TestsText.{tests_text}
+use Rattle.run_files.specs.ProofsText.{proofs_text, version_of}
+use Rattle.run_files.specs.ReportText.{report_text}
 use Rattle.command_line.specs.Words.{RunCall}
 use Rattle.calls.specs.declared.role.Role.{Role}
 use Rattle.calls.specs.declared.role.Role.TheVariants as role

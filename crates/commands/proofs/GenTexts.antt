@@ -3,7 +3,7 @@ use Rattle.std.proofs.Common.{ℕ, List, arith}
 use Rattle.netlist.specs.Circuit.{Circuit}
 use Rattle.netlist.specs.Lawful.{IsCircuit}
 use Rattle.netlist.specs.Names.{IsName, IsNameByte}
-use Rattle.verdict_report.specs.PlainTexts.{HasPlainNames, IsPlain, IsPlainByte}
+use Rattle.run_files.specs.PlainTexts.{HasPlainNames, IsPlain, IsPlainByte}
 
 -- a byte that a name may have is none of those that call for quotes
 plain_byte : (byte : ℕ) → IsNameByte byte → IsPlainByte byte

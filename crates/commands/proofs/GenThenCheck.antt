@@ -7,9 +7,9 @@ use Rattle.bench_reader.specs.Circuits.{HasCircuit}
 use Rattle.bench_reader.proofs.LawfulCircuits.{is_circuit}
 use Rattle.delay_annotation.specs.DelayFile.{HasDelays}
 use Rattle.pd_base.specs.declared.limits.TheConstants.{MOST_BYTES}
-use Rattle.pattern_writer.specs.TestsText.{tests_text}
-use Rattle.verdict_report.specs.ProofsText.{proofs_text, version_of}
-use Rattle.verdict_report.specs.ReportText.{report_text}
+use Rattle.run_files.specs.TestsText.{tests_text}
+use Rattle.run_files.specs.ProofsText.{proofs_text, version_of}
+use Rattle.run_files.specs.ReportText.{report_text}
 use Rattle.command_line.specs.Words.{HasRunNumbers, RunCall, asked_call, check}
 use Rattle.calls.specs.Calls.{HasAcceptedInputs}
 use Rattle.commands.specs.declared.inputs.reading.TheConstants.{INPUT_LIMIT}

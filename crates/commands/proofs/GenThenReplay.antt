@@ -5,7 +5,7 @@ use Rattle.pd_io.specs.Folder.{bytes_at, Folder}
 use Rattle.pd_io.specs.Seen.{Outside}
 use Rattle.bench_reader.specs.Circuits.{HasCircuit}
 use Rattle.bench_reader.proofs.LawfulCircuits.{is_circuit}
-use Rattle.pattern_writer.specs.TestsText.{tests_text}
+use Rattle.run_files.specs.TestsText.{tests_text}
 use Rattle.command_line.specs.Words.{HasRunNumbers, ReplayCall, RunCall}
 use Rattle.calls.specs.declared.role.Role.TheVariants as role
 use Rattle.calls.specs.declared.status.Status.{Status}

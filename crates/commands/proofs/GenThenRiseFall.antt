@@ -6,8 +6,8 @@ use Rattle.pd_io.specs.Seen.{Outside}
 use Rattle.bench_reader.specs.Circuits.{HasCircuit}
 use Rattle.bench_reader.proofs.LawfulCircuits.{is_circuit}
 use Rattle.delay_annotation.specs.declared.setting.Columns.TheVariants.{RiseAndFall}
-use Rattle.pattern_writer.specs.TestsText.{tests_text}
-use Rattle.verdict_report.specs.ReportText.{report_text}
+use Rattle.run_files.specs.TestsText.{tests_text}
+use Rattle.run_files.specs.ReportText.{report_text}
 use Rattle.command_line.specs.Words.{HasRunNumbers, RiseFallReplayCall, RunCall}
 use Rattle.calls.specs.declared.role.Role.TheVariants as role
 use Rattle.calls.specs.declared.status.Status.{Status}

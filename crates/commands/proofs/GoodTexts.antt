@@ -20,11 +20,11 @@ use Rattle.trees.specs.Trees.{split_count, IsTree}
 use Rattle.good_runs.specs.Faults.{routes_of}
 use Rattle.good_runs.specs.GoodRun.{IsGoodRefutation, IsGoodRun, IsGoodSpent}
 use Rattle.good_runs.proofs.FirstOnce.{few_first}
-use Rattle.pattern_writer.specs.TestsText.{tests_text}
-use Rattle.verdict_report.specs.ProofsReading.{AreSpelledProofs}
-use Rattle.verdict_report.specs.ProofsText.{proofs_text, version_of}
-use Rattle.verdict_report.specs.ReportForm.{IsSpelledReport}
-use Rattle.verdict_report.specs.ReportText.{report_text}
+use Rattle.run_files.specs.TestsText.{tests_text}
+use Rattle.run_files.specs.ProofsReading.{AreSpelledProofs}
+use Rattle.run_files.specs.ProofsText.{proofs_text, version_of}
+use Rattle.run_files.specs.ReportForm.{IsSpelledReport}
+use Rattle.run_files.specs.ReportText.{report_text}
 use Rattle.command_line.specs.Words.{HasRunNumbers, RunCall}
 use Rattle.commands.specs.ModeRules.{AreRulesOf}
 use Rattle.commands.specs.SpelledRuns.{SpellsRun}

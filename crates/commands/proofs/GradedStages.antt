@@ -9,8 +9,8 @@ use Rattle.bench_reader.specs.Circuits.{HasCircuit}
 use Rattle.bench_reader.proofs.Answering.{one_circuit}
 use Rattle.bench_reader.proofs.LawfulCircuits.{is_circuit}
 use Rattle.runs.specs.declared.run.ListedPath.{ListedPath}
-use Rattle.pattern_writer.proofs.TestFiles.{tests_once}
-use Rattle.verdict_report.proofs.ReportOnce.{report_once}
+use Rattle.run_files.proofs.TestFiles.{tests_once}
+use Rattle.run_files.proofs.ReportOnce.{report_once}
 use Rattle.calls.specs.declared.role.Role.TheVariants as role
 use Rattle.calls.specs.declared.ending.Ending.{Ending}
 use Rattle.calls.specs.Work.{Stage, Require}

@@ -22,7 +22,7 @@ use Rattle.runs.specs.declared.run.ListedPath.{ListedPath}
 use Rattle.runs.specs.declared.run.Proof.{Proof}
 use Rattle.calls.specs.declared.ending.Ending.TheVariants.{NoMemory, Refused}
 use Rattle.calls.specs.declared.refusal.Refusal.{Refusal}
-use Rattle.verdict_report.specs.declared.version.ProofsVersion.{ProofsVersion}
+use Rattle.run_files.specs.declared.version.ProofsVersion.{ProofsVersion}
 use Rattle.commands.specs.Inside.InputJudging.{FailsDelays, FailsNet}
 use Rattle.commands.specs.Inside.InputJudging as judging
 use Rattle.commands.specs.InputRefusals.{delays_ending}

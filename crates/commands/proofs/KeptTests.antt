@@ -9,7 +9,7 @@ use Rattle.std.proofs.lemmas.List.Elements.{All-from_recursion, recursion_from_A
 use Rattle.std.proofs.lemmas.Option.{get_or_from_slice_get, slice_get-get_or, slice_get_within}
 use Rattle.pd_base.specs.declared.test.Test.{Test}
 use Rattle.netlist.specs.Circuit.{Circuit}
-use Rattle.pattern_writer.specs.TestsText.{test_text, tests_form, tests_headings, tests_text}
+use Rattle.run_files.specs.TestsText.{test_text, tests_form, tests_headings, tests_text}
 use Rattle.test_grade.specs.Compacted.{IsCompacted, LeavesOut}
 use Rattle.test_grade.specs.Compacted.LeavesOut.{goes, nothing, stays}
 use Rattle.text_pieces.specs.LineFiles.{lines_text}

@@ -30,7 +30,7 @@ use Rattle.good_runs.proofs.Promising.{good_run_keeps}
 use Rattle.pd_base.specs.Links.{links_of}
 use Rattle.trees.proofs.Unlinked.{unlinked_fit}
 use Rattle.ladder.specs.Ladder.{ladder_circuit}
-use Rattle.verdict_report.specs.LadderLine.{ladder_line}
+use Rattle.run_files.specs.LadderLine.{ladder_line}
 use Rattle.commands.specs.declared.making.TheConstants.{LADDER_BUDGET, LADDER_PATHS}
 use Rattle.commands.specs.MakeLaws.{AnswersMake, TouchesNoFile, KeepsMakeLaws, done, no_memory, unprinted}
 use Rattle.commands.specs.Make.{AreUnit, GivesLadder, GivesMake, make_work}

@@ -18,9 +18,9 @@ use Rattle.trees.specs.Unlinked.{IsUnlinked}
 use Rattle.trees.proofs.Unlinked.{every_pair_is_of_rules, no_links, unlinked_fit}
 use Rattle.good_runs.specs.GoodRun.{IsGoodRun}
 use Rattle.good_runs.specs.Promises.{AllKeepPromises, ExcludesPairs, VerdictTells}
-use Rattle.verdict_report.specs.ProofsText.{version_number, version_of}
-use Rattle.verdict_report.specs.declared.version.ProofsVersion.{ProofsVersion}
-use Rattle.verdict_report.specs.declared.version.ProofsVersion.TheVariants.{First, Second, Third}
+use Rattle.run_files.specs.ProofsText.{version_number, version_of}
+use Rattle.run_files.specs.declared.version.ProofsVersion.{ProofsVersion}
+use Rattle.run_files.specs.declared.version.ProofsVersion.TheVariants.{First, Second, Third}
 use Rattle.command_line.specs.declared.mode.Mode.{Mode}
 use Rattle.command_line.specs.declared.mode.Mode.TheVariants.{Enhanced, Broadside}
 use Rattle.commands.specs.ModeRules.{AreRulesOf, IsOfMode, KeepsMode, searched_rules}

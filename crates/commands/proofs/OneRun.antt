@@ -3,10 +3,10 @@ use Rattle.std.proofs.Common.{◌≡◌, ℕ, ◌<◌, ◌^◌, List, sym, ◌�
 use Rattle.netlist.specs.Circuit.{Circuit, source_count}
 use Rattle.netlist.specs.Lawful.{IsCircuit}
 use Rattle.runs.specs.declared.run.Run.{Run}
-use Rattle.pattern_writer.proofs.TestFiles.{tests_once}
-use Rattle.verdict_report.proofs.ProofFiles.{proofs_once}
-use Rattle.verdict_report.proofs.ReportOnce.{report_once}
-use Rattle.verdict_report.specs.ProofsText.{version_of}
+use Rattle.run_files.proofs.TestFiles.{tests_once}
+use Rattle.run_files.proofs.ProofFiles.{proofs_once}
+use Rattle.run_files.proofs.ReportOnce.{report_once}
+use Rattle.run_files.specs.ProofsText.{version_of}
 use Rattle.command_line.specs.declared.mode.Mode.{Mode}
 use Rattle.commands.specs.SpelledRuns.{SpellsRun}
 use Rattle.commands.proofs.ModeRules.{rules_once}

@@ -16,9 +16,9 @@ use Rattle.trees.specs.Trees.{is_split, split_count, IsTree}
 use Rattle.trees.proofs.Ending.{nodes_and_splits}
 use Rattle.text_pieces.specs.Tokens.{direction_word, kind_word, line, space}
 use Rattle.text_pieces.specs.LineFiles.{lines_text}
-use Rattle.verdict_report.specs.ProofsText.{claim_word, node_text, proof_text, proofs_form, proofs_text, version_line}
-use Rattle.verdict_report.specs.declared.version.ProofsVersion.{ProofsVersion}
-use Rattle.verdict_report.specs.declared.version.ProofsVersion.TheVariants.{First, Second, Third}
+use Rattle.run_files.specs.ProofsText.{claim_word, node_text, proof_text, proofs_form, proofs_text, version_line}
+use Rattle.run_files.specs.declared.version.ProofsVersion.{ProofsVersion}
+use Rattle.run_files.specs.declared.version.ProofsVersion.TheVariants.{First, Second, Third}
 use Rattle.command_line.specs.declared.forms.run.TheConstants.{MOST_PRODUCT}
 use Rattle.commands.proofs.TextBounds.{bytes_of, direction_length, joined_length, kind_within, line_length, lines_within}
 

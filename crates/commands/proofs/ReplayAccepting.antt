@@ -8,7 +8,7 @@ use Rattle.bench_reader.specs.Circuits.{HasCircuit}
 use Rattle.bench_reader.proofs.Answering.{one_circuit}
 use Rattle.bench_reader.proofs.LawfulCircuits.{is_circuit}
 use Rattle.delay_annotation.proofs.DelayLaws.{delays_agree}
-use Rattle.pattern_writer.proofs.TestFiles.{tests_once}
+use Rattle.run_files.proofs.TestFiles.{tests_once}
 use Rattle.pd_base.specs.declared.limits.TheConstants.{MOST_BYTES}
 use Rattle.command_line.specs.Words.{ReplayCall}
 use Rattle.calls.specs.declared.role.Role.TheVariants as role

@@ -19,9 +19,9 @@ use Rattle.runs.specs.declared.run.Verdict.TheVariants.{Robust, Nonrobust, Untes
 use Rattle.runs.specs.Lawful.{IsNameable, Named, named_with}
 use Rattle.text_pieces.specs.Tokens.{comma, direction_word, line, space}
 use Rattle.text_pieces.specs.LineFiles.{lines_text}
-use Rattle.verdict_report.specs.ReportForm.{due_direction, line_fields, lines_told, report_form, report_headings, report_start, state_with, HasSmallNumbers, IsSpelledReport, ReportLine, ReportState}
-use Rattle.verdict_report.specs.ReportText.{nothing, report_text, step_text, steps_text, verdict_fields}
-use Rattle.verdict_report.proofs.ReportFiles.{text_is}
+use Rattle.run_files.specs.ReportForm.{due_direction, line_fields, lines_told, report_form, report_headings, report_start, state_with, HasSmallNumbers, IsSpelledReport, ReportLine, ReportState}
+use Rattle.run_files.specs.ReportText.{nothing, report_text, step_text, steps_text, verdict_fields}
+use Rattle.run_files.proofs.ReportFiles.{text_is}
 use Rattle.commands.specs.declared.inputs.sizes.TheConstants.{MOST_PATH_TEXT}
 use Rattle.commands.specs.Sizes.{path_text_product}
 use Rattle.commands.proofs.TextBounds.{bytes_of, direction_length, headed_length, joined_length, line_length, lines_within}

@@ -8,7 +8,7 @@ use Rattle.bench_reader.proofs.LawfulCircuits.{is_circuit}
 use Rattle.delay_annotation.specs.DelayFile.{HasRiseFall}
 use Rattle.delay_annotation.specs.declared.setting.Columns.TheVariants.{RiseAndFall}
 use Rattle.delay_annotation.proofs.DelayLaws.{delays_on_agree}
-use Rattle.pattern_writer.proofs.TestFiles.{tests_once}
+use Rattle.run_files.proofs.TestFiles.{tests_once}
 use Rattle.rise_fall.specs.Waves.{RiseFallDelays, rise_fall_copy, rise_fall_wave, risen_fallen}
 use Rattle.command_line.specs.Words.{RiseFallReplayCall}
 use Rattle.calls.specs.declared.refusal.Refusal.{Refusal}

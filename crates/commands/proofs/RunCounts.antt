@@ -11,7 +11,7 @@ use Rattle.runs.specs.declared.run.Verdict.TheVariants.{Robust, Nonrobust, Untes
 use Rattle.runs.specs.Lawful.{AreNumbered, Named, named_with, none_named}
 use Rattle.runs.specs.Verdicts.{verdicts_of}
 use Rattle.good_runs.specs.GoodRun.{greatest_cited, is_tested}
-use Rattle.verdict_report.specs.ReportForm.{HasSmallNumbers}
+use Rattle.run_files.specs.ReportForm.{HasSmallNumbers}
 
 -- two verdicts for each path
 pub verdicts_count : (paths : List ListedPath) → length (verdicts_of paths) ≡ 2 * length paths

@@ -8,14 +8,14 @@ use Rattle.runs.specs.declared.run.ListedPath.{ListedPath}
 use Rattle.runs.specs.declared.run.Proof.{Proof}
 use Rattle.runs.specs.declared.run.Run.{Run}
 use Rattle.text_pieces.specs.Reads.{Reads}
-use Rattle.verdict_report.specs.ProofsReading.{ProofsAnswer}
-use Rattle.verdict_report.specs.ProofsText.{version_number, version_of}
-use Rattle.verdict_report.specs.ReportForm.{IsSpelledReport}
-use Rattle.verdict_report.specs.ReportReading.{ReportAnswer}
-use Rattle.verdict_report.specs.ReportText.{report_text}
-use Rattle.verdict_report.specs.declared.fault.TextFault.{TextFault}
-use Rattle.verdict_report.specs.declared.fault.TextFault.TheVariants.{Malformed}
-use Rattle.verdict_report.specs.declared.version.ProofsVersion.{ProofsVersion}
+use Rattle.run_files.specs.ProofsReading.{ProofsAnswer}
+use Rattle.run_files.specs.ProofsText.{version_number, version_of}
+use Rattle.run_files.specs.ReportForm.{IsSpelledReport}
+use Rattle.run_files.specs.ReportReading.{ReportAnswer}
+use Rattle.run_files.specs.ReportText.{report_text}
+use Rattle.run_files.specs.declared.fault.TextFault.{TextFault}
+use Rattle.run_files.specs.declared.fault.TextFault.TheVariants.{Malformed}
+use Rattle.run_files.specs.declared.version.ProofsVersion.{ProofsVersion}
 use Rattle.command_line.specs.declared.mode.Mode.{Mode}
 use Rattle.commands.specs.Inside.Checking.{SpellsNumbered}
 use Rattle.commands.specs.SpelledRuns.{IsMalformedProofs, IsMalformedReport, SpellsProofs, SpellsReport, SpellsRun}

@@ -6,7 +6,7 @@ use Rattle.netlist.specs.Circuit.{Circuit}
 use Rattle.pd_base.specs.declared.limits.TheConstants.{MOST_BYTES}
 use Rattle.text_pieces.specs.LineFiles.{Form, headed, lines_text}
 use Rattle.text_pieces.specs.Tokens.{line, line_feed}
-use Rattle.pattern_writer.specs.TestsText.{tests_form, tests_headings}
+use Rattle.run_files.specs.TestsText.{tests_form, tests_headings}
 use Rattle.commands.specs.SpelledTests.{SpellsTests}
 
 -- a line has a byte at least

@@ -17,7 +17,7 @@ use Rattle.netlist.proofs.CircuitLines.{observed_in_circuit, observed_once}
 use Rattle.runs.specs.Lawful.{AreLawfulTests, IsLawfulTest}
 use Rattle.text_pieces.specs.Tokens.{after_space, digit, digits, direction_word, kind_word, line, space}
 use Rattle.text_pieces.specs.LineFiles.{lines_text}
-use Rattle.pattern_writer.specs.TestsText.{names_text, observed_names, test_text, tests_form, tests_headings, tests_text}
+use Rattle.run_files.specs.TestsText.{names_text, observed_names, test_text, tests_form, tests_headings, tests_text}
 use Rattle.commands.specs.declared.inputs.sizes.TheConstants.{MOST_TEST_TEXT}
 use Rattle.commands.specs.Sizes.{test_text_product}
 use Rattle.commands.proofs.FewLines.{few_lines}

@@ -8,7 +8,7 @@ use Rattle.runs.specs.declared.run.ListedPath.{ListedPath}
 use Rattle.test_grade.specs.Compacted.{IsCompacted}
 use Rattle.test_grade.specs.Serving.{Serves}
 use Rattle.text_pieces.specs.Tokens.{line}
-use Rattle.pattern_writer.specs.TestsText.{tests_text}
+use Rattle.run_files.specs.TestsText.{tests_text}
 use Rattle.command_line.specs.Words.{CompactCall}
 use Rattle.calls.specs.declared.role.Role.TheVariants as role
 use Rattle.calls.specs.Work.{Work, Stage, Due, due_file, Products}

@@ -11,11 +11,11 @@ use Rattle.good_runs.specs.Promises.{AllKeepPromises}
 use Rattle.good_runs.specs.Shortest.{IsShortestRun}
 use Rattle.bench_reader.specs.Circuits.{HasCircuit}
 use Rattle.delay_annotation.specs.DelayFile.{HasDelays}
-use Rattle.pattern_writer.specs.TestsText.{tests_text}
-use Rattle.verdict_report.specs.PlainTexts.{HasPlainNames}
-use Rattle.verdict_report.specs.ReportText.{report_text}
-use Rattle.verdict_report.specs.ProofsText.{proofs_text, version_of}
-use Rattle.verdict_report.specs.Summary.{summary_text}
+use Rattle.run_files.specs.TestsText.{tests_text}
+use Rattle.run_files.specs.PlainTexts.{HasPlainNames}
+use Rattle.run_files.specs.ReportText.{report_text}
+use Rattle.run_files.specs.ProofsText.{proofs_text, version_of}
+use Rattle.run_files.specs.Summary.{summary_text}
 use Rattle.command_line.specs.Words.{RunCall}
 use Rattle.calls.specs.declared.role.Role.TheVariants as role
 use Rattle.calls.specs.Work.{Work, Stage, Due, due_file, Products}

@@ -11,7 +11,7 @@ use Rattle.ladder.specs.Ladder.{ladder_circuit}
 use Rattle.runs.specs.declared.run.Run.{Run}
 use Rattle.good_runs.specs.GoodRun.{IsGoodRun}
 use Rattle.good_runs.specs.Promises.{AllKeepPromises}
-use Rattle.verdict_report.specs.LadderLine.{ladder_line}
+use Rattle.run_files.specs.LadderLine.{ladder_line}
 use Rattle.command_line.specs.Words.{MakeCall}
 use Rattle.calls.specs.Work.{Work, Products}
 use Rattle.commands.specs.InputRequirements.{RefusesNoMore}

@@ -8,11 +8,11 @@ use Rattle.runs.specs.declared.run.ListedPath.{ListedPath}
 use Rattle.runs.specs.declared.run.Proof.{Proof}
 use Rattle.runs.specs.declared.run.Run.{Run}
 use Rattle.text_pieces.specs.LineFiles.{IsFirstBadLine}
-use Rattle.verdict_report.specs.ProofsReading.{AreSpelledProofs, IsFirstBadProofLine}
-use Rattle.verdict_report.specs.ProofsText.{proofs_text, version_of}
-use Rattle.verdict_report.specs.ReportForm.{IsSpelledReport, report_form, report_headings, report_start}
-use Rattle.verdict_report.specs.ReportText.{report_text}
-use Rattle.verdict_report.specs.declared.version.ProofsVersion.{ProofsVersion}
+use Rattle.run_files.specs.ProofsReading.{AreSpelledProofs, IsFirstBadProofLine}
+use Rattle.run_files.specs.ProofsText.{proofs_text, version_of}
+use Rattle.run_files.specs.ReportForm.{IsSpelledReport, report_form, report_headings, report_start}
+use Rattle.run_files.specs.ReportText.{report_text}
+use Rattle.run_files.specs.declared.version.ProofsVersion.{ProofsVersion}
 use Rattle.command_line.specs.declared.mode.Mode.{Mode}
 use Rattle.commands.specs.ModeRules.{AreRulesOf}
 use Rattle.commands.specs.SpelledTests.{SpellsTests}

@@ -5,7 +5,7 @@ use Rattle.netlist.specs.Circuit.{Circuit}
 use Rattle.bench_reader.specs.Circuits.{HasCircuit}
 use Rattle.runs.specs.Lawful.{AreLawfulTests}
 use Rattle.text_pieces.specs.LineFiles.{IsFirstBadLine}
-use Rattle.pattern_writer.specs.TestsText.{tests_form, tests_headings, tests_text}
+use Rattle.run_files.specs.TestsText.{tests_form, tests_headings, tests_text}
 
 -- the text is the tests file of these lawful tests of the circuit
 pub record SpellsTests (c : Circuit) (text : List ℕ) (tests : List Test) : Type 0 where

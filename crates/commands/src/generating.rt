@@ -14,11 +14,10 @@ use crate::preparing::{Generated, prepare_gen};
 use calls::{Ending, Role, print, write_file};
 use command_line::RunCommand;
 use netlist::Netlist;
-use pattern_writer::TestsPieces;
 use pd_io::{Files, Sink};
+use run_files::{ProofsPieces, ReportPieces, TestsPieces};
 use runs::Run;
 use std::alloc::Global;
-use verdict_report::{ProofsPieces, ReportPieces};
 
 /// Does the work of `gen`, and tells how it ended. No text stands whole in memory but the summary, which is made before the first
 /// file is begun.

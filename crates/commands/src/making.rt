@@ -17,8 +17,8 @@ use ladder::ladder;
 use netlist::Netlist;
 use pd_base::{OutOfMemory, Rules};
 use pd_io::Sink;
+use run_files::ladder_line;
 use std::alloc::Global;
-use verdict_report::ladder_line;
 
 /// How many paths of a ladder are listed, where it has as many.
 pub const LADDER_PATHS: u32 = 100;

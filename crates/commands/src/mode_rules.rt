@@ -1,7 +1,7 @@
 // The rules of a run, by its mode: those under which `gen` searches, and those of the runs that `check` judges.
 ghost use Rattle.std.specs.Prelude.{◌≡◌, IfErr, IfOk};
 ghost use Rattle.netlist.specs.LinkedPairs.{FitRules};
-ghost use Rattle.verdict_report.specs.ProofsText.{version_number, version_of};
+ghost use Rattle.run_files.specs.ProofsText.{version_number, version_of};
 ghost use Rattle.commands.specs.Inside.Checking.{FailsRules};
 ghost use Rattle.commands.specs.ModeRules.{AreRulesOf, broadside_rules, searched_rules};
 

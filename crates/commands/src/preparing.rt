@@ -25,9 +25,9 @@ use path_lister::first_paths;
 use pd_base::{OutOfMemory, Rules, Steps};
 use pd_io::Files;
 use prefix_sensitize::sensitize_all;
+use run_files::summary_text;
 use runs::Run;
 use std::alloc::Global;
-use verdict_report::summary_text;
 
 /// A run, and the line of counts that tells of it.
 #[derive(Drop)]

@@ -4,10 +4,9 @@ ghost use Rattle.std.specs.Prelude.{◌≤◌, length};
 ghost use Rattle.rows.specs.declared.claims.TheConstants.{MOST_BYTES};
 
 use netlist::Netlist;
-use pattern_writer::{TestsFault, read_tests};
 use row_answers::{Text, Trouble, spelled_out};
+use run_files::{TextFault, read_proofs, read_report, read_tests};
 use std::alloc::Global;
-use verdict_report::{TextFault, read_proofs, read_report};
 
 // The most bytes of a text that a row may have.
 const MOST_BYTES: usize = 65_536;
@@ -52,15 +51,15 @@ fn add_tests(alloc: Global, net: &Netlist, text: &[u8], answer: &mut Text) -> Re
 {
     match count_tests(alloc, net, text) {
         Ok(count) => answer.add_number("  tests ", count as u64),
-        Err(TestsFault::Malformed(line)) => add_malformed(line, answer),
-        Err(TestsFault::NoMemory) => return Err(Trouble::NoMemory),
+        Err(TextFault::Malformed(line)) => add_malformed(line, answer),
+        Err(TextFault::NoMemory) => return Err(Trouble::NoMemory),
     }
     answer.add("\n");
     Ok(())
 }
 
 // How many tests a tests file has.
-fn count_tests(alloc: Global, net: &Netlist, text: &[u8]) -> Result<usize, TestsFault>
+fn count_tests(alloc: Global, net: &Netlist, text: &[u8]) -> Result<usize, TextFault>
     requires { length text.now ≤ MOST_BYTES }
 {
     let tests = read_tests(alloc, net, text)?;

@@ -3,7 +3,7 @@
 //! and on large ones that it makes. The rows are this crate's stdin; what they have to print, its stdout, was worked out by hand. In the end
 //! it is the program `pdfgen` once more, for the words that it was called with (the file `args`), which ask for tests of c17 (the folder
 //! `data`): so the last line is the summary, and the status is 0. pd_tool is run with words that are refused. Stands on row_answers,
-//! search_answers, pattern_writer, verdict_report, ladder and commands, and is no part of the product.
+//! search_answers, run_files, ladder and commands, and is no part of the product.
 #![tactic(auto)]
 
 mod answer_lines;

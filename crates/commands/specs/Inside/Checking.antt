@@ -16,8 +16,8 @@ use Rattle.claim_check.specs.declared.claim.Reason.{Reason}
 use Rattle.bench_reader.specs.Circuits.{HasCircuit}
 use Rattle.delay_annotation.specs.DelayFile.{HasDelays}
 use Rattle.pd_base.specs.declared.limits.TheConstants.{MOST_BYTES}
-use Rattle.verdict_report.specs.ProofsText.{version_number, version_of}
-use Rattle.verdict_report.specs.declared.version.ProofsVersion.{ProofsVersion}
+use Rattle.run_files.specs.ProofsText.{version_number, version_of}
+use Rattle.run_files.specs.declared.version.ProofsVersion.{ProofsVersion}
 use Rattle.command_line.specs.Words.{RunCall}
 use Rattle.command_line.specs.declared.mode.Mode.{Mode}
 use Rattle.calls.specs.declared.ending.Ending.{Ending}

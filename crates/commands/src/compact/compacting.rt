@@ -13,9 +13,9 @@ use crate::compact::preparing::{Kept, prepare_compact};
 use calls::{Ending, Role, print, write_file};
 use command_line::CompactCommand;
 use netlist::Netlist;
-use pattern_writer::TestsPieces;
 use pd_base::Test;
 use pd_io::{Files, Sink};
+use run_files::TestsPieces;
 use std::alloc::Global;
 
 /// Does the work of `compact`, and tells how it ended.

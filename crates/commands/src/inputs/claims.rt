@@ -12,12 +12,11 @@ ghost use Rattle.commands.specs.SpelledTests.{SpellsTests};
 use crate::inputs::reading::text_from;
 use calls::{Cause, Ending, Part, Refusal, Role};
 use netlist::Netlist;
-use pattern_writer::{TestsFault, read_tests};
 use pd_base::Test;
 use pd_io::Files;
+use run_files::{TextFault, read_proofs, read_report, read_tests};
 use runs::{ListedPath, Proof};
 use std::alloc::Global;
-use verdict_report::{TextFault, read_proofs, read_report};
 
 /// Reads TESTS, and gives the tests of NET that its text spells. One over the limit is refused, and one that spells none.
 pub(crate) fn tests_from<F: Files>(
@@ -50,10 +49,10 @@ pub(crate) fn tests_in(
 {
     match read_tests(alloc, net, text) {
         Ok(tests) => Ok(tests),
-        Err(TestsFault::Malformed(line)) => {
+        Err(TextFault::Malformed(line)) => {
             Err(Ending::Refused(malformed(command, Role::Tests, line)))
         }
-        Err(TestsFault::NoMemory) => Err(Ending::NoMemory),
+        Err(TextFault::NoMemory) => Err(Ending::NoMemory),
     }
 }
 

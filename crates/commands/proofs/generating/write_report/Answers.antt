@@ -2,7 +2,7 @@
 use Rattle.std.proofs.Common.{List, IfErr, subst}
 use Rattle.runs.specs.declared.run.ListedPath.{ListedPath}
 use Rattle.pd_io.specs.Seen.{files_seen}
-use Rattle.verdict_report.specs.ReportText.{report_text}
+use Rattle.run_files.specs.ReportText.{report_text}
 use Rattle.command_line.specs.Commands.{run_call_of}
 use Rattle.calls.specs.Outputs.{FailsToWrite}
 use Rattle.calls.specs.Work.{due_file}

@@ -2,7 +2,7 @@
 use Rattle.std.proofs.Common.{List, IfErr, subst}
 use Rattle.pd_base.specs.declared.test.Test.{Test}
 use Rattle.pd_io.specs.Seen.{files_seen}
-use Rattle.pattern_writer.specs.TestsText.{tests_text}
+use Rattle.run_files.specs.TestsText.{tests_text}
 use Rattle.command_line.specs.Commands.{run_call_of}
 use Rattle.calls.specs.Outputs.{FailsToWrite}
 use Rattle.calls.specs.Work.{due_file}

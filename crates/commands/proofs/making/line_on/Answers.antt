@@ -2,7 +2,7 @@
 use Rattle.std.proofs.Common.{◌≡◌, []}
 use Rattle.std.proofs.lemmas.Result.{IfOk-weaker}
 use Rattle.delay_annotation.specs.Annotation.{delays_of}
-use Rattle.verdict_report.specs.LadderLine.{ladder_line}
+use Rattle.run_files.specs.LadderLine.{ladder_line}
 use Rattle.commands.specs.Make.{GivesLadder}
 use Rattle.commands.proofs.MakeLaws.{gives_ladder}
 use Rattle.commands.proofs.making.line_on.Goals as goal

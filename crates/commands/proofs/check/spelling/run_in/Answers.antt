@@ -4,7 +4,7 @@ use Rattle.std.proofs.lemmas.Result.{err_from_is_err_and}
 use Rattle.commands.specs.Inside.InputJudging.{FailsProofs, FailsReport, FailsTests}
 use Rattle.commands.specs.SpelledTests.{SpellsTests}
 use Rattle.commands.specs.Inside.Checking as checking
-use Rattle.verdict_report.specs.ProofsText.{version_of}
+use Rattle.run_files.specs.ProofsText.{version_of}
 use Rattle.commands.specs.SpelledRuns.{SpellsProofs, SpellsReport}
 use Rattle.commands.specs.Inside.Checking.{SpellsNumbered}
 use Rattle.commands.proofs.SpelledRuns.{in_version}

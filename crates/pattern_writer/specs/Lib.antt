@@ -1,2 +1,0 @@
-pub mod TestsReading
-pub mod TestsText

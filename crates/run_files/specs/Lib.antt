@@ -1,0 +1,12 @@
+pub mod LadderLine
+pub mod PlainTexts
+pub mod ProofsReading
+pub mod ProofsText
+pub mod ReportForm
+pub mod ReportReading
+pub mod ReportRows
+pub mod ReportText
+pub mod Summary
+pub mod TestsReading
+pub mod TestsText
+pub mod VerdictCounts

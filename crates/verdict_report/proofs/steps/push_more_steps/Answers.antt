@@ -1,7 +1,0 @@
--- One step more is appended.
-use Rattle.std.proofs.Common.{arith}
-use Rattle.std.proofs.lemmas.Grind.{common_steps}
-use Rattle.verdict_report.proofs.steps.push_more_steps.Goals as goal
-
-pub loop-step-preserved : goal.loop-step-preserved
-loop-step-preserved c = grind (arith, common_steps)
