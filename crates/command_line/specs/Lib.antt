@@ -4,6 +4,7 @@ pub mod Commands
 pub mod CompactForm
 pub mod Kinds
 pub mod MakeForm
+pub mod Modes
 pub mod Options
 pub mod ReplayForm
 pub mod RiseFallReplayForm

@@ -5,11 +5,13 @@ use Rattle.std.specs.List.{list_all, list_any}
 use Rattle.std.specs.Cmp.Lexicographic.{pointwise}
 use denote.Enum.Bare.{sameb}
 use Rattle.pd_base.specs.declared.limits.TheConstants.{MOST_BUDGET, MOST_PATHS}
-use Rattle.command_line.specs.Values.{Allowed, number, hyphen}
+use Rattle.command_line.specs.Modes.{mode_word}
+use Rattle.command_line.specs.Values.{Allowed, number, one_of, hyphen}
 use Rattle.command_line.specs.contracts.option_name.OptionName.{the_type}
+use Rattle.command_line.specs.declared.mode.Mode.TheVariants.{Enhanced, Broadside}
 use Rattle.command_line.specs.declared.number.TheConstants.{MOST_DIGITS}
 use Rattle.command_line.specs.declared.option_name.OptionName.{OptionName}
-use Rattle.command_line.specs.declared.option_name.OptionName.TheVariants.{Paths, Budget}
+use Rattle.command_line.specs.declared.option_name.OptionName.TheVariants.{Paths, Budget, Mode}
 
 -- the byte of the sign that parts an option's word from its value, where they are one word
 abbrev pub equals_sign : ℕ
@@ -21,10 +23,15 @@ pub record OptionEntry : Type 0 where
   pub allowed : Allowed
   pub default : Option (List ℕ)
 
--- the list of options: how many paths are to be listed, and how many splits each search may make
+-- the list of options: how many paths are to be listed, how many splits each search may make, and the mode of the run
 abbrev pub option_entry : OptionName → OptionEntry
 option_entry Paths = record { name = codes "paths"; allowed = number 1 MOST_PATHS MOST_DIGITS; default = Some (codes "100") }
 option_entry Budget = record { name = codes "budget"; allowed = number 1 MOST_BUDGET MOST_DIGITS; default = Some (codes "1000") }
+option_entry Mode = record {
+  name = codes "mode";
+  allowed = one_of (mode_word Enhanced ∷ mode_word Broadside ∷ []);
+  default = Some (mode_word Enhanced);
+}
 
 -- the word of an option is its name behind two hyphens
 abbrev pub option_word : OptionName → List ℕ

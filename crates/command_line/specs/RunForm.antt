@@ -1,18 +1,21 @@
--- The words of `gen` and of `check`: the names of five files, and how many paths and splits (this project's own).
+-- The words of `gen` and of `check`: the names of five files, and how many paths and splits, and the mode (this project's own).
 use Rattle.std.specs.Prelude.{ℕ, ◌*◌, ◌≤◌, leb, List, [], ◌∷◌, Option, None, Some, Result, option_and_then, slice_index_or, unwrap_or, if◌then◌else◌}
 use Rattle.pd_base.specs.declared.limits.TheConstants.{MOST_BUDGET, MOST_PATHS}
+use Rattle.command_line.specs.Modes.{mode_of}
 use Rattle.command_line.specs.Scan.{Form, Texts, asked_by, value_asked}
 use Rattle.command_line.specs.Values.{number_spelled}
 use Rattle.command_line.specs.declared.forms.run.RunCommand.{RunCommand}
 use Rattle.command_line.specs.declared.forms.run.TheConstants.{MOST_PRODUCT}
+use Rattle.command_line.specs.declared.mode.Mode.{Mode}
 use Rattle.command_line.specs.declared.number.TheConstants.{MOST_DIGITS}
 use Rattle.command_line.specs.declared.option_name.OptionName.{OptionName}
 use Rattle.command_line.specs.declared.option_name.OptionName.TheVariants.{Paths, Budget}
+use Rattle.command_line.specs.declared.option_name.OptionName.TheVariants as option
 use Rattle.command_line.specs.declared.refusal.WordsRefusal.{WordsRefusal}
 use Rattle.command_line.specs.declared.refusal.WordsRefusal.TheVariants.{Product}
 
--- What is asked for of a run: its files, how many paths are to be listed, and the budget of splits for each search. `gen` makes the run,
--- and `check` judges the one that its files spell.
+-- What is asked for of a run: its files, how many paths are to be listed, the budget of splits for each search, and the mode, whose pairs
+-- alone count. `gen` makes the run, and `check` judges the one that its files spell.
 pub record RunCall : Type 0 where
   pub net : List ℕ
   pub delays : List ℕ
@@ -21,6 +24,7 @@ pub record RunCall : Type 0 where
   pub proofs : List ℕ
   pub paths : ℕ
   pub budget : ℕ
+  pub mode : Mode
 
 -- the numbers that are asked for of a run are within their limits
 pub record HasRunNumbers (call : RunCall) : Type 0 where
@@ -45,7 +49,7 @@ product_reason product = if leb product MOST_PRODUCT then None else Some (Produc
 -- the form of the words: nothing is asked of the options before the names are compared, and then that the product is within its limit
 abbrev pub run_form : Form
 run_form = record {
-  words = record { options = Paths ∷ Budget ∷ []; positional = 5; files = 5 };
+  words = record { options = Paths ∷ Budget ∷ option.Mode ∷ []; positional = 5; files = 5 };
   before_names = λ texts. None;
   after_names = λ texts. product_reason (number_asked Paths texts * number_asked Budget texts);
 }
@@ -60,6 +64,7 @@ run_call texts = record {
   proofs = slice_index_or texts.positional 4 [];
   paths = number_asked Paths texts;
   budget = number_asked Budget texts;
+  mode = mode_of (value_asked option.Mode texts);
 }
 
 -- what the words behind `gen` or `check` ask for, or why they are refused
@@ -76,4 +81,5 @@ run_call_of command = record {
   proofs = command.proofs.now;
   paths = command.paths;
   budget = command.budget;
+  mode = command.mode;
 }

@@ -15,6 +15,8 @@ pub enum OptionName {
     Paths,
     /// How many splits each search may make.
     Budget,
+    /// How a tester applies the two vectors of a pair.
+    Mode,
 }
 
 /// What the rules say of an option.
@@ -56,6 +58,12 @@ impl OptionName {
                     digits: MOST_DIGITS,
                 },
                 default: Some("1000"),
+            },
+            OptionName::Mode => OptionEntry {
+                word: "--mode",
+                name: "mode",
+                kind: ValueKind::OneOf(&["enhanced", "broadside"]),
+                default: Some("enhanced"),
             },
         }
     }

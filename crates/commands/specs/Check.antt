@@ -1,6 +1,6 @@
 -- The command `check`: its stages, what it refuses, and when it says that three files are good. Where a call ends with status 0, they
--- spell one run, which is good for the first paths and the budget that are asked for, under the rules that the proofs tell; and what its
--- verdicts promise is said in Promises.antt of good_runs (this project's own).
+-- spell one run, which is good for the first paths and the budget that are asked for, under the rules of the mode that the proofs tell; and
+-- what its verdicts promise is said in Promises.antt of good_runs (this project's own).
 use Rattle.std.specs.Prelude.{◌≡◌, ℕ, List, [], ◌∷◌, ◌++◌, codes, decimal}
 use Rattle.netlist.specs.Circuit.{Circuit}
 use Rattle.netlist.specs.Waves.{Delays}
@@ -15,16 +15,20 @@ use Rattle.bench_reader.specs.Circuits.{HasCircuit}
 use Rattle.delay_annotation.specs.DelayFile.{HasDelays}
 use Rattle.text_pieces.specs.Tokens.{line}
 use Rattle.command_line.specs.Words.{RunCall}
+use Rattle.command_line.specs.declared.mode.Mode.{Mode}
 use Rattle.calls.specs.CauseAndText.{refusal_for}
 use Rattle.calls.specs.declared.cause.Cause.TheVariants as cause
 use Rattle.calls.specs.declared.role.Role.TheVariants as role
 use Rattle.calls.specs.declared.refusal.Refusal.{Refusal}
 use Rattle.calls.specs.Work.{Work, Stage, Require, Products}
+use Rattle.commands.specs.InputRefusals.{malformed}
 use Rattle.commands.specs.InputRequirements.{InputCommand, Requirement, WellFormed, input_stages, own, read_stages, short_stages, work_on_inputs}
-use Rattle.commands.specs.SpelledRuns.{SpellsRun}
+use Rattle.commands.specs.SpelledRuns.{HasProofsOfOtherMode, SpellsRun}
 
 -- what check requires beside what is required alike
 pub data CheckRequirement : Type 0 where
+  -- the proofs are of a version that rules of the mode have
+  VersionOfMode : CheckRequirement
   -- the run that the claim files spell is good
   GoodRun : CheckRequirement
 
@@ -32,10 +36,11 @@ pub data CheckRequirement : Type 0 where
 abbrev pub claim_reads : RunCall → List (Stage (Requirement CheckRequirement))
 claim_reads call = read_stages role.Tests call.tests ++ read_stages role.Report call.report ++ read_stages role.Proofs call.proofs
 
--- they have to have their form
+-- they have to have their form, and last the proofs a version of the mode
 abbrev pub form_stages : List (Stage (Requirement CheckRequirement))
 form_stages =
-    Require (WellFormed role.Tests 2) ∷ Require (WellFormed role.Report 3) ∷ Require (WellFormed role.Proofs 4) ∷ []
+    Require (WellFormed role.Tests 2) ∷ Require (WellFormed role.Report 3) ∷ Require (WellFormed role.Proofs 4)
+    ∷ Require (own VersionOfMode) ∷ []
 
 -- NET and DELAYS are read and judged, and texts for so many paths have to be short; then the three files are read
 abbrev pub stages_read : RunCall → List (Stage (Requirement CheckRequirement))
@@ -53,11 +58,16 @@ pub record FiveTexts : Type 0 where
   pub report : List ℕ
   pub proofs : List ℕ
 
--- NET has this circuit, DELAYS gives these delays to its pins, and the other three texts spell this run of it
-pub record SpellAll (texts : FiveTexts) (c : Circuit) (delays : Delays) (run : Run) : Type 0 where
+-- NET has this circuit, DELAYS gives these delays to its pins, and the other three texts spell this run of it in this mode
+pub record SpellAll (mode : Mode) (texts : FiveTexts) (c : Circuit) (delays : Delays) (run : Run) : Type 0 where
   pub has : HasCircuit texts.net c
   pub has_delays : HasDelays c texts.delays delays
-  pub spells : SpellsRun c texts.tests texts.report texts.proofs run
+  pub spells : SpellsRun mode c texts.tests texts.report texts.proofs run
+
+-- the proofs of NET's circuit are in a version that no rules of the mode have: it stands on the first line, which is refused
+pub record SpellOtherVersion (mode : Mode) (net proofs : List ℕ) (refusal : Refusal) : Type 0 where
+  pub other : HasProofsOfOtherMode mode net proofs
+  pub is : refusal ≡ malformed (codes "check") role.Proofs 1
 
 -- the item at which a run has a flaw
 abbrev pub flaw_item : Reason → List ℕ
@@ -85,29 +95,31 @@ flaw_word flaw.WrongExpected = codes " WrongExpected"
 abbrev pub flawed : ℕ → Reason → Refusal
 flawed item reason = refusal_for cause.Claims (codes "check: " ++ flaw_item reason ++ decimal item ++ flaw_word reason)
 
--- the texts spell a run that is not good for so many paths and this budget, which is refused for its first flaw
+-- in the mode the texts spell a run that is not good for so many paths and this budget, which is refused for its first flaw
 pub record SpellFlawedRun (call : RunCall) (texts : FiveTexts) (refusal : Refusal) : Type 0 where
   pub circuit : Circuit
   pub delays : Delays
   pub run : Run
-  pub spell : SpellAll texts circuit delays run
+  pub spell : SpellAll call.mode texts circuit delays run
   pub item : ℕ
   pub flaw : Reason
   pub is_first : TellsOfRun circuit delays call.paths call.budget run (Fails item flaw)
   pub is : refusal ≡ flawed item flaw
 
 -- what check refuses by a requirement of its own
-abbrev pub RefusesFlawed : RunCall → CheckRequirement → List (List ℕ) → Refusal → Type 0
-RefusesFlawed call GoodRun (net ∷ delays ∷ tests ∷ report ∷ proofs ∷ []) refusal =
+abbrev pub RefusesClaims : RunCall → CheckRequirement → List (List ℕ) → Refusal → Type 0
+RefusesClaims call VersionOfMode (net ∷ delays ∷ tests ∷ report ∷ proofs ∷ []) refusal = SpellOtherVersion call.mode net proofs refusal
+RefusesClaims call VersionOfMode inputs refusal = ⊥
+RefusesClaims call GoodRun (net ∷ delays ∷ tests ∷ report ∷ proofs ∷ []) refusal =
     SpellFlawedRun call (record { net = net; delays = delays; tests = tests; report = report; proofs = proofs }) refusal
-RefusesFlawed call GoodRun inputs refusal = ⊥
+RefusesClaims call GoodRun inputs refusal = ⊥
 
--- the texts spell a run that is good for so many paths and this budget, and its verdicts keep their promises
+-- in the mode the texts spell a run that is good for so many paths and this budget, and its verdicts keep their promises
 pub record SpellGoodRun (call : RunCall) (texts : FiveTexts) : Type 0 where
   pub circuit : Circuit
   pub delays : Delays
   pub run : Run
-  pub spell : SpellAll texts circuit delays run
+  pub spell : SpellAll call.mode texts circuit delays run
   pub good : IsGoodRun circuit delays call.paths call.budget run
   pub promises : AllKeepPromises circuit call.budget run
 
@@ -132,7 +144,7 @@ check_command call = record {
   Own = CheckRequirement;
   word = codes "check";
   stages = check_stages call;
-  RefusesOwn = RefusesFlawed call;
+  RefusesOwn = RefusesClaims call;
   Gives = GivesCheck call;
 }
 

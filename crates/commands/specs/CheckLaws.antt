@@ -10,6 +10,7 @@ use Rattle.calls.specs.Calls.{IsDoneOrNoMemory, NoneFailed}
 use Rattle.calls.specs.Passing.{Pass}
 use Rattle.commands.specs.Check.{FiveTexts, SpellGoodRun, check_work, stages_read}
 use Rattle.commands.specs.LaterCalls.{HaveKept, WasLeftByGen, run_names}
+use Rattle.commands.specs.ModeRules.{KeepsMode}
 use Rattle.commands.specs.Sizes.{HasShortTexts}
 use Rattle.commands.specs.declared.inputs.reading.TheConstants.{INPUT_LIMIT}
 
@@ -47,6 +48,8 @@ pub record ComesToClaims (call : RunCall) (texts : FiveTexts) (status : Status) 
 pub record KeepsCheckLaws (words : List (List ℕ)) (call : RunCall) (status : Status) (old new : Outside) : Type 0 where
   -- a good run that the files hold is accepted, if nothing fails and memory suffices
   pub complete : (now : Folder) → HoldsGoodRun call now → old.files.folder ≡ Some now → NoneFailed old new → IsDoneOrNoMemory status
+  -- a good run keeps the mode
+  pub keeps_mode : (texts : FiveTexts) (good : SpellGoodRun call texts) → KeepsMode call.mode good.circuit good.run
   -- status 0 comes exactly where the claim files spell a good run
   pub done_exactly : (texts : FiveTexts) → ComesToClaims call texts status old new → (status ≡ exit.Done) ↔ SpellGoodRun call texts
   -- status 1 comes exactly where they spell none

@@ -2,7 +2,6 @@
 -- texts of one good run: it lists the first paths by nonincreasing length, each once, with one verdict for each transition, and each
 -- test, refutation and spent budget is one; what its verdicts promise is said in Promises.antt of good_runs (this project's own).
 use Rattle.std.specs.Prelude.{◌≡◌, ℕ, List, [], ◌∷◌, ◌++◌, codes}
-use Rattle.pd_base.specs.declared.rules.Rules.TheVariants.{Two}
 use Rattle.netlist.specs.Circuit.{Circuit}
 use Rattle.netlist.specs.Waves.{Delays}
 use Rattle.runs.specs.declared.run.Run.{Run}
@@ -15,12 +14,13 @@ use Rattle.delay_annotation.specs.DelayFile.{HasDelays}
 use Rattle.run_files.specs.TestsText.{tests_text}
 use Rattle.run_files.specs.PlainTexts.{HasPlainNames}
 use Rattle.run_files.specs.ReportText.{report_text}
-use Rattle.run_files.specs.ProofsText.{proofs_text}
+use Rattle.run_files.specs.ProofsText.{proofs_text, version_of}
 use Rattle.run_files.specs.Summary.{summary_text}
 use Rattle.command_line.specs.Words.{RunCall}
 use Rattle.calls.specs.declared.role.Role.TheVariants as role
 use Rattle.calls.specs.Work.{Work, Stage, Due, due_file, Products}
 use Rattle.commands.specs.InputRequirements.{InputCommand, RefusesNoMore, Requirement, input_stages, short_stages, work_on_inputs}
+use Rattle.commands.specs.ModeRules.{searched_rules}
 use Rattle.commands.specs.Sizes.{HasShortTexts}
 use Rattle.commands.specs.declared.preparing.Generated.{Generated}
 use Rattle.commands.specs.declared.preparing.ToldRun.{ToldRun}
@@ -37,7 +37,7 @@ abbrev pub report_due : RunCall → Circuit → Run → Due
 report_due call c run = due_file role.Report call.report (report_text c run.paths)
 
 abbrev pub proofs_due : RunCall → Run → Due
-proofs_due call run = due_file role.Proofs call.proofs (proofs_text run.rules run.proofs)
+proofs_due call run = due_file role.Proofs call.proofs (proofs_text (version_of run.rules) run.proofs)
 
 -- these, in the order in which they are written
 abbrev pub run_files : RunCall → Circuit → Run → List Due
@@ -47,12 +47,12 @@ run_files call c run = tests_due call c run ∷ report_due call c run ∷ proofs
 abbrev pub gen_products : RunCall → Circuit → Run → Products
 gen_products call c run = record { files = run_files call c run; out = summary_text run }
 
--- the products are the texts of one good run under rules Two, for the paths and the budget that are asked for, which the files can
--- spell: its tests are numbered in the order of the report, and each proof where it is first named; its verdicts keep their promises,
+-- the products are the texts of one good run under the rules of the mode, for the paths and the budget that are asked for, which the files
+-- can spell: its tests are numbered in the order of the report, and each proof where it is first named; its verdicts keep their promises,
 -- and a refutation whose prefix implication alone refutes is one closed leaf at the shortest such prefix
 pub record GivesProductsOf (call : RunCall) (c : Circuit) (delays : Delays) (products : Products) : Type 0 where
   pub run : Run
-  pub rules : run.rules ≡ Two
+  pub rules : run.rules ≡ searched_rules call.mode c
   pub good : IsGoodRun c delays call.paths call.budget run
   pub lawful : IsLawfulRun c run
   pub promises : AllKeepPromises c call.budget run

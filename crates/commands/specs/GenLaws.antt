@@ -9,7 +9,7 @@ use Rattle.bench_reader.specs.Circuits.{HasCircuit}
 use Rattle.delay_annotation.specs.DelayFile.{HasDelays}
 use Rattle.runs.specs.declared.run.ListedPath.{ListedPath}
 use Rattle.runs.specs.declared.run.Verdict.{Verdict}
-use Rattle.trees.specs.Bounds.{AreSupport}
+use Rattle.trees.specs.Bounds.{AreSupport, states_of_source}
 use Rattle.good_runs.specs.Faults.{IsFault}
 use Rattle.good_runs.specs.Truth.{IsTruth}
 use Rattle.command_line.specs.Words.{RunCall}
@@ -17,6 +17,7 @@ use Rattle.calls.specs.declared.status.Status.{Status}
 use Rattle.calls.specs.Calls.{IsDoneOrNoMemory, NoneFailed}
 use Rattle.calls.specs.Work.{Products}
 use Rattle.commands.specs.Gen.{GivesProductsOf}
+use Rattle.commands.specs.ModeRules.{KeepsMode, searched_rules}
 use Rattle.commands.specs.Sizes.{HasShortTexts}
 use Rattle.commands.specs.declared.inputs.reading.TheConstants.{INPUT_LIMIT}
 
@@ -30,16 +31,20 @@ pub record CanBeGenerated (call : RunCall) (now : Folder) : Type 0 where
   pub delays_within : length (bytes_at now.held call.delays) ≤ INPUT_LIMIT
   pub short : HasShortTexts call.paths circuit
 
--- Where the budget is at least two to the power of the number of sources in the support of a fault's path, its own not counted, the
--- fault is not aborted, and its verdict is what there is.
+-- Where the budget is at least the number of states that the mode leaves a source, two by enhanced scan and else four, to the power of the
+-- number of sources in the support of a fault's path, its own not counted, the fault is not aborted, and its verdict is what there is.
 abbrev pub DecidesByPower : RunCall → Circuit → Delays → Products → Type 0
 DecidesByPower call c delays products =
+    let rules = searched_rules call.mode c in
     (gives : GivesProductsOf call c delays products) (number : ℕ) (listed : ListedPath) (direction : Direction) (verdict : Verdict)
-    → IsFault gives.run number listed direction verdict → (sources : List ℕ) → AreSupport c gives.run.rules listed.path sources
-    → 2 ^ (length sources - 1) ≤ call.budget → IsTruth c gives.run.rules listed.path direction verdict
+    → IsFault gives.run number listed direction verdict → (sources : List ℕ) → AreSupport c rules listed.path sources
+    → states_of_source rules ^ (length sources - 1) ≤ call.budget → IsTruth c rules listed.path direction verdict
 
 pub record KeepsGenLaws (call : RunCall) (status : Status) (old new : Outside) : Type 0 where
   -- a run is generated where it can be, if nothing fails and memory suffices
   pub complete : (now : Folder) → CanBeGenerated call now → old.files.folder ≡ Some now → NoneFailed old new → IsDoneOrNoMemory status
+  -- the run keeps the mode
+  pub keeps_mode : (c : Circuit) (delays : Delays) (products : Products) (gives : GivesProductsOf call c delays products)
+      → KeepsMode call.mode c gives.run
   -- a great budget decides
   pub great_budget : (c : Circuit) (delays : Delays) (products : Products) → DecidesByPower call c delays products

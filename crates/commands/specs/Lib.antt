@@ -16,6 +16,7 @@ pub mod Inside
 pub mod LaterCalls
 pub mod Make
 pub mod MakeLaws
+pub mod ModeRules
 pub mod Printed
 pub mod Replay
 pub mod ReplayLaws

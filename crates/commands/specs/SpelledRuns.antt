@@ -1,5 +1,5 @@
--- Which run three texts spell, or which line of which of them is malformed (this project's own).
-use Rattle.std.specs.Prelude.{◌≡◌, ℕ, List}
+-- Which run three texts spell in a mode, or which line of which of them is malformed (this project's own).
+use Rattle.std.specs.Prelude.{◌≡◌, ◌≢◌, ℕ, List}
 use Rattle.pd_base.specs.declared.rules.Rules.{Rules}
 use Rattle.pd_base.specs.declared.test.Test.{Test}
 use Rattle.netlist.specs.Circuit.{Circuit}
@@ -7,12 +7,14 @@ use Rattle.bench_reader.specs.Circuits.{HasCircuit}
 use Rattle.runs.specs.declared.run.ListedPath.{ListedPath}
 use Rattle.runs.specs.declared.run.Proof.{Proof}
 use Rattle.runs.specs.declared.run.Run.{Run}
-use Rattle.trees.specs.Unlinked.{IsUnlinked}
 use Rattle.text_pieces.specs.LineFiles.{IsFirstBadLine}
 use Rattle.run_files.specs.ProofsReading.{AreSpelledProofs, IsFirstBadProofLine}
-use Rattle.run_files.specs.ProofsText.{proofs_text}
+use Rattle.run_files.specs.ProofsText.{proofs_text, version_of}
 use Rattle.run_files.specs.ReportForm.{IsSpelledReport, report_form, report_headings, report_start}
 use Rattle.run_files.specs.ReportText.{report_text}
+use Rattle.run_files.specs.declared.version.ProofsVersion.{ProofsVersion}
+use Rattle.command_line.specs.declared.mode.Mode.{Mode}
+use Rattle.commands.specs.ModeRules.{AreRulesOf}
 use Rattle.commands.specs.SpelledTests.{SpellsTests}
 
 -- the text is the report of these paths, which a report of the circuit may list
@@ -20,32 +22,31 @@ pub record SpellsReport (c : Circuit) (text : List ℕ) (paths : List ListedPath
   pub lawful : IsSpelledReport c paths
   pub is_text : text ≡ report_text c paths
 
--- the text is the proofs file of these proofs, which a proofs file of the circuit may list, and its first line tells these rules, which are
--- not linked ones
-pub record SpellsProofs (c : Circuit) (text : List ℕ) (rules : Rules) (proofs : List Proof) : Type 0 where
-  pub unlinked : IsUnlinked rules
+-- the text is the proofs file of these proofs, which a proofs file of the circuit may list, in this version
+pub record SpellsProofs (c : Circuit) (text : List ℕ) (version : ProofsVersion) (proofs : List Proof) : Type 0 where
   pub lawful : AreSpelledProofs c proofs
-  pub is_text : text ≡ proofs_text rules proofs
+  pub is_text : text ≡ proofs_text version proofs
 
 -- the two texts spell these tests and these listed paths of the circuit
 pub record SpellTestsAndPaths (c : Circuit) (tests report : List ℕ) (listed : List Test) (paths : List ListedPath) : Type 0 where
   pub tests_are : SpellsTests c tests listed
   pub report_is : SpellsReport c report paths
 
--- the three texts spell this run of the circuit, whose rules the first line of the proofs tells
-pub record SpellsRun (c : Circuit) (tests report proofs : List ℕ) (run : Run) : Type 0 where
+-- the three texts spell this run of the circuit in this mode: its rules are those of the mode that have the version of the proofs
+pub record SpellsRun (mode : Mode) (c : Circuit) (tests report proofs : List ℕ) (run : Run) : Type 0 where
   pub tests_are : SpellsTests c tests run.tests
   pub report_is : SpellsReport c report run.paths
-  pub proofs_are : SpellsProofs c proofs run.rules run.proofs
+  pub of_mode : AreRulesOf mode c run.rules
+  pub proofs_are : SpellsProofs c proofs (version_of run.rules) run.proofs
 
 -- a text is the report of no such paths, and its line of this number is the first that lacks its form
 pub record IsMalformedReport (c : Circuit) (text : List ℕ) (line : ℕ) : Type 0 where
   pub none : (paths : List ListedPath) → ¬ SpellsReport c text paths
   pub first : IsFirstBadLine (report_form c) report_start report_headings text line
 
--- a text is the proofs file of no such proofs, under either rules, and its line of this number is the first that lacks its form
+-- a text is the proofs file of no such proofs, in any version, and its line of this number is the first that lacks its form
 pub record IsMalformedProofs (c : Circuit) (text : List ℕ) (line : ℕ) : Type 0 where
-  pub none : (rules : Rules) (proofs : List Proof) → ¬ SpellsProofs c text rules proofs
+  pub none : (version : ProofsVersion) (proofs : List Proof) → ¬ SpellsProofs c text version proofs
   pub first : IsFirstBadProofLine c text line
 
 -- NET has a circuit, of which this text spells no report, and so its line of this number is told
@@ -59,3 +60,16 @@ pub record HasMalformedProofs (net text : List ℕ) (line : ℕ) : Type 0 where
   pub circuit : Circuit
   pub has : HasCircuit net circuit
   pub malformed : IsMalformedProofs circuit text line
+
+-- a text is the proofs file of such proofs in a version that no rules of this mode have
+pub record HasOtherVersion (mode : Mode) (c : Circuit) (text : List ℕ) : Type 0 where
+  pub version : ProofsVersion
+  pub proofs : List Proof
+  pub spells : SpellsProofs c text version proofs
+  pub none_has : (rules : Rules) → AreRulesOf mode c rules → version ≢ version_of rules
+
+-- NET has a circuit, of which this text spells proofs in such a version
+pub record HasProofsOfOtherMode (mode : Mode) (net text : List ℕ) : Type 0 where
+  pub circuit : Circuit
+  pub has : HasCircuit net circuit
+  pub other : HasOtherVersion mode circuit text

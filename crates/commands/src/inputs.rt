@@ -12,7 +12,7 @@ mod netlist_ending;
 mod reading;
 mod sizes;
 
-pub(crate) use claims::{proofs_in, report_in, tests_from, tests_in};
+pub(crate) use claims::{malformed, proofs_in, report_in, tests_from, tests_in};
 pub use graded::MOST_GRADES;
 pub(crate) use graded::graded_in;
 pub(crate) use judging::{delays_from, netlist_from, rise_fall_from};

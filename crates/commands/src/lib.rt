@@ -20,6 +20,7 @@ mod exiting;
 mod generating;
 mod inputs;
 mod making;
+mod mode_rules;
 mod preparing;
 mod replay;
 mod rise_fall_replay;

@@ -15,7 +15,7 @@ use command_line::MakeCommand;
 use delay_annotation::Delays;
 use ladder::ladder;
 use netlist::Netlist;
-use pd_base::OutOfMemory;
+use pd_base::{OutOfMemory, Rules};
 use pd_io::Sink;
 use run_files::ladder_line;
 use std::alloc::Global;
@@ -49,7 +49,7 @@ fn made_line(alloc: Global, stages: u32) -> Result<Vec<u8>, OutOfMemory>
     line_on(alloc, stages, &net)
 }
 
-// The line of a good run of this ladder.
+// The line of a good run of this ladder, where sources other than a path's own are held steady.
 fn line_on(alloc: Global, stages: u32, net: &Netlist) -> Result<Vec<u8>, OutOfMemory>
     requires { net.now ≡ ladder_circuit stages }
     ensures { IfOk result (λ text. GivesLadder stages (record { files = []; out = text.items })) }
@@ -57,6 +57,6 @@ fn line_on(alloc: Global, stages: u32, net: &Netlist) -> Result<Vec<u8>, OutOfMe
     // a netlist has a circuit
     let _ = net.sources();
     let delays = Delays::unit(alloc, net)?;
-    let run = run_of(alloc, net, &delays, LADDER_PATHS, LADDER_BUDGET)?;
+    let run = run_of(alloc, net, &delays, LADDER_PATHS, LADDER_BUDGET, Rules::Two)?;
     ladder_line(alloc, stages, net, &run)
 }

@@ -1,7 +1,6 @@
 // The stages of `gen` in their order, up to the run whose texts are to be written.
 ghost use Rattle.std.specs.Prelude.{◌≡◌, ◌≤◌, IfErr, IfOk};
 ghost use Rattle.pd_base.specs.declared.limits.TheConstants.{MOST_PATHS};
-ghost use Rattle.pd_base.specs.declared.rules.Rules.TheVariants.{Two};
 ghost use Rattle.pd_io.specs.Seen.{files_seen};
 ghost use Rattle.command_line.specs.Commands.{run_call_of};
 ghost use Rattle.command_line.specs.Words.{HasRunNumbers};
@@ -12,10 +11,12 @@ ghost use Rattle.commands.specs.Gen.{CanBeWritten, GivesProductsOf, GivesShort, 
 ghost use Rattle.good_runs.specs.GoodRun.{IsGoodRun};
 ghost use Rattle.good_runs.specs.Shortest.{IsShortestRun};
 ghost use Rattle.prefix_sensitize.specs.Walks.{IsBudget};
+ghost use Rattle.netlist.specs.LinkedPairs.{FitRules};
 ghost use Rattle.netlist.specs.Lawful.{IsCircuit};
 ghost use Rattle.runs.specs.Lawful.{IsLawfulRun};
 
 use crate::inputs::{delays_from, netlist_from, require_short_texts};
+use crate::mode_rules::searched_rules;
 use calls::Ending;
 use command_line::RunCommand;
 use delay_annotation::Delays;
@@ -83,7 +84,7 @@ fn short_run(
     Ok(told_run(alloc, command, net, delays)?)
 }
 
-// A good run for the paths and the budget that are asked for, with its summary.
+// A good run for the paths, the budget and the mode that are asked for, with its summary.
 fn told_run(
     alloc: Global,
     command: &RunCommand,
@@ -97,28 +98,31 @@ fn told_run(
         (told_products (run_call_of command.now) net.now told)) }
     ensures lawful { IfOk result (λ told. IsLawfulRun net.now told.run) }
 {
-    let run = run_of(alloc, net, delays, command.paths, command.budget)?;
+    let rules = searched_rules(alloc, net, command.mode)?;
+    let run = run_of(alloc, net, delays, command.paths, command.budget, rules)?;
     let summary = summary_text(alloc, &run)?;
     Ok(ToldRun { run, summary })
 }
 
-/// A good run for so many paths and this budget, under rules Two: sources other than a path's own are held steady.
+/// A good run for so many paths and this budget, under these rules.
 pub(crate) fn run_of(
     alloc: Global,
     net: &Netlist,
     delays: &Delays,
     paths: u32,
     budget: u32,
+    rules: Rules,
 ) -> Result<Run, OutOfMemory>
     requires fits { Fits net.now delays.now }
     requires paths { paths ≤ MOST_PATHS }
     requires budget { IsBudget budget }
+    requires fit { FitRules net.now rules }
     ensures good { IfOk result (λ run. IsGoodRun net.now (delays_of net.now delays.now) paths budget run) }
-    ensures rules { IfOk result (λ run. run.rules ≡ Two) }
+    ensures rules { IfOk result (λ run. run.rules ≡ rules) }
     ensures lawful { IfOk result (λ run. IsLawfulRun net.now run) }
     ensures shortest { IfOk result (λ run. IsShortestRun net.now run) }
 {
     let first = first_paths(alloc, net, delays, paths)?;
     let mut steps = Steps::start(());
-    sensitize_all(alloc, net, delays, first, budget, Rules::Two, &mut steps)
+    sensitize_all(alloc, net, delays, first, budget, rules, &mut steps)
 }

@@ -34,3 +34,4 @@ pub use steps::steps_text;
 pub use summary::summary_text;
 pub use tests_file::{TestsPieces, tests_text};
 pub use tests_reading::read_tests;
+pub use version::ProofsVersion;

@@ -7,7 +7,7 @@ use pd_base::Rules;
 
 /// The version of a proofs file. It names the sort of the rules under which the proofs are judged, and not the links of linked ones.
 #[derive(Clone, Copy)]
-pub(crate) enum ProofsVersion {
+pub enum ProofsVersion {
     /// That of rules One.
     First,
     /// That of rules Two.

@@ -1,4 +1,4 @@
-// The words of `gen` and of `check`: the names of five files, and as options how many paths and how many splits.
+// The words of `gen` and of `check`: the names of five files, and as options how many paths, how many splits, and the mode.
 ghost use Rattle.std.specs.Prelude.{◌≡◌, ◌*◌, ℕ, List, ◌∷◌, Ok, IfOk, IfErr, length, option_map, refl};
 ghost use Rattle.command_line.specs.Commands.{bytes_of_words};
 ghost use Rattle.command_line.specs.RunForm.{HasRunNumbers, asked_run, number_of, product_reason, run_call, run_call_of, run_form};
@@ -6,11 +6,12 @@ ghost use Rattle.command_line.specs.Scan.{texts_given};
 ghost use Rattle.command_line.specs.Taken.{IsFaultOf, given_of, texts_parsed};
 
 use crate::form::{CommandForm, WordsForm};
+use crate::mode::mode_of;
 use crate::number::{MOST_DIGITS, number};
 use crate::parsing::Parsed;
 use crate::reading::accepted_words;
 use crate::taken::Taken;
-use crate::{OptionName, WordsFault, WordsRefusal};
+use crate::{Mode, OptionName, WordsFault, WordsRefusal};
 use std::alloc::Global;
 
 /// The most that the number of paths times the budget may be.
@@ -33,6 +34,8 @@ pub struct RunCommand<'a> {
     pub paths: u32,
     /// How many splits each search may make.
     pub budget: u32,
+    /// The mode, whose pairs alone are looked for and excluded.
+    pub mode: Mode,
 }
 
 // The form of these words.
@@ -43,7 +46,7 @@ impl CommandForm for RunForm {
 
     fn words() -> WordsForm {
         WordsForm {
-            options: &[OptionName::Paths, OptionName::Budget],
+            options: &[OptionName::Paths, OptionName::Budget, OptionName::Mode],
             positional: 5,
             files: 5,
         }
@@ -91,6 +94,7 @@ fn run_command<'a>(parsed: &Parsed<'a>) -> RunCommand<'a>
         proofs: names[4],
         paths: number_of(parsed.value_asked(OptionName::Paths)),
         budget: number_of(parsed.value_asked(OptionName::Budget)),
+        mode: mode_of(parsed.value_asked(OptionName::Mode)),
     }
 }
 

@@ -4,7 +4,7 @@ ghost use Rattle.command_line.specs.Commands.{run_call_of};
 ghost use Rattle.command_line.specs.Words.{HasRunNumbers};
 ghost use Rattle.delay_annotation.specs.Annotation.{Fits, delays_of};
 ghost use Rattle.runs.specs.Lawful.{IsLawfulRun};
-ghost use Rattle.trees.specs.Unlinked.{IsUnlinked};
+ghost use Rattle.netlist.specs.LinkedPairs.{FitRules};
 ghost use Rattle.commands.specs.Check.{flaw_item, flaw_word, flawed};
 ghost use Rattle.commands.specs.Inside.Checking.{FailsRun, IsGoodAndKeeps};
 
@@ -28,7 +28,7 @@ pub(crate) fn judge_run(
     requires fits { Fits net.now delays.now }
     requires numbers { HasRunNumbers (run_call_of command.now) }
     requires lawful { IsLawfulRun net.now run.now }
-    requires unlinked { IsUnlinked run.now.rules }
+    requires fit { FitRules net.now run.now.rules }
     ensures good { OnOk result (IsGoodAndKeeps net.now (delays_of net.now delays.now) command.now.paths command.now.budget run.now) }
     ensures fails { IfErr result (FailsRun net.now (delays_of net.now delays.now) command.now.paths command.now.budget run.now) }
 {

@@ -1,20 +1,18 @@
 // The claim files of a run, judged: the tests, the report and the proofs that their texts spell. Each is refused under the word of the
 // command that reads it.
 ghost use Rattle.std.specs.Prelude.{◌≡◌, ◌≤◌, length, IfOk, IfErr};
-ghost use Rattle.pd_base.specs.declared.rules.Rules.{Rules};
 ghost use Rattle.pd_io.specs.Seen.{files_seen};
 ghost use Rattle.pd_base.specs.declared.limits.TheConstants.{MOST_BYTES};
-ghost use Rattle.trees.specs.Unlinked.{IsUnlinked};
-ghost use Rattle.run_files.specs.ProofsText.{version_of};
+ghost use Rattle.commands.specs.Inside.Checking.{SpellsNumbered};
 ghost use Rattle.commands.specs.Inside.InputJudging.{FailsProofs, FailsReport, FailsTests, FailsToGiveTests, GivesTests};
 ghost use Rattle.commands.specs.InputRefusals.{malformed};
-ghost use Rattle.commands.specs.SpelledRuns.{SpellsProofs, SpellsReport};
+ghost use Rattle.commands.specs.SpelledRuns.{SpellsReport};
 ghost use Rattle.commands.specs.SpelledTests.{SpellsTests};
 
 use crate::inputs::reading::text_from;
 use calls::{Cause, Ending, Part, Refusal, Role};
 use netlist::Netlist;
-use pd_base::{Rules, Test};
+use pd_base::Test;
 use pd_io::Files;
 use run_files::{TextFault, read_proofs, read_report, read_tests};
 use runs::{ListedPath, Proof};
@@ -79,32 +77,29 @@ pub(crate) fn report_in(
     }
 }
 
-/// Proofs, and the rules under which they are judged.
+/// The proofs of a file, and its version.
 #[derive(Drop)]
-pub(crate) struct RuledProofs {
-    /// The rules that the first line of PROOFS names.
-    pub(crate) rules: Rules,
+pub(crate) struct VersionedProofs {
+    /// The number of the version, which the first line of PROOFS tells.
+    pub(crate) version: u32,
     /// The proofs.
     pub(crate) proofs: Vec<Proof>,
 }
 
-/// The proofs that the text of PROOFS spells, with their rules. A text is refused exactly where it spells none, for its first line that
+/// The proofs that the text of PROOFS spells, with its version. A text is refused exactly where it spells none, for its first line that
 /// lacks its form.
 pub(crate) fn proofs_in(
     alloc: Global,
     command: &'static [u8],
     net: &Netlist,
     text: &[u8],
-) -> Result<RuledProofs, Ending>
+) -> Result<VersionedProofs, Ending>
     requires { length text.now ≤ MOST_BYTES }
-    ensures spells { IfOk result (λ ruled. SpellsProofs net.now text.now ruled.rules ruled.proofs.items) }
+    ensures spells { IfOk result (λ read. SpellsNumbered net.now text.now read.version read.proofs.items) }
     ensures fails { IfErr result (FailsProofs command.now net.now text.now) }
 {
     match read_proofs(alloc, net, text) {
-        Ok((version, proofs)) => Ok(RuledProofs {
-            rules: rules_of(version),
-            proofs,
-        }),
+        Ok((version, proofs)) => Ok(VersionedProofs { version, proofs }),
         Err(TextFault::Malformed(line)) => {
             Err(Ending::Refused(malformed(command, Role::Proofs, line)))
         }
@@ -112,18 +107,8 @@ pub(crate) fn proofs_in(
     }
 }
 
-// The rules, not linked ones, of which this is the version of a proofs file.
-fn rules_of(version: u32) -> Rules
-    ensures { (rules : Rules) → IsUnlinked rules → version ≡ version_of rules → result ≡ rules }
-{
-    match version {
-        1 => Rules::One,
-        _ => Rules::Two,
-    }
-}
-
-// The refusal of the claim file of this role, whose line of this number lacks its form.
-fn malformed(command: &'static [u8], role: Role, line: u32) -> Refusal
+/// The refusal of the claim file of this role, whose line of this number lacks its form.
+pub(crate) fn malformed(command: &'static [u8], role: Role, line: u32) -> Refusal
     ensures { result ≡ malformed command.now role line }
 {
     Refusal::new(
