@@ -1,5 +1,5 @@
 -- A pair is one of the rules where it keeps their links; each is, where there are none.
-use Rattle.std.proofs.Common.{sym, subst}
+use Rattle.std.proofs.Common.{length, refl, sym, subst}
 use Rattle.std.specs.Prelude.{IfOk}
 use Rattle.std.proofs.lemmas.Result.{IfOk-weaker}
 use Rattle.pd_base.specs.Links.{LinkList}
@@ -22,5 +22,5 @@ returns-in-None c =
     let tests = c.args.tests.now in
     IfOk-weaker c.all_true.result _ (λ flags. AreFlags (HasPairOf net rules) tests flags.items)
     (λ flags is. subst (AreFlags (HasPairOf net rules) tests) (sym is)
-    (true_flags (HasPairOf net rules) tests (λ test. every_pair_is_of_rules net rules c.in-None.ensures test.pair) _ c.len.ensures))
+    (true_flags (HasPairOf net rules) tests (λ test. every_pair_is_of_rules net rules c.in-None.ensures test.pair) (length tests) refl))
     c.all_true.ensures
