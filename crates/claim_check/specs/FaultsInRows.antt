@@ -4,6 +4,7 @@ use Rattle.pd_base.specs.Target.{target_of}
 use Rattle.pd_base.specs.declared.fault.Direction.{Direction}
 use Rattle.pd_base.specs.declared.fault.Kind.{Kind}
 use Rattle.pd_base.specs.declared.fault.Kind.TheVariants as kinds
+use Rattle.pd_base.specs.declared.rules.Rules.{Rules}
 use Rattle.pd_base.specs.declared.test.Test.{Test}
 use Rattle.netlist.specs.Circuit.{Circuit}
 use Rattle.runs.specs.declared.run.ListedPath.{ListedPath}
@@ -38,11 +39,11 @@ HasTrueFlag flags (Nonrobust test proof) = (flag : Bool) → IsNumber flags test
 HasTrueFlag flags (Untestable proof) = ⊤
 HasTrueFlag flags (Aborted robust nonrobust) = ⊤
 
--- the tests of the run are judged by this
-pub record JudgesTests (c : Circuit) (run : Run) (judge : TestJudge) : Type 0 where
+-- the tests of a run under these rules are judged by this
+pub record JudgesTests (c : Circuit) (rules : Rules) (tests : List Test) (judge : TestJudge) : Type 0 where
   pub pairs : IsJudgeOf 4 c judge.pairs
-  pub of_rules : AreFlags (HasPairOf c run.rules) run.tests judge.of_rules.items
-  pub expected : AreFlags (ExpectsRight c) run.tests judge.expected.items
+  pub of_rules : AreFlags (HasPairOf c rules) tests judge.of_rules.items
+  pub expected : AreFlags (ExpectsRight c) tests judge.expected.items
 
 -- the fault of the listed path in a row, for a direction, with the refutations of the least numbers that apply
 pub record IsFaultInRow (run : Run) (row : ℕ) (direction : Direction) (fault : Fault) : Type 0 where

@@ -1,7 +1,6 @@
 // For each test of a run whether its pair is one of the rules. No pair is evaluated where the rules have no links, since each is one then.
-ghost use Rattle.std.specs.Prelude.{◌≡◌, [], All, IfOk, MatchOption, length};
+ghost use Rattle.std.specs.Prelude.{◌≡◌, [], IfOk, MatchOption, replicate, true};
 ghost use Rattle.pd_base.specs.Links.{links_of};
-ghost use Rattle.netlist.specs.Circuit.{source_count};
 ghost use Rattle.netlist.specs.LinkedPairs.{AreLinksOf, FitRules, KeepsLinks};
 ghost use Rattle.runs.specs.Lawful.{AreLawfulTests};
 ghost use Rattle.claim_check.specs.FaultsInRows.{AreFlags};
@@ -25,7 +24,7 @@ pub(crate) fn have_pairs_of(
 {
     match some_links(rules) {
         Some(links) => keep_links(alloc, net, links, tests),
-        None => Ok(vec![in alloc; true; tests.len()]?),
+        None => all_true(alloc, tests.len()),
     }
 }
 
@@ -37,6 +36,13 @@ fn some_links(rules: &Rules) -> Option<&Links>
         Rules::Linked(links) if !links.pairs().is_empty() => Some(links),
         _ => None,
     }
+}
+
+// So many flags, each true.
+fn all_true(alloc: Global, count: usize) -> Result<Vec<bool>, OutOfMemory>
+    ensures { IfOk result (λ flags. flags.items ≡ replicate count true) }
+{
+    Ok(vec![in alloc; true; count]?)
 }
 
 // A flag for each test, which is true exactly where its pair keeps these links.

@@ -22,7 +22,7 @@ use crate::testing::{has_its_test, has_true_flag};
 use logic_values::expect_observed;
 use netlist::Netlist;
 use pair_judging::ConeJudge;
-use pd_base::{Direction, Kind, OutOfMemory, Path};
+use pd_base::{Direction, Kind, OutOfMemory, Path, Rules, Test};
 use runs::{ListedPath, Run, Verdict};
 use std::alloc::Global;
 
@@ -102,7 +102,7 @@ fn wrong_against(
     requires falls { AreLeastFor run.now Direction.Fall falls.now }
     ensures { IfOk result (TellsOfItems (IsRightFaultAt net.now run.now)) }
 {
-    let mut judge = judge_for(alloc, net, run)?;
+    let mut judge = judge_for(alloc, net, &run.rules, run.tests.as_slice())?;
     Ok(first_wrong(net, run, paths, rises, falls, &mut judge))
 }
 
@@ -139,15 +139,19 @@ fn least_of(
     })
 }
 
-// What the tests of a run are judged by. The bits that they expect are compared here, 64 tests at once.
-fn judge_for(alloc: Global, net: &Netlist, run: &Run) -> Result<TestJudge, OutOfMemory>
-    requires fit { FitRules net.now run.now.rules }
-    requires lawful { AreLawfulTests net.now run.now.tests }
-    ensures { IfOk result (JudgesTests net.now run.now) }
+// What these tests of a run under these rules are judged by. The bits that they expect are compared here, 64 tests at once.
+fn judge_for(
+    alloc: Global,
+    net: &Netlist,
+    rules: &Rules,
+    tests: &[Test],
+) -> Result<TestJudge, OutOfMemory>
+    requires fit { FitRules net.now rules.now }
+    requires lawful { AreLawfulTests net.now tests.now }
+    ensures { IfOk result (JudgesTests net.now rules.now tests.now) }
 {
-    let tests = run.tests.as_slice();
     let expected = expect_observed(alloc, net, tests)?;
-    let of_rules = have_pairs_of(alloc, net, &run.rules, tests)?;
+    let of_rules = have_pairs_of(alloc, net, rules, tests)?;
     Ok(TestJudge {
         pairs: ConeJudge::new(alloc, net)?,
         of_rules,
@@ -170,7 +174,7 @@ fn first_wrong(
     requires lawful { AreLawfulTests net.now run.now.tests }
     requires rises { AreLeastFor run.now Direction.Rise rises.now }
     requires falls { AreLeastFor run.now Direction.Fall falls.now }
-    requires judge { JudgesTests net.now run.now judge.old }
+    requires judge { JudgesTests net.now run.now.rules run.now.tests judge.old }
     ensures { TellsOfItems (IsRightFaultAt net.now run.now) result }
 {
     for row in 0..paths.len() {
@@ -233,16 +237,17 @@ fn wrong_fault(net: &Netlist, run: &Run, fault: &Fault, judge: &mut TestJudge) -
     requires robust { IsLeastRefutation (routes_of run.now) run.now.proofs (target_of fault.now.path.now fault.now.direction Kind.Robust) fault.now.robust }
     requires nonrobust { IsLeastRefutation (routes_of run.now) run.now.proofs (target_of fault.now.path.now fault.now.direction Kind.Nonrobust) fault.now.nonrobust }
     requires lawful { AreLawfulTests net.now run.now.tests }
-    requires judge { JudgesTests net.now run.now judge.old }
+    requires judge { JudgesTests net.now run.now.rules run.now.tests judge.old }
     ensures wrong { TellsOfItem (IsRightVerdict net.now run.now fault.now.number fault.now.direction fault.now.path.now fault.now.verdict) result }
-    ensures judge { JudgesTests net.now run.now judge.new }
+    ensures judge { JudgesTests net.now run.now.rules run.now.tests judge.new }
 {
     if !shares_proofs(run, fault) {
         return Some(Reason::NotShared);
     }
-    if !has_its_test(net, run, fault, &mut judge.pairs)
-        || !has_true_flag(fault.verdict, judge.of_rules.as_slice())
-    {
+    if !has_true_flag(fault.verdict, judge.of_rules.as_slice()) {
+        return Some(Reason::BadTest);
+    }
+    if !has_its_test(net, run, fault, &mut judge.pairs) {
         return Some(Reason::BadTest);
     }
     if !has_true_flag(fault.verdict, judge.expected.as_slice()) {

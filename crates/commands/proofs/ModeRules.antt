@@ -1,4 +1,4 @@
--- The rules of a mode: they fit their circuit, a version has at most one of them, and a run under them keeps the mode.
+-- The rules of a mode: at most one of them has a version, and a good run under them keeps the mode.
 use Rattle.std.proofs.Common.{◌≡◌, ◌≢◌, ℕ, true, refl, sym, ap, subst, ◌∙◌}
 use Rattle.pd_base.specs.Pair.{Vectors}
 use Rattle.pd_base.specs.Route.{Route}
@@ -8,14 +8,14 @@ use Rattle.pd_base.specs.declared.fault.Kind.{Kind}
 use Rattle.pd_base.specs.declared.rules.Rules.{Rules}
 use Rattle.pd_base.specs.declared.rules.Rules.TheVariants.{One, Two, Linked}
 use Rattle.netlist.specs.Circuit.{Circuit}
-use Rattle.netlist.specs.LinkedPairs.{FitRules, IsOfRules}
+use Rattle.netlist.specs.LinkedPairs.{IsOfRules}
 use Rattle.netlist.specs.Waves.{Delays}
 use Rattle.runs.specs.declared.run.Run.{Run}
 use Rattle.runs.specs.declared.run.Verdict.{Verdict}
 use Rattle.runs.specs.declared.run.Verdict.TheVariants.{Robust, Nonrobust, Untestable, Aborted}
 use Rattle.runs.specs.Verdicts.{is_untestable}
 use Rattle.trees.specs.Unlinked.{IsUnlinked}
-use Rattle.trees.proofs.Unlinked.{every_pair_is_of_rules, no_links, unlinked_fit}
+use Rattle.trees.proofs.Unlinked.{every_pair_is_of_rules, no_links}
 use Rattle.good_runs.specs.GoodRun.{IsGoodRun}
 use Rattle.good_runs.specs.Promises.{AllKeepPromises, ExcludesPairs, VerdictTells}
 use Rattle.run_files.specs.ProofsText.{version_number, version_of}
@@ -29,10 +29,6 @@ use Rattle.commands.specs.ModeRules.{AreRulesOf, IsOfMode, KeepsMode, searched_r
 pub searched_are : (mode : Mode) (c : Circuit) (rules : Rules) → rules ≡ searched_rules mode c → AreRulesOf mode c rules
 searched_are Enhanced c rules is = subst IsUnlinked (sym is) tt
 searched_are Broadside c rules is = is
-
--- rules without links fit their circuit
-pub unlinked_rules_fit : (c : Circuit) (rules : Rules) → IsUnlinked rules → FitRules c rules
-unlinked_rules_fit c rules unlinked = unlinked_fit c rules (no_links rules unlinked)
 
 -- a number is that of one version
 pub version_by_number : (version other : ProofsVersion) → version_number version ≡ version_number other → version ≡ other

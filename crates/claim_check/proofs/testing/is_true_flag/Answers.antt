@@ -1,5 +1,5 @@
 -- The flag of the number is true, or there is none of it.
-use Rattle.std.proofs.Common.{IsTrue, refl, sym, subst}
+use Rattle.std.proofs.Common.{IsTrue, refl, subst}
 use Rattle.good_runs.proofs.Numbers.{number_same}
 use Rattle.claim_check.proofs.testing.is_true_flag.Goals as goal
 

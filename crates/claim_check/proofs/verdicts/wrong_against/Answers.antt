@@ -5,9 +5,9 @@ use Rattle.runs.specs.Lawful.{AreLawfulTests}
 use Rattle.claim_check.specs.FaultsInRows.{JudgesTests}
 use Rattle.claim_check.proofs.verdicts.wrong_against.Goals as goal
 
-pub judge_for-requires : goal.judge_for-requires
-judge_for-requires c = subst (AreLawfulTests c.args.net.now) (sym c.as_slice.ensures) c.requires.lawful
+pub judge_for-requires-clause-lawful : goal.judge_for-requires-clause-lawful
+judge_for-requires-clause-lawful c = subst (AreLawfulTests c.args.net.now) (sym c.as_slice.ensures) c.requires.lawful
 
 pub first_wrong-requires-clause-judge : goal.first_wrong-requires-clause-judge
 first_wrong-requires-clause-judge c =
-    subst (λ (tests : List Test). JudgesTests c.args.net.now tests c.in_ok-judge.judge) c.as_slice.ensures c.in_ok-judge.ensures
+    subst (λ (tests : List Test). JudgesTests c.args.net.now c.args.run.now.rules tests c.in_ok-judge.judge) c.as_slice.ensures c.in_ok-judge.ensures
