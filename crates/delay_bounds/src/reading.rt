@@ -8,7 +8,7 @@ ghost use Rattle.delay_bounds.specs.Inside.Taking.{FailsToTake, TakesRow};
 
 use crate::row::{are_titles, read_row};
 use crate::{LogFault, LogRow};
-use csv::{ByteRecord, Error, ReaderBuilder};
+use csv::{ByteRecord, Reader, ReaderBuilder};
 use delay_annotation::three_fields;
 use pd_base::OutOfMemory;
 use std::alloc::Global;
@@ -21,15 +21,16 @@ pub fn read_log(alloc: Global, tests: u32, bytes: &[u8]) -> Result<Vec<LogRow>, 
     ensures log { IfOk result (λ log. IsLog tests bytes.now log.items) }
     ensures refused { IfErr result (RefusesLog tests bytes.now) }
 {
-    let reader = ReaderBuilder::new()
+    let mut reader = ReaderBuilder::new()
         .has_headers(false)
         .flexible(true)
         .from_reader(alloc, bytes);
+    let mut row = ByteRecord::new(alloc);
     let mut log = Vec::new(alloc);
     let mut number = 0;
-    for row in reader.into_byte_records() {
+    while read_next(&mut reader, &mut row)? {
         number += 1;
-        take_read(tests, number, row, &mut log)?;
+        take_row(tests, number, &row, &mut log)?;
     }
     if number == 0 {
         return Err(LogFault::Header);
@@ -37,19 +38,11 @@ pub fn read_log(alloc: Global, tests: u32, bytes: &[u8]) -> Result<Vec<LogRow>, 
     Ok(log)
 }
 
-// Takes what csv read as the row of this number. Each error of csv is want of memory, since bytes in memory are always read.
-fn take_read(
-    tests: u32,
-    number: u32,
-    read: Result<ByteRecord, Error>,
-    log: &mut Vec<LogRow>,
-) -> Result<(), LogFault>
-    ensures ok { OnOk result (MatchResult read (λ row. TakesRow tests number (fields_of row) log.old.items log.new.items) (λ _. ⊥)) }
-    ensures err { IfErr result (λ why. MatchResult read
-        (λ row. FailsToTake tests number (fields_of row) log.old.items why) (λ _. why ≡ LogFault.NoMemory)) }
+// Reads the next row, if there is one. Each error of csv is want of memory, since bytes in memory are always read.
+fn read_next(reader: &mut Reader<&[u8]>, row: &mut ByteRecord) -> Result<bool, LogFault>
 {
-    match read {
-        Ok(row) => take_row(tests, number, &row, log),
+    match reader.read_byte_record(row) {
+        Ok(found) => Ok(found),
         Err(_) => Err(LogFault::NoMemory),
     }
 }

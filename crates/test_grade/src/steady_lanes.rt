@@ -91,7 +91,15 @@ fn controlled(controlling: bool, pins: &[LineId], finals: &[u64], steadies: &[u6
         ≡ (list_any (λ pin. is_known_as controlling (known_lane finals.now steadies.now lane pin.0)) pins.now
         || list_all (λ pin. is_known_as (not controlling) (known_lane finals.now steadies.now lane pin.0)) pins.now) }
 {
-    some_at(controlling, pins, finals, steadies) | all_at(!controlling, pins, finals, steadies)
+    let mut some = 0u64;
+    let mut all = u64::MAX;
+    for pin in pins {
+        let last = finals[pin.0 as usize];
+        let steady = steadies[pin.0 as usize];
+        some |= at_bit(controlling, last, steady);
+        all &= at_bit(!controlling, last, steady);
+    }
+    some | all
 }
 
 // In each lane, whether some pin is steady at this bit.
