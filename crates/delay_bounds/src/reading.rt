@@ -1,6 +1,8 @@
 // From the bytes of a log to its rows.
-ghost use Rattle.std.specs.Prelude.{◌≡◌, ◌≤◌, [], ◌∷◌, ◌++◌, length, IfErr, IfOk, MatchResult, OnOk};
+ghost use Rattle.std.specs.Prelude.{◌≡◌, ◌≤◌, true, Some, [], ◌∷◌, ◌++◌, length, IfErr, IfOk, MatchResult, OnOk};
+ghost use Rattle.csv.specs.Reading.{Ready, ReadRecord, reader_trim, took_first};
 ghost use Rattle.csv.specs.Records.{fields_of};
+ghost use Rattle.csv.specs.declared.reader.Trim.TheVariants as trim;
 ghost use Rattle.pd_base.specs.declared.limits.TheConstants.{MOST_BYTES};
 ghost use Rattle.delay_bounds.specs.LogFile.{IsLog, RefusesLog};
 ghost use Rattle.delay_bounds.specs.LogRows.{AreTitles, IsLogRow, RefusesRow};
@@ -28,7 +30,7 @@ pub fn read_log(alloc: Global, tests: u32, bytes: &[u8]) -> Result<Vec<LogRow>, 
     let mut row = ByteRecord::new(alloc);
     let mut log = Vec::new(alloc);
     let mut number = 0;
-    while read_next(&mut reader, &mut row)? {
+    'rows: while read_next(&mut reader, &mut row)? {
         number += 1;
         take_row(tests, number, &row, &mut log)?;
     }
@@ -40,6 +42,11 @@ pub fn read_log(alloc: Global, tests: u32, bytes: &[u8]) -> Result<Vec<LogRow>, 
 
 // Reads the next row, if there is one. Each error of csv is want of memory, since bytes in memory are always read.
 fn read_next(reader: &mut Reader<&[u8]>, row: &mut ByteRecord) -> Result<bool, LogFault>
+    requires plain { reader_trim reader.old ≡ trim.None }
+    requires ready { Ready reader.old }
+    ensures first { IfOk result (λ _. took_first reader.new ≡ true) }
+    ensures reads { IfOk result (λ found. ReadRecord (λ s. Some s.now) reader.old reader.new found (fields_of row.new)) }
+    ensures memory { IfErr result (λ why. why ≡ LogFault.NoMemory) }
 {
     match reader.read_byte_record(row) {
         Ok(found) => Ok(found),
