@@ -5,13 +5,13 @@ use Rattle.commands.proofs.rise_fall_replay.path_word.PathJudge.word_on.Goals as
 pub returns-then-length-at-clause-word : goal.returns-then-length-at-clause-word
 returns-then-length-at-clause-word c = record {
   listed = c.in-Some.listed.now;
-  robust = c.in-Some.ensures.robust;
-  holds = subst (λ (n : ℕ). n ≤ c.args.at.now.time) c.final_length-length.ensures c.if-length-at.true;
+  robust = c.in-Some.ensures;
+  holds = subst (λ (n : ℕ). n ≤ c.args.at.now.time) (c.final_length-length.ensures c.args.test.now c.requires.under) c.if-length-at.true;
 }
 
 pub returns-clause-word : goal.returns-clause-word
 returns-clause-word c = record {
   listed = c.in-Some.listed.now;
-  robust = c.in-Some.ensures.robust;
-  holds = subst (λ (n : ℕ). c.args.at.now.time < n) c.final_length-length.ensures c.if-length-at.false;
+  robust = c.in-Some.ensures;
+  holds = subst (λ (n : ℕ). c.args.at.now.time < n) (c.final_length-length.ensures c.args.test.now c.requires.under) c.if-length-at.false;
 }
