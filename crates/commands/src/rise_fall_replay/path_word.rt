@@ -81,10 +81,10 @@ impl PathJudge {
         ensures words { HasLineWords net.now self.new }
         ensures tests { AreTestsUnder net.now (place / 64 * 64) tests.now self.new }
     {
-        let PathJudge { lanes, .. } = self;
-        if place % LANES == 0 {
-            lanes.look_at(net, tests, place);
+        if place % LANES != 0 {
+            return;
         }
+        self.lanes.look_at(net, tests, place);
     }
 
     /// The word on the test in a lane. Takes no memory.

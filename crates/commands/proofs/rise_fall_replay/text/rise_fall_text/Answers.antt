@@ -29,8 +29,8 @@ returns-in-Err-clause-refused c =
     c.in-Err.fault
     (subst (λ (t : Test). RefusesWaves at.net.now (sampled_waves at t.pair) c.in-Err.fault) c.index-tests-index.is c.in-Err.ensures.refused))
 
-pub word_on-requires-clause-under : goal.word_on-requires-clause-under
-word_on-requires-clause-under c =
+pub word_on-word-requires-clause-under : goal.word_on-word-requires-clause-under
+word_on-word-requires-clause-under c =
     let net = c.args.at.now.net.now in
     let place = c.loop-index.index in
     let test = c.index-tests-index.result in
