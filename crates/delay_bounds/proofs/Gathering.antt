@@ -1,5 +1,5 @@
 -- The rows of a log while csv reads them, and what was taken of them when a row is refused or the file ends.
-use Rattle.std.proofs.Common.{Bor, ◌≡◌, ◌≢◌, ℕ, ◌+◌, ◌<◌, ◌≤◌, length-append, true, false, List, [], ◌∷◌, ◌++◌, length, Some, refl, ap, arith}
+use Rattle.std.proofs.Common.{Bor, ◌≡◌, ◌≢◌, ℕ, ◌+◌, ◌≤◌, length-append, true, false, List, [], ◌∷◌, ◌++◌, length, Some, refl, ap, arith}
 use Rattle.csv.specs.Reading.{ReadRecord, default_config, reader_state}
 use Rattle.csv.proofs.ReadFacts.{rows-end}
 use Rattle.delay_annotation.specs.DelayFile.{AreAllRows, Row}

@@ -1,5 +1,5 @@
 -- The next pin's words count in each lane.
-use Rattle.std.proofs.Common.{◌||◌, ◌&&◌, not, take, take_all, List, ap, ap₂, sym, ◌∙◌}
+use Rattle.std.proofs.Common.{◌||◌, ◌&&◌, not, take_all, ap, ap₂, sym, ◌∙◌}
 use Rattle.std.specs.List.{list_all, list_any}
 use Rattle.std.proofs.lemmas.List.Folds.{list_all_more, list_any_more}
 use Rattle.pd_base.specs.declared.ids.LineId.{LineId}
