@@ -1,12 +1,10 @@
 -- The rows of a log while csv reads them, and what was taken of them when a row is refused or the file ends.
-use Rattle.std.proofs.Common.{Bor, ◌≡◌, ◌≢◌, ℕ, ◌+◌, ◌<◌, ◌≤◌, length-append, true, false, List, [], ◌∷◌, ◌++◌, length, Some, refl, ap, arith}
-use Rattle.std.specs.Prelude.{Result, Ok, Err, MatchResult}
-use Rattle.csv.specs.Reading.{ReadRecord, RowStep}
-use Rattle.csv.specs.Records.{Row as Record, fields_of}
-use Rattle.csv.specs.declared.error.Error.{Error}
+use Rattle.std.proofs.Common.{Bor, ◌≡◌, ◌≢◌, ℕ, ◌+◌, ◌≤◌, length-append, true, false, List, [], ◌∷◌, ◌++◌, length, Some, refl, ap, arith}
+use Rattle.csv.specs.Reading.{ReadRecord, default_config, reader_state}
+use Rattle.csv.proofs.ReadFacts.{rows-end}
 use Rattle.delay_annotation.specs.DelayFile.{AreAllRows, Row}
 use Rattle.delay_annotation.proofs.FirstRows.{few_rows}
-use Rattle.delay_annotation.proofs.Gathering.{BytesReader, HasRead, has_read_all, has_read_more, read_first}
+use Rattle.delay_annotation.proofs.Gathering.{BytesReader, HasRead, has_read_more, read_first}
 use Rattle.delay_bounds.specs.LogFile.{IsLog, RefusesLog}
 use Rattle.delay_bounds.specs.LogFile.RefusesLog.{no_memory, no_row, row_refused}
 use Rattle.delay_bounds.specs.Inside.Taking.{AreTaken, FailsToTake, TakesRow}
@@ -15,6 +13,16 @@ use Rattle.delay_bounds.specs.declared.log_fault.LogFault.{LogFault}
 use Rattle.delay_bounds.specs.declared.log_fault.LogFault.TheVariants as fault
 use Rattle.delay_bounds.specs.declared.log_row.LogRow.{LogRow}
 use Rattle.delay_bounds.proofs.Taken.{taken_passed}
+
+-- where csv read no further row, whatever it left of the last one, these are all
+read_all : (bytes : List ℕ) (rows : List Row) (a b : BytesReader) (left : Row) → HasRead bytes rows a
+    → ReadRecord (λ (s : Bor (List ℕ)). Some s.now) a b false left → AreAllRows bytes rows
+read_all bytes rows a b left has read = (
+  reader_state a,
+  has.rest,
+  has.reached,
+  rows-end (λ (s : Bor (List ℕ)). Some s.now) a b left default_config has.rest has.config has.source read,
+)
 
 -- the rows so far were read and taken, and this is their number
 pub record HasTaken (tests : ℕ) (bytes : List ℕ) (reader : BytesReader) (number : ℕ) (log : List LogRow) : Type 0 where
@@ -30,7 +38,7 @@ module _ (tests : ℕ) (bytes : List ℕ) (a b : BytesReader) (number : ℕ) (lo
   few_taken = omega (arith, has.count, few_rows bytes has.rows (read_first bytes has.rows a has.read))
 
   -- one row more is taken
-  taken_more : (row : Row) (new : List LogRow) → ReadRecord (λ (s : Bor (List ℕ)). Some s.now) a b true row → b.first ≡ true
+  pub taken_more : (row : Row) (new : List LogRow) → ReadRecord (λ (s : Bor (List ℕ)). Some s.now) a b true row → b.first ≡ true
       → TakesRow tests (number + 1) row log new → HasTaken tests bytes b (number + 1) new
   taken_more row new read first takes = record {
     rows = has.rows ++ row ∷ [];
@@ -40,7 +48,7 @@ module _ (tests : ℕ) (bytes : List ℕ) (a b : BytesReader) (number : ℕ) (lo
   }
 
   -- a row is not taken
-  taken_refused : (row : Row) (why : LogFault) → ReadRecord (λ (s : Bor (List ℕ)). Some s.now) a b true row
+  pub taken_refused : (row : Row) (why : LogFault) → ReadRecord (λ (s : Bor (List ℕ)). Some s.now) a b true row
       → b.first ≡ true → FailsToTake tests (number + 1) row log why → RefusesLog tests bytes why
   taken_refused row why read first (refused refuses) =
       row_refused has.rows row
@@ -49,16 +57,16 @@ module _ (tests : ℕ) (bytes : List ℕ) (a b : BytesReader) (number : ℕ) (lo
   taken_refused row why read first (lacks_memory is) = no_memory is
 
   -- the file has no row
-  pub none_taken : number ≡ 0 → ReadRecord (λ (s : Bor (List ℕ)). Some s.now) a b false [] → RefusesLog tests bytes fault.Header
-  none_taken none read = by has.rows (has_read_all bytes has.rows a b has.read read) (omega (arith, has.count))
+  pub none_taken : number ≡ 0 → (left : Row) → ReadRecord (λ (s : Bor (List ℕ)). Some s.now) a b false left → RefusesLog tests bytes fault.Header
+  none_taken none left read = by has.rows (read_all bytes has.rows a b left has.read read) (omega (arith, has.count))
     where
       by : (rows : List Row) → AreAllRows bytes rows → length rows ≡ 0 → RefusesLog tests bytes fault.Header
       by [] all empty = no_row all refl
       by (row ∷ rows) all empty = absurd (omega arith)
 
   -- all rows are taken
-  pub all_taken : number ≢ 0 → ReadRecord (λ (s : Bor (List ℕ)). Some s.now) a b false [] → IsLog tests bytes log
-  all_taken some read = by has.rows (has_read_all bytes has.rows a b has.read read) has.taken (λ none. some (omega (arith, has.count, none)))
+  pub all_taken : number ≢ 0 → (left : Row) → ReadRecord (λ (s : Bor (List ℕ)). Some s.now) a b false left → IsLog tests bytes log
+  all_taken some left read = by has.rows (read_all bytes has.rows a b left has.read read) has.taken (λ none. some (omega (arith, has.count, none)))
     where
       by : (rows : List Row) → AreAllRows bytes rows → AreTaken tests rows log → (length rows ≡ 0 → ⊥) → IsLog tests bytes log
       by [] all taken none = absurd (none refl)
@@ -69,19 +77,3 @@ module _ (tests : ℕ) (bytes : List ℕ) (a b : BytesReader) (number : ℕ) (lo
         are_titles = are;
         accepted = accepted;
       }
-
-  -- what csv read is one row more, where it is taken
-  pub read_taken : (left : ℕ) (read : Result Record Error) (new : List LogRow)
-      → RowStep (λ (s : Bor (List ℕ)). Some s.now) a b left (Some read)
-      → MatchResult read (λ row. TakesRow tests (number + 1) (fields_of row) log new) (λ _. ⊥)
-      → (0 < left) × HasTaken tests bytes b (number + 1) new
-  read_taken left (Ok row) new step takes = (step.2, taken_more (fields_of row) new step.0 step.1 takes)
-  read_taken left (Err why) new step takes = absurd takes
-
-  -- and the file is refused, where it is not
-  pub read_refused : (left : ℕ) (read : Result Record Error) (why : LogFault)
-      → RowStep (λ (s : Bor (List ℕ)). Some s.now) a b left (Some read)
-      → MatchResult read (λ row. FailsToTake tests (number + 1) (fields_of row) log why) (λ _. why ≡ fault.NoMemory)
-      → RefusesLog tests bytes why
-  read_refused left (Ok row) why step fails = taken_refused (fields_of row) why step.0 step.1 fails
-  read_refused left (Err error) why step is = no_memory is

@@ -1,9 +1,9 @@
 -- Least numbers of one kind from those of others.
-use Rattle.std.proofs.Common.{◌≡◌, ⊎_elim, inl, inr, ◌⊎◌, ℕ, ◌≤◌, ◌<◌, min, Option, Some, None, refl, sym, subst, arith}
+use Rattle.std.proofs.Common.{◌≡◌, ⊎_elim, ◌⊎◌, ℕ, ◌≤◌, min, Option, Some, None, refl, subst, arith}
 use Rattle.std.proofs.lemmas.Bool.{cases_lt}
 use Rattle.std.proofs.lemmas.Option.{same_Some}
 use Rattle.delay_bounds.specs.Inside.Earliest.{earlier}
-use Rattle.delay_bounds.specs.Least.{IsLeast, IsLeastOf}
+use Rattle.delay_bounds.specs.Least.{IsLeast}
 
 -- the least of what holds of the one kind or of the other
 pub least_with : (P Q R : ℕ → Type 0) (a b : Option ℕ) → IsLeast P a → IsLeast Q b

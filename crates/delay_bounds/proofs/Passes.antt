@@ -1,11 +1,10 @@
 -- The earliest passes of tests, with one row of the log more; and the least times of a fault's tests, with one test more.
-use Rattle.std.proofs.Common.{◌≡◌, ◌≢◌, ⊎_elim, inl, inr, ◌⊎◌, ℕ, ◌+◌, ◌<◌, Bool, true, false, IsTrue, List, [], ◌∷◌, ◌++◌, length, length-append, slice_get, get_or, set, length-set, get_or-set_same, get_or-set_other, Option, Some, None, refl, sym, ap, subst, ◌∙◌, arith}
+use Rattle.std.proofs.Common.{◌≡◌, ◌≢◌, ⊎_elim, inl, inr, ◌⊎◌, ℕ, ◌+◌, ◌<◌, true, false, IsTrue, List, [], ◌∷◌, ◌++◌, length, length-append, slice_get, get_or, set, length-set, get_or-set_same, get_or-set_other, Option, Some, None, sym, ap, subst, ◌∙◌, arith}
 use Rattle.std.proofs.lemmas.Bool.{cases_eq, cases_lt, false≢true}
 use Rattle.std.proofs.Math.Seq.{get_or-append_seam}
 use Rattle.std.proofs.lemmas.List.{get_or_append_left}
 use Rattle.std.proofs.lemmas.Option.{same_Some}
 use Rattle.test_grade.specs.Compact.{serves_in}
-use Rattle.delay_bounds.specs.Bounds.{PassesAt}
 use Rattle.delay_bounds.specs.Least.{IsLeast}
 use Rattle.delay_bounds.specs.Inside.Earliest.{AreEarliest, AreLeast, IsTold, PassesEarly, earlier, time_of}
 use Rattle.delay_bounds.specs.declared.log_row.LogRow.{LogRow}

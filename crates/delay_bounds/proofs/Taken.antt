@@ -1,5 +1,5 @@
 -- One row more is taken.
-use Rattle.std.proofs.Common.{◌≡◌, ◌≢◌, ℕ, ◌+◌, List, [], ◌∷◌, ◌++◌, length, refl, ap, sym, subst, ◌∙◌, arith}
+use Rattle.std.proofs.Common.{◌≡◌, ◌≢◌, ℕ, ◌+◌, List, [], ◌∷◌, ◌++◌, length, sym, subst, arith}
 use Rattle.delay_annotation.specs.DelayFile.{Row}
 use Rattle.delay_bounds.specs.LogRows.{AreTitles, IsLogRow, RefusesRow}
 use Rattle.delay_bounds.specs.LogFile.{AreLogRows, ArePassed, RefusesNext}

@@ -1,4 +1,4 @@
--- Rows of a tester's log: what a row says of one of so many tests, and for which first reason it says nothing (this project's own
+-- Rows of a tester's log: what a row says of one of so many tests, and for which first reason it is refused (this project's own
 -- format). A row is the list of its fields as they stand in the file.
 use Rattle.std.specs.Prelude.{◌≡◌, ◌≢◌, ℕ, ◌≤◌, Bool, true, false, List, [], ◌∷◌, length, map, codes}
 use Rattle.delay_annotation.specs.DelayFile.{Row}

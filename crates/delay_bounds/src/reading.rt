@@ -1,6 +1,8 @@
 // From the bytes of a log to its rows.
-ghost use Rattle.std.specs.Prelude.{◌≡◌, ◌≤◌, [], ◌∷◌, ◌++◌, length, IfErr, IfOk, MatchResult, OnOk};
+ghost use Rattle.std.specs.Prelude.{◌≡◌, ◌≤◌, true, Some, [], ◌∷◌, ◌++◌, length, IfErr, IfOk, MatchResult, OnOk};
+ghost use Rattle.csv.specs.Reading.{Ready, ReadRecord, reader_trim, took_first};
 ghost use Rattle.csv.specs.Records.{fields_of};
+ghost use Rattle.csv.specs.declared.reader.Trim.TheVariants as trim;
 ghost use Rattle.pd_base.specs.declared.limits.TheConstants.{MOST_BYTES};
 ghost use Rattle.delay_bounds.specs.LogFile.{IsLog, RefusesLog};
 ghost use Rattle.delay_bounds.specs.LogRows.{AreTitles, IsLogRow, RefusesRow};
@@ -8,7 +10,7 @@ ghost use Rattle.delay_bounds.specs.Inside.Taking.{FailsToTake, TakesRow};
 
 use crate::row::{are_titles, read_row};
 use crate::{LogFault, LogRow};
-use csv::{ByteRecord, Error, ReaderBuilder};
+use csv::{ByteRecord, Reader, ReaderBuilder};
 use delay_annotation::three_fields;
 use pd_base::OutOfMemory;
 use std::alloc::Global;
@@ -21,15 +23,16 @@ pub fn read_log(alloc: Global, tests: u32, bytes: &[u8]) -> Result<Vec<LogRow>, 
     ensures log { IfOk result (λ log. IsLog tests bytes.now log.items) }
     ensures refused { IfErr result (RefusesLog tests bytes.now) }
 {
-    let reader = ReaderBuilder::new()
+    let mut reader = ReaderBuilder::new()
         .has_headers(false)
         .flexible(true)
         .from_reader(alloc, bytes);
+    let mut row = ByteRecord::new(alloc);
     let mut log = Vec::new(alloc);
     let mut number = 0;
-    for row in reader.into_byte_records() {
+    'rows: while read_next(&mut reader, &mut row)? {
         number += 1;
-        take_read(tests, number, row, &mut log)?;
+        take_row(tests, number, &row, &mut log)?;
     }
     if number == 0 {
         return Err(LogFault::Header);
@@ -37,19 +40,16 @@ pub fn read_log(alloc: Global, tests: u32, bytes: &[u8]) -> Result<Vec<LogRow>, 
     Ok(log)
 }
 
-// Takes what csv read as the row of this number. Each error of csv is want of memory, since bytes in memory are always read.
-fn take_read(
-    tests: u32,
-    number: u32,
-    read: Result<ByteRecord, Error>,
-    log: &mut Vec<LogRow>,
-) -> Result<(), LogFault>
-    ensures ok { OnOk result (MatchResult read (λ row. TakesRow tests number (fields_of row) log.old.items log.new.items) (λ _. ⊥)) }
-    ensures err { IfErr result (λ why. MatchResult read
-        (λ row. FailsToTake tests number (fields_of row) log.old.items why) (λ _. why ≡ LogFault.NoMemory)) }
+// Reads the next row, if there is one. Each error of csv is want of memory, since bytes in memory are always read.
+fn read_next(reader: &mut Reader<&[u8]>, row: &mut ByteRecord) -> Result<bool, LogFault>
+    requires plain { reader_trim reader.old ≡ trim.None }
+    requires ready { Ready reader.old }
+    ensures first { IfOk result (λ _. took_first reader.new ≡ true) }
+    ensures reads { IfOk result (λ found. ReadRecord (λ s. Some s.now) reader.old reader.new found (fields_of row.new)) }
+    ensures memory { IfErr result (λ why. why ≡ LogFault.NoMemory) }
 {
-    match read {
-        Ok(row) => take_row(tests, number, &row, log),
+    match reader.read_byte_record(row) {
+        Ok(found) => Ok(found),
         Err(_) => Err(LogFault::NoMemory),
     }
 }

@@ -20,7 +20,7 @@ pub(crate) fn are_titles(test: &[u8], time: &[u8], result_field: &[u8]) -> bool
         && trimmed(result_field) == b"result".as_slice()
 }
 
-// Reads the row of this number, which has three fields. It is refused exactly where it says nothing, by the first reason that applies.
+// Reads the row of this number, which has three fields. Refused exactly where it is no row of a log, by the first reason that applies.
 pub(crate) fn read_row(
     tests: u32,
     row: u32,

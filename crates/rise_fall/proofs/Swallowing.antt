@@ -15,8 +15,8 @@ use Rattle.rise_fall.proofs.WindowLaws.{IsShownBy, same_shown, rise_is_slow, fal
 use Rattle.delay_replay.specs.Changes.{AreTimesRising, wave_at}
 use Rattle.delay_replay.specs.LineWaves.{EndsAt}
 use Rattle.delay_replay.proofs.Turning.{at_later_change, come_from}
-use Rattle.rise_fall.specs.Moving.{IsPut}
-use Rattle.rise_fall.specs.Moving.IsPut.{behind, swallowed}
+use Rattle.rise_fall.specs.Inside.Moving.{IsPut}
+use Rattle.rise_fall.specs.Inside.Moving.IsPut.{behind, swallowed}
 use Rattle.rise_fall.proofs.Times.{all_last, same_front, rising_front, units_between, wave_by, from_change, ends_turned, ends_back}
 
 module _ (rise fall : ℕ) where

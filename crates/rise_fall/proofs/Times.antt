@@ -12,8 +12,8 @@ use Rattle.netlist.specs.Values.{parity}
 use Rattle.delay_replay.specs.Changes.{Changes, AreTimesRising, wave_at}
 use Rattle.delay_replay.specs.LineWaves.{EndsAt}
 use Rattle.delay_replay.proofs.Turning.{at_latest, come}
-use Rattle.rise_fall.specs.Moving.{IsPut}
-use Rattle.rise_fall.specs.Moving.IsPut.{swallowed}
+use Rattle.rise_fall.specs.Inside.Moving.{IsPut}
+use Rattle.rise_fall.specs.Inside.Moving.IsPut.{swallowed}
 
 -- what holds of all elements holds of those before the last one
 pub all_front : {X : Type 0} (P : X → Type 0) (xs : List X) (last : X) → All P (xs ++ last ∷ []) → All P xs

@@ -1,4 +1,4 @@
 pub mod Waves
-pub mod Moving
-pub mod GateCopies
+pub mod GateWaves
 pub mod Showing
+pub mod Inside

@@ -1,5 +1,6 @@
 -- Pins that delay a rise and a fall of their line differently: what such a pin shows, the waves of a circuit of such pins, and
--- how long its paths are (this project's own; a pulse no longer than the difference of the two delays is swallowed).
+-- how long its paths are (this project's own; a pulse of the value that takes longer to show is swallowed, where it is no longer than
+-- the difference of the two delays).
 use Rattle.std.specs.Prelude.{◌≢◌, ℕ, suc, ◌+◌, ◌-◌, ℤ, pos, ◌-ℤ◌, ◌<ℤ◌, Bool, true, false, List, [], ◌∷◌, map, nat_le, if◌then◌else◌}
 use Rattle.std.specs.List.{range_with_len}
 use Rattle.pd_base.specs.declared.ids.PinRef.{PinRef}

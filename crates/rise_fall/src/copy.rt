@@ -3,7 +3,7 @@
 ghost use Rattle.std.specs.Prelude.{◌≡◌, ◌+◌, ◌<◌, ◌≤◌, IfOk, vec_capacity, vec_len};
 ghost use Rattle.rise_fall.specs.Waves.{risen_fallen};
 ghost use Rattle.delay_replay.specs.Changes.{AreChangesOf, AreTimesRising, IsBounded, wave_at};
-ghost use Rattle.rise_fall.specs.Moving.{IsPut};
+ghost use Rattle.rise_fall.specs.Inside.Moving.{IsPut};
 
 use delay_replay::Wave;
 use pd_base::OutOfMemory;

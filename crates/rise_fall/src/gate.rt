@@ -1,11 +1,12 @@
 // The wave of a gate whose pins delay a rise and a fall differently: what its pins see, and the merge of that.
-ghost use Rattle.std.specs.Prelude.{◌≡◌, ◌<◌, ◌≤◌, ℕ, ⊤, List, length, All, IfOk, IfErr};
+ghost use Rattle.std.specs.Prelude.{◌≡◌, ◌<◌, ◌≤◌, ◌↔◌, ℕ, ⊤, List, length, All, IfOk, IfErr, IsTrue};
 ghost use Rattle.netlist.specs.Circuit.{gate_count, line_count, pins_at};
 ghost use Rattle.delay_annotation.specs.RiseFall.{BothFit, rise_fall_of};
 ghost use Rattle.delay_replay.specs.declared.gate.TheConstants.{MOST_CHANGES};
 ghost use Rattle.delay_replay.specs.Changes.{AreChangesOf, Changes, ChangesOver, IsBounded};
 ghost use Rattle.delay_replay.specs.GateWaves.{RefusesWave};
-ghost use Rattle.rise_fall.specs.GateCopies.{AreSeen, rise_fall_gate_wave};
+ghost use Rattle.rise_fall.specs.GateWaves.{rise_fall_gate_wave};
+ghost use Rattle.rise_fall.specs.Inside.GateCopies.{AreSeen, HaveOneDelay};
 
 use crate::copy::rise_fall_copy;
 use delay_annotation::RiseFall;
@@ -62,10 +63,31 @@ pub fn gate_wave(
     ensures not_over { IfOk result (λ wave. ¬ ChangesOver (rise_fall_gate_wave net.now delays.now gate.0 waves.now) MOST_CHANGES) }
     ensures refused { IfErr result (RefusesWave (rise_fall_gate_wave net.now delays.now gate.0 waves.now)) }
 {
+    // A netlist knows itself as a circuit.
     let lines = net.lines() as usize;
     prove!(waves.len() == lines);
+    if have_one_delay(net, delays, gate, waves) {
+        return delay_replay::gate_wave(alloc, net, delays.rises(), gate, waves);
+    }
     let copies = kept_copies(alloc, net, delays, gate, waves)?;
     merge(alloc, net.kind(gate), &copies)
+}
+
+// Whether each pin of a gate whose line changes takes as long to show a rise as a fall. Then no copies have to be kept.
+fn have_one_delay(net: &Netlist, delays: &RiseFall, gate: GateId, waves: &[Wave]) -> bool
+    requires fits { BothFit net.now delays.now }
+    requires gate { gate.0 < gate_count net.now }
+    requires one_each { length waves.now ≡ line_count net.now }
+    ensures { IsTrue result ↔ HaveOneDelay (rise_fall_of net.now delays.now) net.now gate.0 (length (pins_at net.now gate.0)) waves.now }
+{
+    let rises = delays.rises().of_gate(net, gate);
+    let falls = delays.falls().of_gate(net, gate);
+    for (pin, line) in net.pins(gate).iter().enumerate() {
+        if rises[pin] != falls[pin] && !waves[line.0 as usize].changes().is_empty() {
+            return false;
+        }
+    }
+    true
 }
 
 // What the pins of a gate see. It fails only where memory runs out.

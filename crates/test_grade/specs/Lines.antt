@@ -1,6 +1,7 @@
 -- What lines are under pairs side by side: bit k of a line's word belongs to the pair in lane k (this project's own).
-use Rattle.std.specs.Prelude.{◌≡◌, ℕ, ◌<◌, Bool, List, Option, Some, None, if◌then◌else◌}
+use Rattle.std.specs.Prelude.{◌≡◌, ℕ, ◌+◌, ◌-◌, ◌<◌, ◌≤◌, Bool, List, Option, Some, None, length, slice_get, if◌then◌else◌}
 use Rattle.std.specs.Bool.{beq}
+use Rattle.pd_base.specs.declared.test.Test.{Test}
 use Rattle.pd_base.specs.Pair.{Vectors}
 use Rattle.netlist.specs.Circuit.{Circuit, line_count, source_count}
 use Rattle.netlist.specs.Steadiness.{is_steady}
@@ -32,3 +33,19 @@ pub record HasAgreements (c : Circuit) (pair : Vectors) (lane : ℕ) (steadies :
 pub record AreUnder (c : Circuit) (pair : Vectors) (lane : ℕ) (finals steadies : List ℕ) : Type 0 where
   pub values : HasFinals c pair.second lane finals
   pub steady : HasSteadies c pair lane steadies
+
+-- the words of all lines: their values under the second vectors, and whether they are steady
+pub record LineWords : Type 0 where
+  pub finals : List ℕ
+  pub steadies : List ℕ
+
+-- there are words for each line
+pub record HasLineWords (c : Circuit) (words : LineWords) : Type 0 where
+  pub of_finals : length words.finals ≡ line_count c
+  pub of_steadies : length words.steadies ≡ line_count c
+
+-- the words tell of the tests from a place on, up to 64 of them, each in the lane of its place among them
+abbrev pub AreTestsUnder : Circuit → ℕ → List Test → LineWords → Type 0
+AreTestsUnder c begin tests words =
+    (place : ℕ) (test : Test) → begin ≤ place → place < begin + 64 → slice_get tests place ≡ Some test
+    → AreUnder c test.pair (place - begin) words.finals words.steadies

@@ -1,5 +1,5 @@
-// An order in which to try to leave tests out: first those that a greedy cover of all faults does without, then those of the cover, from the
-// one that was taken last. A hint: which tests are kept is decided by trying, and nothing rests on this order but how many stay.
+// An order in which to try to leave tests out: first those that a greedy cover of all faults does without, then those of the cover, from
+// the one that was taken last. A hint: which tests are kept is decided by trying, and nothing rests on this order but how many stay.
 ghost use Rattle.std.specs.Prelude.{◌≡◌, ◌<◌, ◌*◌, All, IfOk, length};
 ghost use Rattle.test_grade.specs.Compact.{HasWords};
 

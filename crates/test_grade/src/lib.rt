@@ -1,6 +1,7 @@
 //! Tests beside the faults of a report: for which faults each of them is a test, found for up to 64 tests at once; and a list of tests
 //! without those that could be left out.
-//! Stands on pd_base, netlist, path_laws, logic_values and runs. The layers above use `compact`, and `grade` with `serves`.
+//! Stands on pd_base, netlist, path_laws, logic_values and runs. The layers above use `compact`, `grade` with
+//! `serves`, and `PairLanes`.
 #![tactic(auto)]
 
 mod compaction;
@@ -10,6 +11,7 @@ mod grading;
 mod kind_asked;
 mod leaving_out;
 mod matrix;
+mod pair_lanes;
 mod serving;
 mod steady_lanes;
 
@@ -17,3 +19,4 @@ pub use compaction::compact;
 pub use kind_asked::KindAsked;
 pub use leaving_out::serves;
 pub use matrix::grade;
+pub use pair_lanes::{LANES, PairLanes};

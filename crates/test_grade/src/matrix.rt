@@ -6,6 +6,7 @@ ghost use Rattle.test_grade.specs.Compact.{HasWords};
 ghost use Rattle.test_grade.specs.Serving.{IsMatrix};
 
 use crate::kind_asked::KindAsked;
+use crate::pair_lanes::PairLanes;
 use crate::serving::grade_tests;
 use netlist::Netlist;
 use pd_base::{OutOfMemory, Test};
@@ -53,8 +54,7 @@ fn graded(
     ensures count { IfOk result (λ words. length words.items ≡ count) }
     ensures tells { IfOk result (λ words. IsMatrix asked net.now paths.now tests.now (length tests.now) words.items) }
 {
-    let mut finals = vec![in alloc; 0; net.lines() as usize]?;
-    let mut steadies = vec![in alloc; 0; net.lines() as usize]?;
+    let mut lanes = PairLanes::new(alloc, net)?;
     let mut words = vec![in alloc; 0; count]?;
     grade_tests(
         net,
@@ -62,8 +62,7 @@ fn graded(
         tests,
         asked,
         blocks,
-        finals.as_mut_slice(),
-        steadies.as_mut_slice(),
+        &mut lanes,
         words.as_mut_slice(),
     );
     Ok(words)

@@ -3,37 +3,32 @@ ghost use Rattle.std.specs.Prelude.{◌≡◌, ◌≤◌, ◌<◌, ◌+◌, ◌*
 ghost use Rattle.pd_base.specs.Pair.{Vectors};
 ghost use Rattle.netlist.specs.Circuit.{line_count, source_count};
 ghost use Rattle.netlist.specs.Paths.{IsPrefix};
-ghost use Rattle.test_grade.specs.Serving.{kind_due, kind_for, AreGraded, IsMatrix, StandInLanes};
+ghost use Rattle.test_grade.specs.Lines.{HasLineWords};
+ghost use Rattle.test_grade.specs.Serving.{kind_due, kind_for, AreGraded, IsMatrix};
 
 use crate::grading::meeting_lanes;
 use crate::kind_asked::KindAsked;
-use crate::steady_lanes::evaluate_pairs;
-use logic_values::put_into_lane;
+use crate::pair_lanes::{LANES, PairLanes};
 use netlist::Netlist;
 use pd_base::{Direction, Kind, Test};
 use runs::{ListedPath, Verdict};
 
-// How many pairs are graded at once.
-const LANES: usize = 64;
-
 /// For each block of 64 tests and each fault of the listed paths, path by path and the rising transition first, a word: its bit k, from 0,
-/// tells whether the block's test k is what is asked for the fault. So many blocks have all tests, and the last one has some. There is a place per line
-/// in `finals` and `steadies`, and what stands there does not matter. Takes no memory.
+/// tells whether the block's test k is what is asked for the fault. So many blocks have all tests, and the last one has some. There is a
+/// word per line in `lanes`, and what stands there does not matter. Takes no memory.
 pub(crate) fn grade_tests(
     net: &Netlist,
     paths: &[ListedPath],
     tests: &[Test],
     asked: KindAsked,
     blocks: usize,
-    finals: &mut [u64],
-    steadies: &mut [u64],
+    lanes: &mut PairLanes,
     words: &mut [u64],
 )
     requires paths { All (λ listed. IsPrefix net.now listed.path) paths.now }
     requires firsts { All (λ test. length test.pair.first ≡ source_count net.now) tests.now }
     requires seconds { All (λ test. length test.pair.second ≡ source_count net.now) tests.now }
-    requires finals { length finals.old ≡ line_count net.now }
-    requires steadies { length steadies.old ≡ line_count net.now }
+    requires lanes { HasLineWords net.now lanes.old }
     requires all { length tests.now ≤ blocks * 64 }
     requires few { blocks * 64 < length tests.now + 64 }
     requires words { blocks * (2 * length paths.now) ≤ length words.old }
@@ -41,52 +36,17 @@ pub(crate) fn grade_tests(
 {
     let mut base = 0;
     for block in 0..blocks {
-        let begin = block * LANES;
-        let end = block_end(begin, tests.len());
-        put_pairs(net, tests, begin, end, finals, steadies);
-        evaluate_pairs(net, finals, steadies);
-        grade_paths(net, paths, asked, finals, steadies, base, words);
+        lanes.look_at(net, tests, block * LANES);
+        grade_paths(
+            net,
+            paths,
+            asked,
+            lanes.finals(),
+            lanes.steadies(),
+            base,
+            words,
+        );
         base += 2 * paths.len();
-    }
-}
-
-// Where the block ends that begins at a place of so many.
-fn block_end(begin: usize, count: usize) -> usize
-    requires { begin < count }
-    ensures few { result ≤ begin + 64 }
-    ensures within { result ≤ count }
-    ensures last { (place : ℕ) → place < begin + 64 → place < count → place < result }
-{
-    if count - begin > LANES {
-        begin + LANES
-    } else {
-        count
-    }
-}
-
-// Puts the pairs of the tests between two places into lanes.
-fn put_pairs(
-    net: &Netlist,
-    tests: &[Test],
-    begin: usize,
-    end: usize,
-    finals: &mut [u64],
-    steadies: &mut [u64],
-)
-    requires bits { All (λ test. length test.pair.second ≡ source_count net.now) tests.now }
-    requires finals { length finals.old ≡ line_count net.now }
-    requires steadies { length steadies.old ≡ line_count net.now }
-    requires few { end ≤ begin + 64 }
-    requires within { end ≤ length tests.now }
-    ensures seconds { StandInLanes (λ pair. pair.second) begin end tests.now finals.new }
-    ensures firsts { StandInLanes (λ pair. pair.first) begin end tests.now steadies.new }
-{
-    // a circuit's sources are lines
-    let _ = net.sources();
-    for place in begin..end {
-        let pair = &tests[place].pair;
-        put_into_lane(pair.second(), (place - begin) as u32, finals);
-        put_into_lane(pair.first(), (place - begin) as u32, steadies);
     }
 }
 

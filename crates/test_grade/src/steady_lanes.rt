@@ -91,35 +91,15 @@ fn controlled(controlling: bool, pins: &[LineId], finals: &[u64], steadies: &[u6
         ≡ (list_any (λ pin. is_known_as controlling (known_lane finals.now steadies.now lane pin.0)) pins.now
         || list_all (λ pin. is_known_as (not controlling) (known_lane finals.now steadies.now lane pin.0)) pins.now) }
 {
-    some_at(controlling, pins, finals, steadies) | all_at(!controlling, pins, finals, steadies)
-}
-
-// In each lane, whether some pin is steady at this bit.
-fn some_at(bit: bool, pins: &[LineId], finals: &[u64], steadies: &[u64]) -> u64
-    requires finals { HasPlaces finals.now pins.now }
-    requires steadies { HasPlaces steadies.now pins.now }
-    ensures { (lane : ℕ) → lane < 64
-        → lane_of result lane ≡ list_any (λ pin. is_known_as bit (known_lane finals.now steadies.now lane pin.0)) pins.now }
-{
     let mut some = 0u64;
-    for pin in pins {
-        some |= at_bit(bit, finals[pin.0 as usize], steadies[pin.0 as usize]);
-    }
-    some
-}
-
-// In each lane, whether all pins are steady at this bit.
-fn all_at(bit: bool, pins: &[LineId], finals: &[u64], steadies: &[u64]) -> u64
-    requires finals { HasPlaces finals.now pins.now }
-    requires steadies { HasPlaces steadies.now pins.now }
-    ensures { (lane : ℕ) → lane < 64
-        → lane_of result lane ≡ list_all (λ pin. is_known_as bit (known_lane finals.now steadies.now lane pin.0)) pins.now }
-{
     let mut all = u64::MAX;
     for pin in pins {
-        all &= at_bit(bit, finals[pin.0 as usize], steadies[pin.0 as usize]);
+        let last = finals[pin.0 as usize];
+        let steady = steadies[pin.0 as usize];
+        some |= at_bit(controlling, last, steady);
+        all &= at_bit(!controlling, last, steady);
     }
-    all
+    some | all
 }
 
 // In each lane, whether a line is steady at this bit.

@@ -17,6 +17,7 @@ use delay_replay::ReplayFault;
 use pd_base::{OutOfMemory, Test};
 use rise_fall::replay_rise_fall;
 use std::alloc::Global;
+use test_grade::LANES;
 use text_pieces::push_spaced;
 
 /// The text of a replay of these tests, which are lawful ones of the netlist and have numbers of 32 bits: for each its number, what its
@@ -38,7 +39,8 @@ pub(crate) fn rise_fall_text(
     let mut text = Vec::new(alloc);
     for (index, test) in tests.iter().enumerate() {
         let number = index as u32 + 1;
-        let word = judge.word_on(at, test);
+        judge.go_on(at.net, tests, index);
+        let word = judge.word_on(at, test, (index % LANES) as u32);
         if let Err(fault) = push_judged(alloc, at, test, number, word, &mut text) {
             return Err(replay_text_fault(number, fault));
         }

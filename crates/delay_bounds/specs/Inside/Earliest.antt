@@ -1,5 +1,5 @@
 -- The earliest passes, found row by row and test by test (this project's own).
-use Rattle.std.specs.Prelude.{◌≡◌, ℕ, ◌+◌, ◌<◌, min, IsTrue, List, length, Option, None, Some, slice_get, slice_index_or}
+use Rattle.std.specs.Prelude.{◌≡◌, ℕ, ◌+◌, ◌<◌, min, IsTrue, List, length, Option, None, Some, slice_index_or}
 use Rattle.test_grade.specs.Compact.{serves_in}
 use Rattle.delay_bounds.specs.Bounds.{PassesAt}
 use Rattle.delay_bounds.specs.Least.{IsLeast}

@@ -1,10 +1,10 @@
 -- The words and the earliest passes tell the bounds.
-use Rattle.std.proofs.Common.{◌≡◌, ℕ, ◌*◌, All, List, length, Option, ap, sym, subst, ◌∙◌, arith}
+use Rattle.std.proofs.Common.{◌≡◌, ℕ, ◌*◌, List, length, Option, ap, sym, subst, ◌∙◌}
 use Rattle.std.proofs.lemmas.List.Elements.{All-weaker}
 use Rattle.netlist.specs.Paths.{IsPath, IsPrefix}
 use Rattle.runs.specs.declared.run.ListedPath.{ListedPath}
 use Rattle.test_grade.specs.Compact.{HasWords}
-use Rattle.delay_bounds.specs.Inside.Earliest.{AreEarliest, AreLeast}
+use Rattle.delay_bounds.specs.Inside.Earliest.{AreLeast}
 use Rattle.delay_bounds.proofs.Shown.{bounds_told}
 use Rattle.delay_bounds.proofs.bounding.bounds.Goals as goal
 

@@ -1,5 +1,5 @@
 -- One test more is told of.
-use Rattle.std.proofs.Common.{◌≡◌, ℕ, ◌+◌, length, sym, subst, ◌∙◌, arith}
+use Rattle.std.proofs.Common.{◌≡◌, ◌+◌, length, sym, subst, ◌∙◌, arith}
 use Rattle.delay_bounds.specs.Inside.Earliest.{IsTold}
 use Rattle.delay_bounds.specs.Least.{IsLeast}
 use Rattle.delay_bounds.proofs.Passes.{none_told, told_alike, told_more}

@@ -1,4 +1,3 @@
-use Rattle.std.proofs.Common.{◌≡◌, ◌≤◌, length}
 use Rattle.delay_bounds.specs.Inside.Earliest.{AreLeast}
 use Rattle.delay_bounds.proofs.earliest.least_times.Given as goal
 

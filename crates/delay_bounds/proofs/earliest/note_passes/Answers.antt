@@ -1,5 +1,5 @@
 -- A row that passes is noted.
-use Rattle.std.proofs.Common.{◌≡◌, ◌-◌, ◌+◌, ◌<◌, ◌≤◌, ℕ, false, List, Option, None, Some, length, get_or, set, refl, sym, ap, subst, ◌∙◌, arith}
+use Rattle.std.proofs.Common.{◌≡◌, ◌-◌, ◌+◌, ◌≤◌, false, length, get_or, set, refl, sym, ap, subst, ◌∙◌, arith}
 use Rattle.std.proofs.lemmas.Option.{slice_get-get_or}
 use Rattle.delay_bounds.specs.Bounds.{NamesTest}
 use Rattle.delay_bounds.specs.Inside.Earliest.{AreEarliest}

@@ -1,20 +1,18 @@
 -- Each turn takes the row that csv read; a row that is refused, or the end of the file, ends it.
-use Rattle.std.proofs.Common.{◌∙◌, refl, arith}
+use Rattle.std.proofs.Common.{Bor, Bool, ◌≡◌, ℕ, ◌+◌, true, List, Some, ◌∙◌, refl, subst, arith}
 use Rattle.std.proofs.lemmas.Result.{err_from_is_err_and}
-use Rattle.delay_annotation.proofs.Gathering.{has_read_none}
-use Rattle.delay_bounds.proofs.Gathering.{all_taken, few_taken, none_taken, read_refused, read_taken}
+use Rattle.csv.specs.Reading.{ReadRecord}
+use Rattle.csv.specs.Records.{fields_of}
+use Rattle.delay_annotation.specs.DelayFile.{Row}
+use Rattle.delay_annotation.proofs.Gathering.{BytesReader, has_read_none}
+use Rattle.delay_bounds.proofs.Gathering.{HasTaken, few_taken, taken_more, taken_refused}
 use Rattle.delay_bounds.proofs.reading.read_log.Goals as goal
 
-pub loop-row-init : goal.loop-row-init
-loop-row-init c =
+pub rows-init : goal.rows-init
+rows-init c =
     let reader = c.from_reader-reader.ensures in
     let plain = c.has_headers.ensures in
-    let flexible = c.flexible.ensures in
-    let start = c.into_iter-row-iterator.ensures.into_iter_gives ∙ refl in
-    let rdr = c.into_byte_records-row-items.ensures.rdr in
-    let left = c.into_byte_records-row-items.ensures.left in
-    rw (start, rdr) (record {
-      goes_on = left;
+    let flexible = c.flexible.ensures in record {
       has = record {
         rows = _;
         read = has_read_none c.args.bytes.now c.from_reader-reader.result
@@ -23,41 +21,41 @@ loop-row-init c =
         taken = c.new-log.ensures.items;
         count = refl;
       };
-    })
+    }
 
 pub overflow_add-number : goal.overflow_add-number
 overflow_add-number c =
-    let few = few_taken c.args.tests c.args.bytes.now c.loop-row.row-iterator.rdr c.next.new.self.rdr c.loop-row.number
-    c.loop-row.log.items c.loop-row.invariant.has in
+    let few = few_taken c.args.tests c.args.bytes.now c.rows.reader c.read_next.new.reader c.rows.number c.rows.log.items c.rows.invariant.has in
     omega (arith, few, c.requires)
 
-pub returns-in_err-take_read-clause-refused : goal.returns-in_err-take_read-clause-refused
-returns-in_err-take_read-clause-refused c =
-    let inv = c.loop-row.invariant in
-    let step = rw c.in-Some.is at ((c.next.ensures.steps inv.goes_on inv.has.read.trim).0 inv.has.read.ready) in
-    let answer = err_from_is_err_and c.from_residual.result c.from_residual.ensures.1 in
-    rw (answer.1, answer.2) (read_refused c.args.tests c.args.bytes.now c.loop-row.row-iterator.rdr c.next.new.self.rdr
-    c.loop-row.number c.loop-row.log.items inv.has c.next.new.self.left c.in-Some.row c.in_err-take_read.field-0.0 step
-    c.in_err-take_read.ensures.err)
+-- csv read a row where it says so
+found_one : (a b : BytesReader) (found : Bool) (row : Row) → found ≡ true → ReadRecord (λ (s : Bor (List ℕ)). Some s.now) a b found row
+    → ReadRecord (λ (s : Bor (List ℕ)). Some s.now) a b true row
+found_one a b found row is read = subst (λ told. ReadRecord (λ (s : Bor (List ℕ)). Some s.now) a b told row) is read
 
-pub loop-row-preserved : goal.loop-row-preserved
-loop-row-preserved c =
-    let inv = c.loop-row.invariant in
-    let step = rw c.in-Some.is at ((c.next.ensures.steps inv.goes_on inv.has.read.trim).0 inv.has.read.ready) in
-    let more = read_taken c.args.tests c.args.bytes.now c.loop-row.row-iterator.rdr c.next.new.self.rdr c.loop-row.number
-    c.loop-row.log.items inv.has c.next.new.self.left c.in-Some.row c.take_read.new.log.items step c.in_ok-take_read.ensures.ok in
-    record { goes_on = more.0; has = more.1 }
+pub rows-preserved : goal.rows-preserved
+rows-preserved c = record {
+  has = taken_more c.args.tests c.args.bytes.now c.rows.reader c.read_next.new.reader c.rows.number c.rows.log.items c.rows.invariant.has
+      (fields_of c.read_next.new.row) c.take_row.new.log.items
+      (found_one c.rows.reader c.read_next.new.reader c.in_ok-read_next.field-0 (fields_of c.read_next.new.row) c.if-branch.true
+      c.in_ok-read_next.ensures.reads) c.in_ok-read_next.ensures.first c.in_ok-take_row.ensures.ok;
+}
 
-pub returns-then-number-eq0-clause-refused : goal.returns-then-number-eq0-clause-refused
-returns-then-number-eq0-clause-refused c =
-    let inv = c.loop-row.invariant in
-    let step = rw c.in-None.is at ((c.next.ensures.steps inv.goes_on inv.has.read.trim).0 inv.has.read.ready) in
-    none_taken c.args.tests c.args.bytes.now c.loop-row.row-iterator.rdr c.next.new.self.rdr c.loop-row.number
-    c.loop-row.log.items inv.has c.if-number-eq0.true step
+pub rows-smaller : goal.rows-smaller
+rows-smaller c =
+    let more : HasTaken c.args.tests c.args.bytes.now c.read_next.new.reader (c.rows.number + 1) c.take_row.new.log.items =
+    taken_more c.args.tests c.args.bytes.now c.rows.reader c.read_next.new.reader c.rows.number c.rows.log.items c.rows.invariant.has
+    (fields_of c.read_next.new.row) c.take_row.new.log.items
+    (found_one c.rows.reader c.read_next.new.reader c.in_ok-read_next.field-0 (fields_of c.read_next.new.row) c.if-branch.true
+    c.in_ok-read_next.ensures.reads) c.in_ok-read_next.ensures.first c.in_ok-take_row.ensures.ok in
+    let few = few_taken c.args.tests c.args.bytes.now c.read_next.new.reader c.read_next.new.reader (c.rows.number + 1) c.take_row.new.log.items more in
+    omega (arith, few)
 
-pub returns-clause-log : goal.returns-clause-log
-returns-clause-log c =
-    let inv = c.loop-row.invariant in
-    let step = rw c.in-None.is at ((c.next.ensures.steps inv.goes_on inv.has.read.trim).0 inv.has.read.ready) in
-    all_taken c.args.tests c.args.bytes.now c.loop-row.row-iterator.rdr c.next.new.self.rdr c.loop-row.number
-    c.loop-row.log.items inv.has c.if-number-eq0.false step
+pub returns-in_err-take_row-clause-refused : goal.returns-in_err-take_row-clause-refused
+returns-in_err-take_row-clause-refused c =
+    let answer = err_from_is_err_and c.from_residual-in_err-take_row.result c.from_residual-in_err-take_row.ensures.1 in
+    rw (answer.1, answer.2) (taken_refused c.args.tests c.args.bytes.now c.rows.reader c.read_next.new.reader c.rows.number c.rows.log.items
+    c.rows.invariant.has (fields_of c.read_next.new.row) c.in_err-take_row.field-0.0
+    (found_one c.rows.reader c.read_next.new.reader c.in_ok-read_next.field-0 (fields_of c.read_next.new.row) c.if-branch.true
+    c.in_ok-read_next.ensures.reads)
+    c.in_ok-read_next.ensures.first c.in_err-take_row.ensures.err)

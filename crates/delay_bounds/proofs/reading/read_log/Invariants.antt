@@ -1,10 +1,12 @@
-use Rattle.std.proofs.Common.{◌<◌}
+use Rattle.std.proofs.Common.{◌-◌, length}
 use Rattle.delay_bounds.proofs.Gathering.{HasTaken}
 use Rattle.delay_bounds.proofs.reading.read_log.Given as goal
 
--- the rows so far are taken, and csv goes on
-abbrev pub invariant-loop-row : goal.invariant-loop-row
-invariant-loop-row l = record {
-  goes_on : 0 < l.row-iterator.left;
-  has : HasTaken l.tests l.bytes l.row-iterator.rdr l.number l.log.items;
+-- the rows so far are taken
+abbrev pub invariant-rows : goal.invariant-rows
+invariant-rows l = record {
+  has : HasTaken l.tests l.bytes l.reader l.number l.log.items;
 }
+
+abbrev pub decreases-rows : goal.decreases-rows
+decreases-rows l = length l.bytes - l.number

@@ -1,5 +1,5 @@
 -- The text is neither word.
-use Rattle.std.proofs.Common.{◌≡◌, codes, sym, ◌∙◌, true≢false}
+use Rattle.std.proofs.Common.{codes, sym, ◌∙◌, true≢false}
 use Rattle.std.proofs.lemmas.Slice.Eq.{bytes_eq-Decides}
 use Rattle.delay_bounds.proofs.Results.{no_word}
 use Rattle.delay_bounds.proofs.row.passed.Goals as goal

@@ -5,7 +5,7 @@ use Rattle.std.specs.List.{All}
 use Rattle.std.proofs.lemmas.Int.{ints, to_z-of_z}
 use Rattle.std.proofs.lemmas.List.{get_or_default}
 use Rattle.std.proofs.lemmas.List.Quantifiers.{all_pairs_push}
-use Rattle.rise_fall.specs.Moving.IsPut.{behind}
+use Rattle.rise_fall.specs.Inside.Moving.IsPut.{behind}
 use Rattle.rise_fall.proofs.Times.{all_before, put_by_pop}
 use Rattle.rise_fall.proofs.copy.put.Goals.{else-kept-gt0-via-then-kept-gt0+else-time-index, else-kept-gt0-via-else-kept-gt0}
 use Rattle.rise_fall.proofs.copy.put.Goals as goal

@@ -6,7 +6,7 @@ use Rattle.std.proofs.lemmas.List.{take_more}
 use Rattle.rise_fall.specs.Waves.{risen_fallen}
 use Rattle.delay_replay.specs.declared.wave.TheConstants.{LATEST_CHANGE}
 use Rattle.delay_replay.specs.Changes.{AreChangesOf, wave_at}
-use Rattle.rise_fall.specs.Moving.{IsPut}
+use Rattle.rise_fall.specs.Inside.Moving.{IsPut}
 use Rattle.rise_fall.proofs.Swallowing.{IsCopied, delay_to, none_copied, one_more, slower}
 use Rattle.rise_fall.proofs.Times.{earlier_times}
 use Rattle.rise_fall.proofs.copy.rise_fall_copy.Goals.{then-value, else-value}

@@ -1,16 +1,17 @@
--- What is merged is the gate's wave.
-use Rattle.std.proofs.Common.{◌≡◌, ℤ, length, sym, subst, ap, ◌∙◌}
+-- What is merged is the gate's wave, and so is that of its rise delays where each pin has one delay.
+use Rattle.std.proofs.Common.{◌≡◌, ℕ, ℤ, List, length, sym, subst, ap, ◌∙◌}
 use Rattle.std.proofs.lemmas.Result.{IfOk-weaker, IfErr-weaker}
 use Rattle.netlist.specs.declared.kind.GateKind.{GateKind}
 use Rattle.netlist.specs.Lawful.{IsFanIn}
 use Rattle.netlist.specs.Circuit.{kind_at, pins_at}
 use Rattle.delay_replay.specs.declared.gate.TheConstants.{MOST_CHANGES}
+use Rattle.delay_replay.specs.GateWaves.{delayed_gate_wave}
 use Rattle.delay_replay.specs.PinCopies.{merged_wave}
 use Rattle.delay_replay.proofs.ChangeTimes.{over_same, shows_same}
 use Rattle.delay_replay.proofs.LaterCopies.{few_by_fan_in, refuses_same}
 use Rattle.delay_annotation.specs.RiseFall.{rise_fall_of}
-use Rattle.rise_fall.specs.GateCopies.{rise_fall_gate_wave}
-use Rattle.rise_fall.proofs.SeenWaves.{merged_is_seen}
+use Rattle.rise_fall.specs.GateWaves.{rise_fall_gate_wave}
+use Rattle.rise_fall.proofs.SeenWaves.{merged_is_seen, one_delay_gate}
 use Rattle.rise_fall.proofs.gate.gate_wave.Goals as goal
 
 pub kept_copies-requires-clause-few_pins : goal.kept_copies-requires-clause-few_pins
@@ -44,3 +45,23 @@ returns-clause-not_over c =
 pub returns-clause-refused : goal.returns-clause-refused
 returns-clause-refused c =
     IfErr-weaker c.merge.result _ _ (λ fault refuses. refuses_same _ _ (same c) fault refuses) c.merge.ensures.refused
+
+-- the wave of one delay and the gate's, at each time
+moved : (c : goal.After-gate_wave) (time : ℤ)
+    → delayed_gate_wave c.args.net.now c.rises.result.now c.args.gate.0 c.args.waves.now time
+    ≡ rise_fall_gate_wave c.args.net.now c.args.delays.now c.args.gate.0 c.args.waves.now time
+moved c time =
+    ap (λ (rises : List ℕ). delayed_gate_wave c.args.net.now rises c.args.gate.0 c.args.waves.now time) c.rises.ensures
+    ∙ one_delay_gate c.args.net.now c.args.delays.now c.args.gate.0 c.args.waves.now (c.have_one_delay.ensures.0 c.if-have_one_delay.true) time
+
+pub returns-then-have_one_delay-clause-wave : goal.returns-then-have_one_delay-clause-wave
+returns-then-have_one_delay-clause-wave c =
+    IfOk-weaker c.gate_wave.result _ _ (λ wave are. shows_same _ _ wave (moved c) are) c.gate_wave.ensures.wave
+
+pub returns-then-have_one_delay-clause-not_over : goal.returns-then-have_one_delay-clause-not_over
+returns-then-have_one_delay-clause-not_over c =
+    IfOk-weaker c.gate_wave.result _ _ (λ wave few over. few (over_same _ _ MOST_CHANGES (λ time. sym (moved c time)) over)) c.gate_wave.ensures.not_over
+
+pub returns-then-have_one_delay-clause-refused : goal.returns-then-have_one_delay-clause-refused
+returns-then-have_one_delay-clause-refused c =
+    IfErr-weaker c.gate_wave.result _ _ (λ fault refuses. refuses_same _ _ (moved c) fault refuses) c.gate_wave.ensures.refused

@@ -6,7 +6,7 @@ use Rattle.netlist.specs.Circuit.{pins_at}
 use Rattle.rise_fall.specs.Waves.{risen_fallen}
 use Rattle.delay_annotation.specs.RiseFall.{rise_fall_of}
 use Rattle.delay_replay.specs.Changes.{Changes, AreChangesOf, wave_at}
-use Rattle.rise_fall.specs.GateCopies.{AreSeen, seen_wave}
+use Rattle.rise_fall.specs.Inside.GateCopies.{AreSeen, seen_wave}
 use Rattle.rise_fall.proofs.SeenWaves.{one_seen_more}
 use Rattle.rise_fall.proofs.gate.kept_copies.Goals as goal
 

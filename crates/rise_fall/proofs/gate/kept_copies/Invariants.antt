@@ -1,5 +1,5 @@
 use Rattle.delay_annotation.specs.RiseFall.{rise_fall_of}
-use Rattle.rise_fall.specs.GateCopies.{AreSeen}
+use Rattle.rise_fall.specs.Inside.GateCopies.{AreSeen}
 use Rattle.rise_fall.proofs.gate.kept_copies.Given as goal
 
 -- what the pins before this one see is kept

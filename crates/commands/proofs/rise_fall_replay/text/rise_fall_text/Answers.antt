@@ -1,5 +1,7 @@
 -- One test more, or the first one that is over; and behind the last test the whole text.
-use Rattle.std.proofs.Common.{◌≡◌, ◌+◌, List, [], ◌∷◌, ◌++◌, take, sym, ap, subst, ◌∙◌, arith}
+use Rattle.std.proofs.Common.{◌≡◌, ◌+◌, ◌-◌, ◌*◌, ◌/◌, ◌%◌, List, [], ◌∷◌, ◌++◌, take, Some, refl, sym, ap, subst, ◌∙◌, arith}
+use Rattle.std.proofs.lemmas.Option.{slice_get-get_or}
+use Rattle.test_grade.specs.Lines.{AreTestsUnder, AreUnder, HasLineWords}
 use Rattle.std.proofs.lemmas.List.{length-take-le, take_all, take_more}
 use Rattle.pd_base.specs.declared.test.Test.{Test}
 use Rattle.delay_replay.specs.ChangeLimits.{HasFewOf, RefusesWaves}
@@ -14,7 +16,8 @@ pub loop-index-init : goal.loop-index-init
 loop-index-init c = record {
   written = subst (IsRiseFallText (sampling_of c.args.at.now) []) (sym c.new-text.ensures.items) (no_lines (sampling_of c.args.at.now));
   few = λ k d within. absurd (omega arith);
-  room = c.in_ok-judge.ensures;
+  words = c.in_ok-judge.ensures;
+  block = λ inside. absurd (inside refl);
 }
 
 pub returns-in-Err-clause-refused : goal.returns-in-Err-clause-refused
@@ -25,6 +28,16 @@ returns-in-Err-clause-refused c =
     (refused_here at.net.now (sampled_waves at) c.args.tests.now c.loop-index.index test c.loop-index-test.true c.loop-index.invariant.few
     c.in-Err.fault
     (subst (λ (t : Test). RefusesWaves at.net.now (sampled_waves at t.pair) c.in-Err.fault) c.index-tests-index.is c.in-Err.ensures.refused))
+
+pub word_on-word-requires-clause-under : goal.word_on-word-requires-clause-under
+word_on-word-requires-clause-under c =
+    let net = c.args.at.now.net.now in
+    let place = c.loop-index.index in
+    let test = c.index-tests-index.result in
+    let lane : place - place / 64 * 64 ≡ place % 64 = omega arith in
+    subst (λ lane. AreUnder net test.pair lane c.go_on.new.self.finals c.go_on.new.self.steadies) lane
+    (c.go_on.ensures.tests place test (omega arith) (omega arith)
+    (slice_get-get_or c.args.tests.now place test c.loop-index-test.true ∙ ap Some (sym c.index-tests-index.is)))
 
 pub loop-index-preserved : goal.loop-index-preserved
 loop-index-preserved c =
@@ -46,7 +59,11 @@ loop-index-preserved c =
       few =
           one_more_few at.net.now (sampled_waves at) tests place test c.loop-index-test.true c.loop-index.invariant.few
           (subst (λ (t : Test). HasFewOf at.net.now (sampled_waves at t.pair)) c.index-tests-index.is c.in_default.ensures.few);
-      room = c.word_on-word.ensures.room ∙ c.loop-index.invariant.room;
+      words = subst (HasLineWords at.net.now) (sym c.word_on-word.ensures.same) c.go_on.ensures.words;
+      block = λ inside.
+          let same : place / 64 * 64 ≡ (place + 1) / 64 * 64 = omega arith in
+          subst (AreTestsUnder at.net.now ((place + 1) / 64 * 64) tests) (sym c.word_on-word.ensures.same)
+          (subst (λ begin. AreTestsUnder at.net.now begin tests c.go_on.new.self) same c.go_on.ensures.tests);
     }
 
 pub returns-clause-text : goal.returns-clause-text

@@ -1,7 +1,7 @@
 use Rattle.std.proofs.Common.{◌≡◌, length}
 use Rattle.netlist.specs.Circuit.{line_count}
 use Rattle.test_grade.specs.Serving.{StandInLanes}
-use Rattle.test_grade.proofs.serving.put_pairs.Given as goal
+use Rattle.test_grade.proofs.pair_lanes.put_pairs.Given as goal
 
 -- the pairs so far stand in their lanes
 abbrev pub invariant-loop-place : goal.invariant-loop-place

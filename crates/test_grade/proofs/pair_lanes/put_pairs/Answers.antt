@@ -3,7 +3,7 @@ use Rattle.std.proofs.Common.{Bool, List, get_or, subst, ◌-◌, ◌∙◌, ari
 use Rattle.std.proofs.lemmas.Option.{slice_get-get_or}
 use Rattle.logic_values.specs.Lanes.{IsInLane}
 use Rattle.test_grade.proofs.Blocks.{one_more_lane}
-use Rattle.test_grade.proofs.serving.put_pairs.Goals as goal
+use Rattle.test_grade.proofs.pair_lanes.put_pairs.Goals as goal
 
 pub loop-place-preserved : goal.loop-place-preserved
 loop-place-preserved c =
