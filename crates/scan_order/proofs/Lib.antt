@@ -1,0 +1,7 @@
+mod FlopNames
+mod Lines
+mod Placed
+mod ChainLines
+mod Passing
+mod Refused
+mod Linked
