@@ -30,11 +30,14 @@ module _ {A : Type 0} (name : A → List ℕ) where
       ∙ sym (append_assoc (map name first) (parted (ended ++ chain ∷ [])) (name flop ∷ []))
 
   -- one chain more
+  pub lines-begin : (first : List A) (more : List (List A)) → lines ((first ∷ more) ++ [] ∷ []) ≡ lines (first ∷ more) ++ [] ∷ []
+  lines-begin first more =
+      ap (λ (names : List (List ℕ)). map name first ++ names) (flat_map-append (λ (one : List A). [] ∷ map name one) more ([] ∷ []))
+      ∙ sym (append_assoc (map name first) (parted more) ([] ∷ []))
+
   pub lines-part : (ended : List (List A)) (chain : List A) → lines ((ended ++ chain ∷ []) ++ [] ∷ []) ≡ lines (ended ++ chain ∷ []) ++ [] ∷ []
-  lines-part [] chain = ap (λ (names : List (List ℕ)). names ++ [] ∷ []) (sym (append-nil (map name chain)))
-  lines-part (first ∷ ended) chain =
-      ap (λ (more : List (List ℕ)). map name first ++ more) (flat_map-append (λ (one : List A). [] ∷ map name one) (ended ++ chain ∷ []) ([] ∷ []))
-      ∙ sym (append_assoc (map name first) (parted (ended ++ chain ∷ [])) ([] ∷ []))
+  lines-part [] chain = lines-begin chain []
+  lines-part (first ∷ ended) chain = lines-begin first (ended ++ chain ∷ [])
 
 -- all that stands in chains
 abbrev pub inside : {A : Type 0} → List (List A) → List A

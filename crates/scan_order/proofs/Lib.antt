@@ -4,4 +4,6 @@ mod Placed
 mod ChainLines
 mod Passing
 mod Refused
+mod Taken
 mod Linked
+mod ReadSoFar

@@ -1,5 +1,5 @@
 -- The links of chains: one more of them, and that no flip-flop has two.
-use Rattle.std.proofs.Common.{◌≡◌, ◌≢◌, ◌∙◌, ◌+◌, ◌<◌, ◌≤◌, ℕ, zero, suc, List, [], ◌∷◌, ◌++◌, length, get_or, take, drop, map, flat_map, zip, refl, sym, ap, subst, arith}
+use Rattle.std.proofs.Common.{◌≡◌, ◌≢◌, ◌∙◌, ◌+◌, ◌-◌, ◌<◌, ◌≤◌, ℕ, zero, suc, List, [], ◌∷◌, ◌++◌, length, get_or, take, drop, map, flat_map, zip, refl, sym, ap, subst, arith}
 use Rattle.std.specs.List.{All, AllByRecursion, AllPairs}
 use Rattle.std.proofs.lemmas.List.{map-append}
 use Rattle.std.proofs.lemmas.List.Elements.{All-from_recursion, All-weaker, recursion_from_All}
@@ -15,13 +15,22 @@ use Rattle.scan_order.proofs.ChainLines.{in_each}
 use Rattle.scan_order.proofs.FlopNames.{flop_in_circuit, flop_is_late}
 
 -- one flip-flop more along a chain
-pub links_along-more : (at : ℕ) (chain : List LineId) (d : LineId) → suc at < length chain
+links_along-more : (at : ℕ) (chain : List LineId) (d : LineId) → suc at < length chain
     → links_along (take (suc (suc at)) chain) ≡ links_along (take (suc at) chain) ++ (get_or chain (suc at) d, get_or chain at d) ∷ []
 links_along-more at [] d within = absurd (omega arith)
 links_along-more at (flop ∷ []) d within = absurd (omega arith)
 links_along-more zero (flop ∷ next ∷ chain) d within = refl
 links_along-more (suc at) (flop ∷ next ∷ chain) d within =
     ap (λ (links : LinkList). (next, flop) ∷ links) (links_along-more at (next ∷ chain) d (omega arith))
+
+pub links_along-next : (at : ℕ) (chain : List LineId) (d : LineId) → 1 ≤ at → at < length chain
+    → links_along (take (at + 1) chain) ≡ links_along (take at chain) ++ (get_or chain at d, get_or chain (at - 1) d) ∷ []
+links_along-next zero chain d some within = absurd (omega arith)
+links_along-next (suc at) chain d some within =
+    let next : suc at + 1 ≡ suc (suc at) = omega arith in
+    let before : at ≡ suc at - 1 = omega arith in
+    ap (λ (n : ℕ). links_along (take n chain)) next ∙ links_along-more at chain d within
+    ∙ ap (λ (n : ℕ). links_along (take (suc at) chain) ++ (get_or chain (suc at) d, get_or chain n d) ∷ []) before
 
 -- each link is of two flip-flops of the chain
 linked_all : (P : LineId → Type 0) (chain : List LineId) → AllByRecursion P chain → AllByRecursion (λ link. P link.0 × P link.1) (links_along chain)

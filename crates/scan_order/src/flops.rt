@@ -1,6 +1,7 @@
 // Which lines are those of flip-flops. They are the last sources, so a test of numbers tells.
-ghost use Rattle.std.specs.Prelude.{◌≡◌, ◌<◌, ◌↔◌, IfSome, IsTrue};
-ghost use Rattle.netlist.specs.Circuit.{line_count, source_count};
+ghost use Rattle.std.specs.Prelude.{◌<◌, ◌↔◌, IfSome, IsTrue};
+ghost use Rattle.netlist.specs.Circuit.{source_count};
+ghost use Rattle.netlist.specs.Lawful.{IsCircuit};
 ghost use Rattle.netlist.specs.Names.{name_at};
 ghost use Rattle.text_pieces.specs.Reads.{Reads};
 ghost use Rattle.scan_order.specs.Chains.{IsFlop};
@@ -10,6 +11,7 @@ use pd_base::LineId;
 
 // The flip-flop of this name, if there is one.
 pub(crate) fn find_flop(net: &Netlist, name: &[u8]) -> Option<LineId>
+    requires { IsCircuit net.now }
     ensures reads { Reads (λ flop. name_at net.now flop.0) (IsFlop net.now) name.now result }
     ensures source { IfSome result (λ flop. flop.0 < source_count net.now) }
 {

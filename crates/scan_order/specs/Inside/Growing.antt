@@ -2,6 +2,7 @@
 use Rattle.std.specs.Prelude.{◌≡◌, ◌≢◌, ◌↔◌, ℕ, ◌+◌, ◌<◌, ◌≤◌, false, IsTrue, List, [], ◌∷◌, ◌++◌, length, All, AllPairs, Contains, slice_index_or}
 use Rattle.pd_base.specs.declared.ids.LineId.{LineId}
 use Rattle.netlist.specs.Circuit.{Circuit, source_count}
+use Rattle.netlist.specs.Lawful.{IsCircuit}
 use Rattle.text_pieces.specs.Tokens.{line}
 use Rattle.scan_order.specs.Chains.{IsFlop, in_chains}
 use Rattle.scan_order.specs.ScanFile.{scan_lines}
@@ -22,6 +23,7 @@ pub record MarksPlaced (c : Circuit) (chains : List (List LineId)) (growing : Gr
 
 -- the chains so far are of flip-flops of the circuit, each once; only the last may be empty
 pub record IsGrowing (c : Circuit) (growing : Growing) : Type 0 where
+  pub circuit : IsCircuit c
   pub some : All (λ chain. 1 ≤ length chain) growing.ended.items
   pub flops : All (IsFlop c) (in_chains (chains_so_far growing))
   pub once : AllPairs (λ a b. a ≢ b) (in_chains (chains_so_far growing))
