@@ -1,5 +1,5 @@
 -- Lines of chains of a circuit pass, each behind those before it.
-use Rattle.std.proofs.Common.{◌≡◌, ◌≢◌, ◌⊎◌, ⊎_elim, inl, inr, ◌∙◌, ◌+◌, ◌≤◌, ℕ, List, [], ◌∷◌, ◌++◌, length, Contains, refl, sym, ap, subst, append_assoc, arith}
+use Rattle.std.proofs.Common.{◌≡◌, ◌≢◌, ◌⊎◌, ⊎_elim, ◌∙◌, ◌≤◌, ℕ, List, [], ◌∷◌, ◌++◌, length, Contains, refl, sym, ap, subst, append_assoc, arith}
 use Rattle.std.specs.List.{All, AllByRecursion, AllPairs}
 use Rattle.std.proofs.lemmas.List.Elements.{All-from_recursion, recursion_from_All}
 use Rattle.pd_base.specs.declared.ids.LineId.{LineId}
@@ -8,12 +8,12 @@ use Rattle.netlist.specs.Lawful.{IsCircuit}
 use Rattle.netlist.specs.Names.{name_at}
 use Rattle.text_pieces.specs.Cuts.{Lacks}
 use Rattle.text_pieces.specs.Tokens.{line, line_feed}
-use Rattle.scan_order.specs.Chains.{AreChainsOf, IsFlop, in_chains}
+use Rattle.scan_order.specs.Chains.{IsFlop, in_chains}
 use Rattle.scan_order.specs.ScanFile.{chain_names, parted_names, scan_lines, text_of_lines}
 use Rattle.scan_order.specs.ScanRefusals.{HavePassed, LinePasses}
 use Rattle.scan_order.specs.ScanRefusals.LinePasses.{names, parts}
 use Rattle.scan_order.proofs.FlopNames.{flop_in_circuit, line_of_name, name_is_one_line, name_is_some}
-use Rattle.scan_order.proofs.ChainLines.{in_each, lines_once, named_inside, said_once}
+use Rattle.scan_order.proofs.ChainLines.{in_each, named_inside, said_once}
 use Rattle.scan_order.proofs.Placed.{line_at, no_lines, not_misplaced, AreLeft, IsLineAt}
 use Rattle.scan_order.proofs.Placed.IsLineAt.{empty, name_of}
 

@@ -1,6 +1,6 @@
 -- A text that fails is the file of no chains, and a text is the file of no two.
-use Rattle.std.proofs.Common.{◌≡◌, ◌≢◌, ◌∙◌, ◌+◌, ◌≤◌, ℕ, List, [], ◌∷◌, ◌++◌, length, Option, Some, None, Contains, refl, sym, ap, subst, append-nil, arith}
-use Rattle.std.specs.List.{All, AllByRecursion}
+use Rattle.std.proofs.Common.{◌≡◌, ◌∙◌, ◌≤◌, ℕ, List, [], ◌∷◌, ◌++◌, length, Some, None, Contains, refl, sym, ap, subst, append-nil, arith}
+use Rattle.std.specs.List.{AllByRecursion}
 use Rattle.std.proofs.lemmas.List.Elements.{All-contains, Contains-append_right, recursion_from_All}
 use Rattle.pd_base.specs.declared.ids.LineId.{LineId}
 use Rattle.netlist.specs.Circuit.{Circuit}
@@ -8,9 +8,9 @@ use Rattle.netlist.specs.Lawful.{IsCircuit}
 use Rattle.netlist.specs.Names.{name_at}
 use Rattle.text_pieces.specs.Cuts.{Lacks}
 use Rattle.text_pieces.specs.Reads.{Reads}
-use Rattle.text_pieces.specs.Tokens.{line, line_feed}
+use Rattle.text_pieces.specs.Tokens.{line_feed}
 use Rattle.text_pieces.proofs.Cuts.{line_once}
-use Rattle.scan_order.specs.Chains.{AreChains, AreChainsOf, IsFlop, flop_lines, in_chains}
+use Rattle.scan_order.specs.Chains.{AreChainsOf, IsFlop, flop_lines, in_chains}
 use Rattle.scan_order.specs.ScanFile.{scan_lines, scan_text, text_of_lines}
 use Rattle.scan_order.specs.ScanRefusals.{FailsAs, HavePassed, IsMissingFlop, IsRepeatedLine, IsUnknownLine, LinePasses}
 use Rattle.scan_order.specs.ScanRefusals.LinePasses.{names, parts}

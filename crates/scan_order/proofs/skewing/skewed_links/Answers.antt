@@ -1,9 +1,7 @@
 -- The links of a circuit's chains are of the circuit.
-use Rattle.std.proofs.Common.{◌≡◌, ◌∙◌, List, sym, ap, subst, arith}
+use Rattle.std.proofs.Common.{◌≡◌, ◌∙◌, sym, ap, subst, arith}
 use Rattle.std.proofs.lemmas.List.{take_all}
 use Rattle.std.proofs.lemmas.Result.{IfOk-weaker}
-use Rattle.pd_base.specs.declared.ids.LineId.{LineId}
-use Rattle.pd_base.specs.Links.{LinkList}
 use Rattle.netlist.specs.LinkedPairs.{AreLinksOf}
 use Rattle.scan_order.specs.SkewedLinks.{links_of_chains}
 use Rattle.scan_order.proofs.Linked.{links_of_circuit}
