@@ -1,0 +1,9 @@
+mod FlopNames
+mod Lines
+mod Placed
+mod ChainLines
+mod Passing
+mod Refused
+mod Taken
+mod Linked
+mod ReadSoFar

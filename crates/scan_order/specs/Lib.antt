@@ -1,0 +1,5 @@
+pub mod Chains
+pub mod Inside
+pub mod ScanFile
+pub mod ScanRefusals
+pub mod SkewedLinks
