@@ -1,5 +1,5 @@
 """A netlist of two paths and four faults, with the three files of its run, a delay file of two delays for each pin and a tester's log, written
-down by hand, and calls on them. For the scripts beside it."""
+down by hand; the same with a flip-flop, in mode broadside; and calls on them. For the scripts beside it."""
 
 NET = "INPUT(a)\nOUTPUT(y)\nn = BUFF(a)\ny = AND(a, n)\n"
 DELAYS = "gate,pin,delay\n"
@@ -25,11 +25,24 @@ KEPT_FILES = [TESTS[:TESTS.index("1 1")] + f"1 {path} rise robust 0 1 1\n" for p
 # What rfreplay prints at time 5, and bounds.
 LATE = "1 0 differs late\n2 0 differs met\n"
 BOUNDS = "1 rise 3\n1 fall -\n2 rise 3\n2 fall -\n"
+# A flip-flop that reads its own output, and its run in mode broadside.
+LINKED_NET = "INPUT(a)\nOUTPUT(d)\nq = DFF(d)\nd = AND(a, q)\n"
+LINKED_TESTS = "pdfgen tests 1\nsources a q\nobserved d\n1 1 fall robust 11 01 0\n2 2 fall nonrobust 01 10 0\n"
+LINKED_REPORT = (
+    "path,direction,length,source,steps,verdict,test,robust_proof,nonrobust_proof\n"
+    "1,rise,1,a,d:0,untestable,-,-,1\n"
+    "1,fall,1,a,d:0,robust,1,-,-\n"
+    "2,rise,1,q,d:1,untestable,-,-,2\n"
+    "2,fall,1,q,d:1,nonrobust,2,3,-\n"
+)
+LINKED_PROOFS = "pdfgen proofs 3\n1 refutes nonrobust rise 1 1 X\n2 refutes nonrobust rise 2 0 X\n3 refutes robust fall 2 1 X\n"
+LINKED_SUMMARY = "paths 2 robust 1 nonrobust 1 untestable 2 aborted 0\n"
 # Longer than each of the outputs, so that it shows where a file was not cut.
 OLD = "0" * 1000
 
 OUTPUTS = (("tests", TESTS), ("report", REPORT), ("proofs", PROOFS), ("kept", OLD))
-INPUTS = (("net", NET), ("delays", DELAYS), ("two_delays", TWO_DELAYS), ("log", LOG))
+INPUTS = (("net", NET), ("delays", DELAYS), ("two_delays", TWO_DELAYS), ("log", LOG), ("linked_net", LINKED_NET), ("linked_tests", LINKED_TESTS),
+          ("linked_report", LINKED_REPORT), ("linked_proofs", LINKED_PROOFS))
 # Files that are refused, each for a reason whose line names something.
 REFUSED = (
     ("other_net", NET.replace("BUFF(a)", "BUFF(b)")),
@@ -44,10 +57,14 @@ REFUSED = (
 
 FILES = ["net", "delays", "tests", "report", "proofs"]
 GEN_FILES = [TESTS, REPORT, GEN_PROOFS]
+LINKED_GEN = ["gen", "linked_net", *FILES[1:], "--mode", "broadside"]
+LINKED_CHECK = ["check", "linked_net", "delays", "linked_tests", "linked_report", "linked_proofs"]
 # What is called, the words, and the status.
 CALLS = [
     ("gen", ["gen", *FILES], 0),
     ("check", ["check", *FILES], 0),
+    ("gen, mode broadside", LINKED_GEN, 0),
+    ("check, mode broadside", [*LINKED_CHECK, "--mode=broadside"], 0),
     ("replay", ["replay", "net", "delays", "tests", "1"], 0),
     ("make", ["make", "2"], 0),
     ("rfreplay", ["rfreplay", "net", "two_delays", "tests", "report", "5"], 0),
@@ -55,6 +72,7 @@ CALLS = [
     ("bounds", ["bounds", "net", "tests", "report", "log"], 0),
     ("check, a line malformed", ["check", "net", "delays", "other_tests", "report", "proofs"], 1),
     ("check, a proof bad", ["check", "net", "delays", "tests", "report", "other_proofs"], 1),
+    ("check, proofs of another mode", LINKED_CHECK, 1),
     ("rfreplay, a line malformed", ["rfreplay", "net", "two_delays", "other_tests", "report", "5"], 1),
     ("compact, a path wrong", ["compact", "net", "tests", "other_report", "kept"], 1),
     ("bounds, bits wrong", ["bounds", "net", "other_bits", "report", "log"], 1),
@@ -103,6 +121,8 @@ def is_as_written_down(words, out, files):
     *others, kept = files
     if words == ["gen", *FILES]:
         return out == SUMMARY and files == [*GEN_FILES, OLD]
+    if words == LINKED_GEN:
+        return out == LINKED_SUMMARY and files == [LINKED_TESTS, LINKED_REPORT, LINKED_PROOFS, OLD]
     if out and words[0] == "compact":
         return out == KEPT and others == before(words)[:-1] and kept in KEPT_FILES
     printed = {"rfreplay": LATE, "bounds": BOUNDS}.get(words[0] if words else None)
