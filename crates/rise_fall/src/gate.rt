@@ -1,5 +1,5 @@
 // The wave of a gate whose pins delay a rise and a fall differently: what its pins see, and the merge of that.
-ghost use Rattle.std.specs.Prelude.{◌≡◌, ◌<◌, ◌≤◌, ◌↔◌, ℕ, ⊤, List, length, All, IfOk, IfErr, IsTrue};
+ghost use Rattle.std.specs.Prelude.{◌≡◌, ◌<◌, ◌≤◌, ◌↔◌, ℕ, ⊤, true, false, List, length, All, IfOk, IfErr, IsTrue};
 ghost use Rattle.netlist.specs.Circuit.{gate_count, line_count, pins_at};
 ghost use Rattle.delay_annotation.specs.RiseFall.{BothFit, rise_fall_of};
 ghost use Rattle.delay_replay.specs.declared.gate.TheConstants.{MOST_CHANGES};
@@ -78,16 +78,31 @@ fn have_one_delay(net: &Netlist, delays: &RiseFall, gate: GateId, waves: &[Wave]
     requires fits { BothFit net.now delays.now }
     requires gate { gate.0 < gate_count net.now }
     requires one_each { length waves.now ≡ line_count net.now }
+    requires few_pins { length (pins_at net.now gate.0) ≤ MOST_FAN_IN }
     ensures { IsTrue result ↔ HaveOneDelay (rise_fall_of net.now delays.now) net.now gate.0 (length (pins_at net.now gate.0)) waves.now }
 {
-    let rises = delays.rises().of_gate(net, gate);
-    let falls = delays.falls().of_gate(net, gate);
     for (pin, line) in net.pins(gate).iter().enumerate() {
-        if rises[pin] != falls[pin] && !waves[line.0 as usize].changes().is_empty() {
+        let own = PinRef {
+            gate,
+            pin: pin as u32,
+        };
+        // Most lines don't change, so this is asked first.
+        let changes = !waves[line.0 as usize].changes().is_empty();
+        if changes && !has_one_delay(net, delays, own) {
             return false;
         }
     }
     true
+}
+
+// Whether a pin takes as long to show a rise of its line as a fall.
+fn has_one_delay(net: &Netlist, delays: &RiseFall, pin: PinRef) -> bool
+    requires fits { BothFit net.now delays.now }
+    requires gate { pin.gate.0 < gate_count net.now }
+    requires pin { pin.pin < length (pins_at net.now pin.gate.0) }
+    ensures { IsTrue result ↔ rise_fall_of net.now delays.now pin true ≡ rise_fall_of net.now delays.now pin false }
+{
+    delays.rise(net, pin) == delays.fall(net, pin)
 }
 
 // What the pins of a gate see. It fails only where memory runs out.

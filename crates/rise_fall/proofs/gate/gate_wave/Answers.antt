@@ -14,6 +14,10 @@ use Rattle.rise_fall.specs.GateWaves.{rise_fall_gate_wave}
 use Rattle.rise_fall.proofs.SeenWaves.{merged_is_seen, one_delay_gate}
 use Rattle.rise_fall.proofs.gate.gate_wave.Goals as goal
 
+pub have_one_delay-requires-clause-few_pins : goal.have_one_delay-requires-clause-few_pins
+have_one_delay-requires-clause-few_pins c =
+    few_by_fan_in (kind_at c.args.net.now c.args.gate.0) _ (c.lines-lines.ensures.circuit.fan_in c.args.gate.0 c.requires.gate)
+
 pub kept_copies-requires-clause-few_pins : goal.kept_copies-requires-clause-few_pins
 kept_copies-requires-clause-few_pins c =
     few_by_fan_in (kind_at c.args.net.now c.args.gate.0) _ (c.lines-lines.ensures.circuit.fan_in c.args.gate.0 c.requires.gate)
