@@ -77,7 +77,7 @@ module _ (a : StateAlgebra) (c : Circuit) (rules : Rules) (of_rules : a ≡ alge
   }
 
   -- where the entries empty a line, the start of the prefix closes
-  closes_at : (line : ℕ) → line < line_count c → IsEmptiedUnder a c rules begun entries line → ClosesAtStart c rules first
+  pub closes_at : (line : ℕ) → line < line_count c → IsEmptiedUnder a c rules begun entries line → ClosesAtStart c rules first
   closes_at line inside emptied =
       let Emptied : List PinRef → Type 0 =
       λ steps. IsEmptied a c (IsNarrowingOf c (links_of rules) begun.kind steps) Under line in

@@ -37,9 +37,15 @@ use Rattle.prefix_sensitize.proofs.FoundProofs.{found_still, none_before, none_s
 use Rattle.prefix_sensitize.proofs.NewRefutations.{applies_only, applies_to, refutation_found, spent_applies_not, spent_found}
 use Rattle.prefix_sensitize.proofs.OrderPlaces.{all_at, among, one_place, some_place}
 use Rattle.prefix_sensitize.proofs.PathOrder.{stands_once}
-use Rattle.prefix_sensitize.proofs.Reached.{HasReached, reached}
+use Rattle.prefix_sensitize.proofs.Reached.{HasReached, reached, tried_on}
 use Rattle.prefix_sensitize.proofs.RoutePrefixes.{fewer_steps, prefix_through, shorter_of_two, steps_of_prefix}
 use Rattle.prefix_sensitize.proofs.Visits.{come_on, entered_of, stands_on}
+
+-- no path with this prefix stands before a place
+abbrev pub StandsNoEarlier : Course → ℕ → Route → Type 0
+StandsNoEarlier course place prefix =
+    (at other : ℕ) (another : Route) → StandsInOrder course.paths.now course.order.now at other another → IsPrefixOf prefix another
+    → place ≤ at
 
 module _ (c : Circuit) (rules : Rules) (ends : Option (List LineId)) (course : Course) (is_course : IsCourse c rules ends course) (begin place row : ℕ)
     (route : Route) (here : StandsInOrder course.paths.now course.order.now place row route) (before : List Outcome) (old : List Proof)
@@ -143,7 +149,7 @@ module _ (c : Circuit) (rules : Rules) (ends : Option (List LineId)) (course : C
 
   -- a refutation settles all paths that have its prefix
   module _ (count : ℕ) (tree : List Node) (is : ended ≡ Refuted count tree) (refutes : RefutesPrefix c rules course.aim route count tree)
-      (end least : ℕ) (stretch : IsStretch course.paths.now course.order.now (prefix_of count route) place end least)
+      (earlier_none : StandsNoEarlier course place (prefix_of count route)) (end least : ℕ) (stretch : IsStretch course.paths.now course.order.now (prefix_of count route) place end least)
       (after : List Outcome)
       (rows : HaveOutcome course.order.now place end (Proved (length old)) before after) where
     abbrev prefix : Route
@@ -157,13 +163,6 @@ module _ (c : Circuit) (rules : Rules) (ends : Option (List LineId)) (course : C
 
     its_count : count ≡ shared + more
     its_count = reach.at_refuted count tree is
-
-    earlier_none : (at other : ℕ) (another : Route) → StandsInOrder course.paths.now course.order.now at other another
-        → IsPrefixOf prefix another → place ≤ at
-    earlier_none =
-        let W : ℕ → Type 0 = λ n. (shared < n) ⊎ (n ≡ length route.steps) in
-        none_earlier c rules ends course is_course begin place row route here before old steps come source pins on shared is_shared count
-        tree refutes (subst W (sym its_count) reach.which)
 
     only_to : (target : Target) → Applies course.paths.now target added → IsPrefixOf prefix target.path
     only_to =
@@ -288,9 +287,11 @@ module _ (c : Circuit) (rules : Rules) (ends : Option (List LineId)) (course : C
     abbrev Then : Type 0
     Then = HasVisited c rules course begin place end (record { source = source; steps = take kept route.steps }) after old new (steps + more)
 
-    by_end : (ended : Ended) → IsEnded c rules course.aim route ended → (shared : ℕ) → shared ≤ kept → ShareSteps pins route.steps shared
-        → HasReached route ended shared kept (shared + more) → Settles course place row route ended end before after old new → Then
-    by_end (Test pair) is_ended shared stays is_shared reach settles =
+    pub by_end : (ended : Ended) → IsEnded c rules course.aim route ended → (shared : ℕ) → shared ≤ kept → ShareSteps pins route.steps shared
+        → HasReached route ended shared kept (shared + more)
+        → ((count : ℕ) (tree : List Node) → ended ≡ Refuted count tree → StandsNoEarlier course place (prefix_of count route))
+        → Settles course place row route ended end before after old new → Then
+    by_end (Test pair) is_ended shared stays is_shared reach earlier settles =
         let C : ℕ → List Proof → Type 0 =
         λ n proofs. HasVisited c rules course begin place n (record { source = source; steps = take kept route.steps }) after old proofs
         (steps + more) in
@@ -305,7 +306,7 @@ module _ (c : Circuit) (rules : Rules) (ends : Option (List LineId)) (course : C
           within = inside;
           adds = record { more = []; adds = sym (append-nil old); aimed = All-nil (IsAbout course.aim.kind course.aim.direction) };
         })
-    by_end (Spent tree) is_ended shared stays is_shared reach settles =
+    by_end (Spent tree) is_ended shared stays is_shared reach earlier settles =
         let added = found_proof course.aim true row (length route.steps) tree in
         let C : ℕ → List Proof → Type 0 =
         λ n proofs. HasVisited c rules course begin place n (record { source = source; steps = take kept route.steps }) after old proofs
@@ -338,7 +339,7 @@ module _ (c : Circuit) (rules : Rules) (ends : Option (List LineId)) (course : C
           within = inside;
           adds = adds_one added (record { of_kind = refl; of_direction = refl });
         })
-    by_end (Refuted count tree) is_ended shared stays is_shared reach settles =
+    by_end (Refuted count tree) is_ended shared stays is_shared reach earlier settles =
         let added = found_proof course.aim false settles.0 count tree in
         let C : List Proof → Type 0 =
         λ proofs. HasVisited c rules course begin place end (record { source = source; steps = take kept route.steps }) after old proofs
@@ -347,8 +348,8 @@ module _ (c : Circuit) (rules : Rules) (ends : Option (List LineId)) (course : C
         (record {
           come =
               on_all c rules ends course is_course begin place row route here before old steps come.come source same pins come.on
-              (Refuted count tree) shared kept more stays is_shared reach count tree refl is_ended end settles.0 settles.1 after
-              settles.2.rows;
+              (Refuted count tree) shared kept more stays is_shared reach count tree refl is_ended (earlier count tree refl) end settles.0
+              settles.1 after settles.2.rows;
           further = settles.1.some;
           within = settles.1.in_order;
           adds = adds_one added (record { of_kind = refl; of_direction = refl });
@@ -362,6 +363,14 @@ module _ (c : Circuit) (rules : Rules) (ends : Option (List LineId)) (course : C
   visited pins' ended more is_ended moved end after new settles steps' counted =
       let P : List PinRef → ℕ → Type 0 =
       λ list n. HasVisited c rules course begin place end (record { source = source; steps = list }) after old new n in
+      let reach = reached c rules course.aim route ended moved.shared moved.kept (moved.shared + more) moved.stays is_ended moved.reaches in
+      let E : Ended → Type 0 = λ e. IsEnded c rules course.aim route e in
+      let W : ℕ → Type 0 = λ n. (moved.shared < n) ⊎ (n ≡ length route.steps) in
       subst₂ P (sym moved.stand) (sym counted)
-      (by_end moved.kept more end after new ended is_ended moved.shared moved.stays moved.is_shared
-      (reached c rules course.aim route ended moved.shared moved.kept (moved.shared + more) moved.stays is_ended moved.reaches) settles)
+      (by_end moved.kept more end after new ended is_ended moved.shared moved.stays moved.is_shared reach
+      (λ count tree is.
+      none_earlier c rules ends course is_course begin place row route here before old steps come.come source pins come.on moved.shared
+      moved.is_shared count tree (subst E is is_ended)
+      (subst W (sym (reach.at_refuted count tree is))
+      (tried_on route ended moved.shared moved.kept (moved.shared + more) moved.stays moved.reaches)))
+      settles)

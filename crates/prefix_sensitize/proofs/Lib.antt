@@ -17,6 +17,7 @@ mod Visits
 mod Ready
 mod Reached
 mod Ended
+mod ClosedStarts
 mod Passing
 mod Along
 mod Answered

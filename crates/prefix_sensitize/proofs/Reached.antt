@@ -10,13 +10,12 @@ use Rattle.prefix_sensitize.specs.declared.outcome.Aim.{Aim}
 use Rattle.prefix_sensitize.specs.Entering.{IsEnded, ReachesPins, RefutesPrefix}
 use Rattle.prefix_sensitize.specs.Entering.ReachesPins.{whole, closed}
 
--- all pins that were kept were tried, and no more than the path has; a refuted prefix ends at the last one that was tried, which is not
--- shared, or is the path; where a pin was left again, there is such a prefix; and where none is, all pins were tried
+-- all pins that were kept were tried, and no more than the path has; a refuted prefix ends at the last one that was tried; where a pin was
+-- left again, there is such a prefix; and where none is, all pins were tried
 pub record HasReached (path : Route) (ended : Ended) (shared kept tried : ℕ) : Type 0 where
   pub few : kept ≤ tried
   pub within : tried ≤ length path.steps
   pub at_refuted : (count : ℕ) (tree : List Node) → ended ≡ Refuted count tree → count ≡ tried
-  pub which : (shared < tried) ⊎ (tried ≡ length path.steps)
   pub left : kept < tried → (tree : List Node) × (ended ≡ Refuted tried tree)
   pub last : tried ≤ kept + 1
   pub whole : ((count : ℕ) (tree : List Node) → ¬ (ended ≡ Refuted count tree)) → tried ≡ length path.steps
@@ -27,7 +26,6 @@ reached c rules aim path ended shared kept tried stays is_ended (whole all tries
   few = omega (arith, all, tries);
   within = omega (arith, tries);
   at_refuted = λ count tree is. (let its = refuted count tree is in omega (arith, its, tries));
-  which = inr tries;
   left = λ fewer. absurd (omega (arith, all, tries, fewer));
   last = omega (arith, all, tries);
   whole = λ none. tries;
@@ -40,7 +38,6 @@ reached c rules aim path ended shared kept tried stays is_ended (closed tree is 
       few = omega (arith, tries);
       within = omega (arith, tries, has);
       at_refuted = λ count other also. (let its : count ≡ kept + 1 = cc in omega (arith, its, tries));
-      which = inl (omega (arith, stays, tries));
       left =
           λ fewer.
           (let E : ℕ → Type 0 = λ n. ended ≡ Refuted n tree in
@@ -49,3 +46,9 @@ reached c rules aim path ended shared kept tried stays is_ended (closed tree is 
       last = omega (arith, tries);
       whole = λ none. absurd (none (kept + 1) tree is);
     }
+
+-- what was tried goes on behind what is shared, or up to the end of the path
+pub tried_on : (path : Route) (ended : Ended) (shared kept tried : ℕ) → shared ≤ kept → ReachesPins path ended kept tried
+    → (shared < tried) ⊎ (tried ≡ length path.steps)
+tried_on path ended shared kept tried stays (whole all tries refuted) = inr tries
+tried_on path ended shared kept tried stays (closed tree is tries) = inl (omega (arith, stays, tries))

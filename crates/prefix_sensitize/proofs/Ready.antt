@@ -3,7 +3,6 @@ use Rattle.std.proofs.Common.{ℕ, List, All, Option, sym, subst, subst₂}
 use Rattle.pd_base.specs.declared.rules.Rules.{Rules}
 use Rattle.pd_base.specs.Links.{links_of}
 use Rattle.state_sets.specs.StateAlgebra.{StateAlgebra}
-use Rattle.trees.specs.Unlinked.{IsUnlinked}
 use Rattle.pd_base.specs.declared.ids.LineId.{LineId}
 use Rattle.pd_base.specs.Route.{Route}
 use Rattle.netlist.specs.Circuit.{Circuit}
@@ -27,7 +26,6 @@ ready_again a in_order budget old new before after ready rest desk =
     λ ends. All (λ (route : Route). IsToldBy new.net (links_of new.rules) ends (end_of new.net route)) routes in
     let D : Circuit → Rules → Type 0 = λ c r. IsDeskFor a c r after in
     record {
-      unlinked = subst IsUnlinked (sym rest.rules) ready.unlinked;
       idle = rest.idle;
       listed = subst S (sym rest.net) ready.listed;
       told = subst E (sym rest.ends) (subst₂ T (sym rest.net) (sym rest.rules) ready.told);

@@ -32,7 +32,6 @@ walk_course-requires g c κs lives =
                 is_course = record {
                   circuit = subst C c.net.ensures c.lines.ensures.circuit;
                   fit = c.requires.ready.desk.fit;
-                  unlinked = c.requires.ready.unlinked;
                   searchable = c.requires.ready.listed;
                   told = c.requires.ready.told;
                   order = subst O (sym c.order.ensures) c.requires.ready.tree.order;

@@ -2,11 +2,10 @@
 use Rattle.std.proofs.Common.{◌≡◌, ℕ, ◌+◌, ◌<◌, true≢false, List, [], get_or, Option, sym, subst, subst₂, ◌∙◌, arith}
 use Rattle.std.proofs.lemmas.Result.{IfOk-weaker}
 use Rattle.pd_base.specs.Links.{links_of}
-use Rattle.pd_base.specs.Links.{IsLink}
-use Rattle.state_laws.proofs.Linked.{none_linked}
+use Rattle.netlist.specs.Paths.{end_of}
+use Rattle.state_laws.proofs.FanIns.{leads_in_fan_in}
 use Rattle.implication.specs.Standing.{IsToldBy}
-use Rattle.implication.proofs.Told.{free_told}
-use Rattle.trees.proofs.Unlinked.{four_unlinked, no_links}
+use Rattle.implication.proofs.Told.{told_in_fan_in}
 use Rattle.pd_base.specs.declared.ids.LineId.{LineId}
 use Rattle.pd_base.specs.declared.rules.Rules.{Rules}
 use Rattle.pd_base.specs.Route.{Route}
@@ -52,13 +51,17 @@ begin-scope-requires-clause-told g c =
     let path =
     c.requires.1.1.1.1.0.is_course.searchable.are_paths row c.index-course-row.result
     (c.requires.1.1.1.1.0.is_course.order.inside c.args.place 0 c.requires.1.1.1.1.1.0) in
+    let net = c.args.engine.now.net in
+    let ends = c.args.engine.now.ends in
     let links = links_of c.args.engine.now.rules in
-    let none : links ≡ [] = no_links c.args.engine.now.rules c.requires.1.1.1.1.0.is_course.unlinked in
-    let P : LineId → Type 0 = λ line. IsToldBy c.args.engine.now.net links c.args.engine.now.ends line.0 in
-    let from = (get_or course.paths.now row c.index-course-row.result).source.0 in
-    let free : (other : ℕ) → ¬ IsLink links from other =
-    λ other. subst (λ l. ¬ IsLink l from other) (sym none) (none_linked from other) in
-    subst P (sym c.source-source.ensures) (free_told c.args.engine.now.net links c.args.engine.now.ends from path.prefix.source free)
+    let route = get_or course.paths.now row c.index-course-row.result in
+    let told =
+    c.requires.1.1.1.1.0.is_course.told row c.index-course-row.result
+    (c.requires.1.1.1.1.0.is_course.order.inside c.args.place 0 c.requires.1.1.1.1.1.0) in
+    let P : LineId → Type 0 = λ line. IsToldBy net links ends line.0 in
+    subst P (sym c.source-source.ensures)
+    (told_in_fan_in net links ends (end_of net route) route.source.0 told
+    (leads_in_fan_in net route.source.0 route.steps path.prefix.connects))
 
 pub walk_from-requires : goal.walk_from-requires
 walk_from-requires g c κs lives =

@@ -4,8 +4,6 @@ use Rattle.std.proofs.lemmas.Result.{IfOk-weaker}
 use Rattle.pd_base.specs.Links.{links_of}
 use Rattle.netlist.specs.LinkedPairs.{FitRules}
 use Rattle.trees.specs.Algebras.{algebra_of}
-use Rattle.trees.specs.Unlinked.{IsUnlinked}
-use Rattle.trees.proofs.Unlinked.{four_unlinked, no_links, unlinked_fit}
 use Rattle.pd_base.specs.declared.ids.LineId.{LineId}
 use Rattle.pd_base.specs.Route.{Route}
 use Rattle.pd_base.specs.declared.rules.Rules.{Rules}
@@ -18,16 +16,13 @@ use Rattle.prefix_sensitize.specs.declared.all_outcomes.AllOutcomes.{AllOutcomes
 use Rattle.prefix_sensitize.specs.Listed.{AreAllOutcomes}
 use Rattle.prefix_sensitize.specs.Searches.{searches_of}
 use Rattle.prefix_sensitize.specs.Walks.{AreSearchablePaths}
-use Rattle.prefix_sensitize.proofs.sensitizing.search_paths.Goals as goal
+use Rattle.prefix_sensitize.proofs.sensitizing.search_by.Goals as goal
 
 pub within-requires-clause-ends : goal.within-requires-clause-ends
 within-requires-clause-ends g c =
     let net = c.args.net.now in
     let P : List LineId → Type 0 = All (λ (end : LineId). end.0 < line_count net) in
     subst P (sym c.as_slice.ensures.value) c.in_ok-ends.ensures.lines
-
-pub within-requires-clause-fit : goal.within-requires-clause-fit
-within-requires-clause-fit g c = unlinked_fit c.args.net.now c.args.rules.now (no_links c.args.rules.now c.requires.unlinked)
 
 pub search_on-outcomes-requires-clause-told : goal.search_on-outcomes-requires-clause-told
 search_on-outcomes-requires-clause-told g c =
@@ -43,13 +38,11 @@ search_on-outcomes-requires-clause-told g c =
 
 pub search_on-outcomes-requires-clause-set : goal.search_on-outcomes-requires-clause-set
 search_on-outcomes-requires-clause-set g c =
-    let rules = c.args.rules.now in
     let its_net = ap (λ (s : Standing). s.net) c.in_ok-engine.ensures in
     let its_rules = ap (λ (s : Standing). s.rules) c.in_ok-engine.ensures in
     record {
-      of_rules = four_unlinked rules c.requires.unlinked ∙ ap algebra_of (sym its_rules);
-      fit = subst₂ FitRules (sym its_net) (sym its_rules) (unlinked_fit c.args.net.now rules (no_links rules c.requires.unlinked));
-      unlinked = subst IsUnlinked (sym its_rules) c.requires.unlinked;
+      of_rules = c.requires.states ∙ ap algebra_of (sym its_rules);
+      fit = subst₂ FitRules (sym its_net) (sym its_rules) c.requires.fit;
       idle = ap (λ (s : Standing). s.beginning) c.in_ok-engine.ensures;
     }
 
