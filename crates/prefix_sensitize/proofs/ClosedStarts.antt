@@ -1,16 +1,15 @@
 -- A start that closes at a source, before a pin is entered: one closed leaf refutes all paths from there. The walk has passed none of
 -- them, since no test, no spent tree and no refutation of a longer prefix can stand on such a path.
-use Rattle.std.proofs.Common.{◌≡◌, ⊎_elim, ℕ, ◌+◌, ◌<◌, ◌≤◌, true, false, true≢false, List, [], ◌∷◌, length, take, Option, Some, None, refl, sym, subst, subst₂, ◌∙◌, arith}
-use Rattle.std.specs.Prelude.{is_some, IfSome, slice_index_or}
+use Rattle.std.proofs.Common.{◌≡◌, ⊎_elim, ℕ, ◌+◌, ◌<◌, ◌≤◌, true, false, true≢false, List, [], ◌∷◌, take, Option, Some, None, refl, sym, subst, subst₂, ◌∙◌, arith}
+use Rattle.std.specs.Prelude.{is_some, IfNone, IfSome, slice_index_or}
 use Rattle.std.proofs.lemmas.Bool.{cases_Bool, cases_lt}
 use Rattle.pd_base.specs.declared.fault.Direction.{Direction}
 use Rattle.pd_base.specs.declared.fault.Kind.{Kind}
 use Rattle.pd_base.specs.declared.ids.LineId.{LineId}
-use Rattle.pd_base.specs.declared.ids.PinRef.{PinRef}
 use Rattle.pd_base.specs.declared.rules.Rules.{Rules}
 use Rattle.pd_base.specs.Pair.{Vectors}
 use Rattle.pd_base.specs.Route.{Route}
-use Rattle.pd_base.specs.Target.{Target, target_of}
+use Rattle.pd_base.specs.Target.{target_of}
 use Rattle.netlist.specs.Circuit.{Circuit}
 use Rattle.netlist.specs.Conditions.{Meets}
 use Rattle.netlist.specs.LinkedPairs.{IsOfRules}
@@ -31,14 +30,13 @@ use Rattle.implication.specs.declared.assumption.Assumption.{Assumption}
 use Rattle.implication.specs.declared.assumption.Beginning.{Beginning}
 use Rattle.implication.specs.declared.assumption.Conflict.{Conflict}
 use Rattle.implication.specs.Standing.{Standing, IsEmptiedFrom, IsEmptiedIn}
-use Rattle.good_runs.specs.Faults.{CitesRefutation, CitesSpent, HasProof, IsNumber}
+use Rattle.good_runs.specs.Faults.{CitesRefutation, CitesSpent, IsNumber}
 use Rattle.good_runs.specs.Faults.HasProof.{refuted, spent}
 use Rattle.good_runs.specs.GoodRun.{IsGoodSpent}
 use Rattle.good_runs.specs.Shortest.{ClosesAtStart, IsShortest, target_within}
 use Rattle.good_runs.proofs.Completeness.{root_is_open}
 use Rattle.good_runs.proofs.Numbers.{all_at_number, number_of_place, number_same}
 use Rattle.prefix_sensitize.specs.declared.course.Course.{Course}
-use Rattle.prefix_sensitize.specs.declared.descent.Ended.{Ended}
 use Rattle.prefix_sensitize.specs.declared.descent.Ended.TheVariants.{Refuted}
 use Rattle.prefix_sensitize.specs.declared.outcome.Aim.{Aim}
 use Rattle.prefix_sensitize.specs.declared.outcome.Findings.{Findings}
@@ -72,6 +70,10 @@ module _ (a : StateAlgebra) (standing : Standing) (of_rules : a ≡ algebra_of s
       → ClosesAtStart standing.net standing.rules (target_for aim (prefix_of 0 path))
   conflict_closes None some emptied = absurd (true≢false (sym some))
   conflict_closes (Some conflict) some emptied = begun_closes conflict.0.0 emptied
+
+pub no_conflict : {X : Type 0} {P : Type 0} → (found : Option X) → is_some found ≡ false → IfNone found P → P
+no_conflict None none free = free
+no_conflict (Some conflict) none free = absurd (true≢false none)
 
 module _ (c : Circuit) (rules : Rules) (ends : Option (List LineId)) (course : Course) (is_course : IsCourse c rules ends course)
     (begin place row : ℕ) (route : Route) (here : StandsInOrder course.paths.now course.order.now place row route)

@@ -149,7 +149,8 @@ module _ (c : Circuit) (rules : Rules) (ends : Option (List LineId)) (course : C
 
   -- a refutation settles all paths that have its prefix
   module _ (count : ℕ) (tree : List Node) (is : ended ≡ Refuted count tree) (refutes : RefutesPrefix c rules course.aim route count tree)
-      (earlier_none : StandsNoEarlier course place (prefix_of count route)) (end least : ℕ) (stretch : IsStretch course.paths.now course.order.now (prefix_of count route) place end least)
+      (earlier_none : StandsNoEarlier course place (prefix_of count route)) (end least : ℕ)
+      (stretch : IsStretch course.paths.now course.order.now (prefix_of count route) place end least)
       (after : List Outcome)
       (rows : HaveOutcome course.order.now place end (Proved (length old)) before after) where
     abbrev prefix : Route

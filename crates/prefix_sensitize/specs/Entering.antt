@@ -46,8 +46,8 @@ pub record IsIdleAgain (old new : Standing) : Type 0 where
   pub ends : new.ends ≡ old.ends
   pub idle : new.beginning ≡ None
 
--- the tree refutes the aim on the prefix of so many steps, of none where it is the source alone, within the budget; and where the start closes there it is one closed leaf, and
--- the start of no shorter prefix closes
+-- the tree refutes the aim on the prefix of so many steps, which may be the source alone, within the budget; and where the start closes
+-- there it is one closed leaf, and the start of no shorter prefix closes
 pub record RefutesPrefix (c : Circuit) (rules : Rules) (aim : Aim) (path : Route) (steps : ℕ) (tree : List Node) : Type 0 where
   pub has_steps : steps ≤ length path.steps
   pub refutes : IsRefutation c rules (target_for aim (prefix_of steps path)) tree

@@ -26,8 +26,8 @@ use std::alloc::Global;
 /// Searches for tests of the listed paths, as far as outcomes are needed, and gives for each path its outcome. Each prefix is entered at
 /// most once, and counts one step. A refutation that comes up at a prefix settles all paths that have it: none of them is searched, and
 /// the one proof that is added to the list names the first listed path that has the prefix. One may come up at a source, before a pin is
-/// entered: it has no steps, and settles all paths from there. No scope is open, and no proof is about this
-/// aim yet; where no outcome is needed there is a test.
+/// entered: it has 0 steps, counts none, and settles all paths from there. No scope is open, and no proof is about this aim yet; where no
+/// outcome is needed there is a test.
 ///
 /// Afterwards no scope is open, the desk serves as before, and each proof is one that was found for these paths. The one error is that
 /// memory ran out; promised is then only how far the count of steps rose: no prefix was counted twice.

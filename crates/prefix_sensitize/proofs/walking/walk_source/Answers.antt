@@ -1,8 +1,11 @@
 -- A scope is opened at the source of the path at this place, and left behind the last path from it.
-use Rattle.std.proofs.Common.{◌≡◌, ℕ, ◌+◌, ◌<◌, true≢false, List, [], get_or, Option, sym, subst, subst₂, ◌∙◌, arith}
+use Rattle.std.proofs.Common.{ℕ, ◌+◌, ◌<◌, true≢false, List, [], ◌∷◌, get_or, IfOk, Option, Some, sym, ap, subst, subst₂, ◌∙◌, arith}
 use Rattle.std.proofs.lemmas.Result.{IfOk-weaker}
 use Rattle.pd_base.specs.Links.{links_of}
-use Rattle.netlist.specs.Paths.{end_of}
+use Rattle.netlist.specs.Paths.{end_of, prefix_of}
+use Rattle.trees.specs.declared.tree.Node.TheVariants.{Closed}
+use Rattle.trees.specs.Algebras.{algebra_of}
+use Rattle.good_runs.specs.Shortest.{ClosesAtStart}
 use Rattle.state_laws.proofs.FanIns.{leads_in_fan_in}
 use Rattle.implication.specs.Standing.{IsToldBy}
 use Rattle.implication.proofs.Told.{told_in_fan_in}
@@ -14,8 +17,16 @@ use Rattle.implication.specs.Scopes.{standing}
 use Rattle.justify.specs.Desks.{IsDeskFor}
 use Rattle.prefix_sensitize.specs.Coming.{HasComeApart}
 use Rattle.prefix_sensitize.specs.Courses.{IsCourse}
+use Rattle.prefix_sensitize.specs.declared.descent.Ended.TheVariants.{Refuted}
+use Rattle.prefix_sensitize.specs.Outcomes.{target_for}
+use Rattle.prefix_sensitize.specs.PathOrder.{StandsInOrder}
+use Rattle.prefix_sensitize.specs.Settling.{Settles}
+use Rattle.prefix_sensitize.specs.Walking.{ComesOn}
+use Rattle.prefix_sensitize.proofs.ClosedStarts.{conflict_closes, no_conflict, start_settled}
 use Rattle.prefix_sensitize.proofs.Passing.{adds_none, all_counted, come_alone, come_from, come_past}
 use Rattle.prefix_sensitize.proofs.PathOrder.{stands_there}
+use Rattle.prefix_sensitize.proofs.walking.walk_source.Given.{Over}
+use Rattle.prefix_sensitize.proofs.walking.walk_source.Goals.{After-settle_start}
 use Rattle.prefix_sensitize.proofs.walking.walk_source.Goals as goal
 
 pub returns-then-not-course-row-clause-come : goal.returns-then-not-course-row-clause-come
@@ -85,9 +96,7 @@ walk_from-requires g c κs lives =
               record {
                 beginning = begun.beginning;
                 entered = begun.nothing;
-                free =
-                    c.begin-scope.ensures.four_states (no_links c.args.engine.now.rules c.requires.1.1.1.1.0.is_course.unlinked)
-                    (c.requires.1.1.1.1.0.is_desk.of_rules ∙ sym (four_unlinked c.args.engine.now.rules c.requires.1.1.1.1.0.is_course.unlinked));
+                free = no_conflict c.conflict.result (sym c.is_some.ensures ∙ c.if-is_some.false) c.conflict.ensures.none;
               },
               (
                 record {
@@ -112,6 +121,57 @@ walk_from-requires g c κs lives =
         ),
       ),
     )
+
+-- where the start closes, the walk has come behind all paths from the source
+module _ (g : Over) (c : After-settle_start g) where
+  abbrev Comes : ℕ → Type 0
+  Comes end =
+      HasComeApart c.args.engine.now.net c.args.engine.now.rules c.args.course.now g.begin end c.settle_start.new.found c.args.steps.now
+      × ComesOn c.args.course.now c.args.place end c.args.found.now c.settle_start.new.found
+
+  comes_behind : IfOk c.settle_start.result Comes
+  comes_behind =
+      let course = c.args.course.now in
+      let place = c.args.place in
+      let old = c.args.engine.now in
+      let new = standing c.begin-scope.result in
+      let begun = c.begin-scope.ensures.begun in
+      let is_course = c.requires.1.1.1.1.0.is_course in
+      let row = get_or course.order.now place 0 in
+      let route = get_or course.paths.now row c.index-course-row.result in
+      let here =
+      stands_there course.paths.now course.order.now is_course.order.inside place 0 c.index-course-row.result c.requires.1.1.1.1.1.0 in
+      let of_rules = c.requires.1.1.1.1.0.is_desk.of_rules ∙ ap algebra_of (sym begun.rules) in
+      let began = begun.beginning ∙ (λ i. Some (record { source = c.source-source.ensures i; direction = course.aim.direction; kind = course.aim.kind })) in
+      let Closing : Circuit → Rules → Type 0 = λ n r. ClosesAtStart n r (target_for course.aim (prefix_of 0 route)) in
+      let closes : Closing old.net old.rules =
+      subst₂ Closing begun.net begun.rules
+      (conflict_closes g.A.Algebra.algebra new of_rules route course.aim began begun.nothing c.conflict.result
+      (sym c.is_some.ensures ∙ c.if-is_some.true) c.conflict.ensures.emptied) in
+      IfOk-weaker c.settle_start.result
+      (λ (end : ℕ). (row : ℕ) (route : Route) → StandsInOrder course.paths.now course.order.now place row route
+      → Settles course place row route (Refuted 0 (Closed ∷ [])) end c.args.found.now.outcomes.items c.settle_start.new.found.outcomes.items
+      c.args.found.now.proofs.items c.settle_start.new.found.proofs.items)
+      Comes
+      (λ end settles.
+      start_settled old.net old.rules old.ends course is_course g.begin place row route here closes c.args.found.now c.settle_start.new.found
+      c.args.steps.now c.requires.1.1.1.1.1.1 end (settles row route here))
+      c.settle_start.ensures
+
+pub returns-then-is_some-clause-come : goal.returns-then-is_some-clause-come
+returns-then-is_some-clause-come g c =
+    let at = (goal.at.returns-then-is_some-clause-come g c).After-settle_start in
+    let course = c.args.course.now in
+    let old = c.args.engine.now in
+    IfOk-weaker c.settle_start.result (Comes g at)
+    (λ (end : ℕ). HasComeApart old.net old.rules course g.begin end c.settle_start.new.found c.args.steps.now) (λ end on. on.0)
+    (comes_behind g at)
+
+pub returns-then-is_some-clause-on : goal.returns-then-is_some-clause-on
+returns-then-is_some-clause-on g c =
+    let at = (goal.at.returns-then-is_some-clause-on g c).After-settle_start in
+    IfOk-weaker c.settle_start.result (Comes g at)
+    (λ (end : ℕ). ComesOn c.args.course.now c.args.place end c.args.found.now c.settle_start.new.found) (λ end on. on.1) (comes_behind g at)
 
 pub returns-clause-desk : goal.returns-clause-desk
 returns-clause-desk g c =
