@@ -6,13 +6,12 @@ use Rattle.std.proofs.lemmas.Option.{slice_get-get_or}
 use Rattle.pd_base.specs.Route.{Route}
 use Rattle.netlist.specs.Circuit.{Circuit}
 use Rattle.netlist.specs.Lawful.{IsCircuit}
+use Rattle.netlist.specs.LinkedPairs.{FitRules}
 use Rattle.netlist.specs.Order.{AreFirst}
 use Rattle.netlist.specs.Waves.{Delays}
 use Rattle.runs.specs.declared.run.Proof.{Proof}
 use Rattle.runs.specs.declared.run.Run.{Run}
 use Rattle.runs.specs.Lawful.{IsLawfulRun}
-use Rattle.trees.specs.Unlinked.{IsUnlinked}
-use Rattle.trees.proofs.Unlinked.{no_links, unlinked_fit}
 use Rattle.good_runs.specs.Faults.{routes_of}
 use Rattle.good_runs.specs.GoodRun.{IsGoodRun}
 use Rattle.good_runs.specs.Promises.{AllKeepPromises}
@@ -60,21 +59,21 @@ right_if_none IsRight None none right = right
 right_if_none IsRight (Some flaw) none is = let impossible : ⊥ = cc in absurd impossible
 
 module _ (c : Circuit) (delays : Delays) (count budget : ℕ) (run : Run) (first : List Route) (are_first : AreFirst c delays count first)
-    (lawful : IsLawfulRun c run) (unlinked : IsUnlinked run.rules) where
+    (lawful : IsLawfulRun c run) where
   abbrev IsFound : Option Flaw → Type 0
   IsFound = TellsOfItems (IsRightAt c delays budget first run)
 
   pub claim_tells : (found : Option Flaw) → IsFound found → TellsOfRun c delays count budget run (claim_of found)
-  claim_tells None right = good_of_right c delays count budget run first are_first lawful unlinked right
+  claim_tells None right = good_of_right c delays count budget run first are_first lawful right
   claim_tells (Some flaw) is = (first, are_first, is)
 
   pub claim_exact : (found : Option Flaw) → IsFound found → (claim_of found ≡ Holds) ↔ IsGoodRun c delays count budget run
-  claim_exact None right = (λ _. good_of_right c delays count budget run first are_first lawful unlinked right, λ _. refl)
+  claim_exact None right = (λ _. good_of_right c delays count budget run first are_first lawful right, λ _. refl)
   claim_exact (Some flaw) is = (
     λ (same : Fails flaw.item flaw.reason ≡ Holds). let impossible : ⊥ = cc in absurd impossible,
     λ good. absurd (is.flawed (right_of_good c delays count budget run first are_first good flaw.item flaw.reason)),
   )
 
-  pub claim_promises : IsCircuit c → (found : Option Flaw) → IsFound found → claim_of found ≡ Holds → AllKeepPromises c budget run
-  claim_promises circuit found is holds = good_run_keeps c circuit delays count budget run (unlinked_fit c run.rules (no_links run.rules unlinked))
-      ((claim_exact found is).0 holds)
+  pub claim_promises : IsCircuit c → FitRules c run.rules → (found : Option Flaw) → IsFound found → claim_of found ≡ Holds
+      → AllKeepPromises c budget run
+  claim_promises circuit fit found is holds = good_run_keeps c circuit delays count budget run fit ((claim_exact found is).0 holds)

@@ -16,6 +16,6 @@ pub mod NewPrefixes
 pub mod ProofFlaws
 pub mod VerdictFlaws
 pub mod RowFaults
-pub mod ExpectedFlags
+pub mod TestFlags
 pub mod Agreeing
 mod PathsTold

@@ -1,6 +1,6 @@
 -- A run is good exactly where all of it is right.
 use Rattle.std.proofs.Common.{◌≡◌, ℕ, zero, suc, ◌+◌, ◌-◌, ◌*◌, ◌<◌, ◌≤◌, true, false, List, [], ◌∷◌, length, get_or, refl, sym, ap, subst, ◌∙◌, arith}
-use Rattle.std.specs.Prelude.{slice_get, Some}
+use Rattle.std.specs.Prelude.{slice_get, All, Some}
 use Rattle.std.proofs.lemmas.List.{length-map}
 use Rattle.std.proofs.lemmas.Option.{same_Some, slice_get-get_or}
 use Rattle.pd_base.specs.Route.{Route}
@@ -10,7 +10,6 @@ use Rattle.pd_base.specs.declared.fault.Direction.TheVariants.{Rise, Fall}
 use Rattle.netlist.specs.Circuit.{Circuit}
 use Rattle.netlist.specs.Order.{AreFirst}
 use Rattle.netlist.specs.Paths.{length_of}
-use Rattle.netlist.specs.Values.{observed_values}
 use Rattle.netlist.specs.Waves.{Delays}
 use Rattle.runs.specs.declared.run.ListedPath.{ListedPath}
 use Rattle.runs.specs.declared.run.Proof.{Proof}
@@ -18,15 +17,13 @@ use Rattle.runs.specs.declared.run.Run.{Run}
 use Rattle.runs.specs.declared.run.Verdict.{Verdict}
 use Rattle.runs.specs.declared.run.Verdict.TheVariants.{Robust, Nonrobust, Untestable, Aborted}
 use Rattle.runs.specs.Lawful.{IsLawfulRun, none_named}
-use Rattle.trees.specs.Unlinked.{IsUnlinked}
-use Rattle.trees.proofs.Unlinked.{every_pair_is_of_rules, no_links}
 use Rattle.good_runs.specs.Faults.{IsFault, IsNumber, routes_of, verdict_for}
 use Rattle.good_runs.specs.GoodRun.{IsGoodRefutation, IsGoodRun, IsGoodSpent, IsVerdict}
 use Rattle.good_runs.proofs.FirstOnce.{first_once}
 use Rattle.good_runs.proofs.Numbers.{all_at_number, number_in_map, number_of_map, number_of_place}
 use Rattle.claim_check.specs.declared.claim.Reason.{Reason}
 use Rattle.claim_check.specs.declared.claim.Reason.TheVariants.{WrongCount, WrongPath, WrongLength, BadRefutation, BadSpent, NotShared, BadTest, WrongExpected}
-use Rattle.claim_check.specs.Right.{CitesItsProofs, ExpectsRight, HasItsTest, IsFaultNumber, IsRightAt, IsRightCount, IsRightFaultAt, IsRightPathAt, IsRightProofAt, IsRightVerdict, ItsTestExpectsRight}
+use Rattle.claim_check.specs.Right.{CitesItsProofs, ExpectsRight, HasItsTest, HasPairOf, IsFaultNumber, IsRightAt, IsRightCount, IsRightFaultAt, IsRightPathAt, IsRightProofAt, IsRightVerdict, IsSoOfItsTest, IsSoOfTest}
 use Rattle.claim_check.specs.Right.IsFaultNumber.{rise, fall}
 use Rattle.claim_check.proofs.NamedTests.{NamesTest, test_is_named}
 
@@ -64,21 +61,20 @@ its_test c run number direction path (Nonrobust test proof) is = is.0
 its_test c run number direction path (Untestable proof) is = tt
 its_test c run number direction path (Aborted robust nonrobust) is = tt
 
--- a verdict's test expects the right bits where each test does
-its_expects : (c : Circuit) (run : Run) (verdict : Verdict) → ((number : ℕ) → ExpectsRight c run.tests number)
-    → ItsTestExpectsRight c run verdict
-its_expects c run (Robust test) each = each test
-its_expects c run (Nonrobust test proof) each = each test
-its_expects c run (Untestable proof) each = tt
-its_expects c run (Aborted robust nonrobust) each = tt
+-- what is so of each test is so of a verdict's test
+so_of_its_test : (IsSo : Test → Type 0) (tests : List Test) (verdict : Verdict) → All IsSo tests → IsSoOfItsTest IsSo tests verdict
+so_of_its_test IsSo tests (Robust test) each = λ its is. all_at_number IsSo tests test its each is
+so_of_its_test IsSo tests (Nonrobust test proof) each = λ its is. all_at_number IsSo tests test its each is
+so_of_its_test IsSo tests (Untestable proof) each = tt
+so_of_its_test IsSo tests (Aborted robust nonrobust) each = tt
 
--- a test that a verdict names expects what the verdict's test does
-expects_by : (c : Circuit) (run : Run) (number : ℕ) (verdict : Verdict) → NamesTest verdict number → ItsTestExpectsRight c run verdict
-    → ExpectsRight c run.tests number
-expects_by c run number (Robust test) names expects = subst (ExpectsRight c run.tests) names expects
-expects_by c run number (Nonrobust test proof) names expects = subst (ExpectsRight c run.tests) names expects
-expects_by c run number (Untestable proof) names expects = absurd names
-expects_by c run number (Aborted robust nonrobust) names expects = absurd names
+-- and what is so of a verdict's test is so of the test of its number
+so_of_named : (IsSo : Test → Type 0) (tests : List Test) (number : ℕ) (verdict : Verdict) → NamesTest verdict number
+    → IsSoOfItsTest IsSo tests verdict → IsSoOfTest IsSo tests number
+so_of_named IsSo tests number (Robust test) names so = subst (IsSoOfTest IsSo tests) names so
+so_of_named IsSo tests number (Nonrobust test proof) names so = subst (IsSoOfTest IsSo tests) names so
+so_of_named IsSo tests number (Untestable proof) names so = absurd names
+so_of_named IsSo tests number (Aborted robust nonrobust) names so = absurd names
 
 -- each fault has a number
 record HasFaultNumber (number : ℕ) (direction : Direction) : Type 0 where
@@ -104,7 +100,7 @@ routes_are delays run first counts paths =
 
 module _ (c : Circuit) (delays : Delays) (count budget : ℕ) (run : Run) (first : List Route) (are_first : AreFirst c delays count first) where
   -- where all is right the run is good
-  module _ (lawful : IsLawfulRun c run) (unlinked : IsUnlinked run.rules)
+  module _ (lawful : IsLawfulRun c run)
       (right : (item : ℕ) (reason : Reason) → IsRightAt c delays budget first run item reason) where
     verdict_right : (number : ℕ) (listed : ListedPath) (direction : Direction) → IsNumber run.paths number listed → (reason : Reason)
         → IsRightVerdict c run number direction listed.path (verdict_for listed direction) reason
@@ -112,13 +108,15 @@ module _ (c : Circuit) (delays : Delays) (count budget : ℕ) (run : Run) (first
         let has = fault_number number direction is.positive in
         (right has.item reason).fault number listed direction is has.is_number
 
-    expects : (place : ℕ) (d : Test) → place < length run.tests
-        → (get_or run.tests place d).expected ≡ observed_values c (get_or run.tests place d).pair.second
-    expects place d within =
+    -- what is so of each verdict's test is so of each test, since each is that of some verdict
+    so_of_each : (IsSo : Test → Type 0)
+        → ((number : ℕ) (listed : ListedPath) (direction : Direction) → IsNumber run.paths number listed
+        → IsSoOfItsTest IsSo run.tests (verdict_for listed direction)) → All IsSo run.tests
+    so_of_each IsSo so place d within =
         let many = (right 2 WrongCount).count.tests refl in
         let named = test_is_named none_named run.paths (place + 1) lawful.report.numbered (omega arith) (omega arith) in
-        expects_by c run (place + 1) (verdict_for named.listed named.direction) named.names
-        (verdict_right named.number named.listed named.direction named.is_listed WrongExpected) (get_or run.tests place d)
+        so_of_named IsSo run.tests (place + 1) (verdict_for named.listed named.direction) named.names
+        (so named.number named.listed named.direction named.is_listed) (get_or run.tests place d)
         (number_of_place run.tests place (get_or run.tests place d) (slice_get-get_or run.tests place d within))
 
     verdicts : (number : ℕ) (listed : ListedPath) (direction : Direction) (verdict : Verdict) → IsFault run number listed direction verdict
@@ -127,7 +125,7 @@ module _ (c : Circuit) (delays : Delays) (count budget : ℕ) (run : Run) (first
         let P : Verdict → Type 0 = λ v. IsVerdict c run number direction listed.path v in
         subst P (sym fault.is_verdict)
         (is_verdict c run number direction listed.path (verdict_for listed direction)
-        (verdict_right number listed direction fault.is_listed NotShared) (verdict_right number listed direction fault.is_listed BadTest))
+        (verdict_right number listed direction fault.is_listed NotShared) (verdict_right number listed direction fault.is_listed BadTest).0)
 
     pub good_of_right : IsGoodRun c delays count budget run
     good_of_right = record {
@@ -145,8 +143,9 @@ module _ (c : Circuit) (delays : Delays) (count budget : ℕ) (run : Run) (first
           (right (place + 1) BadSpent).proof (get_or run.proofs place d)
           (number_of_place run.proofs place (get_or run.proofs place d) (slice_get-get_or run.proofs place d within));
       verdicts = verdicts;
-      of_rules = λ place d within. every_pair_is_of_rules c run.rules (no_links run.rules unlinked) (get_or run.tests place d).pair;
-      expected = expects;
+      of_rules = so_of_each (HasPairOf c run.rules)
+          (λ number listed direction is. (verdict_right number listed direction is BadTest).1);
+      expected = so_of_each (ExpectsRight c) (λ number listed direction is. verdict_right number listed direction is WrongExpected);
     }
 
   -- and all is right of a good run
@@ -189,11 +188,11 @@ module _ (c : Circuit) (delays : Delays) (count budget : ℕ) (run : Run) (first
 
         by : (other : Reason) → IsRightVerdict c run number direction listed.path verdict other
         by NotShared = its_proofs c run number direction listed.path verdict asks
-        by BadTest = its_test c run number direction listed.path verdict asks
-        by WrongExpected =
-            its_expects c run verdict
-            (λ test_number test its.
-            all_at_number (λ (t : Test). t.expected ≡ observed_values c t.pair.second) run.tests test_number test good.expected its)
+        by BadTest = (
+          its_test c run number direction listed.path verdict asks,
+          so_of_its_test (HasPairOf c run.rules) run.tests verdict good.of_rules,
+        )
+        by WrongExpected = so_of_its_test (ExpectsRight c) run.tests verdict good.expected
         by other = tt
 
     pub right_of_good : (item : ℕ) (reason : Reason) → IsRightAt c delays budget first run item reason

@@ -1,5 +1,5 @@
 -- The faults of the listed path in a row, as they are judged, in words that are spoken inside this crate alone (this project's own).
-use Rattle.std.specs.Prelude.{◌≡◌, ℕ, ◌+◌, true, List, length, slice_get, Some}
+use Rattle.std.specs.Prelude.{◌≡◌, ⊤, ℕ, ◌+◌, ◌↔◌, Bool, true, false, IsTrue, List, length, slice_get, slice_index_or, Some}
 use Rattle.pd_base.specs.Target.{target_of}
 use Rattle.pd_base.specs.declared.fault.Direction.{Direction}
 use Rattle.pd_base.specs.declared.fault.Kind.{Kind}
@@ -9,13 +9,15 @@ use Rattle.netlist.specs.Circuit.{Circuit}
 use Rattle.runs.specs.declared.run.ListedPath.{ListedPath}
 use Rattle.runs.specs.declared.run.Proof.{Proof}
 use Rattle.runs.specs.declared.run.Run.{Run}
-use Rattle.good_runs.specs.Faults.{IsAbout, routes_of, verdict_for}
-use Rattle.logic_values.specs.Expected.{TellsExpected}
+use Rattle.runs.specs.declared.run.Verdict.{Verdict}
+use Rattle.runs.specs.declared.run.Verdict.TheVariants.{Robust, Nonrobust, Untestable, Aborted}
+use Rattle.good_runs.specs.Faults.{IsAbout, IsNumber, routes_of, verdict_for}
 use Rattle.pair_judging.specs.Judges.{IsJudgeOf}
 use Rattle.claim_check.specs.declared.fault.Fault.{Fault}
 use Rattle.claim_check.specs.declared.verdicts.Least.{Least}
 use Rattle.claim_check.specs.declared.verdicts.TestJudge.{TestJudge}
 use Rattle.claim_check.specs.Prefixes.{AreLeastRefutations, IsLeastRefutation}
+use Rattle.claim_check.specs.Right.{ExpectsRight, HasPairOf}
 
 -- the refutations of the least numbers that apply to the listed paths, for a direction
 pub record AreLeastFor (run : Run) (direction : Direction) (least : Least) : Type 0 where
@@ -24,10 +26,23 @@ pub record AreLeastFor (run : Run) (direction : Direction) (least : Least) : Typ
   pub robust : AreLeastRefutations (routes_of run) run.proofs direction kinds.Robust least.robust.items
   pub nonrobust : AreLeastRefutations (routes_of run) run.proofs direction kinds.Nonrobust least.nonrobust.items
 
--- the tests are judged by this
-pub record JudgesTests (c : Circuit) (tests : List Test) (judge : TestJudge) : Type 0 where
+-- each test has a flag, which is true exactly where this is so of it
+pub record AreFlags (IsSo : Test → Type 0) (tests : List Test) (flags : List Bool) : Type 0 where
+  pub one_each : length flags ≡ length tests
+  pub exactly : (place : ℕ) (test : Test) → slice_get tests place ≡ Some test → IsTrue (slice_index_or flags place false) ↔ IsSo test
+
+-- the verdict's flag, if it has a test that has one, is true
+abbrev pub HasTrueFlag : List Bool → Verdict → Type 0
+HasTrueFlag flags (Robust test) = (flag : Bool) → IsNumber flags test flag → IsTrue flag
+HasTrueFlag flags (Nonrobust test proof) = (flag : Bool) → IsNumber flags test flag → IsTrue flag
+HasTrueFlag flags (Untestable proof) = ⊤
+HasTrueFlag flags (Aborted robust nonrobust) = ⊤
+
+-- the tests of the run are judged by this
+pub record JudgesTests (c : Circuit) (run : Run) (judge : TestJudge) : Type 0 where
   pub pairs : IsJudgeOf 4 c judge.pairs
-  pub expected : TellsExpected c tests judge.expected.items
+  pub of_rules : AreFlags (HasPairOf c run.rules) run.tests judge.of_rules.items
+  pub expected : AreFlags (ExpectsRight c) run.tests judge.expected.items
 
 -- the fault of the listed path in a row, for a direction, with the refutations of the least numbers that apply
 pub record IsFaultInRow (run : Run) (row : ℕ) (direction : Direction) (fault : Fault) : Type 0 where

@@ -10,6 +10,7 @@ use Rattle.pd_base.specs.declared.fault.Kind.TheVariants as kinds
 use Rattle.pd_base.specs.declared.rules.Rules.{Rules}
 use Rattle.netlist.specs.Circuit.{Circuit}
 use Rattle.netlist.specs.Greatest.{greatest}
+use Rattle.netlist.specs.LinkedPairs.{IsOfRules}
 use Rattle.netlist.specs.Paths.{length_of}
 use Rattle.netlist.specs.Values.{observed_values}
 use Rattle.netlist.specs.Waves.{Delays}
@@ -63,22 +64,31 @@ HasItsTest c run number direction path (Nonrobust test proof) = HasNonrobustTest
 HasItsTest c run number direction path (Untestable proof) = ⊤
 HasItsTest c run number direction path (Aborted robust nonrobust) = ⊤
 
--- the test of this number expects what the observed lines have under its second vector
-abbrev pub ExpectsRight : Circuit → List Test → ℕ → Type 0
-ExpectsRight c tests number = (test : Test) → IsNumber tests number test → test.expected ≡ observed_values c test.pair.second
+-- this is so of the test of this number
+abbrev pub IsSoOfTest : (Test → Type 0) → List Test → ℕ → Type 0
+IsSoOfTest IsSo tests number = (test : Test) → IsNumber tests number test → IsSo test
 
--- the verdict's test, if it has one, expects what the observed lines have under its second vector
-abbrev pub ItsTestExpectsRight : Circuit → Run → Verdict → Type 0
-ItsTestExpectsRight c run (Robust test) = ExpectsRight c run.tests test
-ItsTestExpectsRight c run (Nonrobust test proof) = ExpectsRight c run.tests test
-ItsTestExpectsRight c run (Untestable proof) = ⊤
-ItsTestExpectsRight c run (Aborted robust nonrobust) = ⊤
+-- this is so of the verdict's test, if it has one
+abbrev pub IsSoOfItsTest : (Test → Type 0) → List Test → Verdict → Type 0
+IsSoOfItsTest IsSo tests (Robust test) = IsSoOfTest IsSo tests test
+IsSoOfItsTest IsSo tests (Nonrobust test proof) = IsSoOfTest IsSo tests test
+IsSoOfItsTest IsSo tests (Untestable proof) = ⊤
+IsSoOfItsTest IsSo tests (Aborted robust nonrobust) = ⊤
+
+-- the test's pair is one of the rules
+abbrev pub HasPairOf : Circuit → Rules → Test → Type 0
+HasPairOf c rules test = IsOfRules c rules test.pair
+
+-- the test expects what the observed lines have under its second vector
+abbrev pub ExpectsRight : Circuit → Test → Type 0
+ExpectsRight c test = test.expected ≡ observed_values c test.pair.second
 
 -- of the verdict on the fault of a path of this number: it is backed by its proofs and its test
 abbrev pub IsRightVerdict : Circuit → Run → ℕ → Direction → Route → Verdict → Reason → Type 0
 IsRightVerdict c run number direction path verdict NotShared = CitesItsProofs run number direction path verdict
-IsRightVerdict c run number direction path verdict BadTest = HasItsTest c run number direction path verdict
-IsRightVerdict c run number direction path verdict WrongExpected = ItsTestExpectsRight c run verdict
+IsRightVerdict c run number direction path verdict BadTest =
+    HasItsTest c run number direction path verdict × IsSoOfItsTest (HasPairOf c run.rules) run.tests verdict
+IsRightVerdict c run number direction path verdict WrongExpected = IsSoOfItsTest (ExpectsRight c) run.tests verdict
 IsRightVerdict c run number direction path verdict reason = ⊤
 
 -- the number of a fault: two for each listed path, that of the rising transition first

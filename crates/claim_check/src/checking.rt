@@ -2,9 +2,9 @@
 ghost use Rattle.std.specs.Prelude.{◌≡◌, ◌↔◌, ◌≤◌, All, IfOk, Ok, length};
 ghost use Rattle.pd_base.specs.declared.limits.TheConstants.{MOST_PATHS};
 ghost use Rattle.delay_annotation.specs.Annotation.{delays_of, Fits};
+ghost use Rattle.netlist.specs.LinkedPairs.{FitRules};
 ghost use Rattle.netlist.specs.Paths.{IsPath};
 ghost use Rattle.runs.specs.Lawful.{IsLawfulRun};
-ghost use Rattle.trees.specs.Unlinked.{IsUnlinked};
 ghost use Rattle.good_runs.specs.GoodRun.{IsGoodRun};
 ghost use Rattle.good_runs.specs.Promises.{AllKeepPromises};
 ghost use Rattle.claim_check.specs.Claims.{TellsOfRun, claim_of};
@@ -24,10 +24,10 @@ use pd_base::{OutOfMemory, Path};
 use runs::Run;
 use std::alloc::Global;
 
-/// Whether a run is good for the first `count` paths, at most `MOST_PATHS` of them, and a budget of splits, under the rules of the run,
-/// which are not linked ones.
+/// Whether a run is good for the first `count` paths, at most `MOST_PATHS` of them, and a budget of splits, under the rules of the run.
 /// It is judged from the netlist and the delays alone: the paths are listed again, each refutation and each spent tree is walked, and each
-/// test is evaluated. The run has to be one that the three files can spell.
+/// test is evaluated, whose pair has to be one of the rules. The run has to be one that the three files can spell, and its rules fit the
+/// netlist.
 ///
 /// Where it is not good, its first flaw is told: of the counts first, then of the listed paths, then of the proofs, then of the faults; by
 /// the number of the item, and at one item in the order of the reasons. Where it is good, its verdicts keep their promises: this follows from
@@ -45,7 +45,7 @@ pub fn check_run(
     requires fits { Fits net.now delays.now }
     requires count { count ≤ MOST_PATHS }
     requires lawful { IsLawfulRun net.now run.now }
-    requires unlinked { IsUnlinked run.now.rules }
+    requires fit { FitRules net.now run.now.rules }
     ensures exactly { IfOk result (λ claim. (claim ≡ Claim.Holds) ↔ IsGoodRun net.now (delays_of net.now delays.now) count budget run.now) }
     ensures tells { IfOk result (TellsOfRun net.now (delays_of net.now delays.now) count budget run.now) }
     ensures promises { result ≡ Ok Claim.Holds → AllKeepPromises net.now budget run.now }
@@ -80,7 +80,7 @@ fn first_flaw(
     requires paths { All (IsPath net.now) first.now }
     requires few { length first.now ≤ MOST_PATHS }
     requires lawful { IsLawfulRun net.now run.now }
-    requires unlinked { IsUnlinked run.now.rules }
+    requires fit { FitRules net.now run.now.rules }
     ensures { IfOk result (TellsOfItems (IsRightAt net.now (delays_of net.now delays.now) budget first.now run.now)) }
 {
     // so its paths have few steps

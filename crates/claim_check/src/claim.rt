@@ -15,7 +15,7 @@ pub enum Reason {
     BadSpent,
     /// The verdict on the fault of this number does not cite the proofs that it has to.
     NotShared,
-    /// The test of the fault of this number is not a test for it.
+    /// The test of the fault of this number is not a test for it, or its pair is not one of the rules of the run.
     BadTest,
     /// The test of the fault of this number expects other bits than the observed lines have.
     WrongExpected,

@@ -13,6 +13,7 @@ mod listed;
 mod numbered;
 mod prefix_tree;
 mod proving;
+mod rule_pairs;
 mod testing;
 mod verdicts;
 

@@ -1,16 +1,14 @@
-// Whether the test of a verdict is one for its fault, judged within the cone of the path's end; and whether it expects the right bits, as
-// was told for each test before.
-ghost use Rattle.std.specs.Prelude.{◌↔◌, IsTrue, List};
+// Whether the test of a verdict is one for its fault, judged within the cone of the path's end; and what a flag for each test, told
+// before, says of it.
+ghost use Rattle.std.specs.Prelude.{◌↔◌, Bool, IsTrue};
 ghost use Rattle.pd_base.specs.Target.{target_of};
-ghost use Rattle.pd_base.specs.declared.test.Test.{Test};
-ghost use Rattle.netlist.specs.Circuit.{Circuit};
 ghost use Rattle.netlist.specs.Paths.{IsPrefix};
-ghost use Rattle.runs.specs.declared.run.Run.{Run};
 ghost use Rattle.runs.specs.Lawful.{AreLawfulTests, IsLawfulTest};
+ghost use Rattle.good_runs.specs.Faults.{IsNumber};
 ghost use Rattle.good_runs.specs.GoodRun.{HasNonrobustTest, HasTest, IsTestOf};
-ghost use Rattle.logic_values.specs.Expected.{TellsExpected};
 ghost use Rattle.pair_judging.specs.Judges.{IsJudgeOf};
-ghost use Rattle.claim_check.specs.Right.{ExpectsRight, HasItsTest, ItsTestExpectsRight};
+ghost use Rattle.claim_check.specs.FaultsInRows.{HasTrueFlag};
+ghost use Rattle.claim_check.specs.Right.{HasItsTest};
 
 use crate::fault::Fault;
 use crate::numbered::numbered;
@@ -93,24 +91,23 @@ fn is_test_of(net: &Netlist, fault: &Fault, kind: Kind, test: &Test, judge: &mut
         && judge.meets(net, fault.path, fault.direction, kind, &test.pair)
 }
 
-// Whether the test of a verdict, if it has one, expects what the observed lines have under its second vector, where a flag for each test
-// tells that.
-pub(crate) fn expects_right(verdict: Verdict, expected: &[bool]) -> bool
-    ensures { (c : Circuit) (run : Run) → TellsExpected c run.tests expected.now → IsTrue result ↔ ItsTestExpectsRight c run verdict }
+// Whether the flag of a verdict's test is true, where each test has one; a verdict without a test, or whose test has no flag, lacks nothing.
+pub(crate) fn has_true_flag(verdict: Verdict, flags: &[bool]) -> bool
+    ensures { IsTrue result ↔ HasTrueFlag flags.now verdict }
 {
     match verdict {
-        Verdict::Robust { test } => test_expects_right(test, expected),
-        Verdict::Nonrobust { test, .. } => test_expects_right(test, expected),
+        Verdict::Robust { test } => is_true_flag(flags, test),
+        Verdict::Nonrobust { test, .. } => is_true_flag(flags, test),
         _ => true,
     }
 }
 
-// The same of the test of this number.
-fn test_expects_right(number: u32, expected: &[bool]) -> bool
-    ensures { (c : Circuit) (tests : List Test) → TellsExpected c tests expected.now → IsTrue result ↔ ExpectsRight c tests number }
+// Whether the flag of this number, if there is one, is true.
+fn is_true_flag(flags: &[bool], number: u32) -> bool
+    ensures { IsTrue result ↔ ((flag : Bool) → IsNumber flags.now number flag → IsTrue flag) }
 {
-    match numbered(expected, number) {
-        Some(right) => *right,
+    match numbered(flags, number) {
+        Some(flag) => *flag,
         None => true,
     }
 }

@@ -3,6 +3,7 @@ ghost use Rattle.std.specs.Prelude.{◌≡◌, ◌<◌, ◌^◌, ◌≤◌, [], 
 ghost use Rattle.pd_base.specs.declared.limits.TheConstants.{MOST_PATHS};
 ghost use Rattle.pd_base.specs.Target.{target_of};
 ghost use Rattle.pd_base.specs.declared.fault.Direction.{Direction};
+ghost use Rattle.netlist.specs.LinkedPairs.{FitRules};
 ghost use Rattle.netlist.specs.Paths.{IsPath, IsPrefix};
 ghost use Rattle.runs.specs.Lawful.{AreLawfulTests};
 ghost use Rattle.good_runs.specs.Faults.{routes_of, verdict_for};
@@ -16,11 +17,12 @@ use crate::citing::shares_proofs;
 use crate::claim::{Flaw, Reason};
 use crate::fault::Fault;
 use crate::prefix_tree::PrefixTree;
-use crate::testing::{expects_right, has_its_test};
+use crate::rule_pairs::have_pairs_of;
+use crate::testing::{has_its_test, has_true_flag};
 use logic_values::expect_observed;
 use netlist::Netlist;
 use pair_judging::ConeJudge;
-use pd_base::{Direction, Kind, OutOfMemory, Path, Test};
+use pd_base::{Direction, Kind, OutOfMemory, Path};
 use runs::{ListedPath, Run, Verdict};
 use std::alloc::Global;
 
@@ -31,10 +33,12 @@ struct Least {
     nonrobust: Vec<Option<u32>>,
 }
 
-// What tests are judged by: a judge of their pairs, and for each test whether it expects the right bits.
+// What tests are judged by: a judge of their pairs, and for each test whether its pair is one of the rules, and whether it expects the
+// right bits.
 #[derive(Drop)]
 struct TestJudge {
     pairs: ConeJudge,
+    of_rules: Vec<bool>,
     expected: Vec<bool>,
 }
 
@@ -52,6 +56,7 @@ pub(crate) fn wrong_verdict(
     requires nodes { AreTreeNodes paths.now prefixes.now }
     requires few_proofs { length run.now.proofs < 2 ^ 32 }
     requires names { All (NamesPrefix paths.now) run.now.proofs }
+    requires fit { FitRules net.now run.now.rules }
     requires lawful { AreLawfulTests net.now run.now.tests }
     ensures { IfOk result (TellsOfItems (IsRightFaultAt net.now run.now)) }
 {
@@ -71,6 +76,7 @@ pub(crate) fn wrong_without_proofs(
     requires paths { All (IsPath net.now) paths.now }
     requires few { length paths.now ≤ MOST_PATHS }
     requires no_proofs { run.now.proofs ≡ [] }
+    requires fit { FitRules net.now run.now.rules }
     requires lawful { AreLawfulTests net.now run.now.tests }
     ensures { IfOk result (TellsOfItems (IsRightFaultAt net.now run.now)) }
 {
@@ -90,12 +96,13 @@ fn wrong_against(
     requires routes { paths.now ≡ routes_of run.now }
     requires paths { All (IsPath net.now) paths.now }
     requires few { length paths.now ≤ MOST_PATHS }
+    requires fit { FitRules net.now run.now.rules }
     requires lawful { AreLawfulTests net.now run.now.tests }
     requires rises { AreLeastFor run.now Direction.Rise rises.now }
     requires falls { AreLeastFor run.now Direction.Fall falls.now }
     ensures { IfOk result (TellsOfItems (IsRightFaultAt net.now run.now)) }
 {
-    let mut judge = judge_for(alloc, net, run.tests.as_slice())?;
+    let mut judge = judge_for(alloc, net, run)?;
     Ok(first_wrong(net, run, paths, rises, falls, &mut judge))
 }
 
@@ -132,14 +139,18 @@ fn least_of(
     })
 }
 
-// What these tests are judged by. The bits that they expect are compared here, 64 tests at once.
-fn judge_for(alloc: Global, net: &Netlist, tests: &[Test]) -> Result<TestJudge, OutOfMemory>
-    requires { AreLawfulTests net.now tests.now }
-    ensures { IfOk result (JudgesTests net.now tests.now) }
+// What the tests of a run are judged by. The bits that they expect are compared here, 64 tests at once.
+fn judge_for(alloc: Global, net: &Netlist, run: &Run) -> Result<TestJudge, OutOfMemory>
+    requires fit { FitRules net.now run.now.rules }
+    requires lawful { AreLawfulTests net.now run.now.tests }
+    ensures { IfOk result (JudgesTests net.now run.now) }
 {
+    let tests = run.tests.as_slice();
     let expected = expect_observed(alloc, net, tests)?;
+    let of_rules = have_pairs_of(alloc, net, &run.rules, tests)?;
     Ok(TestJudge {
         pairs: ConeJudge::new(alloc, net)?,
+        of_rules,
         expected,
     })
 }
@@ -159,7 +170,7 @@ fn first_wrong(
     requires lawful { AreLawfulTests net.now run.now.tests }
     requires rises { AreLeastFor run.now Direction.Rise rises.now }
     requires falls { AreLeastFor run.now Direction.Fall falls.now }
-    requires judge { JudgesTests net.now run.now.tests judge.old }
+    requires judge { JudgesTests net.now run.now judge.old }
     ensures { TellsOfItems (IsRightFaultAt net.now run.now) result }
 {
     for row in 0..paths.len() {
@@ -222,17 +233,19 @@ fn wrong_fault(net: &Netlist, run: &Run, fault: &Fault, judge: &mut TestJudge) -
     requires robust { IsLeastRefutation (routes_of run.now) run.now.proofs (target_of fault.now.path.now fault.now.direction Kind.Robust) fault.now.robust }
     requires nonrobust { IsLeastRefutation (routes_of run.now) run.now.proofs (target_of fault.now.path.now fault.now.direction Kind.Nonrobust) fault.now.nonrobust }
     requires lawful { AreLawfulTests net.now run.now.tests }
-    requires judge { JudgesTests net.now run.now.tests judge.old }
+    requires judge { JudgesTests net.now run.now judge.old }
     ensures wrong { TellsOfItem (IsRightVerdict net.now run.now fault.now.number fault.now.direction fault.now.path.now fault.now.verdict) result }
-    ensures judge { JudgesTests net.now run.now.tests judge.new }
+    ensures judge { JudgesTests net.now run.now judge.new }
 {
     if !shares_proofs(run, fault) {
         return Some(Reason::NotShared);
     }
-    if !has_its_test(net, run, fault, &mut judge.pairs) {
+    if !has_its_test(net, run, fault, &mut judge.pairs)
+        || !has_true_flag(fault.verdict, judge.of_rules.as_slice())
+    {
         return Some(Reason::BadTest);
     }
-    if !expects_right(fault.verdict, judge.expected.as_slice()) {
+    if !has_true_flag(fault.verdict, judge.expected.as_slice()) {
         return Some(Reason::WrongExpected);
     }
     None

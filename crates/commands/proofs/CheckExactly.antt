@@ -4,6 +4,7 @@ use Rattle.std.proofs.Common.{◌≡◌, ◌≢◌, ℕ, List, [], ◌∷◌, �
 use Rattle.std.specs.Prelude.{◌↔◌}
 use Rattle.pd_io.specs.Folder.{Folder}
 use Rattle.pd_io.specs.Seen.{Outside}
+use Rattle.verdict_report.specs.ProofsText.{version_of}
 use Rattle.command_line.specs.Words.{RunCall, asked_call, check}
 use Rattle.calls.specs.declared.cause.Cause.TheVariants as cause
 use Rattle.calls.specs.declared.refusal.Refusal.{Refusal}
@@ -20,18 +21,31 @@ use Rattle.calls.proofs.Calls.{completes, is_done}
 use Rattle.calls.proofs.LaterStages.{IsRefusedLater, refused_later}
 use Rattle.calls.proofs.Refusals.{has_refusal, HasRefusal}
 use Rattle.commands.specs.InputRequirements.{Requirement, WellFormed, own}
-use Rattle.commands.specs.Check.{CheckRequirement, FiveTexts, GivesCheck, GoodRun, RefusesFlawed, SpellGoodRun, check_stages, check_work, stages_read}
+use Rattle.commands.specs.Check.{CheckRequirement, FiveTexts, GivesCheck, GoodRun, VersionOfMode, RefusesClaims, SpellGoodRun, check_stages, check_work, stages_read}
 use Rattle.commands.specs.CheckLaws.{KeepsCheckLaws}
 use Rattle.commands.proofs.CheckLaws.{good_run_is_accepted}
 use Rattle.commands.proofs.GenThenCheck.{accepted_behind_gen}
-use Rattle.commands.proofs.CheckStages.{accepts_good, accepts_proofs, accepts_report, accepts_tests}
+use Rattle.commands.proofs.CheckStages.{accepts_good, accepts_proofs, accepts_report, accepts_tests, accepts_version}
+use Rattle.commands.proofs.ModeRules.{keeps_mode}
 
 -- the stages behind the form of the tests
 abbrev behind_tests : List (Stage (Requirement CheckRequirement))
-behind_tests = Require (WellFormed role.Report 3) ∷ Require (WellFormed role.Proofs 4) ∷ Require (own GoodRun) ∷ []
+behind_tests =
+    Require (WellFormed role.Report 3) ∷ Require (WellFormed role.Proofs 4) ∷ Require (own VersionOfMode) ∷ Require (own GoodRun) ∷ []
 
--- a run with a flaw is refused as claims are
-flaw_is_of_claims : (call : RunCall) (inputs : List (List ℕ)) (refusal : Refusal) → RefusesFlawed call GoodRun inputs refusal
+-- proofs of another mode are refused as claims are
+version_is_of_claims : (call : RunCall) (inputs : List (List ℕ)) (refusal : Refusal) → RefusesClaims call VersionOfMode inputs refusal
+    → refusal.cause ≡ cause.Claims
+version_is_of_claims call [] refusal it = absurd it
+version_is_of_claims call (a ∷ []) refusal it = absurd it
+version_is_of_claims call (a ∷ b ∷ []) refusal it = absurd it
+version_is_of_claims call (a ∷ b ∷ c ∷ []) refusal it = absurd it
+version_is_of_claims call (a ∷ b ∷ c ∷ d ∷ []) refusal it = absurd it
+version_is_of_claims call (a ∷ b ∷ c ∷ d ∷ e ∷ []) refusal it = ap (λ (r : Refusal). r.cause) it.is
+version_is_of_claims call (a ∷ b ∷ c ∷ d ∷ e ∷ f ∷ more) refusal it = absurd it
+
+-- and so is a run with a flaw
+flaw_is_of_claims : (call : RunCall) (inputs : List (List ℕ)) (refusal : Refusal) → RefusesClaims call GoodRun inputs refusal
     → refusal.cause ≡ cause.Claims
 flaw_is_of_claims call [] refusal it = absurd it
 flaw_is_of_claims call (a ∷ []) refusal it = absurd it
@@ -59,11 +73,15 @@ later_is_of_claims call requirement (one ∷ two ∷ []) rest inputs refusal pla
     ap (λ (r : Refusal). r.cause)
     (subst (λ (r : Requirement CheckRequirement). (check_work call).Refuses r inputs refusal) here refuses).is
 later_is_of_claims call requirement (one ∷ two ∷ three ∷ []) rest inputs refusal place refuses =
+    let here : requirement ≡ own VersionOfMode = (cc) in
+    version_is_of_claims call inputs refusal
+    (subst (λ (r : Requirement CheckRequirement). (check_work call).Refuses r inputs refusal) here refuses)
+later_is_of_claims call requirement (one ∷ two ∷ three ∷ four ∷ []) rest inputs refusal place refuses =
     let here : requirement ≡ own GoodRun = (cc) in
     flaw_is_of_claims call inputs refusal
     (subst (λ (r : Requirement CheckRequirement). (check_work call).Refuses r inputs refusal) here refuses)
-later_is_of_claims call requirement (one ∷ two ∷ three ∷ four ∷ []) rest inputs refusal place refuses = absurd (cc)
-later_is_of_claims call requirement (one ∷ two ∷ three ∷ four ∷ five ∷ between) rest inputs refusal place refuses = absurd (cc)
+later_is_of_claims call requirement (one ∷ two ∷ three ∷ four ∷ five ∷ []) rest inputs refusal place refuses = absurd (cc)
+later_is_of_claims call requirement (one ∷ two ∷ three ∷ four ∷ five ∷ six ∷ between) rest inputs refusal place refuses = absurd (cc)
 
 module _ (call : RunCall) (told : Folder) (net delays tests report proofs : List ℕ) where
   abbrev work : Work
@@ -91,8 +109,11 @@ module _ (call : RunCall) (told : Folder) (net delays tests report proofs : List
             (
               accepts_report call net delays tests report proofs c has it.run.paths spells.report_is,
               (
-                accepts_proofs call net delays tests report proofs c has it.run spells.proofs_are,
-                (accepts_good call net delays tests report proofs c has it.delays it.spell.has_delays it.run spells it.good, refl),
+                accepts_proofs call net delays tests report proofs c has (version_of it.run.rules) it.run.proofs spells.proofs_are,
+                (
+                  accepts_version call net delays tests report proofs c has it.run.rules spells.of_mode it.run.proofs spells.proofs_are,
+                  (accepts_good call net delays tests report proofs c has it.delays it.spell.has_delays it.run spells it.good, refl),
+                ),
               ),
             ),
           );
@@ -102,7 +123,7 @@ module _ (call : RunCall) (told : Folder) (net delays tests report proofs : List
     same_inputs : (all : List (List ℕ)) → Pass work (Some told) (check_stages call) [] all → all ≡ inputs
     same_inputs all pass =
         let front = front_passed work (Some told) (stages_read call) (Require (WellFormed role.Tests 2) ∷ behind_tests) [] all pass in
-        front.2.1.1.1.1 ∙ passed_alike work (Some told) (stages_read call) [] front.0 inputs tt front.1 read
+        front.2.1.1.1.1.1 ∙ passed_alike work (Some told) (stages_read call) [] front.0 inputs tt front.1 read
 
     -- a call over such files, of which nothing failed and that did not run out of memory
     module _ (status : Status) (old new : Outside) (ends : Ends (check_work call) status old new) (tells : old.files.folder ≡ Some told)
@@ -157,6 +178,8 @@ check_laws words call is status old new ends = record {
       (good_run_is_accepted call now it.circuit it.spell.has it.delays it.spell.has_delays it.run it.spell.spells it.good holds.net_within
       holds.delays_within holds.short
       (record { tests_within = holds.tests_within; report_within = holds.report_within; proofs_within = holds.proofs_within }))) none;
+  keeps_mode = λ texts it.
+      keeps_mode call.mode it.circuit it.delays call.paths call.budget it.run it.spell.spells.of_mode it.good it.promises;
   done_exactly = λ texts comes.
       done_exactly call comes.folder texts.net texts.delays texts.tests texts.report texts.proofs comes.read status old new ends comes.told
       comes.none_failed comes.enough;

@@ -8,6 +8,7 @@ use Rattle.delay_annotation.specs.DelayFile.{HasDelays}
 use Rattle.runs.specs.declared.run.Run.{Run}
 use Rattle.good_runs.specs.GoodRun.{IsGoodRun}
 use Rattle.pd_base.specs.declared.limits.TheConstants.{MOST_BYTES}
+use Rattle.verdict_report.specs.ProofsText.{version_of}
 use Rattle.command_line.specs.Words.{RunCall}
 use Rattle.calls.specs.declared.role.Role.TheVariants as role
 use Rattle.calls.specs.Calls.{HasAcceptedInputs}
@@ -19,7 +20,7 @@ use Rattle.commands.proofs.InputStages.{inputs_pass, texts_pass}
 use Rattle.commands.proofs.StageReads.{accepts_size}
 use Rattle.commands.specs.Check.{check_command, check_work}
 use Rattle.commands.specs.SpelledRuns.{SpellsRun}
-use Rattle.commands.proofs.CheckStages.{accepts_good, accepts_proofs, accepts_report, accepts_tests, behind_short}
+use Rattle.commands.proofs.CheckStages.{accepts_good, accepts_proofs, accepts_report, accepts_tests, accepts_version, behind_short}
 
 module _ (call : RunCall) (told : Folder) where
   -- the bytes under the five names
@@ -45,7 +46,7 @@ module _ (call : RunCall) (told : Folder) where
     pub proofs_within : length proofs ≤ MOST_BYTES
 
   module _ (c : Circuit) (has : HasCircuit net c) (given : Delays) (gives : HasDelays c delays given) (run : Run)
-      (spells : SpellsRun c tests report proofs run) (good : IsGoodRun c given call.paths call.budget run) where
+      (spells : SpellsRun call.mode c tests report proofs run) (good : IsGoodRun c given call.paths call.budget run) where
     -- what stands behind short texts is passed
     claims_pass : AreReadable
         → Pass (check_work call) (Some told) (behind_short call) (net ∷ delays ∷ []) (net ∷ delays ∷ tests ∷ report ∷ proofs ∷ [])
@@ -69,8 +70,11 @@ module _ (call : RunCall) (told : Folder) where
                   (
                     accepts_report call net delays tests report proofs c has run.paths spells.report_is,
                     (
-                      accepts_proofs call net delays tests report proofs c has run spells.proofs_are,
-                      (accepts_good call net delays tests report proofs c has given gives run spells good, refl),
+                      accepts_proofs call net delays tests report proofs c has (version_of run.rules) run.proofs spells.proofs_are,
+                      (
+                        accepts_version call net delays tests report proofs c has run.rules spells.of_mode run.proofs spells.proofs_are,
+                        (accepts_good call net delays tests report proofs c has given gives run spells good, refl),
+                      ),
                     ),
                   ),
                 ),

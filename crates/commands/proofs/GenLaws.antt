@@ -20,8 +20,10 @@ use Rattle.calls.specs.Calls.{Ends, HasAcceptedInputs}
 use Rattle.calls.specs.Work.{Products}
 use Rattle.commands.specs.declared.inputs.reading.TheConstants.{INPUT_LIMIT}
 use Rattle.commands.specs.InputRequirements.{short_stages}
+use Rattle.commands.specs.ModeRules.{searched_rules}
 use Rattle.commands.specs.Sizes.{HasShortTexts}
 use Rattle.commands.proofs.InputStages.{inputs_pass, texts_pass}
+use Rattle.commands.proofs.ModeRules.{keeps_mode, searched_are}
 use Rattle.calls.proofs.Calls.{completes}
 use Rattle.commands.specs.GenLaws.{KeepsGenLaws}
 use Rattle.commands.specs.Gen.{GivesProductsOf, gen_command, gen_work}
@@ -48,14 +50,20 @@ module _ (call : RunCall) (told : Folder) where
   }
 
 module _ (call : RunCall) (c : Circuit) (delays : Delays) (products : Products) (gives : GivesProductsOf call c delays products) where
-  -- where the budget is at least two to the power of the number of sources in the support of a fault's path, its own not counted, the
-  -- fault is not aborted, and its verdict tells what there is
-  pub two_power_decides : (number : ℕ) (listed : ListedPath) (direction : Direction) (verdict : Verdict)
-      → IsFault gives.run number listed direction verdict → (sources : List ℕ) → AreSupport c gives.run.rules listed.path sources
-      → 2 ^ (length sources - 1) ≤ call.budget → IsTruth c gives.run.rules listed.path direction verdict
-  two_power_decides number listed direction verdict fault sources support enough =
-      let P : Rules → Type 0 = λ rules. states_of_source rules ^ (length sources - 1) ≤ call.budget in
-      (gives.promises number listed direction verdict fault).great_budget sources support (subst P (sym gives.rules) enough)
+  -- the rules of the search
+  abbrev rules : Rules
+  rules = searched_rules call.mode c
+
+  -- where the budget is at least the number of states that they leave a source, to the power of the number of sources in the support of a
+  -- fault's path, its own not counted, the fault is not aborted, and its verdict tells what there is
+  pub power_decides : (number : ℕ) (listed : ListedPath) (direction : Direction) (verdict : Verdict)
+      → IsFault gives.run number listed direction verdict → (sources : List ℕ) → AreSupport c rules listed.path sources
+      → states_of_source rules ^ (length sources - 1) ≤ call.budget → IsTruth c rules listed.path direction verdict
+  power_decides number listed direction verdict fault sources support enough =
+      subst (λ (r : Rules). IsTruth c r listed.path direction verdict) gives.rules
+      ((gives.promises number listed direction verdict fault).great_budget sources
+      (subst (λ (r : Rules). AreSupport c r listed.path sources) (sym gives.rules) support)
+      (subst (λ (r : Rules). states_of_source r ^ (length sources - 1) ≤ call.budget) (sym gives.rules) enough))
 
 -- what holds of a call of gen
 pub gen_laws : (call : RunCall) (status : Status) (old new : Outside) → Ends (gen_work call) status old new → KeepsGenLaws call status old new
@@ -64,5 +72,8 @@ gen_laws call status old new ends = record {
       completes (gen_work call) status old new ends
       (subst (HasAcceptedInputs (gen_work call)) (sym told)
       (circuit_is_accepted call now can.circuit can.given can.net_within can.has can.delays_within can.gives can.short)) none;
-  great_budget = λ c delays products. two_power_decides call c delays products;
+  keeps_mode = λ c delays products gives.
+      keeps_mode call.mode c delays call.paths call.budget gives.run (searched_are call.mode c gives.run.rules gives.rules) gives.good
+      gives.promises;
+  great_budget = λ c delays products. power_decides call c delays products;
 }

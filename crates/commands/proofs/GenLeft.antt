@@ -7,12 +7,11 @@ use Rattle.netlist.specs.Circuit.{Circuit}
 use Rattle.netlist.specs.Waves.{Delays}
 use Rattle.runs.specs.declared.run.Run.{Run}
 use Rattle.runs.specs.Lawful.{IsLawfulRun}
-use Rattle.trees.specs.Unlinked.{IsUnlinked}
 use Rattle.good_runs.specs.GoodRun.{IsGoodRun}
 use Rattle.bench_reader.specs.Circuits.{HasCircuit}
 use Rattle.delay_annotation.specs.DelayFile.{HasDelays}
 use Rattle.pattern_writer.specs.TestsText.{tests_text}
-use Rattle.verdict_report.specs.ProofsText.{proofs_text}
+use Rattle.verdict_report.specs.ProofsText.{proofs_text, version_of}
 use Rattle.verdict_report.specs.ReportText.{report_text}
 use Rattle.command_line.specs.Words.{RunCall}
 use Rattle.calls.specs.declared.role.Role.{Role}
@@ -27,7 +26,9 @@ use Rattle.commands.specs.InputRequirements.{IsOverLimit, limit_of}
 use Rattle.commands.specs.Sizes.{HasShortTexts}
 use Rattle.commands.specs.Gen.{gen_stages, gen_work, GivesGen, GivesRun, run_files}
 use Rattle.commands.specs.LaterCalls.{HasNamesApart, IsLeftBy}
+use Rattle.commands.specs.ModeRules.{AreRulesOf}
 use Rattle.commands.proofs.FilesLeft.{delays_left, net_left, proofs_left, report_left, tests_left}
+use Rattle.commands.proofs.ModeRules.{searched_are}
 
 -- an input that is not over its limit is within it
 pub not_over : (input : Role) (text : List ℕ) → ((refusal : Refusal) → ¬ IsOverLimit input text refusal) → length text ≤ limit_of input
@@ -49,12 +50,12 @@ pub record LeftFiles (call : RunCall) (left : Folder) : Type 0 where
   pub run : Run
   pub good : IsGoodRun circuit delays call.paths call.budget run
   pub lawful : IsLawfulRun circuit run
-  pub unlinked : IsUnlinked run.rules
+  pub of_mode : AreRulesOf call.mode circuit run.rules
   pub net_is : bytes_at left.held call.net ≡ net
   pub delays_is : bytes_at left.held call.delays ≡ delay_file
   pub tests_is : bytes_at left.held call.tests ≡ tests_text circuit run.tests
   pub report_is : bytes_at left.held call.report ≡ report_text circuit run.paths
-  pub proofs_is : bytes_at left.held call.proofs ≡ proofs_text run.rules run.proofs
+  pub proofs_is : bytes_at left.held call.proofs ≡ proofs_text (version_of run.rules) run.proofs
 
 module _ (call : RunCall) (apart : HasNamesApart call) where
   -- gen wrote its products over what was held before
@@ -70,7 +71,7 @@ module _ (call : RunCall) (apart : HasNamesApart call) where
       let c = gives.circuit in
       let tests = tests_text c given.run.tests in
       let report = report_text c given.run.paths in
-      let proofs = proofs_text given.run.rules given.run.proofs in
+      let proofs = proofs_text (version_of given.run.rules) given.run.proofs in
       let held : left.held ≡ put_all before.held (run_files call c given.run) =
       ap (λ (f : Folder). f.held) wrote ∙ ap (λ (p : Products). put_all before.held p.files) given.texts in
       record {
@@ -86,7 +87,7 @@ module _ (call : RunCall) (apart : HasNamesApart call) where
         run = given.run;
         good = given.good;
         lawful = given.lawful;
-        unlinked = subst IsUnlinked (sym given.rules) tt;
+        of_mode = searched_are call.mode c given.run.rules given.rules;
         net_is = ap (λ (h : Contents). bytes_at h call.net) held ∙ net_left before.held call apart tests report proofs ∙ sym is_net;
         delays_is = ap (λ (h : Contents). bytes_at h call.delays) held ∙ delays_left before.held call apart tests report proofs ∙ sym is_delays;
         tests_is = ap (λ (h : Contents). bytes_at h call.tests) held ∙ tests_left before.held call apart tests report proofs;

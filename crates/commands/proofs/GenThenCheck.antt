@@ -8,7 +8,7 @@ use Rattle.bench_reader.proofs.LawfulCircuits.{is_circuit}
 use Rattle.delay_annotation.specs.DelayFile.{HasDelays}
 use Rattle.pd_base.specs.declared.limits.TheConstants.{MOST_BYTES}
 use Rattle.pattern_writer.specs.TestsText.{tests_text}
-use Rattle.verdict_report.specs.ProofsText.{proofs_text}
+use Rattle.verdict_report.specs.ProofsText.{proofs_text, version_of}
 use Rattle.verdict_report.specs.ReportText.{report_text}
 use Rattle.command_line.specs.Words.{HasRunNumbers, RunCall, asked_call, check}
 use Rattle.calls.specs.Calls.{HasAcceptedInputs}
@@ -37,7 +37,7 @@ module _ (call : RunCall) (numbers : HasRunNumbers call) (left later : Folder) (
   report_is : bytes_at later.held call.report ≡ report_text it.circuit it.run.paths
   report_is = kept 3 [] (omega arith) ∙ it.report_is
 
-  proofs_are : bytes_at later.held call.proofs ≡ proofs_text it.run.rules it.run.proofs
+  proofs_are : bytes_at later.held call.proofs ≡ proofs_text (version_of it.run.rules) it.run.proofs
   proofs_are = kept 4 [] (omega arith) ∙ it.proofs_is
 
   circuit_is : IsCircuit it.circuit
@@ -54,13 +54,14 @@ module _ (call : RunCall) (numbers : HasRunNumbers call) (left later : Folder) (
       }
 
   -- and the three texts spell the run
-  spell : SpellsRun it.circuit (bytes_at later.held call.tests) (bytes_at later.held call.report) (bytes_at later.held call.proofs) it.run
+  spell : SpellsRun call.mode it.circuit (bytes_at later.held call.tests) (bytes_at later.held call.report) (bytes_at later.held call.proofs) it.run
   spell =
-      let spells = spelled_run it.circuit circuit_is call numbers it.delay_file it.delays it.has_delays it.run it.good it.lawful it.unlinked in
+      let spells = spelled_run it.circuit circuit_is call numbers it.delay_file it.delays it.has_delays it.run it.good it.lawful it.of_mode in
       record {
         tests_are = record { lawful = spells.tests_are.lawful; is_text = tests_are };
         report_is = record { lawful = spells.report_is.lawful; is_text = report_is };
-        proofs_are = record { unlinked = it.unlinked; lawful = spells.proofs_are.lawful; is_text = proofs_are };
+        of_mode = it.of_mode;
+        proofs_are = record { lawful = spells.proofs_are.lawful; is_text = proofs_are };
       }
 
   accepted : HasAcceptedInputs (check_work call) (Some later)

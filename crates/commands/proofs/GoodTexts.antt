@@ -16,17 +16,17 @@ use Rattle.runs.specs.declared.run.ListedPath.{ListedPath}
 use Rattle.runs.specs.declared.run.Proof.{Proof}
 use Rattle.runs.specs.declared.run.Run.{Run}
 use Rattle.runs.specs.Lawful.{IsLawfulRun}
-use Rattle.trees.specs.Unlinked.{IsUnlinked}
 use Rattle.trees.specs.Trees.{split_count, IsTree}
 use Rattle.good_runs.specs.Faults.{routes_of}
 use Rattle.good_runs.specs.GoodRun.{IsGoodRefutation, IsGoodRun, IsGoodSpent}
 use Rattle.good_runs.proofs.FirstOnce.{few_first}
 use Rattle.pattern_writer.specs.TestsText.{tests_text}
 use Rattle.verdict_report.specs.ProofsReading.{AreSpelledProofs}
-use Rattle.verdict_report.specs.ProofsText.{proofs_text}
+use Rattle.verdict_report.specs.ProofsText.{proofs_text, version_of}
 use Rattle.verdict_report.specs.ReportForm.{IsSpelledReport}
 use Rattle.verdict_report.specs.ReportText.{report_text}
 use Rattle.command_line.specs.Words.{HasRunNumbers, RunCall}
+use Rattle.commands.specs.ModeRules.{AreRulesOf}
 use Rattle.commands.specs.SpelledRuns.{SpellsRun}
 use Rattle.commands.specs.Sizes.{HasShortTexts}
 use Rattle.commands.proofs.PathLengths.{length_within}
@@ -39,7 +39,7 @@ use Rattle.commands.proofs.TestsBound.{tests_within}
 pub record CanBeRead (c : Circuit) (run : Run) : Type 0 where
   pub tests : length (tests_text c run.tests) ≤ MOST_BYTES
   pub report : length (report_text c run.paths) ≤ MOST_BYTES
-  pub proofs : length (proofs_text run.rules run.proofs) ≤ MOST_BYTES
+  pub proofs : length (proofs_text (version_of run.rules) run.proofs) ≤ MOST_BYTES
 
 module _ (c : Circuit) (circuit : IsCircuit c) (call : RunCall) (numbers : HasRunNumbers call) (delay_file : List ℕ) (delays : Delays)
     (has : HasDelays c delay_file delays) (run : Run) (good : IsGoodRun c delays call.paths call.budget run) (lawful : IsLawfulRun c run) where
@@ -118,12 +118,13 @@ module _ (c : Circuit) (circuit : IsCircuit c) (call : RunCall) (numbers : HasRu
     few_splits = (tree_at place d within).few_splits;
   }
 
-  pub spelled_run : IsUnlinked run.rules
-      → SpellsRun c (tests_text c run.tests) (report_text c run.paths) (proofs_text run.rules run.proofs) run
-  spelled_run unlinked = record {
+  pub spelled_run : AreRulesOf call.mode c run.rules
+      → SpellsRun call.mode c (tests_text c run.tests) (report_text c run.paths) (proofs_text (version_of run.rules) run.proofs) run
+  spelled_run of_mode = record {
     tests_are = record { lawful = lawful.tests; is_text = refl };
     report_is = record { lawful = spelled_report; is_text = refl };
-    proofs_are = record { unlinked = unlinked; lawful = spelled_proofs; is_text = refl };
+    of_mode = of_mode;
+    proofs_are = record { lawful = spelled_proofs; is_text = refl };
   }
 
   pub readable_texts : HasShortTexts call.paths c → CanBeRead c run
@@ -132,6 +133,6 @@ module _ (c : Circuit) (circuit : IsCircuit c) (call : RunCall) (numbers : HasRu
         (omega (arith, good.tests_cited, two_tests_each run.paths, few_listed));
     report = report_within c circuit call.paths run.paths numbers.few_paths short.path_text spelled_report
         (All-from_recursion (λ (listed : ListedPath). length listed.path.steps ≤ greatest_level c) run.paths (few_steps run.paths paths_of)) few_listed;
-    proofs = proofs_within c circuit call.budget call.paths run.rules run.proofs numbers.few_paths numbers.product short_proofs
+    proofs = proofs_within c circuit call.budget call.paths (version_of run.rules) run.proofs numbers.few_paths numbers.product short_proofs
         (omega (arith, good.proofs_cited, four_proofs_each run.paths lawful.report.numbered, few_listed));
   }

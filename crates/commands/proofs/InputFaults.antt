@@ -20,9 +20,9 @@ use Rattle.delay_annotation.proofs.DelayLaws.{file_not_refused}
 use Rattle.pd_base.specs.declared.fault.Direction.{Direction}
 use Rattle.runs.specs.declared.run.ListedPath.{ListedPath}
 use Rattle.runs.specs.declared.run.Proof.{Proof}
-use Rattle.pd_base.specs.declared.rules.Rules.{Rules}
 use Rattle.calls.specs.declared.ending.Ending.TheVariants.{NoMemory, Refused}
 use Rattle.calls.specs.declared.refusal.Refusal.{Refusal}
+use Rattle.verdict_report.specs.declared.version.ProofsVersion.{ProofsVersion}
 use Rattle.commands.specs.Inside.InputJudging.{FailsDelays, FailsNet}
 use Rattle.commands.specs.Inside.InputJudging as judging
 use Rattle.commands.specs.InputRefusals.{delays_ending}
@@ -115,8 +115,8 @@ module _ (net : List ℕ) (c : Circuit) (has : HasCircuit net c) where
       (subst (λ (d : Circuit). spelled.IsMalformedReport d text line) (one_circuit net it.circuit c it.has has) it.malformed).none paths spells
 
   -- and a file of proofs
-  pub proofs_formed : (text : List ℕ) (rules : Rules) (proofs : List Proof) → SpellsProofs c text rules proofs → (line : ℕ)
+  pub proofs_formed : (text : List ℕ) (version : ProofsVersion) (proofs : List Proof) → SpellsProofs c text version proofs → (line : ℕ)
       → ¬ HasMalformedProofs net text line
-  proofs_formed text rules proofs spells line it =
-      (subst (λ (d : Circuit). spelled.IsMalformedProofs d text line) (one_circuit net it.circuit c it.has has) it.malformed).none rules proofs
+  proofs_formed text version proofs spells line it =
+      (subst (λ (d : Circuit). spelled.IsMalformedProofs d text line) (one_circuit net it.circuit c it.has has) it.malformed).none version proofs
       spells

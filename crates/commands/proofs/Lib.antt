@@ -40,6 +40,7 @@ pub mod GradedPasses
 pub mod GradedStages
 pub mod KeptTests
 pub mod MakeLaws
+pub mod ModeRules
 pub mod Performing
 pub mod AskedNames
 pub mod AskedRuns

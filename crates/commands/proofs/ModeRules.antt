@@ -1,19 +1,21 @@
 -- The rules of a mode: they fit their circuit, a version has at most one of them, and a run under them keeps the mode.
-use Rattle.std.proofs.Common.{◌≡◌, ℕ, true, Some, ap, refl, sym, subst, ◌∙◌}
-use Rattle.pd_base.specs.Links.{links_of}
+use Rattle.std.proofs.Common.{◌≡◌, ℕ, true, refl, sym, subst, ◌∙◌}
 use Rattle.pd_base.specs.Pair.{Vectors}
+use Rattle.pd_base.specs.Route.{Route}
+use Rattle.pd_base.specs.Target.{target_of}
 use Rattle.pd_base.specs.declared.fault.Direction.{Direction}
 use Rattle.pd_base.specs.declared.fault.Kind.{Kind}
 use Rattle.pd_base.specs.declared.rules.Rules.{Rules}
 use Rattle.pd_base.specs.declared.rules.Rules.TheVariants.{One, Two, Linked}
 use Rattle.netlist.specs.Circuit.{Circuit}
-use Rattle.netlist.specs.LinkedPairs.{IsOfRules}
+use Rattle.netlist.specs.LinkedPairs.{FitRules, IsOfRules}
 use Rattle.netlist.specs.Waves.{Delays}
 use Rattle.runs.specs.declared.run.Run.{Run}
 use Rattle.runs.specs.declared.run.Verdict.{Verdict}
 use Rattle.runs.specs.declared.run.Verdict.TheVariants.{Robust, Nonrobust, Untestable, Aborted}
 use Rattle.runs.specs.Verdicts.{is_untestable}
 use Rattle.trees.specs.Unlinked.{IsUnlinked}
+use Rattle.trees.proofs.Unlinked.{every_pair_is_of_rules, no_links, unlinked_fit}
 use Rattle.good_runs.specs.GoodRun.{IsGoodRun}
 use Rattle.good_runs.specs.Promises.{AllKeepPromises, ExcludesPairs, VerdictTells}
 use Rattle.verdict_report.specs.ProofsText.{version_number, version_of}
@@ -21,12 +23,16 @@ use Rattle.verdict_report.specs.declared.version.ProofsVersion.{ProofsVersion}
 use Rattle.verdict_report.specs.declared.version.ProofsVersion.TheVariants.{First, Second, Third}
 use Rattle.command_line.specs.declared.mode.Mode.{Mode}
 use Rattle.command_line.specs.declared.mode.Mode.TheVariants.{Enhanced, Broadside}
-use Rattle.commands.specs.ModeRules.{AreRulesOf, IsOfMode, KeepsMode, broadside_rules, searched_rules}
+use Rattle.commands.specs.ModeRules.{AreRulesOf, IsOfMode, KeepsMode, searched_rules}
 
 -- the rules of a search are of its mode
 pub searched_are : (mode : Mode) (c : Circuit) (rules : Rules) → rules ≡ searched_rules mode c → AreRulesOf mode c rules
 searched_are Enhanced c rules is = subst IsUnlinked (sym is) tt
 searched_are Broadside c rules is = is
+
+-- rules without links fit their circuit
+pub unlinked_rules_fit : (c : Circuit) (rules : Rules) → IsUnlinked rules → FitRules c rules
+unlinked_rules_fit c rules unlinked = unlinked_fit c rules (no_links rules unlinked)
 
 -- a number is that of one version
 pub version_once : (version other : ProofsVersion) → version_number version ≡ version_number other → version ≡ other
@@ -57,20 +63,24 @@ rules_once Enhanced c rules other is its same = unlinked_once rules other is its
 rules_once Broadside c rules other is its same = is ∙ sym its
 
 -- under the rules of a mode, pairs of the rules are those of the mode
-no_links_but : (c : Circuit) (rules : Rules) → IsUnlinked rules → (pair : Vectors) → IsOfRules c rules pair
-no_links_but c One is pair source line link = absurd link
-no_links_but c Two is pair source line link = absurd link
-no_links_but c (Linked links) is pair source line link = absurd is
-
 pub of_rules : (mode : Mode) (c : Circuit) (rules : Rules) → AreRulesOf mode c rules → (pair : Vectors) → IsOfMode mode c pair
     → IsOfRules c rules pair
-of_rules Enhanced c rules is pair keeps = no_links_but c rules is pair
+of_rules Enhanced c rules is pair keeps = every_pair_is_of_rules c rules (no_links rules is) pair
 of_rules Broadside c rules is pair keeps = subst (λ (r : Rules). IsOfRules c r pair) (sym is) keeps
 
 pub of_mode : (mode : Mode) (c : Circuit) (rules : Rules) → AreRulesOf mode c rules → (pair : Vectors) → IsOfRules c rules pair
     → IsOfMode mode c pair
 of_mode Enhanced c rules is pair keeps = tt
 of_mode Broadside c rules is pair keeps = subst (λ (r : Rules). IsOfRules c r pair) is keeps
+
+-- an untestable verdict tells that pairs of the rules are excluded
+excludes : (c : Circuit) (budget : ℕ) (run : Run) (number : ℕ) (path : Route) (direction : Direction) (verdict : Verdict)
+    → VerdictTells c budget run number path direction verdict → is_untestable verdict ≡ true → (kind : Kind)
+    → ExcludesPairs c run (target_of path direction kind)
+excludes c budget run number path direction (Robust test) tells is kind = absurd cc
+excludes c budget run number path direction (Nonrobust test proof) tells is kind = absurd cc
+excludes c budget run number path direction (Untestable proof) tells is kind = tells.1 kind
+excludes c budget run number path direction (Aborted robust nonrobust) tells is kind = absurd cc
 
 -- a good run under the rules of a mode keeps it
 module _ (mode : Mode) (c : Circuit) (delays : Delays) (paths budget : ℕ) (run : Run) (of : AreRulesOf mode c run.rules)
@@ -79,6 +89,6 @@ module _ (mode : Mode) (c : Circuit) (delays : Delays) (paths budget : ℕ) (run
   keeps_mode = record {
     written = λ place d within. of_mode mode c run.rules of _ (good.of_rules place d within);
     excluded = λ number listed direction verdict fault untestable kind pair keeps.
-        excluded number listed.path direction verdict (promises number listed direction verdict fault).tells untestable kind pair
+        excludes c budget run number listed.path direction verdict (promises number listed direction verdict fault).tells untestable kind pair
         (of_rules mode c run.rules of pair keeps);
   }

@@ -1,4 +1,4 @@
--- The three files tell their run: two runs with the same three texts are one, and were searched under the same rules.
+-- The three files tell their run, once circuit and mode are known: two runs with the same three texts are one, under the same rules.
 use Rattle.std.proofs.Common.{◌≡◌, ℕ, ◌<◌, ◌^◌, List, sym, ◌∙◌, arith}
 use Rattle.netlist.specs.Circuit.{Circuit, source_count}
 use Rattle.netlist.specs.Lawful.{IsCircuit}
@@ -6,12 +6,15 @@ use Rattle.runs.specs.declared.run.Run.{Run}
 use Rattle.pattern_writer.proofs.TestFiles.{tests_once}
 use Rattle.verdict_report.proofs.ProofFiles.{proofs_once}
 use Rattle.verdict_report.proofs.ReportOnce.{report_once}
+use Rattle.verdict_report.specs.ProofsText.{version_of}
+use Rattle.command_line.specs.declared.mode.Mode.{Mode}
 use Rattle.commands.specs.SpelledRuns.{SpellsRun}
+use Rattle.commands.proofs.ModeRules.{rules_once}
 
--- three texts spell one run at most
-pub run_once : (c : Circuit) → IsCircuit c → (tests report proofs : List ℕ) (run other : Run) → SpellsRun c tests report proofs run
-    → SpellsRun c tests report proofs other → run ≡ other
-run_once c circuit tests report proofs run other spells spells' =
+-- in one mode three texts spell one run of a circuit at most
+pub run_once : (mode : Mode) (c : Circuit) → IsCircuit c → (tests report proofs : List ℕ) (run other : Run)
+    → SpellsRun mode c tests report proofs run → SpellsRun mode c tests report proofs other → run ≡ other
+run_once mode c circuit tests report proofs run other spells spells' =
     let few : source_count c < 2 ^ 64 = omega (arith, circuit.few_lines) in
     let same_tests =
     tests_once c run.tests other.tests spells.tests_are.lawful spells'.tests_are.lawful (sym spells.tests_are.is_text ∙ spells'.tests_are.is_text) in
@@ -19,7 +22,8 @@ run_once c circuit tests report proofs run other spells spells' =
     report_once c circuit run.paths other.paths spells.report_is.lawful spells'.report_is.lawful
     (sym spells.report_is.is_text ∙ spells'.report_is.is_text) in
     let same_proofs =
-    proofs_once c few run.rules other.rules run.proofs other.proofs spells.proofs_are.unlinked spells'.proofs_are.unlinked
+    proofs_once c few (version_of run.rules) (version_of other.rules) run.proofs other.proofs
     spells.proofs_are.lawful spells'.proofs_are.lawful
     (sym spells.proofs_are.is_text ∙ spells'.proofs_are.is_text) in
-    λ i. record { rules = same_proofs.0 i; paths = same_paths i; tests = same_tests i; proofs = same_proofs.1 i }
+    let same_rules = rules_once mode c run.rules other.rules spells.of_mode spells'.of_mode same_proofs.0 in
+    λ i. record { rules = same_rules i; paths = same_paths i; tests = same_tests i; proofs = same_proofs.1 i }

@@ -6,8 +6,6 @@ use Rattle.std.proofs.lemmas.List.Elements.{recursion_from_All}
 use Rattle.std.proofs.lemmas.List.Sums.{sum_by-cons}
 use Rattle.std.proofs.lemmas.Nat.{mul-le}
 use Rattle.pd_base.specs.declared.limits.TheConstants.{MOST_BYTES, MOST_PATHS}
-use Rattle.pd_base.specs.declared.rules.Rules.{Rules}
-use Rattle.pd_base.specs.declared.rules.Rules.TheVariants.{One, Two, Linked}
 use Rattle.netlist.specs.Circuit.{Circuit, source_count}
 use Rattle.netlist.specs.Lawful.{IsCircuit}
 use Rattle.runs.specs.declared.run.Proof.{Proof}
@@ -19,6 +17,8 @@ use Rattle.trees.proofs.Ending.{nodes_and_splits}
 use Rattle.text_pieces.specs.Tokens.{direction_word, kind_word, line, space}
 use Rattle.text_pieces.specs.LineFiles.{lines_text}
 use Rattle.verdict_report.specs.ProofsText.{claim_word, node_text, proof_text, proofs_form, proofs_text, version_line}
+use Rattle.verdict_report.specs.declared.version.ProofsVersion.{ProofsVersion}
+use Rattle.verdict_report.specs.declared.version.ProofsVersion.TheVariants.{First, Second, Third}
 use Rattle.command_line.specs.declared.forms.run.TheConstants.{MOST_PRODUCT}
 use Rattle.commands.proofs.TextBounds.{bytes_of, direction_length, joined_length, kind_within, line_length, lines_within}
 
@@ -30,10 +30,10 @@ claim_within : (spent : Bool) → length (claim_word spent) ≤ 7
 claim_within true = omega arith
 claim_within false = omega arith
 
-version_length : (rules : Rules) → length (version_line rules) ≡ 15
-version_length One = refl
-version_length Two = refl
-version_length (Linked links) = refl
+version_length : (version : ProofsVersion) → length (version_line version) ≡ 15
+version_length First = refl
+version_length Second = refl
+version_length Third = refl
 
 -- a list of nodes has so many splits as that behind the first, and one more where this is one
 splits_first : (node : Node) (nodes : List Node) → split_count (node ∷ nodes) ≡ cond (is_split node) 1 0 + split_count nodes
@@ -106,18 +106,18 @@ module _ (c : Circuit) (circuit : IsCircuit c) where
         )
 
     -- the proofs of so many paths, four for each, where the product of paths and budget is within its limit
-    pub proofs_within : (paths : ℕ) (rules : Rules) (proofs : List Proof) → paths ≤ MOST_PATHS → paths * budget ≤ MOST_PRODUCT
-        → All IsShortProof proofs → length proofs ≤ 4 * paths → length (proofs_text rules proofs) ≤ MOST_BYTES
-    proofs_within paths rules proofs few product each four_each =
+    pub proofs_within : (paths : ℕ) (version : ProofsVersion) (proofs : List Proof) → paths ≤ MOST_PATHS → paths * budget ≤ MOST_PRODUCT
+        → All IsShortProof proofs → length proofs ≤ 4 * paths → length (proofs_text version proofs) ≤ MOST_BYTES
+    proofs_within paths version proofs few product each four_each =
         let lines = lines_within (proofs_form IsLawfulProof) (10 * budget + 50) AreFewProofs next_proof 1 proofs
         (record { few = omega arith; each = recursion_from_All IsShortProof proofs each }) in
         let all : length proofs * (10 * budget + 50) ≤ 4 * paths * (10 * budget + 50) =
         mul-le (length proofs) (10 * budget + 50) (4 * paths) (10 * budget + 50) four_each (omega arith) in
         omega (
           arith,
-          length-append (line (version_line rules)) (lines_text (proofs_form IsLawfulProof) 1 proofs),
-          line_length (version_line rules),
-          version_length rules,
+          length-append (line (version_line version)) (lines_text (proofs_form IsLawfulProof) 1 proofs),
+          line_length (version_line version),
+          version_length version,
           lines,
           all,
           proofs_product paths budget few product,

@@ -1,13 +1,15 @@
 -- What is read of three texts is the run that they spell, or a line is malformed; and they spell one run at most.
-use Rattle.std.proofs.Common.{◌≡◌, ℕ, List, None, Some, Result, Ok, Err, subst}
+use Rattle.std.proofs.Common.{◌≡◌, ℕ, List, None, Some, Result, Ok, Err, subst, sym, ◌∙◌}
 use Rattle.std.specs.Global.{Vec}
 use Rattle.netlist.specs.Circuit.{Circuit}
+use Rattle.pd_base.specs.declared.rules.Rules.{Rules}
 use Rattle.runs.specs.Lawful.{IsLawfulRun}
 use Rattle.runs.specs.declared.run.ListedPath.{ListedPath}
 use Rattle.runs.specs.declared.run.Proof.{Proof}
 use Rattle.runs.specs.declared.run.Run.{Run}
 use Rattle.text_pieces.specs.Reads.{Reads}
 use Rattle.verdict_report.specs.ProofsReading.{ProofsAnswer}
+use Rattle.verdict_report.specs.ProofsText.{version_number, version_of}
 use Rattle.verdict_report.specs.ReportForm.{IsSpelledReport}
 use Rattle.verdict_report.specs.ReportReading.{ReportAnswer}
 use Rattle.verdict_report.specs.ReportText.{report_text}
@@ -16,7 +18,8 @@ use Rattle.verdict_report.specs.declared.fault.TextFault.TheVariants.{Malformed}
 use Rattle.verdict_report.specs.declared.version.ProofsVersion.{ProofsVersion}
 use Rattle.command_line.specs.declared.mode.Mode.{Mode}
 use Rattle.commands.specs.Inside.Checking.{SpellsNumbered}
-use Rattle.commands.specs.SpelledRuns.{IsMalformedProofs, IsMalformedReport, SpellsReport, SpellsRun}
+use Rattle.commands.specs.SpelledRuns.{IsMalformedProofs, IsMalformedReport, SpellsProofs, SpellsReport, SpellsRun}
+use Rattle.commands.proofs.ModeRules.{version_once}
 
 module _ (c : Circuit) (text : List ℕ) where
   pub spells_report : (paths : List ListedPath) → Reads (report_text c) (IsSpelledReport c) text (Some paths) → SpellsReport c text paths
@@ -48,6 +51,13 @@ module _ (c : Circuit) (text : List ℕ) where
             let never : None ≡ Some (version, proofs) = told.0.only (version, proofs) spells.lawful spells.is_text in absurd cc;
         first = told.1;
       }
+
+-- proofs whose version is that of the rules
+pub in_version : (c : Circuit) (text : List ℕ) (number : ℕ) (proofs : List Proof) (rules : Rules) → SpellsNumbered c text number proofs
+    → version_number (version_of rules) ≡ number → SpellsProofs c text (version_of rules) proofs
+in_version c text number proofs rules read is =
+    let same = version_once read.version (version_of rules) (sym read.is_number ∙ sym is) in
+    subst (λ (version : ProofsVersion). SpellsProofs c text version proofs) same read.spells
 
 -- the files can spell the run
 pub spelled_is_lawful : (mode : Mode) (c : Circuit) (tests report proofs : List ℕ) (run : Run) → SpellsRun mode c tests report proofs run

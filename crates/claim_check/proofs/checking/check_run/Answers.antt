@@ -32,7 +32,7 @@ returns-clause-exactly c =
     let Q : Claim → Type 0 = λ claim. (claim ≡ Holds) ↔ IsGoodRun net delays c.args.count c.args.budget c.args.run.now in
     subst Q (sym c.claim_of.ensures)
     (claim_exact net delays c.args.count c.args.budget c.args.run.now c.as_slice.result.now
-    (subst P (sym c.as_slice.ensures.value) c.in_ok-first.ensures) c.requires.lawful c.requires.unlinked c.in_ok-flaw.flaw c.in_ok-flaw.ensures)
+    (subst P (sym c.as_slice.ensures.value) c.in_ok-first.ensures) c.requires.lawful c.in_ok-flaw.flaw c.in_ok-flaw.ensures)
 
 pub returns-clause-tells : goal.returns-clause-tells
 returns-clause-tells c =
@@ -41,7 +41,7 @@ returns-clause-tells c =
     let P : List Route → Type 0 = λ first. AreFirst net delays c.args.count first in
     subst (TellsOfRun net delays c.args.count c.args.budget c.args.run.now) (sym c.claim_of.ensures)
     (claim_tells net delays c.args.count c.args.budget c.args.run.now c.as_slice.result.now
-    (subst P (sym c.as_slice.ensures.value) c.in_ok-first.ensures) c.requires.lawful c.requires.unlinked c.in_ok-flaw.flaw c.in_ok-flaw.ensures)
+    (subst P (sym c.as_slice.ensures.value) c.in_ok-first.ensures) c.requires.lawful c.in_ok-flaw.flaw c.in_ok-flaw.ensures)
 
 pub returns-clause-promises : goal.returns-clause-promises
 returns-clause-promises c holds =
@@ -50,7 +50,7 @@ returns-clause-promises c holds =
     let P : List Route → Type 0 = λ first. AreFirst net delays c.args.count first in
     let is : claim_of c.in_ok-flaw.flaw ≡ Holds = sym c.claim_of.ensures ∙ ok_same c.claim_of.result Holds holds in
     claim_promises net delays c.args.count c.args.budget c.args.run.now c.as_slice.result.now
-    (subst P (sym c.as_slice.ensures.value) c.in_ok-first.ensures) c.requires.lawful c.requires.unlinked c.sources.ensures.circuit c.in_ok-flaw.flaw
+    (subst P (sym c.as_slice.ensures.value) c.in_ok-first.ensures) c.requires.lawful c.sources.ensures.circuit c.requires.fit c.in_ok-flaw.flaw
     c.in_ok-flaw.ensures is
   where
     ok_same : (one other : Claim) → ◌≡◌ {A = Result Claim OutOfMemory} (Ok one) (Ok other) → one ≡ other

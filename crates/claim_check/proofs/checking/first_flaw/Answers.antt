@@ -1,6 +1,5 @@
 -- Part by part.
 use Rattle.std.proofs.Common.{ℕ, List, length, get_or, refl, sym, ap, subst, ◌∙◌}
-use Rattle.trees.proofs.Unlinked.{no_links, unlinked_fit}
 use Rattle.std.proofs.lemmas.Bool.{eqb-true}
 use Rattle.std.proofs.lemmas.List.{nil_from_length}
 use Rattle.std.proofs.lemmas.Result.{IfOk-weaker}
@@ -119,7 +118,3 @@ returns c =
     right_if_none (IsRightProofAt net c.args.budget run) c.in_ok-found.found (sym c.is_some.ensures ∙ c.if-is_some.false) c.in_ok-found.ensures in
     IfOk-weaker c.wrong_verdict.result (TellsOfItems (IsRightFaultAt net run)) (TellsOfItems (IsRightAt net delays c.args.budget first run))
     (λ found is. tell_faults net delays c.args.budget first run c.in_default.ensures.counts paths right found is) c.wrong_verdict.ensures
-
-pub wrong_proof-requires-clause-fit : goal.wrong_proof-requires-clause-fit
-wrong_proof-requires-clause-fit c =
-    let rules = c.args.run.now.rules in unlinked_fit c.args.net.now rules (no_links rules c.requires.unlinked)

@@ -15,8 +15,8 @@ returns-in_err-texts-clause-reads g c =
 pub returns-clause-lawful : goal.returns-clause-lawful
 returns-clause-lawful g c =
     let texts = c.in_ok-texts.texts in
-    IfOk-weaker c.run_in.result (SpellsRun c.args.net.now texts.tests.items texts.report.items texts.proofs.items) (IsLawfulRun c.args.net.now)
-    (λ run spells. spelled_is_lawful c.args.net.now texts.tests.items texts.report.items texts.proofs.items run spells) c.run_in.ensures.spells
+    IfOk-weaker c.run_in.result (SpellsRun c.args.command.now.mode c.args.net.now texts.tests.items texts.report.items texts.proofs.items) (IsLawfulRun c.args.net.now)
+    (λ run spells. spelled_is_lawful c.args.command.now.mode c.args.net.now texts.tests.items texts.report.items texts.proofs.items run spells) c.run_in.ensures.spells
 
 pub returns-clause-reads : goal.returns-clause-reads
 returns-clause-reads g c first net delays has before =

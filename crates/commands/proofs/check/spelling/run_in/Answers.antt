@@ -1,10 +1,12 @@
--- The first text that has not its form is told, behind those that have.
+-- The first text that has not its form is told, behind those that have, and last another version; or what they spell.
 use Rattle.std.proofs.Common.{ℕ, List, codes, subst}
 use Rattle.std.proofs.lemmas.Result.{err_from_is_err_and}
 use Rattle.commands.specs.Inside.InputJudging.{FailsProofs, FailsReport, FailsTests}
 use Rattle.commands.specs.SpelledTests.{SpellsTests}
 use Rattle.commands.specs.Inside.Checking as checking
 use Rattle.commands.specs.SpelledRuns.{SpellsReport}
+use Rattle.commands.specs.Inside.Checking.{SpellsNumbered}
+use Rattle.commands.proofs.SpelledRuns.{in_version}
 use Rattle.commands.proofs.check.spelling.run_in.Goals as goal
 
 pub returns-in_err-tests-clause-fails : goal.returns-in_err-tests-clause-fails
@@ -22,11 +24,34 @@ returns-in_err-paths-clause-fails c =
     (subst (λ (text : List ℕ). FailsReport (codes "check") c.args.net.now text c.in_err-paths.field-0.0) c.as_slice-2.ensures.value
     c.in_err-paths.ensures.fails))
 
-pub returns-in_err-ruled-clause-fails : goal.returns-in_err-ruled-clause-fails
-returns-in_err-ruled-clause-fails c =
-    let p = err_from_is_err_and c.from_residual-in_err-ruled.result c.from_residual-in_err-ruled.ensures.1 in
+pub returns-in_err-versioned-clause-fails : goal.returns-in_err-versioned-clause-fails
+returns-in_err-versioned-clause-fails c =
+    let p = err_from_is_err_and c.from_residual-in_err-versioned.result c.from_residual-in_err-versioned.ensures.1 in
     rw (p.1, p.2) (checking.no_proofs c.in_ok-tests.tests.items c.in_ok-paths.paths.items
     (subst (λ (text : List ℕ). SpellsTests c.args.net.now text c.in_ok-tests.tests.items) c.as_slice.ensures.value c.in_ok-tests.ensures.spells)
     (subst (λ (text : List ℕ). SpellsReport c.args.net.now text c.in_ok-paths.paths.items) c.as_slice-2.ensures.value c.in_ok-paths.ensures.spells)
-    (subst (λ (text : List ℕ). FailsProofs (codes "check") c.args.net.now text c.in_err-ruled.field-0.0) c.as_slice-3.ensures.value
-    c.in_err-ruled.ensures.fails))
+    (subst (λ (text : List ℕ). FailsProofs (codes "check") c.args.net.now text c.in_err-versioned.field-0.0) c.as_slice-3.ensures.value
+    c.in_err-versioned.ensures.fails))
+
+pub returns-in_err-rules-clause-fails : goal.returns-in_err-rules-clause-fails
+returns-in_err-rules-clause-fails c =
+    let p = err_from_is_err_and c.from_residual-in_err-rules.result c.from_residual-in_err-rules.ensures.1 in
+    rw (p.1, p.2) (checking.no_rules c.in_ok-tests.tests.items c.in_ok-paths.paths.items c.in_ok-versioned.versioned.version
+    c.in_ok-versioned.versioned.proofs.items
+    (subst (λ (text : List ℕ). SpellsTests c.args.net.now text c.in_ok-tests.tests.items) c.as_slice.ensures.value c.in_ok-tests.ensures.spells)
+    (subst (λ (text : List ℕ). SpellsReport c.args.net.now text c.in_ok-paths.paths.items) c.as_slice-2.ensures.value c.in_ok-paths.ensures.spells)
+    (subst (λ (text : List ℕ). SpellsNumbered c.args.net.now text c.in_ok-versioned.versioned.version c.in_ok-versioned.versioned.proofs.items)
+    c.as_slice-3.ensures.value c.in_ok-versioned.ensures.spells)
+    c.in_err-rules.ensures.fails)
+
+pub returns-clause-spells : goal.returns-clause-spells
+returns-clause-spells c = record {
+  tests_are = subst (λ (text : List ℕ). SpellsTests c.args.net.now text c.in_ok-tests.tests.items) c.as_slice.ensures.value c.in_ok-tests.ensures.spells;
+  report_is = subst (λ (text : List ℕ). SpellsReport c.args.net.now text c.in_ok-paths.paths.items) c.as_slice-2.ensures.value
+      c.in_ok-paths.ensures.spells;
+  of_mode = c.in_ok-rules.ensures.rules;
+  proofs_are = in_version c.args.net.now c.args.texts.now.proofs.items c.in_ok-versioned.versioned.version c.in_ok-versioned.versioned.proofs.items
+      c.in_ok-rules.rules
+      (subst (λ (text : List ℕ). SpellsNumbered c.args.net.now text c.in_ok-versioned.versioned.version c.in_ok-versioned.versioned.proofs.items)
+      c.as_slice-3.ensures.value c.in_ok-versioned.ensures.spells) c.in_ok-rules.ensures.version;
+}
