@@ -163,16 +163,35 @@ fn propose<A: Algebra, S: Setting>(
     ensures desk { IsDesk A.algebra (standing scope.now).net (standing scope.now).rules task.now.path.now desk.new }
     ensures test { IfOk result (λ found. IfSome found (IsFitTest (standing scope.now).net (standing scope.now).rules (task_target task.now))) }
 {
-    take_preferred::<A>(
-        desk.cone.sources(),
-        scope.labels(),
-        desk.liked.as_slice(),
-        desk.states.as_mut_slice(),
-    );
+    take_liked(scope, desk);
     match judge_proposal(alloc, scope, task, desk)? {
         Some(pair) => Ok(Some(pair)),
         None => justify_lines(alloc, scope, task, desk, Effort::Little),
     }
+}
+
+// Takes the last test's states at the sources of the cone, as far as the labels let them, and under links what makes a pair of the rules.
+fn take_liked<A: Algebra, S: Setting>(scope: &Scope<A, S>, desk: &mut Desk) {
+    if desk.cone.links().pairs().is_empty() {
+        take_preferred::<A>(
+            desk.cone.sources(),
+            scope.labels(),
+            desk.liked.as_slice(),
+            desk.states.as_mut_slice(),
+        );
+        return;
+    }
+    let sight = Sight {
+        net: scope.net(),
+        labels: scope.labels(),
+        liked: desk.liked.as_slice(),
+    };
+    desk.justifier.prefer::<A>(&sight, &desk.cone);
+    take_least::<A>(
+        desk.cone.sources(),
+        desk.justifier.labels(),
+        desk.states.as_mut_slice(),
+    );
 }
 
 // What comes of a search in the end: what it found, from which later ones learn, or a test that is found by more decisions where the

@@ -9,8 +9,6 @@ use Rattle.cones.specs.KeptCones.{KeptCone}
 use Rattle.search_hints.specs.declared.decisions.Decision.{Decision}
 use Rattle.search_hints.specs.declared.decisions.Next.{Next}
 use Rattle.search_hints.specs.declared.decisions.Next.TheVariants.{Nothing, Decide, GiveUp}
-use Rattle.search_hints.specs.declared.draft.Settled.{Settled}
-use Rattle.search_hints.specs.declared.draft.Settled.TheVariants.{AtRest, Conflict, Unknown}
 
 -- how many lines and how many gates there is room for
 pub record Sizes : Type 0 where
@@ -28,11 +26,11 @@ pub record AreKept (sizes : Sizes) (decisions : List Decision) (marks : ℕ) (ga
   pub one_each : marks ≡ sizes.lines
   pub open_gates : All (λ gate. gate.0 < sizes.gates) gates
 
--- the gate of a conflict is one of the circuit
-abbrev pub HasGate : Circuit → Settled → Type 0
-HasGate c (Conflict gate) = gate.0 < gate_count c
-HasGate c AtRest = Unit {0}
-HasGate c Unknown = Unit {0}
+-- what is kept beside the decisions is of as many lines
+pub record AreBeside (lines grounds frames firsts : ℕ) : Type 0 where
+  pub of_grounds : grounds ≡ lines
+  pub of_frames : frames ≡ lines
+  pub of_firsts : firsts ≡ lines
 
 -- what is decided next is on a line of the circuit
 abbrev pub IsNextIn : Circuit → Next → Type 0
