@@ -8,7 +8,6 @@ use crate::changes::Cause;
 use crate::culprits::Culprits;
 use crate::draft::{Draft, Settled};
 use crate::framed_picking::{is_open_source, pick_framed, pick_last};
-use crate::link_ends::LinkEnds;
 use crate::open_lines::{is_justified, open_side};
 use crate::picking::{Cut, Sight, pick, pick_any, without};
 use crate::region::{Region, is_first_alone, linked_line};
@@ -92,16 +91,12 @@ impl Model for Decisions {
 
 impl Decisions {
     // Nothing is decided.
-    pub(crate) fn new<A: Algebra>(
-        alloc: Global,
-        net: &Netlist,
-        links: &LinkEnds,
-    ) -> Result<Decisions, OutOfMemory>
+    pub(crate) fn new<A: Algebra>(alloc: Global, net: &Netlist) -> Result<Decisions, OutOfMemory>
         ensures { IfOk result (IsSizedFor net.now) }
     {
         // What has most parts is made last, since each refusal drops what was made before.
         let culprits = Culprits::new(alloc, net)?;
-        let draft = Draft::new::<A>(alloc, net, links)?;
+        let draft = Draft::new::<A>(alloc, net)?;
         Ok(Decisions {
             draft,
             made: Vec::new(alloc),

@@ -6,7 +6,6 @@ ghost use Rattle.netlist.specs.Lawful.{IsCircuit};
 ghost use Rattle.search_hints.specs.Drafts.{IsSizedFor};
 
 use crate::changes::{Cause, Change};
-use crate::link_ends::LinkEnds;
 use crate::region::{Region, condition_of, is_first_alone, is_inside, linked_line};
 use hulls::{NarrowScratch, Waiting, kept_at};
 use netlist::Netlist;
@@ -36,8 +35,8 @@ pub(crate) struct Draft {
     labels: Vec<StateSet>,
     changes: Vec<Change>,
     waiting: Waiting,
-    // by the number of the source; with no link there is none
-    waiting_links: Waiting,
+    // the sources whose links have to be narrowed again
+    due: Vec<LineId>,
     scratch: NarrowScratch,
 }
 
@@ -55,24 +54,18 @@ impl Model for Draft {
 
 impl Draft {
     // All states at each line, and no changes.
-    pub(crate) fn new<A: Algebra>(
-        alloc: Global,
-        net: &Netlist,
-        links: &LinkEnds,
-    ) -> Result<Draft, OutOfMemory>
+    pub(crate) fn new<A: Algebra>(alloc: Global, net: &Netlist) -> Result<Draft, OutOfMemory>
         ensures { IfOk result (IsSizedFor net.now) }
     {
         // What has most parts is made last, since each refusal drops what was made before.
         let scratch = NarrowScratch::new(alloc, net)?;
         let labels = vec![in alloc; every_state::<A>(); net.lines() as usize]?;
-        let sources = if links.is_empty() { 0 } else { net.sources() };
-        let waiting_links = Waiting::new(alloc, vec![in alloc; true; sources as usize]?)?;
         let waiting = Waiting::new(alloc, vec![in alloc; true; net.gates() as usize]?)?;
         Ok(Draft {
             labels,
             changes: Vec::new(alloc),
             waiting,
-            waiting_links,
+            due: Vec::new(alloc),
             scratch,
         })
     }
@@ -102,7 +95,7 @@ impl Draft {
     {
         self.changes.clear();
         self.waiting.clear();
-        self.waiting_links.clear();
+        self.due.clear();
     }
 
     // Writes the label of a line. That is no change.
@@ -121,7 +114,7 @@ impl Draft {
             self.undo_last();
         }
         self.waiting.clear();
-        self.waiting_links.clear();
+        self.due.clear();
     }
 
     // Takes back the last change, if there is one.
@@ -154,36 +147,35 @@ impl Draft {
         self.labels[line.0 as usize] = left;
         self.wake(region, line, cause);
         if !region.links.is_empty() {
-            self.wake_links(region, line, cause);
+            self.wake_links(region, line, cause)?;
         }
         Ok(left)
     }
 
     // Lets the links wait that count and have this line among their two, but not the one that is being narrowed.
-    fn wake_links(&mut self, region: &Region, line: LineId, cause: Cause)
+    fn wake_links(&mut self, region: &Region, line: LineId, cause: Cause) -> Result<(), OutOfMemory>
         ensures { self.new ≡ self.old }
     {
-        self.ask_link(region, line, cause);
+        self.ask_link(region, line, cause)?;
         let mut linked = region.links.source_of(line);
         for _ in 0..region.net.sources() {
             let Some(source) = linked else {
                 break;
             };
-            self.ask_link(region, source, cause);
+            self.ask_link(region, source, cause)?;
             linked = region.links.source_before(source);
         }
+        Ok(())
     }
 
     // Lets the link of a source wait, if it has one that counts and that is not the cause.
-    fn ask_link(&mut self, region: &Region, source: LineId, cause: Cause)
+    fn ask_link(&mut self, region: &Region, source: LineId, cause: Cause) -> Result<(), OutOfMemory>
         ensures { self.new ≡ self.old }
     {
-        if source.0 < region.net.sources()
-            && !cause.is_link(source)
-            && linked_line(region, source).is_some()
-        {
-            self.waiting_links.add(GateId(source.0));
+        if !cause.is_link(source) && linked_line(region, source).is_some() {
+            self.due.push(source)?;
         }
+        Ok(())
     }
 
     // Lets the gates of the cone wait that have this line among theirs, but not the one that is being narrowed.
@@ -234,8 +226,8 @@ impl Draft {
         if let Some(gate) = self.next() {
             return Some(Cause::Gate(gate));
         }
-        let source = self.waiting_links.pop()?;
-        Some(Cause::Link(LineId(source.0)))
+        let source = self.due.pop()?;
+        Some(Cause::Link(source))
     }
 
     // Narrows at a gate or along a link. Whether each of its lines has a state left.

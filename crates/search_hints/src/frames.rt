@@ -3,7 +3,7 @@
 // values count alone, since they count as far as they give last values. What stands behind the first frame gives no value that counts.
 // Without links there is the second frame alone, which is the cone, and nothing is kept.
 ghost use Rattle.std.specs.Prelude.{◌≡◌, ◌<◌, [], length, All, IfOk};
-ghost use Rattle.netlist.specs.Circuit.{line_count, HasGates, HasLines};
+ghost use Rattle.netlist.specs.Circuit.{line_count, HasLines};
 ghost use Rattle.search_hints.specs.Drafts.{IsConeIn};
 
 use crate::link_ends::LinkEnds;
@@ -78,7 +78,16 @@ impl Frames {
         list_sources(cone.sources(), self.second.marks(), &mut self.sources)?;
         list_linked(net, links, self.sources.as_slice(), &mut self.linked)?;
         find_back(net, &self.no_links, self.linked.as_slice(), &mut self.first);
-        self.list_gates(net, cone.gates())?;
+        let gates = &mut self.gates;
+        gates.clear();
+        add_gates(
+            net,
+            cone.gates(),
+            self.first.marks(),
+            self.second.marks(),
+            gates,
+        )?;
+        add_gates(net, cone.gates(), self.second.marks(), &[], gates)?;
         self.end = Some(end);
         Ok(())
     }
@@ -89,27 +98,6 @@ impl Frames {
             Some(kept) => kept.0 == end.0,
             None => false,
         }
-    }
-
-    // Lists the gates of the frames among these, which are those of a cone in rank order.
-    fn list_gates(&mut self, net: &Netlist, gates: &[GateId]) -> Result<(), OutOfMemory>
-        requires room { self.old ≡ line_count net.now }
-        requires gates { HasGates net.now gates.now }
-        ensures { self.new ≡ self.old }
-    {
-        self.gates.clear();
-        for gate in gates {
-            let line = net.line_of(*gate).0 as usize;
-            if self.first.marks()[line] && !self.second.marks()[line] {
-                self.gates.push(*gate)?;
-            }
-        }
-        for gate in gates {
-            if self.second.marks()[net.line_of(*gate).0 as usize] {
-                self.gates.push(*gate)?;
-            }
-        }
-        Ok(())
     }
 
     // A mark for each line, true at those of the second frame.
@@ -148,6 +136,26 @@ fn list_sources(
         let at = source.0 as usize;
         if at < marks.len() && marks[at] {
             list.push(*source)?;
+        }
+    }
+    Ok(())
+}
+
+// Adds to a list those of these gates whose lines have marks, but no marks of the others.
+fn add_gates(
+    net: &Netlist,
+    gates: &[GateId],
+    marks: &[bool],
+    others: &[bool],
+    list: &mut Vec<GateId>,
+) -> Result<(), OutOfMemory> {
+    for gate in gates {
+        if gate.0 < net.gates() {
+            let at = net.line_of(*gate).0 as usize;
+            let is_other = at < others.len() && others[at];
+            if at < marks.len() && marks[at] && !is_other {
+                list.push(*gate)?;
+            }
         }
     }
     Ok(())

@@ -11,7 +11,7 @@ ghost use Rattle.hulls.specs.Conditions.{IsEnteredOn};
 ghost use Rattle.cones.specs.KeptCones.{IsConeFor, IsConeAt};
 ghost use Rattle.search_hints.specs.Drafts.{IsJustifierOf, IsSizedFor, IsConeIn};
 
-use crate::completing::value_at;
+use crate::completing::{evaluate_gates, linked_state, take_firsts};
 use crate::decisions::{Decisions, Ended, Order};
 use crate::first_values::FirstValues;
 use crate::frames::Frames;
@@ -91,7 +91,7 @@ impl Justifier {
         let weights = Weights::new(alloc, net)?;
         let grounds = Grounds::new(alloc, net)?;
         let links = LinkEnds::new(alloc, net, links)?;
-        let decisions = Decisions::new::<A>(alloc, net, &links)?;
+        let decisions = Decisions::new::<A>(alloc, net)?;
         let frames = Frames::new(alloc, net)?;
         let firsts = vec![in alloc; false; net.lines() as usize]?;
         Ok(Justifier {
@@ -247,47 +247,75 @@ impl Justifier {
         requires entered { IsEnteredOn sight.now.net.now self.old.entered }
         ensures { self.new ≡ self.old }
     {
-        let is_linked = !self.links.is_empty();
+        if !self.links.is_empty() {
+            return self.decide_framed::<A>(sight, cone, most_conflicts);
+        }
         let region = Region {
             net: sight.net,
             conditions: &self.conditions,
-            marks: if is_linked {
-                self.frames.second_marks()
-            } else {
-                cone.marks()
-            },
-            firsts: if is_linked {
-                self.frames.first_marks()
-            } else {
-                cone.marks()
-            },
-            sources: if is_linked {
-                self.frames.sources()
-            } else {
-                cone.sources()
-            },
+            marks: cone.marks(),
+            firsts: cone.marks(),
+            sources: cone.sources(),
             liked: sight.liked,
             links: &self.links,
             values: self.values,
-        };
-        let gates = if is_linked {
-            self.frames.gates()
-        } else {
-            cone.gates()
         };
         begin::<A>(
             &mut self.decisions,
             &region,
             sight.labels,
             cone.sources(),
-            gates,
+            cone.gates(),
         )?;
         search::<A>(&mut self.decisions, &region, most_conflicts)
     }
 
-    /// Makes a proposal of the labels and of what is liked of them, where there are links: `labels` then has its states at the sources
-    /// of the cone.
-    pub fn prefer<A: Algebra>(&mut self, sight: &Sight, cone: &Cone)
+    // The same in the two frames.
+    fn decide_framed<A: Algebra>(
+        &mut self,
+        sight: &Sight,
+        cone: &Cone,
+        most_conflicts: u32,
+    ) -> Result<bool, OutOfMemory>
+        requires sizes { IsSizedFor sight.now.net.now self.old.sizes }
+        requires cone { IsConeIn sight.now.net.now cone.now }
+        requires entered { IsEnteredOn sight.now.net.now self.old.entered }
+        ensures { self.new ≡ self.old }
+    {
+        let region = Region {
+            net: sight.net,
+            conditions: &self.conditions,
+            marks: self.frames.second_marks(),
+            firsts: self.frames.first_marks(),
+            sources: self.frames.sources(),
+            liked: sight.liked,
+            links: &self.links,
+            values: self.values,
+        };
+        begin::<A>(
+            &mut self.decisions,
+            &region,
+            sight.labels,
+            cone.sources(),
+            self.frames.gates(),
+        )?;
+        search::<A>(&mut self.decisions, &region, most_conflicts)
+    }
+
+    /// Makes a pair that keeps the links of the labels of the cone's sources, of what is liked of them as far as they let it: `labels`
+    /// then has its states there. The cone is that of the path's end. This costs the cone, and takes no memory.
+    pub fn prefer<A: Algebra>(&mut self, sight: &Sight, cone: &Cone, path: &Path)
+        requires of { IsJustifierOf sight.now.net.now self.old }
+        requires cone_for { IsConeFor sight.now.net.now cone.now }
+        requires cone_at { IsConeAt sight.now.net.now (end_of sight.now.net.now path.now) cone.now }
+        ensures { IsJustifierOf sight.now.net.now self.new }
+    {
+        self.write_liked(sight, cone);
+        self.complete::<A>(sight.net, cone);
+    }
+
+    // Writes what is liked of the labels of the cone's sources, as far as they let it: the states, or the first values, or anything.
+    fn write_liked(&mut self, sight: &Sight, cone: &Cone)
         requires of { IsJustifierOf sight.now.net.now self.old }
         requires cone { IsConeIn sight.now.net.now cone.now }
         ensures { self.new ≡ self.old }
@@ -297,11 +325,10 @@ impl Justifier {
             let at = source.0 as usize;
             let label = sight.labels[at];
             let liked = sight.liked[at];
-            let near = or_first(label.intersect(self.values.spread(liked)), label);
-            let exact = or_first(label.intersect(liked), near);
+            let near = or_else(label.intersect(self.values.spread(liked)), label);
+            let exact = or_else(label.intersect(liked), near);
             self.decisions.write(*source, exact);
         }
-        self.complete::<A>(sight.net, cone);
     }
 
     // Writes at each linked source of the cone the state with which the least states of the sources make a pair that keeps the links.
@@ -310,33 +337,20 @@ impl Justifier {
         requires cone { IsConeIn net.now cone.now }
         ensures { self.new ≡ self.old }
     {
+        let Justifier {
+            decisions,
+            links,
+            values,
+            firsts,
+            ..
+        } = self;
+        let firsts = firsts.as_mut_slice();
+        take_firsts(cone.sources(), decisions.labels(), *values, firsts);
+        evaluate_gates(net, cone.gates(), firsts);
         for source in cone.sources() {
-            let at = source.0 as usize;
-            self.firsts[at] = self.values.is_least_at_one(self.decisions.labels()[at]);
-        }
-        for gate in cone.gates() {
-            let line = net.line_of(*gate).0 as usize;
-            self.firsts[line] = value_at(net, *gate, self.firsts.as_slice());
-        }
-        for source in cone.sources() {
-            self.complete_at::<A>(*source);
-        }
-    }
-
-    // Writes the state of a linked source that keeps its link.
-    fn complete_at<A: Algebra>(&mut self, source: LineId)
-        requires { source.0 < self.old.sizes.lines }
-        ensures { self.new ≡ self.old }
-    {
-        let Some(line) = self.links.line_of(source) else {
-            return;
-        };
-        let to = line.0 as usize;
-        if to < self.firsts.len() {
-            let first = self.firsts[source.0 as usize];
-            let last = self.firsts[to];
-            let state = A::of(first == last, first, last);
-            self.decisions.write(source, StateSet::only(state));
+            if let Some(state) = linked_state::<A>(links, firsts, *source) {
+                decisions.write(*source, StateSet::only(state));
+            }
         }
     }
 
@@ -362,7 +376,7 @@ impl Justifier {
 }
 
 // A set, or another one where it has no state.
-fn or_first(set: StateSet, other: StateSet) -> StateSet {
+fn or_else(set: StateSet, other: StateSet) -> StateSet {
     if set == StateSet::EMPTY { other } else { set }
 }
 
