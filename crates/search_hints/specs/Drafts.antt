@@ -1,6 +1,8 @@
 -- What a search by decisions on lines keeps of a circuit (this project's own).
 use Rattle.std.specs.Prelude.{◌≡◌, ℕ, ◌<◌, List, [], All}
+use Rattle.pd_base.specs.Links.{LinkList}
 use Rattle.pd_base.specs.declared.ids.GateId.{GateId}
+use Rattle.pd_base.specs.declared.ids.LineId.{LineId}
 use Rattle.netlist.specs.Circuit.{Circuit, gate_count, line_count, HasGates, HasLines}
 use Rattle.netlist.specs.Lawful.{IsCircuit}
 use Rattle.netlist.specs.Levels.{greatest_level}
@@ -25,6 +27,12 @@ pub record AreKept (sizes : Sizes) (decisions : List Decision) (marks : ℕ) (ga
   pub made_on_lines : All (λ decision. decision.line.0 < sizes.lines) decisions
   pub one_each : marks ≡ sizes.lines
   pub open_gates : All (λ gate. gate.0 < sizes.gates) gates
+
+-- there is room for as many lines in each of two frames, no links stand in them, and these sources are among the lines
+pub record AreFrames (lines first : ℕ) (links : LinkList) (sources : List LineId) : Type 0 where
+  pub of_first : first ≡ lines
+  pub unlinked : links ≡ []
+  pub on_lines : All (λ source. source.0 < lines) sources
 
 -- what is kept beside the decisions is of as many lines
 pub record AreBeside (lines grounds frames firsts : ℕ) : Type 0 where

@@ -146,9 +146,7 @@ impl Draft {
         self.changes.push(Change { line, old, cause })?;
         self.labels[line.0 as usize] = left;
         self.wake(region, line, cause);
-        if !region.links.is_empty() {
-            self.wake_links(region, line, cause)?;
-        }
+        self.wake_links(region, line, cause)?;
         Ok(left)
     }
 
@@ -156,6 +154,9 @@ impl Draft {
     fn wake_links(&mut self, region: &Region, line: LineId, cause: Cause) -> Result<(), OutOfMemory>
         ensures { self.new ≡ self.old }
     {
+        if region.links.is_empty() {
+            return Ok(());
+        }
         self.ask_link(region, line, cause)?;
         let mut linked = region.links.source_of(line);
         for _ in 0..region.net.sources() {

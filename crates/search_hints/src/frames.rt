@@ -29,13 +29,14 @@ pub(crate) struct Frames {
 }
 
 impl Model for Frames {
-    ghost use Rattle.std.specs.Prelude.{◌≡◌, ℕ, []};
+    ghost use Rattle.std.specs.Prelude.{ℕ};
+    ghost use Rattle.search_hints.specs.Drafts.{AreFrames};
 
     ghost Value = { ℕ };
 
     ghost view = { λ f. f.second.room };
 
-    ghost invariant = { λ f. (f.first.room ≡ f.second.room) × (f.no_links ≡ []) };
+    ghost invariant = { λ f. AreFrames f.second.room f.first.room f.no_links f.sources.items };
 }
 
 impl Frames {
@@ -115,7 +116,9 @@ impl Frames {
     }
 
     // The sources of the second frame.
-    pub(crate) fn sources(&self) -> &[LineId] {
+    pub(crate) fn sources(&self) -> &[LineId]
+        ensures { All (λ source. source.0 < self.now) result.now }
+    {
         self.sources.as_slice()
     }
 
@@ -130,7 +133,9 @@ fn list_sources(
     sources: &[LineId],
     marks: &[bool],
     list: &mut Vec<LineId>,
-) -> Result<(), OutOfMemory> {
+) -> Result<(), OutOfMemory>
+    ensures { All (λ source. source.0 < length marks.now) list.new.items }
+{
     list.clear();
     for source in sources {
         let at = source.0 as usize;

@@ -310,25 +310,8 @@ impl Justifier {
         requires cone_at { IsConeAt sight.now.net.now (end_of sight.now.net.now path.now) cone.now }
         ensures { IsJustifierOf sight.now.net.now self.new }
     {
-        self.write_liked(sight, cone);
+        write_liked(&mut self.decisions, self.values, sight, cone);
         self.complete::<A>(sight.net, cone);
-    }
-
-    // Writes what is liked of the labels of the cone's sources, as far as they let it: the states, or the first values, or anything.
-    fn write_liked(&mut self, sight: &Sight, cone: &Cone)
-        requires of { IsJustifierOf sight.now.net.now self.old }
-        requires cone { IsConeIn sight.now.net.now cone.now }
-        ensures { self.new ≡ self.old }
-    {
-        self.decisions.forget();
-        for source in cone.sources() {
-            let at = source.0 as usize;
-            let label = sight.labels[at];
-            let liked = sight.liked[at];
-            let near = or_else(label.intersect(self.values.spread(liked)), label);
-            let exact = or_else(label.intersect(liked), near);
-            self.decisions.write(*source, exact);
-        }
     }
 
     // Writes at each linked source of the cone the state with which the least states of the sources make a pair that keeps the links.
@@ -372,6 +355,23 @@ impl Justifier {
         ensures { length result.now ≡ self.now.sizes.lines }
     {
         self.decisions.labels()
+    }
+}
+
+// Writes what is liked of the labels of a cone's sources, as far as they let it: the states, or the first values, or anything.
+fn write_liked(decisions: &mut Decisions, values: FirstValues, sight: &Sight, cone: &Cone)
+    requires sizes { IsSizedFor sight.now.net.now decisions.old }
+    requires cone { IsConeIn sight.now.net.now cone.now }
+    ensures { decisions.new ≡ decisions.old }
+{
+    decisions.forget();
+    for source in cone.sources() {
+        let at = source.0 as usize;
+        let label = sight.labels[at];
+        let liked = sight.liked[at];
+        let near = or_else(label.intersect(values.spread(liked)), label);
+        let exact = or_else(label.intersect(liked), near);
+        decisions.write(*source, exact);
     }
 }
 
