@@ -44,7 +44,7 @@ impl Desk {
         let liked = vec![in alloc; every_state::<A>(); lines]?;
         let blame = Blame::new(alloc, net)?;
         let cone = Cone::new(alloc, net, rules.links())?;
-        let justifier = Justifier::new::<A>(alloc, net)?;
+        let justifier = Justifier::new::<A>(alloc, net, rules.links())?;
         Ok(Desk {
             cone,
             states,
@@ -55,7 +55,7 @@ impl Desk {
         })
     }
 
-    // From now on each line of the cone is liked to have the last value that it has now.
+    // From now on each line of the cone is liked to have the last value that it has now, and under links the first one too.
     pub(crate) fn keep<A: Algebra>(&mut self)
         requires { AreStates A.algebra.count self.old.states.items }
         ensures { IsSameDesk self.old self.new }
@@ -64,12 +64,13 @@ impl Desk {
             cone,
             states,
             liked,
+            justifier,
             ..
         } = self;
         for line in cone.lines() {
             let at = line.0 as usize;
             if at < liked.len() && at < states.len() {
-                liked[at] = A::ending_at(A::last(states[at]));
+                liked[at] = justifier.liked::<A>(states[at]);
             }
         }
     }

@@ -163,16 +163,46 @@ fn propose<A: Algebra, S: Setting>(
     ensures desk { IsDesk A.algebra (standing scope.now).net (standing scope.now).rules task.now.path.now desk.new }
     ensures test { IfOk result (λ found. IfSome found (IsFitTest (standing scope.now).net (standing scope.now).rules (task_target task.now))) }
 {
+    take_liked(scope, task, desk);
+    match judge_proposal(alloc, scope, task, desk)? {
+        Some(pair) => Ok(Some(pair)),
+        None => justify_lines(alloc, scope, task, desk, Effort::Little),
+    }
+}
+
+// Takes the last test's states at the sources of the cone, as far as the labels let them.
+fn take_liked<A: Algebra, S: Setting>(scope: &Scope<A, S>, task: &Task, desk: &mut Desk)
+    requires { IsDesk A.algebra (standing scope.now).net (standing scope.now).rules task.now.path.now desk.old }
+    ensures { IsDesk A.algebra (standing scope.now).net (standing scope.now).rules task.now.path.now desk.new }
+{
+    if !desk.cone.links().pairs().is_empty() {
+        prefer(scope, task, desk);
+        return;
+    }
     take_preferred::<A>(
         desk.cone.sources(),
         scope.labels(),
         desk.liked.as_slice(),
         desk.states.as_mut_slice(),
     );
-    match judge_proposal(alloc, scope, task, desk)? {
-        Some(pair) => Ok(Some(pair)),
-        None => justify_lines(alloc, scope, task, desk, Effort::Little),
-    }
+}
+
+// The same under links: the last test's first vector, as far as the labels let it, with what the links make of it.
+fn prefer<A: Algebra, S: Setting>(scope: &Scope<A, S>, task: &Task, desk: &mut Desk)
+    requires { IsDesk A.algebra (standing scope.now).net (standing scope.now).rules task.now.path.now desk.old }
+    ensures { IsDesk A.algebra (standing scope.now).net (standing scope.now).rules task.now.path.now desk.new }
+{
+    let sight = Sight {
+        net: scope.net(),
+        labels: scope.labels(),
+        liked: desk.liked.as_slice(),
+    };
+    desk.justifier.prefer::<A>(&sight, &desk.cone, task.path);
+    take_least::<A>(
+        desk.cone.sources(),
+        desk.justifier.labels(),
+        desk.states.as_mut_slice(),
+    );
 }
 
 // What comes of a search in the end: what it found, from which later ones learn, or a test that is found by more decisions where the

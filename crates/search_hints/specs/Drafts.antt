@@ -1,6 +1,8 @@
 -- What a search by decisions on lines keeps of a circuit (this project's own).
 use Rattle.std.specs.Prelude.{◌≡◌, ℕ, ◌<◌, List, [], All}
+use Rattle.pd_base.specs.Links.{LinkList}
 use Rattle.pd_base.specs.declared.ids.GateId.{GateId}
+use Rattle.pd_base.specs.declared.ids.LineId.{LineId}
 use Rattle.netlist.specs.Circuit.{Circuit, gate_count, line_count, HasGates, HasLines}
 use Rattle.netlist.specs.Lawful.{IsCircuit}
 use Rattle.netlist.specs.Levels.{greatest_level}
@@ -9,8 +11,6 @@ use Rattle.cones.specs.KeptCones.{KeptCone}
 use Rattle.search_hints.specs.declared.decisions.Decision.{Decision}
 use Rattle.search_hints.specs.declared.decisions.Next.{Next}
 use Rattle.search_hints.specs.declared.decisions.Next.TheVariants.{Nothing, Decide, GiveUp}
-use Rattle.search_hints.specs.declared.draft.Settled.{Settled}
-use Rattle.search_hints.specs.declared.draft.Settled.TheVariants.{AtRest, Conflict, Unknown}
 
 -- how many lines and how many gates there is room for
 pub record Sizes : Type 0 where
@@ -28,11 +28,17 @@ pub record AreKept (sizes : Sizes) (decisions : List Decision) (marks : ℕ) (ga
   pub one_each : marks ≡ sizes.lines
   pub open_gates : All (λ gate. gate.0 < sizes.gates) gates
 
--- the gate of a conflict is one of the circuit
-abbrev pub HasGate : Circuit → Settled → Type 0
-HasGate c (Conflict gate) = gate.0 < gate_count c
-HasGate c AtRest = Unit {0}
-HasGate c Unknown = Unit {0}
+-- there is room for as many lines in each of two frames, no links stand in them, and these sources are among the lines
+pub record AreFrames (lines first : ℕ) (links : LinkList) (sources : List LineId) : Type 0 where
+  pub of_first : first ≡ lines
+  pub unlinked : links ≡ []
+  pub on_lines : All (λ source. source.0 < lines) sources
+
+-- what is kept beside the decisions is of as many lines
+pub record AreBeside (lines grounds frames firsts : ℕ) : Type 0 where
+  pub of_grounds : grounds ≡ lines
+  pub of_frames : frames ≡ lines
+  pub of_firsts : firsts ≡ lines
 
 -- what is decided next is on a line of the circuit
 abbrev pub IsNextIn : Circuit → Next → Type 0

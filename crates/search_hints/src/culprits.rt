@@ -1,12 +1,13 @@
 // On which decisions a conflict rests, by the trail: from the last change back, a change of a line that matters is a decision, or
-// comes from the lines of a gate, which then matter too.
+// comes from the lines of a gate or of a link, which then matter too.
 ghost use Rattle.std.specs.Prelude.{◌≡◌, ◌<◌, All, IfOk};
 ghost use Rattle.netlist.specs.Circuit.{gate_count, line_count};
 
 use crate::changes::{Cause, Change};
+use crate::link_ends::LinkEnds;
 use cones::{FoundLines, find_reads};
 use netlist::Netlist;
-use pd_base::{GateId, OutOfMemory};
+use pd_base::{GateId, LineId, OutOfMemory};
 use std::alloc::Global;
 use std::marker::Model;
 
@@ -39,40 +40,63 @@ impl Culprits {
         })
     }
 
-    // Finds the decisions, of so many, on which the conflict at a gate rests.
+    // Finds the decisions, of so many, on which the conflict at a gate or a link rests.
     pub(crate) fn blame(
         &mut self,
         net: &Netlist,
+        links: &LinkEnds,
         changes: &[Change],
-        gate: GateId,
+        cause: Cause,
         decisions: usize,
     ) -> Result<(), OutOfMemory>
         requires lines { self.old ≡ line_count net.now }
         requires changes { All (λ change. change.line.0 < line_count net.now) changes.now }
-        requires gate { gate.0 < gate_count net.now }
         ensures { self.new ≡ self.old }
     {
         lower_all(&mut self.flags, decisions)?;
-        self.mark_lines(net, gate);
+        self.mark_cause(net, links, cause);
         for change in changes.iter().rev() {
-            self.follow(net, change);
+            self.follow(net, links, change);
         }
         self.matters.clear();
         Ok(())
     }
 
     // Follows a change back to its cause, if its line matters.
-    fn follow(&mut self, net: &Netlist, change: &Change)
+    fn follow(&mut self, net: &Netlist, links: &LinkEnds, change: &Change)
         requires lines { self.old ≡ line_count net.now }
         requires line { change.now.line.0 < line_count net.now }
         ensures { self.new ≡ self.old }
     {
-        if !self.matters.marks()[change.line.0 as usize] {
-            return;
+        if self.matters.marks()[change.line.0 as usize] {
+            self.mark_cause(net, links, change.cause);
         }
-        match change.cause {
+    }
+
+    // From now on the decision matters, or the lines of the gate or of the link.
+    fn mark_cause(&mut self, net: &Netlist, links: &LinkEnds, cause: Cause)
+        requires { self.old ≡ line_count net.now }
+        ensures { self.new ≡ self.old }
+    {
+        match cause {
             Cause::Decision(place) => self.put(place),
             Cause::Gate(gate) => self.mark_lines(net, gate),
+            Cause::Link(source) => {
+                self.mark(net, source);
+                if let Some(line) = links.line_of(source) {
+                    self.mark(net, line);
+                }
+            }
+        }
+    }
+
+    // From now on a line matters, if it is one of the netlist.
+    fn mark(&mut self, net: &Netlist, line: LineId)
+        requires { self.old ≡ line_count net.now }
+        ensures { self.new ≡ self.old }
+    {
+        if line.0 < net.lines() {
+            self.matters.add(line);
         }
     }
 

@@ -2,14 +2,15 @@
 // which a part is left, is turned to that part.
 ghost use Rattle.std.specs.Prelude.{◌≡◌, ◌<◌, length, All, IfOk, IfSome};
 ghost use Rattle.netlist.specs.Circuit.{gate_count, line_count};
-ghost use Rattle.search_hints.specs.Drafts.{IsSizedFor, HasGate, IsNextIn};
+ghost use Rattle.search_hints.specs.Drafts.{IsSizedFor, IsNextIn};
 
 use crate::changes::Cause;
 use crate::culprits::Culprits;
 use crate::draft::{Draft, Settled};
+use crate::framed_picking::{is_open_source, pick_framed, pick_last};
 use crate::open_lines::{is_justified, open_side};
 use crate::picking::{Cut, Sight, pick, pick_any, without};
-use crate::region::Region;
+use crate::region::{Region, is_first_alone, linked_line};
 use netlist::Netlist;
 use pd_base::{GateId, LineId, OutOfMemory};
 use state_sets::{Algebra, StateSet};
@@ -19,12 +20,13 @@ use std::marker::Model;
 // How many decisions are made at most in one search: more than any cone takes in practice.
 const MOST_DECISIONS: u32 = 1_048_576;
 
-// How many of the steps, of the changes and of the lines that were open at the beginning are known to be closed.
+// How many of the steps, of the changes, of the lines that were open at the beginning and of the cone's sources are known to be closed.
 #[derive(Clone, Copy)]
 pub(crate) struct Cursor {
     steps: usize,
     changes: usize,
     places: usize,
+    sources: usize,
 }
 
 // A decision: what was noted before it, its line, and the second part of the line's states, which is left to be tried. Where that is
@@ -38,7 +40,8 @@ pub(crate) struct Decision {
     reasons: usize,
 }
 
-// The order in which lines are justified that were open at the beginning: by level.
+// The order in which lines are justified that were open at the beginning: by level, and with links those of the first frame alone first,
+// or those of the second frame.
 #[derive(Clone, Copy)]
 pub(crate) enum Order {
     LowestFirst,
@@ -189,8 +192,8 @@ impl Decisions {
         if let Some(cut) = next_side::<A>(region, self.draft.labels(), &mut self.cursor.steps) {
             return Next::Decide(cut);
         }
-        if let Some(gate) = next_changed::<A>(region, &self.draft, &mut self.cursor.changes) {
-            return self.pick_for::<A>(region, gate);
+        if let Some(line) = next_changed::<A>(region, &self.draft, &mut self.cursor.changes) {
+            return self.pick_for::<A>(region, line);
         }
         let open = self.open_at_first.as_slice();
         match next_open::<A>(
@@ -200,15 +203,30 @@ impl Decisions {
             order,
             &mut self.cursor.places,
         ) {
-            Some(gate) => self.pick_for::<A>(region, gate),
+            Some(gate) => self.pick_for::<A>(region, region.net.line_of(gate)),
+            None => self.next_source::<A>(region),
+        }
+    }
+
+    // What to decide on a linked source that is open.
+    fn next_source<A: Algebra>(&mut self, region: &Region) -> Next
+        requires { IsSizedFor region.now.net.now self.old }
+        ensures same { self.new ≡ self.old }
+        ensures line { IsNextIn region.now.net.now result }
+    {
+        if region.links.is_empty() {
+            return Next::Nothing;
+        }
+        match next_linked::<A>(region, self.draft.labels(), &mut self.cursor.sources) {
+            Some(source) => self.pick_for::<A>(region, source),
             None => Next::Nothing,
         }
     }
 
-    // A decision towards the label of a gate's line.
-    fn pick_for<A: Algebra>(&self, region: &Region, gate: GateId) -> Next
+    // A decision towards the label of a line.
+    fn pick_for<A: Algebra>(&self, region: &Region, line: LineId) -> Next
         requires sized { IsSizedFor region.now.net.now self.now }
-        requires gate { gate.0 < gate_count region.now.net.now }
+        requires line { line.0 < line_count region.now.net.now }
         ensures { IsNextIn region.now.net.now result }
     {
         let sight = Sight {
@@ -216,8 +234,7 @@ impl Decisions {
             labels: self.draft.labels(),
             liked: region.liked,
         };
-        let states = sight.labels[region.net.line_of(gate).0 as usize];
-        if let Some(cut) = pick::<A>(&sight, gate, states) {
+        if let Some(cut) = pick_at::<A>(region, &sight, line) {
             return Next::Decide(cut);
         }
         match pick_any::<A>(&sight, region.sources) {
@@ -230,8 +247,7 @@ impl Decisions {
     fn decide<A: Algebra>(&mut self, region: &Region, cut: Cut) -> Result<Settled, OutOfMemory>
         requires sized { IsSizedFor region.now.net.now self.old }
         requires line { cut.line.0 < line_count region.now.net.now }
-        ensures same { self.new ≡ self.old }
-        ensures gate { IfOk result (HasGate region.now.net.now) }
+        ensures { self.new ≡ self.old }
     {
         let second = without(self.draft.labels()[cut.line.0 as usize], cut.to);
         if second == StateSet::EMPTY || cut.to == StateSet::EMPTY {
@@ -249,8 +265,7 @@ impl Decisions {
     ) -> Result<Settled, OutOfMemory>
         requires sized { IsSizedFor region.now.net.now self.old }
         requires line { cut.line.0 < line_count region.now.net.now }
-        ensures same { self.new ≡ self.old }
-        ensures gate { IfOk result (HasGate region.now.net.now) }
+        ensures { self.new ≡ self.old }
     {
         let cause = Cause::Decision(self.made.len());
         let decision = Decision {
@@ -273,17 +288,16 @@ impl Decisions {
         settled: Settled,
         left: &mut u32,
     ) -> Result<Option<Ended>, OutOfMemory>
-        requires sized { IsSizedFor region.now.net.now self.old }
-        requires gate { HasGate region.now.net.now settled }
+        requires { IsSizedFor region.now.net.now self.old }
         ensures { self.new ≡ self.old }
     {
         let mut settled = settled;
         for conflicts in (0..*left).rev() {
-            let Settled::Conflict(gate) = settled else {
+            let Settled::Conflict(cause) = settled else {
                 break;
             };
             *left = conflicts;
-            self.blame(region.net, gate)?;
+            self.blame(region, cause)?;
             let Some(decision) = self.newest_culprit() else {
                 return Ok(Some(Ended::Exhausted));
             };
@@ -295,14 +309,18 @@ impl Decisions {
         }
     }
 
-    // Finds the decisions on which the conflict at a gate rests.
-    fn blame(&mut self, net: &Netlist, gate: GateId) -> Result<(), OutOfMemory>
-        requires sized { IsSizedFor net.now self.old }
-        requires gate { gate.0 < gate_count net.now }
+    // Finds the decisions on which the conflict at a gate or a link rests.
+    fn blame(&mut self, region: &Region, cause: Cause) -> Result<(), OutOfMemory>
+        requires { IsSizedFor region.now.net.now self.old }
         ensures { self.new ≡ self.old }
     {
-        self.culprits
-            .blame(net, self.draft.changes(), gate, self.made.len())
+        self.culprits.blame(
+            region.net,
+            region.links,
+            self.draft.changes(),
+            cause,
+            self.made.len(),
+        )
     }
 
     // Takes decisions back down to the newest one on which the conflict rests and of which a part is left, and gives that.
@@ -347,8 +365,7 @@ impl Decisions {
     ) -> Result<Settled, OutOfMemory>
         requires sized { IsSizedFor region.now.net.now self.old }
         requires line { decision.line.0 < line_count region.now.net.now }
-        ensures same { self.new ≡ self.old }
-        ensures gate { IfOk result (HasGate region.now.net.now) }
+        ensures { self.new ≡ self.old }
     {
         self.cursor = decision.cursor;
         let cut = Cut {
@@ -367,6 +384,7 @@ fn at_start() -> Cursor {
         steps: 0,
         changes: 0,
         places: 0,
+        sources: 0,
     }
 }
 
@@ -386,32 +404,70 @@ fn next_side<A: Algebra>(region: &Region, labels: &[StateSet], place: &mut usize
     None
 }
 
-// The gate of the first changed line that is not justified, from a place on, which goes on to that change.
-fn next_changed<A: Algebra>(region: &Region, draft: &Draft, place: &mut usize) -> Option<GateId>
+// A decision towards the label of a line, at a pin of its gate, or at an open source.
+fn pick_at<A: Algebra>(region: &Region, sight: &Sight, line: LineId) -> Option<Cut>
+    requires same { sight.now.net.now ≡ region.now.net.now }
+    requires line { line.0 < line_count region.now.net.now }
+    ensures { IfSome result (λ cut. cut.line.0 < line_count region.now.net.now) }
+{
+    let states = sight.labels[line.0 as usize];
+    match sight.net.gate_of(line) {
+        None => pick_last::<A>(sight, line),
+        Some(gate) if region.links.is_empty() => pick::<A>(sight, gate, states),
+        Some(gate) => {
+            let whole = !is_first_alone(region, line);
+            pick_framed::<A>(sight, region.values, whole, gate, states)
+        }
+    }
+}
+
+// The first changed line that is open, from a place on, which goes on to that change.
+fn next_changed<A: Algebra>(region: &Region, draft: &Draft, place: &mut usize) -> Option<LineId>
     requires { IsSizedFor region.now.net.now draft.now }
-    ensures { IfSome result (λ gate. gate.0 < gate_count region.now.net.now) }
+    ensures { IfSome result (λ line. line.0 < line_count region.now.net.now) }
 {
     let changes = draft.changes();
     for at in *place..changes.len() {
-        if let Some(gate) = open_gate::<A>(region, draft, changes[at].line) {
-            return Some(gate);
+        let line = changes[at].line;
+        if is_open::<A>(region, draft.labels(), line) {
+            return Some(line);
         }
         *place = at + 1;
     }
     None
 }
 
-// The gate of a line that is not justified.
-fn open_gate<A: Algebra>(region: &Region, draft: &Draft, line: LineId) -> Option<GateId>
-    requires sized { IsSizedFor region.now.net.now draft.now }
+// Whether a line is open: one of a gate that is not justified, or a linked source that is open.
+fn is_open<A: Algebra>(region: &Region, labels: &[StateSet], line: LineId) -> bool
+    requires labels { length labels.now ≡ line_count region.now.net.now }
     requires line { line.0 < line_count region.now.net.now }
-    ensures { IfSome result (λ gate. gate.0 < gate_count region.now.net.now) }
 {
-    let gate = region.net.gate_of(line)?;
-    if is_justified::<A>(region.net, draft.labels(), gate) {
-        return None;
+    match region.net.gate_of(line) {
+        Some(gate) => !is_justified::<A>(region.net, labels, gate),
+        None => {
+            linked_line(region, line).is_some()
+                && is_open_source::<A>(region.values, labels[line.0 as usize])
+        }
     }
-    Some(gate)
+}
+
+// The first of the cone's sources that is linked and open, from a place on, which goes on to that source.
+fn next_linked<A: Algebra>(
+    region: &Region,
+    labels: &[StateSet],
+    place: &mut usize,
+) -> Option<LineId>
+    requires { length labels.now ≡ line_count region.now.net.now }
+    ensures { IfSome result (λ line. line.0 < line_count region.now.net.now) }
+{
+    for at in *place..region.sources.len() {
+        let source = region.sources[at];
+        if is_open::<A>(region, labels, source) {
+            return Some(source);
+        }
+        *place = at + 1;
+    }
+    None
 }
 
 // The first of these gates, in an order, whose line is not justified, from a place on, which goes on to that gate.

@@ -1,12 +1,12 @@
-// A draft: labels of a cone that are cut line by line, narrowed at the gates of the cone, and led back. No contract speaks of the
+// A draft: labels of a cone that are cut line by line, narrowed at the gates of the cone and along the links in it, and led back. No contract speaks of the
 // labels, since what is made of them is judged before it is taken.
 ghost use Rattle.std.specs.Prelude.{◌≡◌, ◌<◌, length, All, IfOk, IfSome};
 ghost use Rattle.netlist.specs.Circuit.{gate_count, line_count};
 ghost use Rattle.netlist.specs.Lawful.{IsCircuit};
-ghost use Rattle.search_hints.specs.Drafts.{IsSizedFor, HasGate};
+ghost use Rattle.search_hints.specs.Drafts.{IsSizedFor};
 
 use crate::changes::{Cause, Change};
-use crate::region::{Region, condition_of, is_inside};
+use crate::region::{Region, condition_of, is_first_alone, is_inside, linked_line};
 use hulls::{NarrowScratch, Waiting, kept_at};
 use netlist::Netlist;
 use pd_base::{GateId, LineId, OutOfMemory};
@@ -14,27 +14,29 @@ use state_sets::{Algebra, StateSet, every_state};
 use std::alloc::Global;
 use std::marker::Model;
 
-// How many gates are narrowed at most after a cut: more than any cone takes in practice.
+// How many gates and links are narrowed at most after a cut: more than any cone takes in practice.
 const MOST_NARROWINGS: u32 = 16_777_216;
 
 // What narrowing makes of the labels.
 #[derive(Clone, Copy)]
 pub(crate) enum Settled {
-    // No gate waits, and each line has some state.
+    // No gate and no link waits, and each line has some state.
     AtRest,
-    // Narrowing at this gate leaves a line no state.
-    Conflict(GateId),
+    // Narrowing at this gate or link leaves a line no state.
+    Conflict(Cause),
     // It took too long.
     Unknown,
 }
 
-// Labels, with the trail of their changes, and the gates that have to be narrowed again. Contracts see how many lines and gates there
+// Labels, with the trail of their changes, and the gates and links that have to be narrowed again. Contracts see how many lines and gates there
 // are.
 #[derive(Drop)]
 pub(crate) struct Draft {
     labels: Vec<StateSet>,
     changes: Vec<Change>,
     waiting: Waiting,
+    // the sources whose links have to be narrowed again
+    due: Vec<LineId>,
     scratch: NarrowScratch,
 }
 
@@ -63,6 +65,7 @@ impl Draft {
             labels,
             changes: Vec::new(alloc),
             waiting,
+            due: Vec::new(alloc),
             scratch,
         })
     }
@@ -92,6 +95,7 @@ impl Draft {
     {
         self.changes.clear();
         self.waiting.clear();
+        self.due.clear();
     }
 
     // Writes the label of a line. That is no change.
@@ -110,6 +114,7 @@ impl Draft {
             self.undo_last();
         }
         self.waiting.clear();
+        self.due.clear();
     }
 
     // Takes back the last change, if there is one.
@@ -141,7 +146,37 @@ impl Draft {
         self.changes.push(Change { line, old, cause })?;
         self.labels[line.0 as usize] = left;
         self.wake(region, line, cause);
+        self.wake_links(region, line, cause)?;
         Ok(left)
+    }
+
+    // Lets the links wait that count and have this line among their two, but not the one that is being narrowed.
+    fn wake_links(&mut self, region: &Region, line: LineId, cause: Cause) -> Result<(), OutOfMemory>
+        ensures { self.new ≡ self.old }
+    {
+        if region.links.is_empty() {
+            return Ok(());
+        }
+        self.ask_link(region, line, cause)?;
+        let mut linked = region.links.source_of(line);
+        for _ in 0..region.net.sources() {
+            let Some(source) = linked else {
+                break;
+            };
+            self.ask_link(region, source, cause)?;
+            linked = region.links.source_before(source);
+        }
+        Ok(())
+    }
+
+    // Lets the link of a source wait, if it has one that counts and that is not the cause.
+    fn ask_link(&mut self, region: &Region, source: LineId, cause: Cause) -> Result<(), OutOfMemory>
+        ensures { self.new ≡ self.old }
+    {
+        if !cause.is_link(source) && linked_line(region, source).is_some() {
+            self.due.push(source)?;
+        }
+        Ok(())
     }
 
     // Lets the gates of the cone wait that have this line among theirs, but not the one that is being narrowed.
@@ -169,21 +204,67 @@ impl Draft {
         }
     }
 
-    // Narrows at the gates that wait, until none does or a line has no state left.
+    // Narrows at the gates and links that wait, until none does or a line has no state left.
     pub(crate) fn settle<A: Algebra>(&mut self, region: &Region) -> Result<Settled, OutOfMemory>
         requires { IsSizedFor region.now.net.now self.old }
-        ensures same { self.new ≡ self.old }
-        ensures gate { IfOk result (HasGate region.now.net.now) }
+        ensures { self.new ≡ self.old }
     {
         for _ in 0..MOST_NARROWINGS {
-            let Some(gate) = self.next() else {
+            let Some(cause) = self.next_turn() else {
                 return Ok(Settled::AtRest);
             };
-            if !self.narrow_at::<A>(region, gate)? {
-                return Ok(Settled::Conflict(gate));
+            if !self.narrow_for::<A>(region, cause)? {
+                return Ok(Settled::Conflict(cause));
             }
         }
         Ok(Settled::Unknown)
+    }
+
+    // Takes the first gate that waits, or where none does the first link, if one waits.
+    fn next_turn(&mut self) -> Option<Cause>
+        ensures { self.new ≡ self.old }
+    {
+        if let Some(gate) = self.next() {
+            return Some(Cause::Gate(gate));
+        }
+        let source = self.due.pop()?;
+        Some(Cause::Link(source))
+    }
+
+    // Narrows at a gate or along a link. Whether each of its lines has a state left.
+    fn narrow_for<A: Algebra>(&mut self, region: &Region, cause: Cause) -> Result<bool, OutOfMemory>
+        requires { IsSizedFor region.now.net.now self.old }
+        ensures { self.new ≡ self.old }
+    {
+        match cause {
+            Cause::Gate(gate) if gate.0 < region.net.gates() => self.narrow_at::<A>(region, gate),
+            Cause::Link(source) => match linked_line(region, source) {
+                Some(line) => self.narrow_link::<A>(region, source, line),
+                None => Ok(true),
+            },
+            _ => Ok(true),
+        }
+    }
+
+    // Narrows along a link. Whether both lines have a state left.
+    fn narrow_link<A: Algebra>(
+        &mut self,
+        region: &Region,
+        source: LineId,
+        line: LineId,
+    ) -> Result<bool, OutOfMemory>
+        requires { IsSizedFor region.now.net.now self.old }
+        ensures { self.new ≡ self.old }
+    {
+        if source.0 >= region.net.lines() || line.0 >= region.net.lines() {
+            return Ok(true);
+        }
+        let cause = Cause::Link(source);
+        let at_source = region.values.of_source::<A>(self.labels[line.0 as usize]);
+        let at_line = region.values.of_line::<A>(self.labels[source.0 as usize]);
+        let source_left = self.cut(region, source, at_source, cause)?;
+        let line_left = self.cut(region, line, at_line, cause)?;
+        Ok(source_left != StateSet::EMPTY && line_left != StateSet::EMPTY)
     }
 
     // Takes the first gate that waits, if one does.
@@ -208,6 +289,11 @@ impl Draft {
             condition_of(region, gate),
             &mut self.scratch,
         );
+        let given = if is_first_alone(region, own) {
+            region.values.spread(given)
+        } else {
+            given
+        };
         if !self.cut_pins(region, gate)? {
             return Ok(false);
         }

@@ -124,8 +124,45 @@ impl Grounds {
         }
         match self.cause::<A>(region, line, left) {
             Some(gate) => add_lines(region.net, gate, &mut self.matters),
-            None => weights.raise(line),
+            None => match self.linked::<A>(region, line, left) {
+                Some(other) => self.matters.add(other),
+                None => weights.raise(line),
+            },
         }
+    }
+
+    // The line at the other end of a link of this line along which narrowing leaves the line no more than this, if there is one.
+    fn linked<A: Algebra>(&self, region: &Region, line: LineId, left: StateSet) -> Option<LineId>
+        requires lines { self.now ≡ line_count region.now.net.now }
+        requires line { line.0 < line_count region.now.net.now }
+        ensures { IfSome result (λ other. other.0 < line_count region.now.net.now) }
+    {
+        if region.links.is_empty() {
+            return None;
+        }
+        let label = self.labels[line.0 as usize];
+        if let Some(other) = region.links.line_of(line)
+            && other.0 < region.net.lines()
+        {
+            let given = region.values.of_source::<A>(self.labels[other.0 as usize]);
+            if without(given.intersect(label), left) == StateSet::EMPTY {
+                return Some(other);
+            }
+        }
+        let mut source = region.links.source_of(line);
+        for _ in 0..region.net.sources() {
+            let Some(other) = source else {
+                return None;
+            };
+            if other.0 < region.net.lines() {
+                let given = region.values.of_line::<A>(self.labels[other.0 as usize]);
+                if without(given.intersect(label), left) == StateSet::EMPTY {
+                    return Some(other);
+                }
+            }
+            source = region.links.source_before(other);
+        }
+        None
     }
 
     // A gate of the cone at which narrowing leaves a line no more than this, if there is one.

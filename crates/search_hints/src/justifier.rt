@@ -2,25 +2,30 @@
 // evaluation judges; so its contracts say that it ends and stays within its room, and no more. It takes the conditions of the path's steps
 // that are not met, then the lines that its decisions changed and that are not justified, then those that were not justified at the
 // beginning; it brings a pin to what would justify them, narrows, and at a conflict goes back to the last decision on which the conflict
-// rests. It is tried with the lowest levels first, and once more with the highest first where the conflicts ran out.
-ghost use Rattle.std.specs.Prelude.{◌≡◌, ◌<◌, [], length, All, IfOk};
+// rests. It is tried with the lowest levels first, and once more with the highest first where the conflicts ran out. With links it looks
+// for a first vector and last values that go with it, in the two frames of the path's end, and completes what it found by the links.
+ghost use Rattle.std.specs.Prelude.{◌≡◌, ◌<◌, [], length, All, IfOk, IfSome};
 ghost use Rattle.netlist.specs.Circuit.{line_count, HasGates, HasLines};
 ghost use Rattle.netlist.specs.Paths.{IsPrefix, end_of};
 ghost use Rattle.hulls.specs.Conditions.{IsEnteredOn};
 ghost use Rattle.cones.specs.KeptCones.{IsConeFor, IsConeAt};
 ghost use Rattle.search_hints.specs.Drafts.{IsJustifierOf, IsSizedFor, IsConeIn};
 
+use crate::completing::{evaluate_gates, linked_state, take_firsts};
 use crate::decisions::{Decisions, Ended, Order};
+use crate::first_values::FirstValues;
+use crate::frames::Frames;
 use crate::grounds::Grounds;
+use crate::link_ends::LinkEnds;
 use crate::patience::Patience;
 use crate::picking::Sight;
-use crate::region::Region;
+use crate::region::{Region, is_first_alone};
 use crate::weights::Weights;
 use cones::Cone;
 use hulls::{Conditions, enter_all};
 use netlist::Netlist;
-use pd_base::{Kind, LineId, OutOfMemory, Path};
-use state_sets::{Algebra, StateSet};
+use pd_base::{GateId, Kind, LineId, OutOfMemory, Path};
+use state_sets::{Algebra, State, StateSet};
 use std::alloc::Global;
 use std::marker::Model;
 use undo_trail::Note;
@@ -29,6 +34,8 @@ use undo_trail::Note;
 const MOST_CONFLICTS: u32 = 300;
 // The most conflicts of a proposal in one order before any split.
 const FIRST_CONFLICTS: u32 = 20;
+// The same with links, where a pair is harder to find by splits.
+const FIRST_LINKED_CONFLICTS: u32 = 30;
 // The most splits of a tree by weights, and where that is halved the least.
 const MOST_SPLITS: u32 = 100;
 
@@ -53,28 +60,40 @@ pub struct Justifier {
     weights: Weights,
     for_proposals: Patience,
     for_trees: Patience,
+    links: LinkEnds,
+    values: FirstValues,
+    frames: Frames,
+    // by line, its value under the first vector of the pair that is completed
+    firsts: Vec<bool>,
 }
 
 impl Model for Justifier {
-    ghost use Rattle.std.specs.Prelude.{◌≡◌};
-    ghost use Rattle.search_hints.specs.Drafts.{Prepared};
+    ghost use Rattle.std.specs.Prelude.{length};
+    ghost use Rattle.search_hints.specs.Drafts.{Prepared, AreBeside};
 
     ghost Value = { Prepared };
 
     ghost view = { λ j. record { entered = j.conditions; sizes = j.decisions } };
 
-    ghost invariant = { λ j. j.grounds ≡ j.decisions.lines };
+    ghost invariant = { λ j. AreBeside j.decisions.lines j.grounds j.frames (length j.firsts.items) };
 }
 
 impl Justifier {
-    /// Room for the lines, gates and levels of a netlist. It fails only where memory runs out.
-    pub fn new<A: Algebra>(alloc: Global, net: &Netlist) -> Result<Justifier, OutOfMemory>
+    /// Room for the lines, gates and levels of a netlist, and for these links. It fails only where memory runs out.
+    pub fn new<A: Algebra>(
+        alloc: Global,
+        net: &Netlist,
+        links: &[(LineId, LineId)],
+    ) -> Result<Justifier, OutOfMemory>
         ensures { IfOk result (IsJustifierOf net.now) }
     {
         let conditions = Conditions::new(alloc, net, Kind::Robust)?;
         let weights = Weights::new(alloc, net)?;
         let grounds = Grounds::new(alloc, net)?;
+        let links = LinkEnds::new(alloc, net, links)?;
         let decisions = Decisions::new::<A>(alloc, net)?;
+        let frames = Frames::new(alloc, net)?;
+        let firsts = vec![in alloc; false; net.lines() as usize]?;
         Ok(Justifier {
             conditions,
             decisions,
@@ -82,6 +101,10 @@ impl Justifier {
             weights,
             for_proposals: Patience::new(FIRST_CONFLICTS, 0),
             for_trees: Patience::new(MOST_SPLITS, LEAST_SPLITS),
+            links,
+            values: FirstValues::new::<A>(),
+            frames,
+            firsts,
         })
     }
 
@@ -148,8 +171,11 @@ impl Justifier {
             net: sight.net,
             conditions: &self.conditions,
             marks: cone.marks(),
+            firsts: cone.marks(),
             sources: cone.sources(),
             liked: sight.liked,
+            links: &self.links,
+            values: self.values,
         };
         self.grounds
             .trace::<A>(&region, sight.labels, changes, &mut self.weights);
@@ -178,15 +204,35 @@ impl Justifier {
         requires prefix { IsPrefix sight.now.net.now path.now }
         ensures { IsJustifierOf sight.now.net.now self.new }
     {
+        self.set_frames(sight.net, cone, path)?;
         self.conditions.set_kind(kind);
         enter_all(&mut self.conditions, sight.net, path);
         let most_conflicts = match effort {
-            Effort::Little => self.for_proposals.limit(kind),
+            Effort::Little if self.links.is_empty() => self.for_proposals.limit(kind),
+            Effort::Little => FIRST_LINKED_CONFLICTS,
             Effort::Much => MOST_CONFLICTS,
         };
         let found = self.decide::<A>(sight, cone, most_conflicts);
         leave_all(&mut self.conditions);
+        if let Ok(true) = found
+            && !self.links.is_empty()
+        {
+            self.complete::<A>(sight.net, cone);
+        }
         found
+    }
+
+    // Keeps the frames of a path's end, where there are links.
+    fn set_frames(&mut self, net: &Netlist, cone: &Cone, path: &Path) -> Result<(), OutOfMemory>
+        requires of { IsJustifierOf net.now self.old }
+        requires cone { IsConeIn net.now cone.now }
+        ensures { self.new ≡ self.old }
+    {
+        let end = end_of(net, path);
+        if self.links.is_empty() || end.0 >= net.lines() {
+            return Ok(());
+        }
+        self.frames.set_end(net, &self.links, cone, end)
     }
 
     // The same where the conditions are entered.
@@ -201,15 +247,107 @@ impl Justifier {
         requires entered { IsEnteredOn sight.now.net.now self.old.entered }
         ensures { self.new ≡ self.old }
     {
-        begin::<A>(&mut self.decisions, sight, cone)?;
+        if !self.links.is_empty() {
+            return self.decide_framed::<A>(sight, cone, most_conflicts);
+        }
         let region = Region {
             net: sight.net,
             conditions: &self.conditions,
             marks: cone.marks(),
+            firsts: cone.marks(),
             sources: cone.sources(),
             liked: sight.liked,
+            links: &self.links,
+            values: self.values,
         };
+        begin::<A>(
+            &mut self.decisions,
+            &region,
+            sight.labels,
+            cone.sources(),
+            cone.gates(),
+        )?;
         search::<A>(&mut self.decisions, &region, most_conflicts)
+    }
+
+    // The same in the two frames.
+    fn decide_framed<A: Algebra>(
+        &mut self,
+        sight: &Sight,
+        cone: &Cone,
+        most_conflicts: u32,
+    ) -> Result<bool, OutOfMemory>
+        requires sizes { IsSizedFor sight.now.net.now self.old.sizes }
+        requires cone { IsConeIn sight.now.net.now cone.now }
+        requires entered { IsEnteredOn sight.now.net.now self.old.entered }
+        ensures { self.new ≡ self.old }
+    {
+        let region = Region {
+            net: sight.net,
+            conditions: &self.conditions,
+            marks: self.frames.second_marks(),
+            firsts: self.frames.first_marks(),
+            sources: self.frames.sources(),
+            liked: sight.liked,
+            links: &self.links,
+            values: self.values,
+        };
+        begin::<A>(
+            &mut self.decisions,
+            &region,
+            sight.labels,
+            cone.sources(),
+            self.frames.gates(),
+        )?;
+        search::<A>(&mut self.decisions, &region, most_conflicts)
+    }
+
+    /// Makes a pair that keeps the links of the labels of the cone's sources, of what is liked of them as far as they let it: `labels`
+    /// then has its states there. The cone is that of the path's end. This costs the cone, and takes no memory.
+    pub fn prefer<A: Algebra>(&mut self, sight: &Sight, cone: &Cone, path: &Path)
+        requires of { IsJustifierOf sight.now.net.now self.old }
+        requires cone_for { IsConeFor sight.now.net.now cone.now }
+        requires cone_at { IsConeAt sight.now.net.now (end_of sight.now.net.now path.now) cone.now }
+        ensures { IsJustifierOf sight.now.net.now self.new }
+    {
+        write_liked(&mut self.decisions, self.values, sight, cone);
+        self.complete::<A>(sight.net, cone);
+    }
+
+    // Writes at each linked source of the cone the state with which the least states of the sources make a pair that keeps the links.
+    fn complete<A: Algebra>(&mut self, net: &Netlist, cone: &Cone)
+        requires of { IsJustifierOf net.now self.old }
+        requires cone { IsConeIn net.now cone.now }
+        ensures { self.new ≡ self.old }
+    {
+        let Justifier {
+            decisions,
+            links,
+            values,
+            firsts,
+            ..
+        } = self;
+        let firsts = firsts.as_mut_slice();
+        take_firsts(cone.sources(), decisions.labels(), *values, firsts);
+        evaluate_gates(net, cone.gates(), firsts);
+        for source in cone.sources() {
+            if let Some(state) = linked_state::<A>(links, firsts, *source) {
+                decisions.write(*source, StateSet::only(state));
+            }
+        }
+    }
+
+    /// What a line is liked to be in that is in this state under a test: the states with its last value, and with links the first one
+    /// too.
+    pub fn liked<A: Algebra>(&self, state: State) -> StateSet
+        requires { state.0 < A.algebra.count }
+    {
+        let lasts = A::ending_at(A::last(state));
+        if self.links.is_empty() {
+            lasts
+        } else {
+            lasts.intersect(self.values.spread(StateSet::only(state)))
+        }
     }
 
     /// The labels that the last call of `propose` came to, by line number; of lines that are not in its cone those of earlier calls.
@@ -220,26 +358,74 @@ impl Justifier {
     }
 }
 
-// Copies the labels of the cone's lines, and notes which of its gates are open.
-fn begin<A: Algebra>(
-    decisions: &mut Decisions,
-    sight: &Sight,
-    cone: &Cone,
-) -> Result<(), OutOfMemory>
+// Writes what is liked of the labels of a cone's sources, as far as they let it: the states, or the first values, or anything.
+fn write_liked(decisions: &mut Decisions, values: FirstValues, sight: &Sight, cone: &Cone)
     requires sizes { IsSizedFor sight.now.net.now decisions.old }
     requires cone { IsConeIn sight.now.net.now cone.now }
     ensures { decisions.new ≡ decisions.old }
 {
     decisions.forget();
     for source in cone.sources() {
-        decisions.write(*source, sight.labels[source.0 as usize]);
+        let at = source.0 as usize;
+        let label = sight.labels[at];
+        let liked = sight.liked[at];
+        let near = or_else(label.intersect(values.spread(liked)), label);
+        let exact = or_else(label.intersect(liked), near);
+        decisions.write(*source, exact);
     }
-    for gate in cone.gates() {
-        let line = sight.net.line_of(*gate);
-        decisions.write(line, sight.labels[line.0 as usize]);
-        decisions.note_open::<A>(sight.net, *gate)?;
+}
+
+// A set, or another one where it has no state.
+fn or_else(set: StateSet, other: StateSet) -> StateSet {
+    if set == StateSet::EMPTY { other } else { set }
+}
+
+// The end of a path of a netlist.
+fn end_of(net: &Netlist, path: &Path) -> LineId {
+    match path.steps().last() {
+        Some(step) if step.gate.0 < net.gates() => net.line_of(step.gate),
+        _ => path.source(),
+    }
+}
+
+// Copies the labels of the lines of these sources and gates, and notes which of the gates are open.
+fn begin<A: Algebra>(
+    decisions: &mut Decisions,
+    region: &Region,
+    labels: &[StateSet],
+    sources: &[LineId],
+    gates: &[GateId],
+) -> Result<(), OutOfMemory>
+    requires sizes { IsSizedFor region.now.net.now decisions.old }
+    requires labels { length labels.now ≡ line_count region.now.net.now }
+    requires sources { HasLines region.now.net.now sources.now }
+    ensures { decisions.new ≡ decisions.old }
+{
+    decisions.forget();
+    for source in sources {
+        decisions.write(*source, seen(region, labels, *source));
+    }
+    for gate in gates {
+        if gate.0 < region.net.gates() {
+            let line = region.net.line_of(*gate);
+            decisions.write(line, seen(region, labels, line));
+            decisions.note_open::<A>(region.net, *gate)?;
+        }
     }
     Ok(())
+}
+
+// The label of a line, as far as it counts.
+fn seen(region: &Region, labels: &[StateSet], line: LineId) -> StateSet
+    requires labels { length labels.now ≡ line_count region.now.net.now }
+    requires line { line.0 < line_count region.now.net.now }
+{
+    let label = labels[line.0 as usize];
+    if is_first_alone(region, line) {
+        region.values.spread(label)
+    } else {
+        label
+    }
 }
 
 // Decides, the lines of the lowest levels first, and where that takes too many conflicts, those of the highest first.

@@ -6,12 +6,17 @@
 
 mod blaming;
 mod changes;
+mod completing;
 mod culprits;
 mod decisions;
 mod draft;
+mod first_values;
+mod framed_picking;
+mod frames;
 mod frontier;
 mod grounds;
 mod justifier;
+mod link_ends;
 mod open_lines;
 mod patience;
 mod picking;

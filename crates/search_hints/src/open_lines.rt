@@ -23,7 +23,7 @@ pub(crate) fn is_justified<A: Algebra>(net: &Netlist, labels: &[StateSet], gate:
 }
 
 // What an operation makes of the states of these lines.
-fn join_all<A: Algebra>(labels: &[StateSet], op: Op, lines: &[LineId]) -> StateSet
+pub(crate) fn join_all<A: Algebra>(labels: &[StateSet], op: Op, lines: &[LineId]) -> StateSet
     requires { All (λ line. line.0 < length labels.now) lines.now }
 {
     let mut joined = StateSet::only(A::unit(op)).intersect(every_state::<A>());

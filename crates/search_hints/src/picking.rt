@@ -46,7 +46,7 @@ pub(crate) fn has_both_values<A: Algebra>(set: StateSet) -> bool {
 }
 
 // The steady states.
-fn steady_states<A: Algebra>() -> StateSet {
+pub(crate) fn steady_states<A: Algebra>() -> StateSet {
     A::allowed_by(SideCondition::AnySteady)
 }
 
@@ -157,14 +157,22 @@ fn as_liked(sight: &Sight, cut: Cut) -> Cut
     requires { cut.line.0 < line_count sight.now.net.now }
     ensures { result.line ≡ cut.line }
 {
-    match cut_into(sight, cut.line, sight.liked[cut.line.0 as usize]) {
+    cut_or(sight, cut, sight.liked[cut.line.0 as usize])
+}
+
+// The cut to other states, where that leaves the line some states and takes some away.
+pub(crate) fn cut_or(sight: &Sight, cut: Cut, to: StateSet) -> Cut
+    requires { cut.line.0 < line_count sight.now.net.now }
+    ensures { result.line ≡ cut.line }
+{
+    match cut_into(sight, cut.line, to) {
         Some(liked) => liked,
         None => cut,
     }
 }
 
 // Of the pins with states in a set and others: one that is liked to be there, else one of the lowest level.
-fn easiest<A: Algebra>(sight: &Sight, pins: &[LineId], to: StateSet) -> Option<Cut>
+pub(crate) fn easiest<A: Algebra>(sight: &Sight, pins: &[LineId], to: StateSet) -> Option<Cut>
     requires { HasLines sight.now.net.now pins.now }
     ensures { IfSome result (λ cut. cut.line.0 < line_count sight.now.net.now) }
 {
@@ -181,7 +189,7 @@ fn easiest<A: Algebra>(sight: &Sight, pins: &[LineId], to: StateSet) -> Option<C
 }
 
 // Of the pins with states in a set and others, one of the highest level.
-fn hardest(sight: &Sight, pins: &[LineId], to: StateSet) -> Option<Cut>
+pub(crate) fn hardest(sight: &Sight, pins: &[LineId], to: StateSet) -> Option<Cut>
     requires { HasLines sight.now.net.now pins.now }
     ensures { IfSome result (λ cut. cut.line.0 < line_count sight.now.net.now) }
 {
@@ -198,7 +206,7 @@ fn hardest(sight: &Sight, pins: &[LineId], to: StateSet) -> Option<Cut>
 }
 
 // The cut of a line to its states in a set, if it has some of them and others.
-fn cut_into(sight: &Sight, line: LineId, to: StateSet) -> Option<Cut>
+pub(crate) fn cut_into(sight: &Sight, line: LineId, to: StateSet) -> Option<Cut>
     requires { line.0 < line_count sight.now.net.now }
     ensures { IfSome result (λ cut. cut.line ≡ line) }
 {
@@ -246,7 +254,7 @@ pub(crate) fn pick_any<A: Algebra>(sight: &Sight, lines: &[LineId]) -> Option<Cu
 }
 
 // The steady states of a set that has others too, else its least state.
-fn first_part<A: Algebra>(set: StateSet) -> StateSet {
+pub(crate) fn first_part<A: Algebra>(set: StateSet) -> StateSet {
     let steady = set.intersect(steady_states::<A>());
     if steady != StateSet::EMPTY && steady != set {
         return steady;

@@ -24,8 +24,8 @@ invariant_of-self-in_err-cut g c =
     one_decided i.draft i.made.items i.culprits i.open_at_first.items c.self.invariant _ within c.push.new.self.items c.in_ok-push.ensures.items
     c.cut.new.self c.cut.ensures
 
-pub returns-in_err-cut-clause-same : goal.returns-in_err-cut-clause-same
-returns-in_err-cut-clause-same g c = c.cut.ensures ∙ c.self.view_is
+pub returns-in_err-cut : goal.returns-in_err-cut
+returns-in_err-cut g c = c.cut.ensures ∙ c.self.view_is
 
 pub settle-requires : goal.settle-requires
 settle-requires g c = subst (IsSizedFor c.args.region.now.net.now) (sym (c.cut.ensures ∙ c.self.view_is)) c.requires.sized
@@ -36,10 +36,7 @@ invariant_of-self-2 g c =
     let within : c.args.cut.line.0 < i.draft.lines =
     subst (λ (n : ℕ). c.args.cut.line.0 < n) (sym (ap (λ (s : Sizes). s.lines) c.self.view_is ∙ c.requires.sized.lines)) c.requires.line in
     one_decided i.draft i.made.items i.culprits i.open_at_first.items c.self.invariant _ within c.push.new.self.items c.in_ok-push.ensures.items
-    c.settle.new.self (c.settle.ensures.same ∙ c.cut.ensures)
+    c.settle.new.self (c.settle.ensures ∙ c.cut.ensures)
 
-pub returns-clause-same : goal.returns-clause-same
-returns-clause-same g c = c.settle.ensures.same ∙ c.cut.ensures ∙ c.self.view_is
-
-pub returns-clause-gate : goal.returns-clause-gate
-returns-clause-gate g c = c.settle.ensures.gate
+pub returns : goal.returns
+returns g c = c.settle.ensures ∙ c.cut.ensures ∙ c.self.view_is

@@ -37,7 +37,12 @@ wake-requires-clause-sized c =
 pub wake-requires-clause-line : goal.wake-requires-clause-line
 wake-requires-clause-line c = c.requires.line
 
+pub returns-in_err-wake_links : goal.returns-in_err-wake_links
+returns-in_err-wake_links c =
+    let i = c.self.inside in
+    c.wake_links.ensures ∙ c.wake.ensures ∙ as_many i.labels.items (length i.waiting.inside) c.args.line.0 c.intersect-left.result ∙ c.self.view_is
+
 pub returns : goal.returns
 returns c =
     let i = c.self.inside in
-    c.wake.ensures ∙ as_many i.labels.items (length i.waiting.inside) c.args.line.0 c.intersect-left.result ∙ c.self.view_is
+    c.wake_links.ensures ∙ c.wake.ensures ∙ as_many i.labels.items (length i.waiting.inside) c.args.line.0 c.intersect-left.result ∙ c.self.view_is

@@ -3,7 +3,17 @@ use Rattle.netlist.specs.Paths.{end_of}
 use Rattle.search_hints.proofs.Cones.{cone_in}
 use Rattle.search_hints.proofs.justifier.Justifier.propose.Goals as goal
 
+pub set_frames-requires-clause-cone : goal.set_frames-requires-clause-cone
+set_frames-requires-clause-cone g c =
+    let net = c.args.sight.now.net.now in
+    cone_in net (end_of net c.args.path.now) c.args.cone.now c.requires.cone_for c.requires.cone_at
+
 pub decide-found-requires-clause-cone : goal.decide-found-requires-clause-cone
 decide-found-requires-clause-cone g c =
+    let net = c.args.sight.now.net.now in
+    cone_in net (end_of net c.args.path.now) c.args.cone.now c.requires.cone_for c.requires.cone_at
+
+pub complete-requires-clause-cone : goal.complete-requires-clause-cone
+complete-requires-clause-cone g c =
     let net = c.args.sight.now.net.now in
     cone_in net (end_of net c.args.path.now) c.args.cone.now c.requires.cone_for c.requires.cone_at
