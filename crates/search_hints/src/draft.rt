@@ -1,5 +1,5 @@
-// A draft: labels of a cone that are cut line by line, narrowed at the gates of the cone and along the links in it, and led back. No contract speaks of the
-// labels, since what is made of them is judged before it is taken.
+// A draft: labels of a cone that are cut line by line, narrowed at the gates of the cone and along the links in it, and led back. No
+// contract speaks of the labels, since what is made of them is judged before it is taken.
 ghost use Rattle.std.specs.Prelude.{◌≡◌, ◌<◌, length, All, IfOk, IfSome};
 ghost use Rattle.netlist.specs.Circuit.{gate_count, line_count};
 ghost use Rattle.netlist.specs.Lawful.{IsCircuit};
@@ -28,8 +28,8 @@ pub(crate) enum Settled {
     Unknown,
 }
 
-// Labels, with the trail of their changes, and the gates and links that have to be narrowed again. Contracts see how many lines and gates there
-// are.
+// Labels, with the trail of their changes, and the gates and links that have to be narrowed again. Contracts see how many lines and gates
+// there are.
 #[derive(Drop)]
 pub(crate) struct Draft {
     labels: Vec<StateSet>,

@@ -82,8 +82,8 @@ pub(crate) fn pick<A: Algebra>(sight: &Sight, gate: GateId, states: StateSet) ->
     pick_any::<A>(sight, pins)
 }
 
-// The same where a pin with this last value controls the gate: the easiest pin into the controlling states that are wanted, and into the steady ones
-// where that takes no pin anywhere; else all pins into the other states, the hardest one first.
+// The same where a pin with this last value controls the gate: the easiest pin into the controlling states that are wanted, and into the
+// steady ones where that takes no pin anywhere; else all pins into the other states, the hardest one first.
 fn pick_controlled<A: Algebra>(
     sight: &Sight,
     pins: &[LineId],
