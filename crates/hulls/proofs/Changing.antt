@@ -16,7 +16,7 @@ use Rattle.state_sets.specs.Narrowing.{gate_lines}
 use Rattle.state_sets.specs.Hulls.{HasNoEmptySet}
 use Rattle.hulls.specs.Sets.{set_at}
 use Rattle.hulls.proofs.Cuts.{pins_none, pins_more}
-use Rattle.hulls.specs.Awaiting.{is_inside}
+use Rattle.hulls.specs.Awaiting.{is_inside, gate_turn}
 use Rattle.hulls.specs.Boards.{OnBoard, Follows, link_turn}
 use Rattle.hulls.specs.Settling.{IsMoved, IsCutTo, IsSameAt, Wakes, HasLess, IsShrunk, ArePinsCut}
 use Rattle.hulls.specs.Links.{link_lines}
@@ -74,10 +74,10 @@ module _ (c : Circuit) (passed : Option GateId) where
   wakes_on old mid new same_inside same_links before after = record {
     stays = λ gate waits. after.stays gate (before.stays gate waits);
     woken = λ gate within here away. ⊎_elim
-        (λ (waits : Contains mid.waiting (record { 0 = gate })). inl (after.stays (record { 0 = gate }) waits))
+        (λ (waits : Contains mid.waiting (gate_turn gate)). inl (after.stays (gate_turn gate) waits))
         (λ (same : All (IsSameAt old.labels mid.labels) (gate_lines c gate)).
         ⊎_elim
-        (λ (waits : Contains new.waiting (record { 0 = gate })). inl waits)
+        (λ (waits : Contains new.waiting (gate_turn gate)). inl waits)
         (λ (still : All (IsSameAt mid.labels new.labels) (gate_lines c gate)). inr (λ k d inside. still k d inside ∙ same k d inside))
         (after.woken gate within (ap (λ (flags : List Bool). is_inside flags gate) same_inside ∙ here) away))
         (before.woken gate within here away);
@@ -133,7 +133,7 @@ module _ (c : Circuit) (passed : Option GateId) where
 
     module _ (line : ℕ) (to : StateSet) (old new : OnBoard) (cut : IsCutTo count c passed line to old new) where
       moved_woken : IsMoved count c passed line old new → (gate : ℕ) → gate < gate_count c → is_inside old.inside gate ≡ true
-          → passed ≢ Some (record { 0 = gate }) → Contains new.waiting (record { 0 = gate }) ⊎ All (IsSameAt old.labels new.labels) (gate_lines c gate)
+          → passed ≢ Some (record { 0 = gate }) → Contains new.waiting (gate_turn gate) ⊎ All (IsSameAt old.labels new.labels) (gate_lines c gate)
       moved_woken moved gate within here away = ⊎_elim
           (λ (among : Contains (gate_lines c gate) (record { 0 = line })). inl (moved.waits gate within here away among))
           (λ (not : ¬ Contains (gate_lines c gate) (record { 0 = line })).

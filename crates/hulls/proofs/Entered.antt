@@ -2,7 +2,6 @@
 use Rattle.std.proofs.Common.{◌≡◌, ◌≢◌, ℕ, ◌<◌, length, inl, inr, ⊎_elim, Bool, true, List, [], ◌∷◌, ◌++◌, Option, Some, None, if◌then◌else◌, ◌==◌, sym, ap, ◌∙◌, subst}
 use Rattle.std.specs.List.{Contains}
 use Rattle.std.proofs.lemmas.Bool.{cases_eq, ne_eqb}
-use Rattle.pd_base.specs.declared.ids.GateId.{GateId}
 use Rattle.pd_base.specs.declared.ids.PinRef.{PinRef}
 use Rattle.pd_base.specs.declared.fault.Kind.{Kind}
 use Rattle.netlist.specs.Circuit.{Circuit}
@@ -11,7 +10,8 @@ use Rattle.state_sets.specs.declared.condition.Condition.{Condition}
 use Rattle.state_sets.specs.StateAlgebra.{StateAlgebra}
 use Rattle.state_sets.specs.Narrowing.{IsNarrowing}
 use Rattle.state_sets.specs.Hulls.{condition_at}
-use Rattle.hulls.specs.Awaiting.{is_inside}
+use Rattle.hulls.specs.declared.turn.Turn.{Turn}
+use Rattle.hulls.specs.Awaiting.{is_inside, gate_turn}
 use Rattle.hulls.specs.Boards.{OnBoard, link_turn}
 use Rattle.hulls.specs.Settling.{RestsAt, RestsAlong, IsAwake}
 
@@ -28,18 +28,18 @@ condition_elsewhere kind (first ∷ steps) step gate away =
 
 -- once the gate of a further step waits, each gate waits or rests under the conditions of all
 pub awake_entered : (a : StateAlgebra) (c : Circuit) (kind : Kind) (steps : List PinRef) (step : PinRef) (old new : OnBoard)
-    → new ≡ record old { waiting = new.waiting } → ((gate : GateId) → Contains old.waiting gate → Contains new.waiting gate)
-    → (is_inside old.inside step.gate.0 ≡ true → Contains new.waiting step.gate)
+    → new ≡ record old { waiting = new.waiting } → ((turn : Turn) → Contains old.waiting turn → Contains new.waiting turn)
+    → (is_inside old.inside step.gate.0 ≡ true → Contains new.waiting (gate_turn step.gate.0))
     → IsAwake a c kind steps old → IsAwake a c kind (steps ++ step ∷ []) new
 awake_entered a c kind steps step old new same stays waits awake = record {
   gates = λ gate within here_new.
       let inside : is_inside old.inside gate ≡ true = ap (λ (b : OnBoard). is_inside b.inside gate) (sym same) ∙ here_new in
       ⊎_elim
       (λ (here : gate ≡ step.gate.0).
-      inl (subst (λ (n : ℕ). Contains new.waiting (record { 0 = n })) (sym here)
+      inl (subst (λ (n : ℕ). Contains new.waiting (gate_turn n)) (sym here)
       (waits (subst (λ (n : ℕ). is_inside old.inside n ≡ true) here inside))))
       (λ (away : gate ≢ step.gate.0). ⊎_elim
-      (λ (queued : Contains old.waiting (record { 0 = gate })). inl (stays (record { 0 = gate }) queued))
+      (λ (queued : Contains old.waiting (gate_turn gate)). inl (stays (gate_turn gate) queued))
       (λ (rests : RestsAt a c kind steps old.labels gate).
       inr (subst (λ (l : List StateSet). RestsAt a c kind (steps ++ step ∷ []) l gate) (sym (ap (λ (b : OnBoard). b.labels) same))
       (subst (λ o. IsNarrowing a c gate o old.labels old.labels) (sym (condition_elsewhere kind steps step gate away)) rests)))

@@ -32,7 +32,8 @@ use Rattle.state_laws.proofs.Idempotent.{HasOwnLines, narrowing_idempotent}
 use Rattle.state_laws.proofs.Sweeps.{keeps_one, keeps_on}
 use Rattle.hulls.specs.Sets.{Means, set_at}
 use Rattle.hulls.proofs.Whole.{gate_narrowed}
-use Rattle.hulls.specs.Awaiting.{is_inside}
+use Rattle.hulls.specs.declared.turn.Turn.{Turn}
+use Rattle.hulls.specs.Awaiting.{is_inside, gate_turn}
 use Rattle.hulls.specs.Boards.{OnBoard, link_turn}
 use Rattle.hulls.specs.Falling.{states_left}
 use Rattle.hulls.specs.Settling.{RestsAlong, AllDiffer, IsPassed, IsSameAt, Wakes, HasLess, IsShrunk, ArePinsCut, AreAllPinsCut, IsPinEmptied, IsCutTo, RestsAt, IsAwake, IsAwakeBut, IsNarrowed, IsTurn, IsConflict}
@@ -101,11 +102,11 @@ own_lines c gate circuit within differ = record {
 -- changed have woken it
 passed_awake : (a : StateAlgebra) (c : Circuit) (kind : Kind) (steps : List PinRef) → IsCircuit c → (gate : ℕ) → gate < gate_count c
     → (passed : Option GateId) → IsPassed c gate passed → (old new : List StateSet)
-    → IsNarrowing a c gate (condition_at kind steps gate) old new → (waiting : List GateId)
-    → (passed ≢ Some (record { 0 = gate }) → Contains waiting (record { 0 = gate }) ⊎ All (IsSameAt old new) (gate_lines c gate))
-    → Contains waiting (record { 0 = gate }) ⊎ RestsAt a c kind steps new gate
+    → IsNarrowing a c gate (condition_at kind steps gate) old new → (waiting : List Turn)
+    → (passed ≢ Some (record { 0 = gate }) → Contains waiting (gate_turn gate) ⊎ All (IsSameAt old new) (gate_lines c gate))
+    → Contains waiting (gate_turn gate) ⊎ RestsAt a c kind steps new gate
 passed_awake a c kind steps circuit gate within None is old new narrowing waiting woken = ⊎_elim
-    (λ (waits : Contains waiting (record { 0 = gate })). inl waits)
+    (λ (waits : Contains waiting (gate_turn gate)). inl waits)
     (λ (same : All (IsSameAt old new) (gate_lines c gate)).
     inr (rests_after a c gate (condition_at kind steps gate) old new same narrowing))
     (woken (λ none. absurd cc))
@@ -183,14 +184,14 @@ module _ (a : StateAlgebra) (c : Circuit) (kind : Kind) (steps : List PinRef) wh
   gates_on : (but : ℕ) (passed : Option GateId) → IfSome passed (λ other. other.0 ≡ but) → (old new : OnBoard) → new.inside ≡ old.inside
       → Wakes c passed old new → IsAwakeBut a c kind steps but old
       → (gate : ℕ) → gate < gate_count c → is_inside new.inside gate ≡ true → gate ≢ but
-      → Contains new.waiting (record { 0 = gate }) ⊎ RestsAt a c kind steps new.labels gate
+      → Contains new.waiting (gate_turn gate) ⊎ RestsAt a c kind steps new.labels gate
   gates_on but passed is_but old new same_inside wakes awake gate within here_new away =
       let here : is_inside old.inside gate ≡ true = ap (λ (flags : List Bool). is_inside flags gate) (sym same_inside) ∙ here_new in
       ⊎_elim
-      (λ (waits : Contains new.waiting (record { 0 = gate })). inl waits)
+      (λ (waits : Contains new.waiting (gate_turn gate)). inl waits)
       (λ (same : All (IsSameAt old.labels new.labels) (gate_lines c gate)).
       ⊎_elim
-      (λ (waits : Contains old.waiting (record { 0 = gate })). inl (wakes.stays (record { 0 = gate }) waits))
+      (λ (waits : Contains old.waiting (gate_turn gate)). inl (wakes.stays (gate_turn gate) waits))
       (λ (rests : RestsAt a c kind steps old.labels gate).
       inr (same_rests a c gate (condition_at kind steps gate) old.labels new.labels same rests))
       (awake.gates gate within here away))
@@ -275,7 +276,7 @@ module _ (a : StateAlgebra) (c : Circuit) (kind : Kind) (steps : List PinRef) wh
       conflict_at_own none = record { narrowed = narrowed; in_circuit = omega arith; none = none }
 
       -- the gate itself waits, or rests
-      awake_here : Contains new.waiting (record { 0 = gate }) ⊎ RestsAt a c kind steps new.labels gate
+      awake_here : Contains new.waiting (gate_turn gate) ⊎ RestsAt a c kind steps new.labels gate
       awake_here = passed_awake a c kind steps circuit gate within passed is_passed old.labels new.labels is_narrowing new.waiting
           (λ away. shrunk.wakes.woken gate within here away)
 
@@ -286,7 +287,7 @@ module _ (a : StateAlgebra) (c : Circuit) (kind : Kind) (steps : List PinRef) wh
             narrowed = narrowed;
             awake = record {
               gates = λ other inside here_new. ⊎_elim
-                  (λ (same : other ≡ gate). subst (λ (n : ℕ). Contains new.waiting (record { 0 = n }) ⊎ RestsAt a c kind steps new.labels n) (sym same) awake_here)
+                  (λ (same : other ≡ gate). subst (λ (n : ℕ). Contains new.waiting (gate_turn n) ⊎ RestsAt a c kind steps new.labels n) (sym same) awake_here)
                   (λ (away : other ≢ gate). awake_but.gates other inside here_new away)
                   (cases_eq other gate);
               links = λ link inside. awake_but.links link inside (λ same. absurd (omega (arith, same)));
@@ -295,12 +296,12 @@ module _ (a : StateAlgebra) (c : Circuit) (kind : Kind) (steps : List PinRef) wh
             falls = shrunk.falls;
           }
 
--- what falls while a board settles: the states of all lines, and then the gates that wait
+-- what falls while a board settles: the states of all lines, and then what waits
 abbrev pub work_left : ℕ → OnBoard → ℕ
 work_left count board = states_left count board.labels * (length board.inside + 1) + length board.waiting
 
--- a turn of the loop: a gate is taken, and what narrowing it does is less
-module _ (count : ℕ) (old mid new : OnBoard) (gate : GateId) (first : old.waiting ≡ gate ∷ mid.waiting)
+-- a turn of the loop: a gate or link is taken, and what narrowing it does is less
+module _ (count : ℕ) (old mid new : OnBoard) (turn : Turn) (first : old.waiting ≡ turn ∷ mid.waiting)
     (same : mid ≡ record old { waiting = mid.waiting }) where
   next_less : work_left count mid < work_left count old
   next_less =
@@ -322,12 +323,12 @@ module _ (count : ℕ) (old mid new : OnBoard) (gate : GateId) (first : old.wait
       falls
 
 module _ (a : StateAlgebra) (c : Circuit) (kind : Kind) (steps : List PinRef) where
-  -- the gate that is taken is the only one that neither waits nor rests
-  pub awake_taken : (old mid : OnBoard) (gate : GateId) → old.waiting ≡ gate ∷ mid.waiting → mid ≡ record old { waiting = mid.waiting }
-      → IsAwake a c kind steps old → IsAwakeBut a c kind steps gate.0 mid
-  awake_taken old mid gate first same awake = record {
+  -- what is taken is the only one that neither waits nor rests
+  pub awake_taken : (old mid : OnBoard) (turn : Turn) → old.waiting ≡ turn ∷ mid.waiting → mid ≡ record old { waiting = mid.waiting }
+      → IsAwake a c kind steps old → IsAwakeBut a c kind steps turn.0 mid
+  awake_taken old mid turn first same awake = record {
     gates = λ other within here away. ⊎_elim
-        (λ (waits : Contains old.waiting (record { 0 = other })). inl (still_waits (record { 0 = other }) away waits))
+        (λ (waits : Contains old.waiting (gate_turn other)). inl (still_waits (gate_turn other) away waits))
         (λ (rests : RestsAt a c kind steps old.labels other).
         inr (subst (λ (l : List StateSet). RestsAt a c kind steps l other) (sym (ap (λ (b : OnBoard). b.labels) same)) rests))
         (awake.gates other within (ap (λ (b : OnBoard). is_inside b.inside other) (sym same) ∙ here));
@@ -339,10 +340,10 @@ module _ (a : StateAlgebra) (c : Circuit) (kind : Kind) (steps : List PinRef) wh
         (awake.links link (subst (λ (ls : LinkList). link < length ls) (ap (λ (b : OnBoard). b.links) same) inside));
   }
     where
-      still_waits : (other : GateId) → other.0 ≢ gate.0 → Contains old.waiting other → Contains mid.waiting other
+      still_waits : (other : Turn) → other.0 ≢ turn.0 → Contains old.waiting other → Contains mid.waiting other
       still_waits other away waits =
-          let stands : Contains (gate ∷ mid.waiting) other = subst (λ (gs : List GateId). Contains gs other) first waits in
-          behind gate mid.waiting other (λ is. away (sym (ap (λ (g : GateId). g.0) is))) stands.0 stands.1 stands.2
+          let stands : Contains (turn ∷ mid.waiting) other = subst (λ (gs : List Turn). Contains gs other) first waits in
+          behind turn mid.waiting other (λ is. away (sym (ap (λ (t : Turn). t.0) is))) stands.0 stands.1 stands.2
 
   pub narrowed_on : (old mid next new : OnBoard) → IsNarrowed a c kind steps old mid → next ≡ record mid { waiting = next.waiting }
       → IsNarrowed a c kind steps next new → IsNarrowed a c kind steps old new
@@ -379,7 +380,7 @@ module _ (a : StateAlgebra) (c : Circuit) (kind : Kind) (steps : List PinRef) wh
       subst (λ (l : LineId × LineId). IsLinkNarrowing a l.0.0 l.1.0 board.labels board.labels) at rests)
       (awake.links is_one.0 is_one.1)
   rests_all board none awake (at_gate gate condition) is_one = ⊎_elim
-      (λ (waits : Contains board.waiting (record { 0 = gate })).
+      (λ (waits : Contains board.waiting (gate_turn gate)).
       absurd (let w = waits.1 in let e = ap length none in omega arith))
       (λ (rests : RestsAt a c kind steps board.labels gate).
       subst (λ o. IsNarrowing a c gate o board.labels board.labels) (sym is_one.2) rests)

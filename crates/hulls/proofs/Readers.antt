@@ -9,12 +9,13 @@ use Rattle.pd_base.specs.declared.ids.LineId.{LineId}
 use Rattle.pd_base.specs.declared.ids.PinRef.{PinRef}
 use Rattle.netlist.specs.Circuit.{Circuit, source_count, gate_count, gate_line, pins_at}
 use Rattle.netlist.specs.Pins.{IsFanout}
-use Rattle.hulls.specs.Awaiting.{Awaited, IsMore, is_inside}
+use Rattle.hulls.specs.declared.turn.Turn.{Turn}
+use Rattle.hulls.specs.Awaiting.{Awaited, IsMore, is_inside, gate_turn}
 use Rattle.hulls.specs.Settling.{AreWaiting, AreLinksWaiting}
 use Rattle.hulls.specs.Links.{link_lines}
 
 pub more_none : (awaited : Awaited) → IsMore awaited awaited
-more_none awaited = record { inside = refl; stays = λ gate waits. waits; few = λ few. few }
+more_none awaited = record { inside = refl; stays = λ turn waits. waits; few = λ few. few }
 
 pub more_on : (old mid new : Awaited) → IsMore old mid → IsMore mid new → IsMore old new
 more_on old mid new before after = record {
@@ -24,8 +25,8 @@ more_on old mid new before after = record {
 }
 
 -- a gate waits, if it is inside and is not passed by
-abbrev pub WaitsIn : List Bool → Option GateId → List GateId → GateId → Type 0
-WaitsIn inside passed waiting gate = is_inside inside gate.0 ≡ true → passed ≢ Some gate → Contains waiting gate
+abbrev pub WaitsIn : List Bool → Option GateId → List Turn → GateId → Type 0
+WaitsIn inside passed waiting gate = is_inside inside gate.0 ≡ true → passed ≢ Some gate → Contains waiting (gate_turn gate.0)
 
 module _ (c : Circuit) (line : ℕ) (readers : List PinRef) (fanout : IsFanout c line readers) where
   abbrev this : LineId
@@ -35,7 +36,7 @@ module _ (c : Circuit) (line : ℕ) (readers : List PinRef) (fanout : IsFanout c
   pub readers_in : (gates : ℕ) → gates ≡ gate_count c → All (λ (pin : PinRef). pin.gate.0 < gates) readers
   readers_in gates is k d inside = let e = (fanout.on_line k d inside).in_circuit in omega arith
 
-  module _ (inside : List Bool) (passed : Option GateId) (waiting : List GateId)
+  module _ (inside : List Bool) (passed : Option GateId) (waiting : List Turn)
       (all : All (λ (pin : PinRef). WaitsIn inside passed waiting pin.gate) readers) where
     -- a gate that reads the line waits
     reader_waits : (gate : ℕ) → gate < gate_count c → Contains (pins_at c gate) this → WaitsIn inside passed waiting (record { 0 = gate })
@@ -56,17 +57,17 @@ module _ (c : Circuit) (line : ℕ) (readers : List PinRef) (fanout : IsFanout c
         (Contains-push_cases (pins_at c gate) (record { 0 = gate_line c gate }) this among)
 
     -- the line of a gate has the gate too
-    pub driver_waits : (more : List GateId) → ((gate : GateId) → Contains waiting gate → Contains more gate)
+    pub driver_waits : (more : List Turn) → ((turn : Turn) → Contains waiting turn → Contains more turn)
         → (driver : GateId) → line ≡ gate_line c driver.0 → WaitsIn inside passed more driver → AreWaiting c inside passed line more
     driver_waits more stays driver is waits gate within here away among = ⊎_elim
-        (λ (reads : Contains (pins_at c gate) this). stays (record { 0 = gate }) (reader_waits gate within reads here away))
+        (λ (reads : Contains (pins_at c gate) this). stays (gate_turn gate) (reader_waits gate within reads here away))
         (λ (own : ◌≡◌ {A = LineId} (record { 0 = gate_line c gate }) this).
         let e : driver.0 ≡ gate = let e = ap (λ (l : LineId). l.0) own in omega arith in
         subst (λ (n : ℕ). WaitsIn inside passed more (record { 0 = n })) e waits here away)
         (Contains-push_cases (pins_at c gate) (record { 0 = gate_line c gate }) this among)
 
 -- the links at a line wait, as the code has the links and the number of gates
-pub links_as : (c : Circuit) (seen links : LinkList) → seen ≡ links → (gates : ℕ) → gates ≡ gate_count c → (line : LineId) (waiting : List GateId)
+pub links_as : (c : Circuit) (seen links : LinkList) → seen ≡ links → (gates : ℕ) → gates ≡ gate_count c → (line : LineId) (waiting : List Turn)
     → ((link : ℕ) → link < length seen → Contains (link_lines seen link) line → Contains waiting (record { 0 = gates + link }))
     → AreLinksWaiting c links line.0 waiting
 links_as c seen links same gates is line waiting waits link inside among =

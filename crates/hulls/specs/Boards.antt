@@ -1,6 +1,5 @@
--- What a board is: labels, the notes of their changes, and the gates that wait (this project's own).
+-- What a board is: labels, the notes of their changes, and the gates and links that wait (this project's own).
 use Rattle.std.specs.Prelude.{◌≡◌, ℕ, ◌≤◌, ◌<◌, ◌+◌, ◌*◌, ◌^◌, ◌++◌, Bool, true, List, length, All}
-use Rattle.pd_base.specs.declared.ids.GateId.{GateId}
 use Rattle.pd_base.specs.Links.{LinkList}
 use Rattle.netlist.specs.Circuit.{Circuit, line_count, gate_count}
 use Rattle.netlist.specs.LinkedPairs.{AreLinksOf}
@@ -8,6 +7,7 @@ use Rattle.state_sets.specs.declared.state.StateSet.{StateSet}
 use Rattle.state_sets.specs.States.{AreWithin}
 use Rattle.undo_trail.specs.declared.trail.Note.{Note}
 use Rattle.undo_trail.specs.Undoing.{undone}
+use Rattle.hulls.specs.declared.turn.Turn.{Turn}
 use Rattle.hulls.specs.Awaiting.{is_inside}
 use Rattle.hulls.specs.Falling.{Falls}
 
@@ -16,12 +16,12 @@ use Rattle.hulls.specs.Falling.{Falls}
 pub record OnBoard : Type 0 where
   pub labels : List StateSet
   pub notes : List (Note StateSet)
-  pub waiting : List GateId
+  pub waiting : List Turn
   pub inside : List Bool
   pub links : LinkList
 
--- the number by which a link waits
-abbrev pub link_turn : Circuit → ℕ → GateId
+-- the turn of a link has the link's number behind those of all gates
+abbrev pub link_turn : Circuit → ℕ → Turn
 link_turn c link = record { 0 = gate_count c + link }
 
 -- what is true of every board

@@ -1,14 +1,14 @@
--- Gates in a queue, first in, first out (this project's own).
+-- Turns in a queue, first in, first out (this project's own).
 use Rattle.std.specs.Prelude.{ℕ, ◌≤◌, List, length}
-use Rattle.pd_base.specs.declared.ids.GateId.{GateId}
+use Rattle.hulls.specs.declared.turn.Turn.{Turn}
 
--- the gates in their order, and how many there is room for
+-- the turns in their order, and how many there is room for
 pub record Queued : Type 0 where
-  pub gates : List GateId
+  pub turns : List Turn
   pub room : ℕ
 
 -- the first list is read from a place on, and both have the room
-pub record IsQueue (front : List GateId) (at front_capacity back_capacity room : ℕ) : Type 0 where
+pub record IsQueue (front : List Turn) (at front_capacity back_capacity room : ℕ) : Type 0 where
   pub inside : at ≤ length front
   pub front_room : room ≤ front_capacity
   pub back_room : room ≤ back_capacity

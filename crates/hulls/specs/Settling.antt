@@ -15,19 +15,20 @@ use Rattle.state_sets.specs.Hulls.{condition_at, HasNoEmptySet}
 use Rattle.state_laws.specs.Cones.{IsNarrowingIn}
 use Rattle.state_laws.specs.Sweeps.{KeepsRests}
 use Rattle.hulls.specs.Changes.{HasPinsKept}
-use Rattle.hulls.specs.Awaiting.{is_inside}
+use Rattle.hulls.specs.declared.turn.Turn.{Turn}
+use Rattle.hulls.specs.Awaiting.{is_inside, gate_turn}
 use Rattle.hulls.specs.Boards.{OnBoard, IsBoardOf, Follows, link_turn}
 use Rattle.hulls.specs.Falling.{states_left}
 use Rattle.hulls.specs.Links.{link_at, link_lines}
 
 -- each gate inside that has the line among its lines waits, but the one that is passed by
-abbrev pub AreWaiting : Circuit → List Bool → Option GateId → ℕ → List GateId → Type 0
+abbrev pub AreWaiting : Circuit → List Bool → Option GateId → ℕ → List Turn → Type 0
 AreWaiting c inside passed line waiting =
     (gate : ℕ) → gate < gate_count c → is_inside inside gate ≡ true → passed ≢ Some (record { 0 = gate })
-    → Contains (gate_lines c gate) (record { 0 = line }) → Contains waiting (record { 0 = gate })
+    → Contains (gate_lines c gate) (record { 0 = line }) → Contains waiting (gate_turn gate)
 
 -- each link that has the line among its two waits
-abbrev pub AreLinksWaiting : Circuit → LinkList → ℕ → List GateId → Type 0
+abbrev pub AreLinksWaiting : Circuit → LinkList → ℕ → List Turn → Type 0
 AreLinksWaiting c links line waiting =
     (link : ℕ) → link < length links → Contains (link_lines links link) (record { 0 = line }) → Contains waiting (link_turn c link)
 
@@ -46,7 +47,7 @@ pub record IsCutTo (count : ℕ) (c : Circuit) (passed : Option GateId) (line : 
   pub inside : new.inside ≡ old.inside
   pub links : new.links ≡ old.links
   pub follows : Follows old new
-  pub stays : (gate : GateId) → Contains old.waiting gate → Contains new.waiting gate
+  pub stays : (turn : Turn) → Contains old.waiting turn → Contains new.waiting turn
   pub moves : (new ≡ old) ⊎ IsMoved count c passed line old new
 
 -- the narrowing at a gate does not change the labels
@@ -60,14 +61,14 @@ RestsAlong a links labels link = IsLinkNarrowing a (link_at links link).0.0 (lin
 -- each gate inside waits, or rests, and so does each link
 pub record IsAwake (a : StateAlgebra) (c : Circuit) (kind : Kind) (steps : List PinRef) (board : OnBoard) : Type 0 where
   pub gates : (gate : ℕ) → gate < gate_count c → is_inside board.inside gate ≡ true
-      → Contains board.waiting (record { 0 = gate }) ⊎ RestsAt a c kind steps board.labels gate
+      → Contains board.waiting (gate_turn gate) ⊎ RestsAt a c kind steps board.labels gate
   pub links : (link : ℕ) → link < length board.links
       → Contains board.waiting (link_turn c link) ⊎ RestsAlong a board.links board.labels link
 
 -- each gate inside and each link but the one of this number waits, or rests
 pub record IsAwakeBut (a : StateAlgebra) (c : Circuit) (kind : Kind) (steps : List PinRef) (but : ℕ) (board : OnBoard) : Type 0 where
   pub gates : (gate : ℕ) → gate < gate_count c → is_inside board.inside gate ≡ true → gate ≢ but
-      → Contains board.waiting (record { 0 = gate }) ⊎ RestsAt a c kind steps board.labels gate
+      → Contains board.waiting (gate_turn gate) ⊎ RestsAt a c kind steps board.labels gate
   pub links : (link : ℕ) → link < length board.links → (link_turn c link).0 ≢ but
       → Contains board.waiting (link_turn c link) ⊎ RestsAlong a board.links board.labels link
 
@@ -93,9 +94,9 @@ IsSameAt old new line = label_at new line.0 ≡ label_at old line.0
 -- Gates and links that waited wait, and so does each link and each gate inside one of whose lines has changed, but the gate that is
 -- passed by.
 pub record Wakes (c : Circuit) (passed : Option GateId) (old new : OnBoard) : Type 0 where
-  pub stays : (gate : GateId) → Contains old.waiting gate → Contains new.waiting gate
+  pub stays : (turn : Turn) → Contains old.waiting turn → Contains new.waiting turn
   pub woken : (gate : ℕ) → gate < gate_count c → is_inside old.inside gate ≡ true → passed ≢ Some (record { 0 = gate })
-      → Contains new.waiting (record { 0 = gate }) ⊎ All (IsSameAt old.labels new.labels) (gate_lines c gate)
+      → Contains new.waiting (gate_turn gate) ⊎ All (IsSameAt old.labels new.labels) (gate_lines c gate)
   pub links_woken : (link : ℕ) → link < length old.links
       → Contains new.waiting (link_turn c link) ⊎ All (IsSameAt old.labels new.labels) (link_lines old.links link)
 

@@ -6,13 +6,15 @@ ghost use Rattle.netlist.specs.LinkedPairs.{AreLinksOf};
 ghost use Rattle.state_sets.specs.States.{IsWithin, AreWithin, all_states};
 ghost use Rattle.state_sets.specs.Labellings.{IsLabelling, label_at};
 ghost use Rattle.undo_trail.specs.Undoing.{undone};
-ghost use Rattle.hulls.specs.Awaiting.{is_inside};
+ghost use Rattle.hulls.specs.declared.turn.Turn.{Turn};
+ghost use Rattle.hulls.specs.Awaiting.{is_inside, gate_turn};
 ghost use Rattle.hulls.specs.Boards.{IsBoardOf, link_turn};
 ghost use Rattle.hulls.specs.Settling.{IsCutTo};
 ghost use Rattle.hulls.specs.Links.{link_at};
 
+use crate::Turn;
 use crate::link_lists::LinkLists;
-use crate::waiting::{Turn, Waiting};
+use crate::waiting::Waiting;
 use crate::waking::wake;
 use netlist::Netlist;
 use pd_base::{GateId, LineId, OutOfMemory};
@@ -169,10 +171,20 @@ impl<A: Algebra> Board<A> {
     pub fn ask(&mut self, gate: GateId)
         requires { gate.0 < length self.old.inside }
         ensures labels { self.new ≡ record self.old { waiting = self.new.waiting } }
-        ensures waits { is_inside self.old.inside gate.0 ≡ true → Contains self.new.waiting gate }
-        ensures stays { (other : GateId) → Contains self.old.waiting other → Contains self.new.waiting other }
+        ensures waits { is_inside self.old.inside gate.0 ≡ true → Contains self.new.waiting (gate_turn gate.0) }
+        ensures stays { (other : Turn) → Contains self.old.waiting other → Contains self.new.waiting other }
     {
-        self.waiting.add(gate);
+        self.ask_turn(Turn::of_gate(gate));
+    }
+
+    // The same for a gate or link.
+    fn ask_turn(&mut self, turn: Turn)
+        requires { turn.0 < length self.old.inside }
+        ensures labels { self.new ≡ record self.old { waiting = self.new.waiting } }
+        ensures waits { is_inside self.old.inside turn.0 ≡ true → Contains self.new.waiting turn }
+        ensures stays { (other : Turn) → Contains self.old.waiting other → Contains self.new.waiting other }
+    {
+        self.waiting.add(turn);
     }
 
     /// Lets all gates inside wait, those of the lowest ranks first, and behind them all links. Takes no memory.
@@ -180,7 +192,7 @@ impl<A: Algebra> Board<A> {
         requires { IsBoardOf net.now self.old }
         ensures labels { self.new ≡ record self.old { waiting = self.new.waiting } }
         ensures waits { (gate : ℕ) → gate < gate_count net.now → is_inside self.old.inside gate ≡ true
-            → Contains self.new.waiting (record { 0 = gate }) }
+            → Contains self.new.waiting (gate_turn gate) }
         ensures links_wait { (link : ℕ) → link < length self.old.links → Contains self.new.waiting (link_turn net.now link) }
     {
         self.ask_gates(net);
@@ -192,7 +204,7 @@ impl<A: Algebra> Board<A> {
         requires { IsBoardOf net.now self.old }
         ensures labels { self.new ≡ record self.old { waiting = self.new.waiting } }
         ensures waits { (gate : ℕ) → gate < gate_count net.now → is_inside self.old.inside gate ≡ true
-            → Contains self.new.waiting (record { 0 = gate }) }
+            → Contains self.new.waiting (gate_turn gate) }
     {
         for gate in net.order() {
             self.ask(*gate);
@@ -205,20 +217,20 @@ impl<A: Algebra> Board<A> {
         requires few { length self.old.inside < 2 ^ 32 }
         requires links_inside { (link : ℕ) → link < length self.old.links → is_inside self.old.inside (gates + link) ≡ true }
         ensures labels { self.new ≡ record self.old { waiting = self.new.waiting } }
-        ensures stays { (gate : GateId) → Contains self.old.waiting gate → Contains self.new.waiting gate }
+        ensures stays { (turn : Turn) → Contains self.old.waiting turn → Contains self.new.waiting turn }
         ensures waits { (link : ℕ) → link < length self.old.links → Contains self.new.waiting (record { 0 = gates + link }) }
     {
         for link in 0..self.links.len() {
-            self.ask(GateId(gates + link as u32));
+            self.ask_turn(Turn::of_link(gates, link as u32));
         }
     }
 
     // Takes the first gate or link that waits, if one does.
     pub(crate) fn next(&mut self) -> Option<Turn>
         ensures cases { MatchOption result ((self.old.waiting ≡ []) × (self.new ≡ self.old))
-            (λ gate. self.old.waiting ≡ gate ∷ self.new.waiting) }
+            (λ turn. self.old.waiting ≡ turn ∷ self.new.waiting) }
         ensures labels { self.new ≡ record self.old { waiting = self.new.waiting } }
-        ensures all_inside { IfSome result (λ gate. is_inside self.old.inside gate.0 ≡ true) }
+        ensures all_inside { IfSome result (λ turn. is_inside self.old.inside turn.0 ≡ true) }
     {
         self.waiting.pop()
     }

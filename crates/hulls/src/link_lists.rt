@@ -5,8 +5,9 @@ ghost use Rattle.std.specs.Prelude.{◌≡◌, ◌≢◌, ◌<◌, ◌≤◌, �
 ghost use Rattle.hulls.specs.Awaiting.{is_inside, IsMore};
 ghost use Rattle.hulls.specs.Links.{IsChained, IsInChain, chained_line, link_at, link_lines};
 
+use crate::Turn;
 use crate::waiting::Waiting;
-use pd_base::{GateId, LineId, OutOfMemory};
+use pd_base::{LineId, OutOfMemory};
 use std::alloc::Global;
 use std::marker::Model;
 
@@ -120,7 +121,7 @@ fn walk(chains: &Chains, waiting: &mut Waiting, gates: u32, line: LineId)
     let mut at = head(chains.heads.as_slice(), line);
     while at > 0 {
         let link = at - 1;
-        waiting.add(GateId(gates + link));
+        waiting.add(Turn::of_link(gates, link));
         at = chains.nexts[link as usize];
     }
 }

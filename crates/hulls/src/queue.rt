@@ -1,18 +1,19 @@
-// Gates in a queue, first in, first out, as two lists: one is read from a place on, and as long as there is room behind its gates it is
+// Turns in a queue, first in, first out, as two lists: one is read from a place on, and as long as there is room behind its turns it is
 // written too; then the other is written, and where the first is done, they are exchanged.
 ghost use Rattle.std.specs.Prelude.{◌≡◌, ◌<◌, List, [], ◌∷◌, ◌++◌, length, IfOk, MatchOption};
 
-use pd_base::{GateId, OutOfMemory};
+use crate::Turn;
+use pd_base::OutOfMemory;
 use std::alloc::Global;
 use std::marker::Model;
 use std::mem;
 
-// Gates in a queue, with room for so many. Contracts see the gates in their order, and the room.
+// Turns in a queue, with room for so many. Contracts see the turns in their order, and the room.
 #[derive(Drop)]
 pub(crate) struct Queue {
-    front: Vec<GateId>,
+    front: Vec<Turn>,
     at: usize,
-    back: Vec<GateId>,
+    back: Vec<Turn>,
     room: usize,
 }
 
@@ -22,15 +23,15 @@ impl Model for Queue {
 
     ghost Value = { Queued };
 
-    ghost view = { λ q. record { gates = drop q.at q.front.items ++ q.back.items; room = q.room } };
+    ghost view = { λ q. record { turns = drop q.at q.front.items ++ q.back.items; room = q.room } };
 
     ghost invariant = { λ q. IsQueue q.front.items q.at (vec_capacity q.front) (vec_capacity q.back) q.room };
 }
 
 impl Queue {
-    // No gates yet, and room for so many.
+    // No turns yet, and room for so many.
     pub(crate) fn new(alloc: Global, room: usize) -> Result<Queue, OutOfMemory>
-        ensures { IfOk result (λ q. q ≡ record { gates = []; room = room }) }
+        ensures { IfOk result (λ q. q ≡ record { turns = []; room = room }) }
     {
         let front = Vec::with_capacity(alloc, room)?;
         let back = Vec::with_capacity(alloc, room)?;
@@ -42,31 +43,31 @@ impl Queue {
         })
     }
 
-    // One gate more, behind the others. Takes no memory.
-    pub(crate) fn push(&mut self, gate: GateId)
-        requires { length self.old.gates < self.old.room }
-        ensures { self.new ≡ record self.old { gates = self.old.gates ++ gate ∷ [] } }
+    // One turn more, behind the others. Takes no memory.
+    pub(crate) fn push(&mut self, turn: Turn)
+        requires { length self.old.turns < self.old.room }
+        ensures { self.new ≡ record self.old { turns = self.old.turns ++ turn ∷ [] } }
     {
         if self.back.is_empty() && self.front.len() < self.room {
-            self.front.push_reserved(gate);
+            self.front.push_reserved(turn);
         } else {
-            self.back.push_reserved(gate);
+            self.back.push_reserved(turn);
         }
     }
 
-    // Takes the first gate, if there is one.
-    pub(crate) fn pop(&mut self) -> Option<GateId>
-        ensures cases { MatchOption result ((self.old.gates ≡ []) × (self.new.gates ≡ []))
-            (λ gate. self.old.gates ≡ gate ∷ self.new.gates) }
+    // Takes the first turn, if there is one.
+    pub(crate) fn pop(&mut self) -> Option<Turn>
+        ensures cases { MatchOption result ((self.old.turns ≡ []) × (self.new.turns ≡ []))
+            (λ turn. self.old.turns ≡ turn ∷ self.new.turns) }
         ensures room { self.new.room ≡ self.old.room }
     {
         if self.at < self.front.len() {
-            let gate = self.front[self.at];
+            let turn = self.front[self.at];
             self.at += 1;
-            return Some(gate);
+            return Some(turn);
         }
         self.front.clear();
-        // most often no gate waits any more: then there is nothing to exchange
+        // most often nothing waits any more: then there is nothing to exchange
         if self.back.is_empty() {
             self.at = 0;
             return None;

@@ -12,8 +12,7 @@ ghost use Rattle.hulls.specs.Boards.{IsBoardOf, link_turn};
 ghost use Rattle.hulls.specs.Settling.{MaySettle, IsAwakeBut, AllDiffer, IsNarrowed, IsPassed, AreAllPinsCut, IsPinEmptied, IsTurn, IsConflict};
 
 use crate::link::{linked_lines, linked_sources};
-use crate::waiting::Turn;
-use crate::{Board, Conditions, NarrowScratch, kept_at};
+use crate::{Board, Conditions, NarrowScratch, Turn, kept_at};
 use netlist::Netlist;
 use pd_base::{GateId, LineId};
 use state_sets::{Algebra, StateSet};
@@ -98,7 +97,7 @@ impl<A: Algebra> Board<A> {
             (λ line. IsConflict A.algebra net.now conditions.now.kind conditions.now.steps self.old self.new line.0) }
     {
         if turn.0 < net.gates() {
-            self.narrow_at(net, conditions, turn, scratch)
+            self.narrow_at(net, conditions, GateId(turn.0), scratch)
         } else {
             self.narrow_along(net, conditions, turn.0 - net.gates())
         }

@@ -1,16 +1,13 @@
 // The gates and links that wait to be narrowed, first in, first out, with a flag for each, so that none is added that waits already. Only
-// those inside wait: a second flag for each says so. A link is queued under a number of its own, behind those of all gates. That nothing
-// stands twice in the queue is true, and no proof needs it.
+// those inside wait: a second flag for each says so. That nothing stands twice in the queue is true, and no proof needs it.
 ghost use Rattle.std.specs.Prelude.{◌≡◌, ◌<◌, ◌∷◌, true, [], length, IfOk, IfSome, MatchOption};
 ghost use Rattle.hulls.specs.Awaiting.{is_inside, IsWoken};
 
+use crate::Turn;
 use crate::queue::Queue;
 use pd_base::{GateId, OutOfMemory};
 use std::alloc::Global;
 use std::marker::Model;
-
-/// What waits to be narrowed: a gate by its number, or a link by its own number behind those of all gates.
-pub type Turn = GateId;
 
 /// The gates and links that wait, of those inside. Contracts see for each whether it is inside, and those that wait in their order.
 #[derive(Drop)]
@@ -25,13 +22,13 @@ impl Model for Waiting {
 
     ghost Value = { Awaited };
 
-    ghost view = { λ w. record { inside = w.inside.items; waiting = w.queue.gates } };
+    ghost view = { λ w. record { inside = w.inside.items; waiting = w.queue.turns } };
 
-    ghost invariant = { λ w. IsFlagged w.inside.items w.flags.items w.queue.gates w.queue.room };
+    ghost invariant = { λ w. IsFlagged w.inside.items w.flags.items w.queue.turns w.queue.room };
 }
 
 impl Waiting {
-    /// No gate waits yet; those gates are inside whose flag is true. It fails only where memory runs out.
+    /// Nothing waits yet; those gates and links are inside whose flag is true. It fails only where memory runs out.
     pub fn new(alloc: Global, inside: Vec<bool>) -> Result<Waiting, OutOfMemory>
         ensures { IfOk result (λ w. w ≡ record { inside = inside.items; waiting = [] }) }
     {
@@ -52,12 +49,12 @@ impl Waiting {
         self.inside[gate.0 as usize]
     }
 
-    /// Lets a gate wait, if it is inside and does not wait yet. Takes no memory.
-    pub fn add(&mut self, gate: Turn)
-        requires { gate.0 < length self.old.inside }
-        ensures { IsWoken gate self.old self.new }
+    /// Lets a gate or link wait, if it is inside and does not wait yet. Takes no memory.
+    pub fn add(&mut self, turn: Turn)
+        requires { turn.0 < length self.old.inside }
+        ensures { IsWoken turn self.old self.new }
     {
-        let at = gate.0 as usize;
+        let at = turn.0 as usize;
         if self.flags[at] {
             return;
         }
@@ -65,31 +62,31 @@ impl Waiting {
             return;
         }
         self.flags[at] = true;
-        self.queue.push(gate);
+        self.queue.push(turn);
     }
 
-    /// Takes the first gate, if one waits.
+    /// Takes the first gate or link, if one waits.
     pub fn pop(&mut self) -> Option<Turn>
         ensures cases { MatchOption result ((self.old.waiting ≡ []) × (self.new.waiting ≡ []))
-            (λ gate. self.old.waiting ≡ gate ∷ self.new.waiting) }
+            (λ turn. self.old.waiting ≡ turn ∷ self.new.waiting) }
         ensures inside { self.new.inside ≡ self.old.inside }
-        ensures all_inside { IfSome result (λ gate. is_inside self.old.inside gate.0 ≡ true) }
+        ensures all_inside { IfSome result (λ turn. is_inside self.old.inside turn.0 ≡ true) }
     {
-        let Some(gate) = self.queue.pop() else {
+        let Some(turn) = self.queue.pop() else {
             return None;
         };
-        self.flags[gate.0 as usize] = false;
-        Some(gate)
+        self.flags[turn.0 as usize] = false;
+        Some(turn)
     }
 
-    /// For each gate whether it is inside. Takes no memory.
+    /// For each gate and link whether it is inside. Takes no memory.
     pub(crate) fn into_inside(self) -> Vec<bool>
         ensures { result.items ≡ self.inside }
     {
         self.inside
     }
 
-    /// No gate waits any more.
+    /// Nothing waits any more.
     pub fn clear(&mut self)
         ensures waiting { self.new.waiting ≡ [] }
         ensures inside { self.new.inside ≡ self.old.inside }

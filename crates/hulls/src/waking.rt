@@ -2,10 +2,11 @@
 // drives it. The gate whose narrowing cut the line is passed by where narrowing it again would change nothing.
 ghost use Rattle.std.specs.Prelude.{◌≡◌, ◌≢◌, ◌<◌, ◌≤◌, ◌+◌, ◌^◌, ◌∷◌, ◌↔◌, [], ℕ, true, length, Some, All, Contains, IsTrue};
 ghost use Rattle.netlist.specs.Circuit.{gate_count, line_count};
-ghost use Rattle.hulls.specs.Awaiting.{is_inside, IsMore};
+ghost use Rattle.hulls.specs.Awaiting.{is_inside, gate_turn, IsMore};
 ghost use Rattle.hulls.specs.Settling.{AreWaiting};
 ghost use Rattle.hulls.specs.Links.{link_lines};
 
+use crate::Turn;
 use crate::waiting::Waiting;
 use netlist::Netlist;
 use pd_base::{GateId, LineId, PinRef};
@@ -30,7 +31,7 @@ fn wake_readers(waiting: &mut Waiting, pins: &[PinRef], passed: Option<GateId>)
     requires { All (λ pin. pin.gate.0 < length waiting.old.inside) pins.now }
     ensures more { IsMore waiting.old waiting.new }
     ensures waits { All (λ pin. is_inside waiting.old.inside pin.gate.0 ≡ true → passed ≢ Some pin.gate
-        → Contains waiting.new.waiting pin.gate) pins.now }
+        → Contains waiting.new.waiting (gate_turn pin.gate.0)) pins.now }
 {
     for pin in pins {
         wake_gate(waiting, pin.gate, passed);
@@ -41,12 +42,12 @@ fn wake_readers(waiting: &mut Waiting, pins: &[PinRef], passed: Option<GateId>)
 fn wake_gate(waiting: &mut Waiting, gate: GateId, passed: Option<GateId>)
     requires { gate.0 < length waiting.old.inside }
     ensures more { IsMore waiting.old waiting.new }
-    ensures waits { is_inside waiting.old.inside gate.0 ≡ true → passed ≢ Some gate → Contains waiting.new.waiting gate }
+    ensures waits { is_inside waiting.old.inside gate.0 ≡ true → passed ≢ Some gate → Contains waiting.new.waiting (gate_turn gate.0) }
 {
     if is_passed(passed, gate) {
         return;
     }
-    waiting.add(gate);
+    waiting.add(Turn::of_gate(gate));
 }
 
 // Whether the gate is the one that is passed by.

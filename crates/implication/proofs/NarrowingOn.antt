@@ -5,7 +5,6 @@ use Rattle.std.proofs.Math.ListN.{set}
 use Rattle.std.specs.List.{Contains}
 use Rattle.std.proofs.lemmas.Bool.{cases_eq}
 use Rattle.std.proofs.lemmas.List.{get_or-set_other}
-use Rattle.pd_base.specs.declared.ids.GateId.{GateId}
 use Rattle.pd_base.specs.declared.ids.LineId.{LineId}
 use Rattle.pd_base.specs.declared.ids.PinRef.{PinRef}
 use Rattle.netlist.specs.Circuit.{Circuit, line_count, source_count}
@@ -17,7 +16,8 @@ use Rattle.state_sets.specs.Hulls.{HasNoEmptySet, IsHull, IsEmptied, HasAt}
 use Rattle.state_laws.specs.Cones.{IsNarrowingIn}
 use Rattle.state_laws.proofs.Sets.{none_has, no_state_at}
 use Rattle.hulls.specs.Conditions.{Entered as Steps}
-use Rattle.hulls.specs.Awaiting.{is_inside}
+use Rattle.hulls.specs.declared.turn.Turn.{Turn}
+use Rattle.hulls.specs.Awaiting.{is_inside, gate_turn}
 use Rattle.hulls.specs.Boards.{OnBoard, Follows}
 use Rattle.hulls.specs.Settling.{MaySettle, IsCutTo}
 use Rattle.hulls.proofs.Entered.{awake_entered}
@@ -33,8 +33,8 @@ module _ (a : StateAlgebra) (c : Circuit) (old : OnBoard) (steps : Steps) (ready
   -- once the gate of a pin more waits, the board is ready under its condition too
   pub ready_entered : (pin : PinRef) (new : OnBoard) (entered : Steps) → entered ≡ record steps { steps = steps.steps ++ pin ∷ [] }
       → new ≡ record old { waiting = new.waiting }
-      → ((gate : GateId) → Contains old.waiting gate → Contains new.waiting gate)
-      → (is_inside old.inside pin.gate.0 ≡ true → Contains new.waiting pin.gate)
+      → ((turn : Turn) → Contains old.waiting turn → Contains new.waiting turn)
+      → (is_inside old.inside pin.gate.0 ≡ true → Contains new.waiting (gate_turn pin.gate.0))
       → MaySettle a c entered.kind entered.steps new
   ready_entered pin new entered is same stays waits =
       let P : Steps → Type 0 = λ s. MaySettle a c s.kind s.steps new in

@@ -7,7 +7,7 @@ ghost use Rattle.search_hints.specs.Drafts.{IsSizedFor};
 
 use crate::changes::{Cause, Change};
 use crate::region::{Region, condition_of, is_first_alone, is_inside, linked_line};
-use hulls::{NarrowScratch, Waiting, kept_at};
+use hulls::{NarrowScratch, Turn, Waiting, kept_at};
 use netlist::Netlist;
 use pd_base::{GateId, LineId, OutOfMemory};
 use state_sets::{Algebra, StateSet, every_state};
@@ -200,7 +200,7 @@ impl Draft {
         ensures { self.new ≡ self.old }
     {
         if !cause.is_gate(gate) && is_inside(region, gate) {
-            self.waiting.add(gate);
+            self.waiting.add(Turn::of_gate(gate));
         }
     }
 
@@ -272,7 +272,8 @@ impl Draft {
         ensures same { self.new ≡ self.old }
         ensures gate { IfSome result (λ gate. gate.0 < self.old.gates) }
     {
-        self.waiting.pop()
+        let turn = self.waiting.pop()?;
+        Some(GateId(turn.0))
     }
 
     // Narrows at a gate. Whether each of its lines has a state left.

@@ -1,7 +1,8 @@
 -- A step along the chain: its link waits now, and the rest of the chain is to come.
-use Rattle.std.proofs.Common.{◌≡◌, ◌<◌, ◌+◌, ◌-◌, ℕ, inl, inr, ⊎_elim, length, get_or, sym, ap, ◌∙◌, subst, arith}
+use Rattle.std.proofs.Common.{◌≡◌, true, ◌<◌, ◌+◌, ◌-◌, ℕ, inl, inr, ⊎_elim, length, get_or, sym, ap, ◌∙◌, subst, arith}
 use Rattle.std.specs.List.{Contains}
 use Rattle.std.proofs.lemmas.List.{get_or_read}
+use Rattle.hulls.specs.declared.turn.Turn.{Turn}
 use Rattle.hulls.specs.Awaiting.{is_inside}
 use Rattle.hulls.specs.Links.{IsInChain}
 use Rattle.hulls.proofs.Chains.{on_step}
@@ -23,7 +24,8 @@ loop-at-preserved c =
           (λ (rest : IsInChain nexts link at). ⊎_elim
           (λ (same : link ≡ first).
           inl (subst (λ (n : ℕ). Contains new (record { 0 = gates + n })) (sym same)
-          (c.add.ensures.waits (ap (λ flags. is_inside flags (gates + first)) c.loop-at.invariant.more.inside ∙ c.requires.links_inside first inside))))
+          (subst (λ (t : Turn). is_inside c.loop-at.waiting.inside t.0 ≡ true → Contains new t) c.of_link.ensures c.add.ensures.waits
+          (ap (λ flags. is_inside flags (gates + first)) c.loop-at.invariant.more.inside ∙ c.requires.links_inside first inside))))
           (λ (further : IsInChain nexts link (get_or nexts first 0)). inr (subst (IsInChain nexts link) (sym next) further))
           (on_step nexts link at first is rest))
           (c.loop-at.invariant.waits link on);

@@ -4,6 +4,7 @@ use Rattle.std.specs.List.{All}
 use Rattle.std.proofs.lemmas.List.{take_all}
 use Rattle.std.proofs.lemmas.List.Elements.{All-more, All-weaker}
 use Rattle.pd_base.specs.declared.ids.PinRef.{PinRef}
+use Rattle.hulls.specs.Awaiting.{gate_turn}
 use Rattle.hulls.proofs.Readers.{WaitsIn, more_on}
 use Rattle.hulls.proofs.waking.wake_readers.Goals as goal
 
@@ -16,7 +17,7 @@ loop-pin-preserved c =
       more = more_on c.args.waiting.now c.loop-pin.waiting c.wake_gate.new.waiting c.loop-pin.invariant.more c.wake_gate.ensures.more;
       waits = All-more (λ (p : PinRef). WaitsIn inside passed new p.gate) pins at none (omega arith)
           (All-weaker (λ (p : PinRef). WaitsIn inside passed old p.gate) (λ (p : PinRef). WaitsIn inside passed new p.gate)
-          (λ p waits here away. c.wake_gate.ensures.more.stays p.gate (waits here away))
+          (λ p waits here away. c.wake_gate.ensures.more.stays (gate_turn p.gate.0) (waits here away))
           (take at pins) c.loop-pin.invariant.waits)
           (subst (λ (flags : List Bool). WaitsIn flags passed new (get_or pins at none).gate) c.loop-pin.invariant.more.inside c.wake_gate.ensures.waits);
     }

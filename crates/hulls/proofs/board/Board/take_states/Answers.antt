@@ -3,6 +3,7 @@ use Rattle.std.proofs.Common.{◌≡◌, ◌≢◌, ◌<◌, ℕ, List, length, 
 use Rattle.netlist.specs.Circuit.{line_count}
 use Rattle.state_sets.specs.declared.state.StateSet.{StateSet}
 use Rattle.state_sets.specs.Labellings.{label_at}
+use Rattle.hulls.specs.Awaiting.{gate_turn}
 use Rattle.hulls.specs.Boards.{OnBoard}
 use Rattle.hulls.specs.Settling.{IsCutTo}
 use Rattle.hulls.proofs.BoardCuts.{room_left, cut_is, cut_to}
@@ -61,6 +62,6 @@ returns-clause-cut g c =
     c.get-old.result c.intersect-new.result c.get-old.ensures c.intersect-new.ensures takes
     c.note.new.self c.note.ensures c.wake-2.new.waiting (more_on i.waiting c.wake.new.waiting c.wake-2.new.waiting c.wake.ensures.more c.wake-2.ensures.more) c.cut.new.self c.cut.ensures
     c.args.net.now c.args.passed
-    (λ gate within here away among. c.wake-2.ensures.more.stays (record { 0 = gate }) (c.wake.ensures.waits gate within here away among))
+    (λ gate within here away among. c.wake-2.ensures.more.stays (gate_turn gate) (c.wake.ensures.waits gate within here away among))
     (links_as c.args.net.now i.links i.links refl c.gates.result c.gates.ensures c.args.line
     c.wake-2.new.waiting.waiting c.wake-2.ensures.waits))

@@ -1,4 +1,4 @@
--- The first gate is taken, from the second list if the first is read.
+-- The first turn is taken, from the second list if the first is read.
 use Rattle.std.proofs.Common.{arith}
 use Rattle.std.proofs.lemmas.Grind.{common_steps}
 use Rattle.hulls.proofs.queue.Queue.pop.Goals as goal

@@ -1,4 +1,4 @@
--- A gate is put behind those that wait.
+-- A turn is put behind those that wait.
 use Rattle.std.proofs.Common.{arith}
 use Rattle.std.proofs.lemmas.Grind.{common_steps}
 use Rattle.hulls.proofs.queue.Queue.push.Goals as goal

@@ -1,4 +1,4 @@
--- No gate waits at first.
+-- Nothing waits at first.
 use Rattle.std.proofs.Common.{arith}
 use Rattle.std.proofs.lemmas.Grind.{common_steps}
 use Rattle.hulls.proofs.waiting.Waiting.new.Goals as goal
