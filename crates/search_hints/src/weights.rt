@@ -17,7 +17,7 @@ const FACTOR: u64 = GREATEST_STEP / FIRST_STEP;
 pub(crate) struct Weights {
     by_line: Vec<u64>,
     step: u64,
-    // A conflict adds more than the one before it by this part.
+    // A conflict adds more than the one before it by this part; by nothing where it is 0.
     part: u64,
 }
 
@@ -55,7 +55,9 @@ impl Weights {
         if self.step >= GREATEST_STEP {
             self.scale_down();
         }
-        self.step = self.step.saturating_add(self.step / self.part);
+        if self.part > 0 {
+            self.step = self.step.saturating_add(self.step / self.part);
+        }
     }
 
     // Makes all weights smaller by the factor, and what a conflict adds.
