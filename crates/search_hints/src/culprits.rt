@@ -3,6 +3,7 @@
 ghost use Rattle.std.specs.Prelude.{◌≡◌, ◌<◌, All, IfOk};
 ghost use Rattle.netlist.specs.Circuit.{gate_count, line_count};
 
+use crate::activity::Activity;
 use crate::changes::{Cause, Change};
 use crate::link_ends::LinkEnds;
 use cones::{FoundLines, find_reads};
@@ -40,7 +41,7 @@ impl Culprits {
         })
     }
 
-    // Finds the decisions, of so many, on which the conflict at a gate or a link rests.
+    // Finds the decisions, of so many, on which the conflict at a gate or a link rests, and makes the lines more active that matter.
     pub(crate) fn blame(
         &mut self,
         net: &Netlist,
@@ -48,6 +49,7 @@ impl Culprits {
         changes: &[Change],
         cause: Cause,
         decisions: usize,
+        activity: &mut Activity,
     ) -> Result<(), OutOfMemory>
         requires lines { self.old ≡ line_count net.now }
         requires changes { All (λ change. change.line.0 < line_count net.now) changes.now }
@@ -57,6 +59,9 @@ impl Culprits {
         self.mark_cause(net, links, cause);
         for change in changes.iter().rev() {
             self.follow(net, links, change);
+        }
+        if !links.is_empty() {
+            activity.rest_on(self.matters.lines());
         }
         self.matters.clear();
         Ok(())

@@ -4,13 +4,14 @@ ghost use Rattle.std.specs.Prelude.{◌≡◌, ◌<◌, length, All, IfOk, IfSom
 ghost use Rattle.netlist.specs.Circuit.{gate_count, line_count};
 ghost use Rattle.search_hints.specs.Drafts.{IsSizedFor, IsNextIn};
 
+use crate::activity::Activity;
 use crate::changes::Cause;
 use crate::culprits::Culprits;
 use crate::draft::{Draft, Settled};
 use crate::framed_picking::{is_open_source, pick_framed, pick_last};
 use crate::open_lines::{is_justified, open_side};
 use crate::picking::{Cut, Sight, pick, pick_any, without};
-use crate::region::{Region, is_first_alone, linked_line};
+use crate::region::{Region, is_first_alone, is_inside, linked_line};
 use netlist::Netlist;
 use pd_base::{GateId, LineId, OutOfMemory};
 use state_sets::{Algebra, StateSet};
@@ -41,11 +42,12 @@ pub(crate) struct Decision {
 }
 
 // The order in which lines are justified that were open at the beginning: by level, and with links those of the first frame alone first,
-// or those of the second frame.
+// or those of the second frame. Or before these and what decisions changed the most active of the lines on which late conflicts rested.
 #[derive(Clone, Copy)]
 pub(crate) enum Order {
     LowestFirst,
     HighestFirst,
+    MostActiveFirst,
 }
 
 // How a search ended.
@@ -73,6 +75,7 @@ pub(crate) struct Decisions {
     made: Vec<Decision>,
     reasons: Vec<usize>,
     culprits: Culprits,
+    activity: Activity,
     // The gates whose lines were not justified at the beginning, by level.
     open_at_first: Vec<GateId>,
     cursor: Cursor,
@@ -90,18 +93,24 @@ impl Model for Decisions {
 }
 
 impl Decisions {
-    // Nothing is decided.
-    pub(crate) fn new<A: Algebra>(alloc: Global, net: &Netlist) -> Result<Decisions, OutOfMemory>
+    // Nothing is decided. Of so many lines it is kept how active they are.
+    pub(crate) fn new<A: Algebra>(
+        alloc: Global,
+        net: &Netlist,
+        active_lines: usize,
+    ) -> Result<Decisions, OutOfMemory>
         ensures { IfOk result (IsSizedFor net.now) }
     {
         // What has most parts is made last, since each refusal drops what was made before.
         let culprits = Culprits::new(alloc, net)?;
         let draft = Draft::new::<A>(alloc, net)?;
+        let activity = Activity::new(alloc, active_lines)?;
         Ok(Decisions {
             draft,
             made: Vec::new(alloc),
             reasons: Vec::new(alloc),
             culprits,
+            activity,
             open_at_first: Vec::new(alloc),
             cursor: at_start(),
         })
@@ -192,6 +201,9 @@ impl Decisions {
         if let Some(cut) = next_side::<A>(region, self.draft.labels(), &mut self.cursor.steps) {
             return Next::Decide(cut);
         }
+        if let Some(line) = self.next_active::<A>(region, order) {
+            return self.pick_for::<A>(region, line);
+        }
         if let Some(line) = next_changed::<A>(region, &self.draft, &mut self.cursor.changes) {
             return self.pick_for::<A>(region, line);
         }
@@ -205,6 +217,19 @@ impl Decisions {
         ) {
             Some(gate) => self.pick_for::<A>(region, region.net.line_of(gate)),
             None => self.next_source::<A>(region),
+        }
+    }
+
+    // The most active line of late conflicts that is open, where the order goes by that.
+    fn next_active<A: Algebra>(&self, region: &Region, order: Order) -> Option<LineId>
+        requires { IsSizedFor region.now.net.now self.now }
+        ensures { IfSome result (λ line. line.0 < line_count region.now.net.now) }
+    {
+        match order {
+            Order::MostActiveFirst => {
+                most_active::<A>(region, self.draft.labels(), &self.activity)
+            }
+            Order::LowestFirst | Order::HighestFirst => None,
         }
     }
 
@@ -320,6 +345,7 @@ impl Decisions {
             self.draft.changes(),
             cause,
             self.made.len(),
+            &mut self.activity,
         )
     }
 
@@ -451,6 +477,42 @@ fn is_open<A: Algebra>(region: &Region, labels: &[StateSet], line: LineId) -> bo
     }
 }
 
+// The most active of the lines on which late conflicts rested that is in the cone and open.
+fn most_active<A: Algebra>(
+    region: &Region,
+    labels: &[StateSet],
+    activity: &Activity,
+) -> Option<LineId>
+    requires { length labels.now ≡ line_count region.now.net.now }
+    ensures { IfSome result (λ line. line.0 < line_count region.now.net.now) }
+{
+    let mut best = None;
+    let mut most = 0;
+    for line in activity.late() {
+        let weight = activity.of(*line);
+        if weight > most
+            && line.0 < region.net.lines()
+            && is_open_inside::<A>(region, labels, *line)
+        {
+            most = weight;
+            best = Some(*line);
+        }
+    }
+    best
+}
+
+// Whether a line is in the cone and open.
+fn is_open_inside<A: Algebra>(region: &Region, labels: &[StateSet], line: LineId) -> bool
+    requires labels { length labels.now ≡ line_count region.now.net.now }
+    requires line { line.0 < line_count region.now.net.now }
+{
+    let is_counted = match region.net.gate_of(line) {
+        Some(gate) => is_inside(region, gate),
+        None => true,
+    };
+    is_counted && is_open::<A>(region, labels, line)
+}
+
 // The first of the cone's sources that is linked and open, from a place on, which goes on to that source.
 fn next_linked<A: Algebra>(
     region: &Region,
@@ -485,7 +547,7 @@ fn next_open<A: Algebra>(
     let count = gates.len();
     for at in *place..count {
         let gate = match order {
-            Order::LowestFirst => gates[at],
+            Order::LowestFirst | Order::MostActiveFirst => gates[at],
             Order::HighestFirst => gates[count - 1 - at],
         };
         if !is_justified::<A>(region.net, labels, gate) {

@@ -34,8 +34,12 @@ use undo_trail::Note;
 const MOST_CONFLICTS: u32 = 300;
 // The most conflicts of a proposal in one order before any split.
 const FIRST_CONFLICTS: u32 = 20;
-// The same with links, where a pair is harder to find by splits.
+// The same with links, where a pair is harder to find by splits; and in the order of activity.
 const FIRST_LINKED_CONFLICTS: u32 = 30;
+
+const FIRST_ACTIVE_CONFLICTS: u32 = 100;
+// By how much more a conflict counts for the split of a tree than the one before it, as a part.
+const GROWTH_PART: u64 = 33;
 // The most splits of a tree by weights, and where that is halved the least.
 const MOST_SPLITS: u32 = 100;
 
@@ -88,10 +92,10 @@ impl Justifier {
         ensures { IfOk result (IsJustifierOf net.now) }
     {
         let conditions = Conditions::new(alloc, net, Kind::Robust)?;
-        let weights = Weights::new(alloc, net)?;
+        let weights = Weights::new(alloc, net.sources() as usize, GROWTH_PART)?;
         let grounds = Grounds::new(alloc, net)?;
         let links = LinkEnds::new(alloc, net, links)?;
-        let decisions = Decisions::new::<A>(alloc, net)?;
+        let decisions = Decisions::new::<A>(alloc, net, links.room())?;
         let frames = Frames::new(alloc, net)?;
         let firsts = vec![in alloc; false; net.lines() as usize]?;
         Ok(Justifier {
@@ -207,12 +211,8 @@ impl Justifier {
         self.set_frames(sight.net, cone, path)?;
         self.conditions.set_kind(kind);
         enter_all(&mut self.conditions, sight.net, path);
-        let most_conflicts = match effort {
-            Effort::Little if self.links.is_empty() => self.for_proposals.limit(kind),
-            Effort::Little => FIRST_LINKED_CONFLICTS,
-            Effort::Much => MOST_CONFLICTS,
-        };
-        let found = self.decide::<A>(sight, cone, most_conflicts);
+        let limits = self.limits(kind, effort);
+        let found = self.decide::<A>(sight, cone, limits);
         leave_all(&mut self.conditions);
         if let Ok(true) = found
             && !self.links.is_empty()
@@ -220,6 +220,26 @@ impl Justifier {
             self.complete::<A>(sight.net, cone);
         }
         found
+    }
+
+    // How many conflicts there may be in each order.
+    fn limits(&self, kind: Kind, effort: Effort) -> Limits {
+        let is_linked = !self.links.is_empty();
+        let by_level = match effort {
+            Effort::Little if is_linked => Some(FIRST_LINKED_CONFLICTS),
+            Effort::Little => Some(self.for_proposals.limit(kind)),
+            Effort::Much if is_linked => None,
+            Effort::Much => Some(MOST_CONFLICTS),
+        };
+        let by_activity = match effort {
+            Effort::Little if is_linked => Some(FIRST_ACTIVE_CONFLICTS),
+            Effort::Much if is_linked => Some(MOST_CONFLICTS),
+            Effort::Little | Effort::Much => None,
+        };
+        Limits {
+            by_level,
+            by_activity,
+        }
     }
 
     // Keeps the frames of a path's end, where there are links.
@@ -240,7 +260,7 @@ impl Justifier {
         &mut self,
         sight: &Sight,
         cone: &Cone,
-        most_conflicts: u32,
+        limits: Limits,
     ) -> Result<bool, OutOfMemory>
         requires sizes { IsSizedFor sight.now.net.now self.old.sizes }
         requires cone { IsConeIn sight.now.net.now cone.now }
@@ -248,7 +268,7 @@ impl Justifier {
         ensures { self.new ≡ self.old }
     {
         if !self.links.is_empty() {
-            return self.decide_framed::<A>(sight, cone, most_conflicts);
+            return self.decide_framed::<A>(sight, cone, limits);
         }
         let region = Region {
             net: sight.net,
@@ -267,7 +287,7 @@ impl Justifier {
             cone.sources(),
             cone.gates(),
         )?;
-        search::<A>(&mut self.decisions, &region, most_conflicts)
+        search::<A>(&mut self.decisions, &region, limits)
     }
 
     // The same in the two frames.
@@ -275,7 +295,7 @@ impl Justifier {
         &mut self,
         sight: &Sight,
         cone: &Cone,
-        most_conflicts: u32,
+        limits: Limits,
     ) -> Result<bool, OutOfMemory>
         requires sizes { IsSizedFor sight.now.net.now self.old.sizes }
         requires cone { IsConeIn sight.now.net.now cone.now }
@@ -299,7 +319,7 @@ impl Justifier {
             cone.sources(),
             self.frames.gates(),
         )?;
-        search::<A>(&mut self.decisions, &region, most_conflicts)
+        search::<A>(&mut self.decisions, &region, limits)
     }
 
     /// Makes a pair that keeps the links of the labels of the cone's sources, of what is liked of them as far as they let it: `labels`
@@ -428,23 +448,36 @@ fn seen(region: &Region, labels: &[StateSet], line: LineId) -> StateSet
     }
 }
 
-// Decides, the lines of the lowest levels first, and where that takes too many conflicts, those of the highest first.
+// How many conflicts there may be in an order by levels, and in that by activity; none where an order is left out.
+#[derive(Clone, Copy)]
+struct Limits {
+    by_level: Option<u32>,
+    by_activity: Option<u32>,
+}
+
+// Decides in one order after another, as long as that takes too many conflicts: the lines of the lowest levels first, those of the
+// highest, the most active ones.
 fn search<A: Algebra>(
     decisions: &mut Decisions,
     region: &Region,
-    most_conflicts: u32,
+    limits: Limits,
 ) -> Result<bool, OutOfMemory>
     requires { IsSizedFor region.now.net.now decisions.old }
     ensures { decisions.new ≡ decisions.old }
 {
-    match decisions.search::<A>(region, Order::LowestFirst, most_conflicts)? {
-        Ended::Justified => Ok(true),
-        Ended::Exhausted => Ok(false),
-        Ended::Unknown => {
-            let ended = decisions.search::<A>(region, Order::HighestFirst, most_conflicts)?;
-            Ok(matches!(ended, Ended::Justified))
+    let mut ended = Ended::Unknown;
+    if let Some(most) = limits.by_level {
+        ended = decisions.search::<A>(region, Order::LowestFirst, most)?;
+        if let Ended::Unknown = ended {
+            ended = decisions.search::<A>(region, Order::HighestFirst, most)?;
         }
     }
+    if let Some(most) = limits.by_activity
+        && let Ended::Unknown = ended
+    {
+        ended = decisions.search::<A>(region, Order::MostActiveFirst, most)?;
+    }
+    Ok(matches!(ended, Ended::Justified))
 }
 
 // Leaves all steps.

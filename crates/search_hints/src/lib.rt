@@ -4,6 +4,7 @@
 //! The layer above uses `Justifier` with `Effort` and `Sight`, `follow` with `Frontier` and `Lead`, and `Blame`.
 #![tactic(auto)]
 
+mod activity;
 mod blaming;
 mod changes;
 mod completing;

@@ -54,6 +54,11 @@ impl LinkEnds {
         self.lines.is_empty()
     }
 
+    // For how many lines something is kept: for all, or for none where there is no link.
+    pub(crate) fn room(&self) -> usize {
+        self.lines.len()
+    }
+
     // The line to which a source is linked, if it is.
     pub(crate) fn line_of(&self, source: LineId) -> Option<LineId> {
         line_at(self.lines.as_slice(), source)

@@ -1,7 +1,6 @@
-// How much past conflicts rest on each source: each conflict makes the sources heavier on which it rests, and a later one by more than an
+// How much past conflicts rest on each line: each conflict makes the lines heavier on which it rests, and a later one by more than an
 // earlier one, so that those of late count most. The heaviest source is split first. A hint alone.
 use crate::picking::has_both_values;
-use netlist::Netlist;
 use pd_base::{LineId, OutOfMemory};
 use state_sets::{Algebra, StateSet};
 use std::alloc::Global;
@@ -12,31 +11,42 @@ const FIRST_STEP: u64 = 65_536;
 const GREATEST_STEP: u64 = 281_474_976_710_656;
 
 const FACTOR: u64 = GREATEST_STEP / FIRST_STEP;
-// A conflict adds more than the one before it by this part.
-const GROWTH_PART: u64 = 33;
 
-/// The weights of the sources of one netlist.
+/// The weights of the first lines of one netlist.
 #[derive(Drop)]
 pub(crate) struct Weights {
-    by_source: Vec<u64>,
+    by_line: Vec<u64>,
     step: u64,
+    // A conflict adds more than the one before it by this part; by nothing where it is 0.
+    part: u64,
 }
 
 impl Weights {
-    // No weight yet.
-    pub(crate) fn new(alloc: Global, net: &Netlist) -> Result<Weights, OutOfMemory> {
-        let by_source = vec![in alloc; 0u64; net.sources() as usize]?;
+    // No weight yet, of so many lines. What a conflict adds grows by this part from one to the next.
+    pub(crate) fn new(alloc: Global, lines: usize, part: u64) -> Result<Weights, OutOfMemory> {
+        let by_line = vec![in alloc; 0u64; lines]?;
         Ok(Weights {
-            by_source,
+            by_line,
             step: FIRST_STEP,
+            part,
         })
     }
 
-    // The conflict rests on this line, which gets heavier if it is a source.
+    // The weight of a line.
+    pub(crate) fn of(&self, line: LineId) -> u64 {
+        let at = line.0 as usize;
+        if at < self.by_line.len() {
+            self.by_line[at]
+        } else {
+            0
+        }
+    }
+
+    // The conflict rests on this line, which gets heavier if it has a weight.
     pub(crate) fn raise(&mut self, line: LineId) {
         let at = line.0 as usize;
-        if at < self.by_source.len() {
-            self.by_source[at] = self.by_source[at].saturating_add(self.step);
+        if at < self.by_line.len() {
+            self.by_line[at] = self.by_line[at].saturating_add(self.step);
         }
     }
 
@@ -45,13 +55,15 @@ impl Weights {
         if self.step >= GREATEST_STEP {
             self.scale_down();
         }
-        self.step = self.step.saturating_add(self.step / GROWTH_PART);
+        if self.part > 0 {
+            self.step = self.step.saturating_add(self.step / self.part);
+        }
     }
 
     // Makes all weights smaller by the factor, and what a conflict adds.
     fn scale_down(&mut self) {
-        for at in 0..self.by_source.len() {
-            self.by_source[at] = self.by_source[at] / FACTOR;
+        for at in 0..self.by_line.len() {
+            self.by_line[at] = self.by_line[at] / FACTOR;
         }
         self.step = self.step / FACTOR;
     }
@@ -78,8 +90,8 @@ impl Weights {
     // The weight of a source that can still end at either value, and 0 of another one.
     fn weight<A: Algebra>(&self, source: LineId, labels: &[StateSet]) -> u64 {
         let at = source.0 as usize;
-        if at < self.by_source.len() && at < labels.len() && has_both_values::<A>(labels[at]) {
-            self.by_source[at]
+        if at < labels.len() && has_both_values::<A>(labels[at]) {
+            self.of(source)
         } else {
             0
         }
