@@ -3,7 +3,8 @@
 // that are not met, then the lines that its decisions changed and that are not justified, then those that were not justified at the
 // beginning; it brings a pin to what would justify them, narrows, and at a conflict goes back to the last decision on which the conflict
 // rests. It is tried with the lowest levels first, and once more with the highest first where the conflicts ran out. With links it looks
-// for a first vector and last values that go with it, in the two frames of the path's end, and completes what it found by the links.
+// for a first vector and last values that go with it, in the two frames of the path's end, and completes what it found by the links; and
+// where the conflicts ran out in both orders, it goes on with the lines first on which late conflicts rested.
 ghost use Rattle.std.specs.Prelude.{◌≡◌, ◌<◌, [], length, All, IfOk, IfSome};
 ghost use Rattle.netlist.specs.Circuit.{line_count, HasGates, HasLines};
 ghost use Rattle.netlist.specs.Paths.{IsPrefix, end_of};

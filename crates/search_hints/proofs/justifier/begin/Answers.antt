@@ -1,6 +1,6 @@
 -- The sizes stay, so that there is a label for each line of the cone, and room for its gates.
 use Rattle.std.proofs.Common.{ℕ, ◌<◌, get_or, sym, ap, subst, ◌∙◌}
-use Rattle.search_hints.specs.Drafts.{Sizes, IsSizedFor}
+use Rattle.search_hints.specs.Drafts.{Sizes}
 use Rattle.search_hints.proofs.justifier.begin.Goals as goal
 
 pub write-requires : goal.write-requires
