@@ -16,6 +16,7 @@ mod bounds;
 mod calling;
 mod check;
 mod compact;
+mod copied;
 mod dispatch;
 mod exiting;
 mod generating;

@@ -7,3 +7,4 @@ mod Refused
 mod Taken
 mod Linked
 mod ReadSoFar
+pub mod ScanLaws
