@@ -34,8 +34,8 @@ pub enum Command<'a> {
 }
 
 /// The command that the words ask for, or the first reason why they are refused, or want of memory. The words are those behind the
-/// program's own name: `gen NET DELAYS TESTS REPORT PROOFS [--paths N] [--budget N] [--mode M]`, the options in any place behind
-/// `gen`, `check` with the same words behind it, `replay NET DELAYS TESTS TIME`, `make N`, `rfreplay NET DELAYS TESTS REPORT TIME`,
+/// program's own name: `gen NET DELAYS TESTS REPORT PROOFS [--paths N] [--budget N] [--mode M] [--scan SCAN]`, the options in
+/// any place behind `gen`, `check` with the same words behind it, `replay NET DELAYS TESTS TIME`, `make N`, `rfreplay NET DELAYS TESTS REPORT TIME`,
 /// `compact NET TESTS REPORT OUT`, or `bounds NET TESTS REPORT LOG`.
 pub fn read_words<'a>(alloc: Global, words: &'a [&'a str]) -> Result<Command<'a>, WordsFault>
     ensures asked { IfOk result (λ command. asked_call (bytes_of_words words.entry.now) ≡ Ok (call_of command)) }

@@ -21,11 +21,13 @@ mod dispatch;
 mod exiting;
 mod generating;
 mod inputs;
+mod launch;
 mod making;
 mod mode_rules;
 mod preparing;
 mod replay;
 mod rise_fall_replay;
+mod run_inputs;
 mod serving;
 mod words_refusal;
 
