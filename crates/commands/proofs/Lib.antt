@@ -24,7 +24,10 @@ pub mod SpelledRuns
 pub mod FewLines
 mod FewListed
 pub mod FirstWithout
+pub mod ChainStages
+pub mod FrontStages
 pub mod InputStages
+pub mod RunInputStages
 pub mod InputsJudged
 pub mod ListedStages
 pub mod Printed

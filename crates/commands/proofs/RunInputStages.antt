@@ -26,7 +26,8 @@ use Rattle.commands.specs.InputRequirements.{InputCommand, Requirement, input_st
 use Rattle.commands.specs.LaterCalls.{scan_names, scans_in}
 use Rattle.commands.specs.Launches.{HasLaunch}
 use Rattle.commands.specs.RunTexts.{front_inputs, launch_stages, run_input_stages}
-use Rattle.commands.proofs.InputStages.{chains_fail, chains_pass, chains_passed, delays_fail, inputs_pass, inputs_passed, net_fails}
+use Rattle.commands.proofs.ChainStages.{chains_fail, chains_pass, chains_passed}
+use Rattle.commands.proofs.InputStages.{delays_fail, inputs_pass, inputs_passed, net_fails}
 
 -- so pairs are launched in one way alone
 pub launch_once : (c : Circuit) → IsCircuit c → (mode : RunMode) (scans : List (List ℕ)) (launch other : Launch) → HasLaunch mode c scans launch
@@ -55,8 +56,8 @@ module _ (command : InputCommand) (call : RunCall) where
     launch_fails behind enhanced place ending fails = absurd fails
     launch_fails behind broadside place ending fails = absurd fails
     launch_fails behind (skewed scan) place ending fails =
-        chains_fail command net.text.items (delays.text.items ∷ []) c net.holds scan 2 refl (input_stages call.net call.delays) behind place old
-        behind_delays new both_passed ending fails
+        chains_fail command net.text.items (delays.text.items ∷ []) c net.holds scan 2 refl (input_stages call.net call.delays) old behind_delays
+        new both_passed behind place ending fails
 
     -- what was read for the mode, and passed
     record LaunchPassed (mode : RunMode) (launch : Launch) : Type 0 where
@@ -133,7 +134,7 @@ module _ (command : InputCommand) (call : RunCall) where
     launch_pass enhanced launch has has_launch within rest = rest
     launch_pass broadside launch has has_launch within rest = rest
     launch_pass (skewed scan) launch has has_launch within rest =
-        chains_pass command told net (delays ∷ []) c has scan 2 refl later all has_launch.chains has_launch.has (within 0 [] (omega arith)) rest
+        chains_pass command net (delays ∷ []) c has scan 2 refl told later all has_launch.chains has_launch.has (within 0 [] (omega arith)) rest
 
     -- they are accepted, and what follows is passed
     pub inputs_are_accepted : (given : Delays) (launch : Launch) → length net ≤ INPUT_LIMIT → HasCircuit net c → length delays ≤ INPUT_LIMIT

@@ -3,6 +3,7 @@ ghost use Rattle.std.specs.Prelude.{IfErr, IfOk};
 ghost use Rattle.pd_io.specs.Seen.{files_seen};
 ghost use Rattle.command_line.specs.Commands.{run_call_of};
 ghost use Rattle.delay_annotation.specs.Annotation.{Fits, delays_of};
+ghost use Rattle.netlist.specs.Lawful.{IsCircuit};
 ghost use Rattle.commands.specs.Inside.RunJudging.{FailsToGiveInputs, GivesInputs};
 ghost use Rattle.commands.specs.ModeRules.{FitsLaunch};
 
@@ -33,6 +34,7 @@ pub(crate) fn run_inputs_from<F: Files>(
     files: &mut F,
     command: &RunCommand,
 ) -> Result<RunInputs, Ending>
+    ensures circuit { IfOk result (λ inputs. IsCircuit inputs.net) }
     ensures fits { IfOk result (λ inputs. Fits inputs.net inputs.delays) }
     ensures launch { IfOk result (λ inputs. FitsLaunch inputs.net inputs.launch) }
     ensures gives { IfOk result (λ inputs. GivesInputs (run_call_of command.now) inputs.net (delays_of inputs.net inputs.delays) inputs.launch
