@@ -170,7 +170,7 @@ word_more false room next place text end_names names more later values some none
   more,
   is,
   subst (λ (n : ℕ). Woven (take n (text ∷ later)) values (map (λ name. name.text) more)) (sym (none refl))
-  (subst (λ (n : ℕ). Woven (take n later) values (map (λ name. name.text) more)) (no_next refl) among),
+      (subst (λ (n : ℕ). Woven (take n later) values (map (λ name. name.text) more)) (no_next refl) among),
 )
 
 one_word : (form : WordsForm) (end : Given) (place : ℕ) (text : List ℕ) (given more : Given) → Reads form place text given more

@@ -69,15 +69,19 @@ module _ (command : InputCommand) (net : List ℕ) (later : List (List ℕ)) (c 
     pub chains_fail : (behind : List (Stage (Requirement command.Own))) → command.stages ≡ stages ++ scan_stages place name ++ behind
         → (ending : Ending) → FailsToGiveChains name c ending mid new → Stops (work_on_inputs command) ending old new
     chains_fail behind is ending (judging.not_read fails) =
-        stops_unwhole command role.Scan name ending before
-        (Require (SpellsChains place) ∷ behind, is
-        ∙ sym (append_assoc stages (Read role.Scan name ∷ Require (WithinLimit role.Scan) ∷ []) (Require (SpellsChains place) ∷ behind))
-        ∙ ap (λ (front : List (Stage (Requirement command.Own))). front ++ Require (SpellsChains place) ∷ behind) (sym read_first)) fails
+        stops_unwhole command role.Scan name ending before (
+          Require (SpellsChains place) ∷ behind,
+          is
+              ∙ sym (append_assoc stages (Read role.Scan name ∷ Require (WithinLimit role.Scan) ∷ []) (Require (SpellsChains place) ∷ behind))
+              ∙ ap (λ (front : List (Stage (Requirement command.Own))). front ++ Require (SpellsChains place) ∷ behind) (sym read_first),
+        ) fails
     chains_fail behind is ending (judging.gives_none file read fails) =
-        stops_judged command (SpellsChains place) (HasNoChainsFor c file.items) ending (then_whole command role.Scan name file before read)
-        (behind, is
-        ∙ sym (append_assoc stages (scan_stages place name) behind)
-        ∙ ap (λ (front : List (Stage (Requirement command.Own))). front ++ behind) (sym one_by_one))
+        stops_judged command (SpellsChains place) (HasNoChainsFor c file.items) ending (then_whole command role.Scan name file before read) (
+          behind,
+          is
+              ∙ sym (append_assoc stages (scan_stages place name) behind)
+              ∙ ap (λ (front : List (Stage (Requirement command.Own))). front ++ behind) (sym one_by_one),
+        )
         (λ refusal why.
         subst (λ (text : List ℕ). HasNoChains net text refusal) (sym (found file.items)) (record { circuit = c; has = has; none = why })) fails
 

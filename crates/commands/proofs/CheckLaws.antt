@@ -77,23 +77,22 @@ module _ (call : RunCall) (told : Folder) where
               refl,
               (
                 accepts_size (check_command call) role.Proofs ((front_inputs net delays scans ++ tests ∷ []) ++ report ∷ []) proofs
-                readable.proofs_within,
+                    readable.proofs_within,
                 subst
-                (λ (all : List (List ℕ)). Pass (check_work call) (Some told) (form_stages call.mode ++ Require (own GoodRun) ∷ []) all
-                (inputs_of (texts_in call told))) (sym one_by_one)
-                (
-                  accepts_tests call (texts_in call told) c has launch has_launch run.tests spells.tests_are,
-                  (
-                    accepts_report call (texts_in call told) c has launch has_launch run.paths spells.report_is,
-                    (
-                      accepts_proofs call (texts_in call told) c has launch has_launch (version_of run.rules) run.proofs spells.proofs_are,
+                    (λ (all : List (List ℕ)). Pass (check_work call) (Some told) (form_stages call.mode ++ Require (own GoodRun) ∷ []) all
+                    (inputs_of (texts_in call told))) (sym one_by_one) (
+                      accepts_tests call (texts_in call told) c has launch has_launch run.tests spells.tests_are,
                       (
-                        accepts_version call (texts_in call told) c has launch has_launch run.rules spells.of_mode run.proofs spells.proofs_are,
-                        (accepts_good call (texts_in call told) c has launch has_launch given gives run spells good, refl),
+                        accepts_report call (texts_in call told) c has launch has_launch run.paths spells.report_is,
+                        (
+                          accepts_proofs call (texts_in call told) c has launch has_launch (version_of run.rules) run.proofs spells.proofs_are,
+                          (
+                            accepts_version call (texts_in call told) c has launch has_launch run.rules spells.of_mode run.proofs spells.proofs_are,
+                            (accepts_good call (texts_in call told) c has launch has_launch given gives run spells good, refl),
+                          ),
+                        ),
                       ),
                     ),
-                  ),
-                ),
               ),
             ),
           ),

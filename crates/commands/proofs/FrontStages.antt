@@ -56,12 +56,14 @@ module _ (command : InputCommand) (front : List (Stage (Requirement command.Own)
       → command.stages ≡ front ++ more ++ read_stages input name ++ behind → FailsWithin input name ending mid new
       → Stops (work_on_inputs command) ending old new
   unwhole_behind {inputs} {old} {mid} {new} more behind input name ending before place fails =
-      stops_unwhole command input name ending before
-      (behind, place
-      ∙ sym (append_assoc front more (read_stages input name ++ behind))
-      ∙ sym (append_assoc (front ++ more) (read_stages input name) behind)
-      ∙ ap (λ (stages : List (Stage (Requirement command.Own))). stages ++ behind)
-      (sym (append_assoc (front ++ more) (Read input name ∷ []) (Require (WithinLimit input) ∷ [])))) fails
+      stops_unwhole command input name ending before (
+        behind,
+        place
+            ∙ sym (append_assoc front more (read_stages input name ++ behind))
+            ∙ sym (append_assoc (front ++ more) (read_stages input name) behind)
+            ∙ ap (λ (stages : List (Stage (Requirement command.Own))). stages ++ behind)
+            (sym (append_assoc (front ++ more) (Read input name ∷ []) (Require (WithinLimit input) ∷ []))),
+      ) fails
 
   -- what was read meets one more requirement
   pub required_behind : {inputs : List (List ℕ)} {old new : FilesSeen} (more : List (Stage (Requirement command.Own)))
@@ -78,7 +80,9 @@ module _ (command : InputCommand) (front : List (Stage (Requirement command.Own)
       → ((refusal : Refusal) → Refuses refusal → RefusesInputs command requirement inputs refusal) → FailsFor Refuses ending
       → Stops (work_on_inputs command) ending old new
   judged_behind more behind requirement Refuses ending before place so fails =
-      stops_judged command requirement Refuses ending before
-      (behind, place
-      ∙ sym (append_assoc front more (Require requirement ∷ behind))
-      ∙ sym (append_assoc (front ++ more) (Require requirement ∷ []) behind)) so fails
+      stops_judged command requirement Refuses ending before (
+        behind,
+        place
+            ∙ sym (append_assoc front more (Require requirement ∷ behind))
+            ∙ sym (append_assoc (front ++ more) (Require requirement ∷ []) behind),
+      ) so fails

@@ -165,11 +165,13 @@ module _ (command : InputCommand) where
           (record { circuit = c; has = has; over = over; is = refl }))
       texts_fail behind place ending (long_tests short over is) =
           subst (λ (e : Ending). Stops (work_on_inputs command) e old new) (sym is)
-          (stops_refused (work_on_inputs command) (ShortTestText paths) (long_test_text (test_text_product paths c)) (paths_passed short)
-          (_, place
-          ∙ sym (append_assoc stages (short_stages paths) behind)
-          ∙ ap (λ (front : List (Stage (Requirement command.Own))). front ++ behind)
-          (sym (append_assoc stages (Require (ShortPathText paths) ∷ []) (Require (ShortTestText paths) ∷ []))))
+          (stops_refused (work_on_inputs command) (ShortTestText paths) (long_test_text (test_text_product paths c)) (paths_passed short) (
+            _,
+            place
+                ∙ sym (append_assoc stages (short_stages paths) behind)
+                ∙ ap (λ (front : List (Stage (Requirement command.Own))). front ++ behind)
+                (sym (append_assoc stages (Require (ShortPathText paths) ∷ []) (Require (ShortTestText paths) ∷ []))),
+          )
           (record { circuit = c; has = has; over = over; is = refl }))
 
       -- they are short

@@ -2,7 +2,7 @@
 //! which leads from a netlist and its delays to the texts of one run (specs/Gen.antt); `make`, which does that work on a ladder
 //! (specs/Make.antt); `check` (specs/Check.antt), `replay` (specs/Replay.antt) and `rfreplay` (specs/RiseFallReplay.antt); `compact`
 //! (specs/Compact.antt) and `bounds` (specs/Bounds.antt). What they read in the same way is in src/inputs.rt. `gen` and `check` are of a
-//! mode, whose pairs of vectors alone count (specs/ModeRules.antt). That `check` accepts what
+//! mode, whose pairs of vectors alone count (specs/ModeRules.antt); what they read of a run is in src/run_inputs.rt. That `check` accepts what
 //! `gen` wrote, and that its tests can be replayed, is said by the clause `own` of `run` (specs/CheckLaws.antt, ReplayLaws.antt,
 //! RiseFallReplayLaws.antt); so is what `compact` and `bounds` do with what it wrote, and `compact` with what it wrote itself
 //! (specs/CompactLaws.antt, BoundsLaws.antt).

@@ -56,11 +56,7 @@ pub(crate) fn judged_rules(
 }
 
 // The links that pairs keep which are launched so, if they keep any. They are of the circuit.
-fn launch_links(
-    alloc: Global,
-    net: &Netlist,
-    launch: &Launch,
-) -> Result<Option<Links>, OutOfMemory>
+fn launch_links(alloc: Global, net: &Netlist, launch: &Launch) -> Result<Option<Links>, OutOfMemory>
     requires circuit { IsCircuit net.now }
     requires fits { FitsLaunch net.now launch.now }
     ensures links { IfOk result (λ links. option_map (λ kept. kept.pairs) links ≡ launch_links launch.now net.now) }

@@ -67,11 +67,7 @@ pub(crate) fn prepare_gen<F: Files>(
 }
 
 // A good run, if its texts can't grow too long.
-fn short_run(
-    alloc: Global,
-    command: &RunCommand,
-    inputs: &RunInputs,
-) -> Result<ToldRun, Ending>
+fn short_run(alloc: Global, command: &RunCommand, inputs: &RunInputs) -> Result<ToldRun, Ending>
     requires circuit { IsCircuit inputs.now.net }
     requires fits { Fits inputs.now.net inputs.now.delays }
     requires launch { FitsLaunch inputs.now.net inputs.now.launch }
@@ -86,11 +82,7 @@ fn short_run(
 }
 
 // A good run for the paths and the budget that are asked for, of pairs that are launched so, with its summary.
-fn told_run(
-    alloc: Global,
-    command: &RunCommand,
-    inputs: &RunInputs,
-) -> Result<ToldRun, OutOfMemory>
+fn told_run(alloc: Global, command: &RunCommand, inputs: &RunInputs) -> Result<ToldRun, OutOfMemory>
     requires circuit { IsCircuit inputs.now.net }
     requires fits { Fits inputs.now.net inputs.now.delays }
     requires launch { FitsLaunch inputs.now.net inputs.now.launch }

@@ -42,12 +42,7 @@ pub(crate) fn run_from<F: Files>(
 
 // The run that the three texts spell for pairs that are launched so. They are refused exactly where they spell none: the first of them that
 // has not its form, and last the proofs for a version that such runs don't have.
-fn run_in(
-    alloc: Global,
-    net: &Netlist,
-    launch: &Launch,
-    texts: &ClaimTexts,
-) -> Result<Run, Ending>
+fn run_in(alloc: Global, net: &Netlist, launch: &Launch, texts: &ClaimTexts) -> Result<Run, Ending>
     requires circuit { IsCircuit net.now }
     requires fits { FitsLaunch net.now launch.now }
     requires within { AreWithinLimit texts.now }
