@@ -4,7 +4,6 @@ use Rattle.std.proofs.Common.{◌≡◌, ℕ, List, [], ◌∷◌, ◌++◌, sym
 use Rattle.std.specs.Prelude.{Vec}
 use Rattle.std.specs.declared.alloc.Global.{Global}
 use Rattle.pd_io.specs.Seen.{FilesSeen}
-use Rattle.pd_io.specs.Telling.{IsFrontOf}
 use Rattle.calls.specs.declared.role.Role.{Role}
 use Rattle.calls.specs.declared.refusal.Refusal.{Refusal}
 use Rattle.calls.specs.declared.ending.Ending.{Ending}
@@ -15,10 +14,6 @@ use Rattle.calls.proofs.Stages.{then_required}
 use Rattle.commands.specs.Inside.InputJudging.{FailsFor, FailsWithin, ReadsWithin}
 use Rattle.commands.specs.InputRequirements.{InputCommand, RefusesInputs, Requirement, WithinLimit, read_stages, work_on_inputs}
 use Rattle.commands.proofs.StageReads.{stops_judged, stops_unwhole, then_whole}
-
--- what stands behind a front and more
-abbrev pub front_of : {X : Type 0} (front more all behind : List X) → all ≡ front ++ more ++ behind → IsFrontOf (front ++ more) all
-front_of front more all behind place = (behind, place ∙ sym (append_assoc front more behind))
 
 module _ (command : InputCommand) (front : List (Stage (Requirement command.Own))) where
   -- stages that were passed, in the one form and in the other
