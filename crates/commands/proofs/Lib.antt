@@ -9,6 +9,9 @@ pub mod RiseFallReplayLaws
 pub mod RiseFallStages
 mod RiseFallTexts
 mod SameDelays
+pub mod ScanAccepting
+pub mod ScanLaws
+pub mod ScanStages
 mod TestCounts
 pub mod AgreeingDelays
 pub mod BoundsLaws
@@ -54,6 +57,7 @@ pub mod GenThenReplay
 pub mod GenThenRiseFall
 pub mod GoodTexts
 pub mod NameBounds
+mod NumberedLines
 pub mod PathLengths
 pub mod ProofsBound
 pub mod ReportBound

@@ -7,4 +7,5 @@ pub mod Judging
 pub mod ReplayEndings
 pub mod RiseFallReplaying
 pub mod RunJudging
+pub mod ScanJudging
 pub mod TestsAndPaths

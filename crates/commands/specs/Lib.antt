@@ -26,6 +26,9 @@ pub mod RiseFallReplay
 pub mod RiseFallReplayLaws
 pub mod RiseFallReplayText
 pub mod RunTexts
+pub mod Scan
+pub mod ScanLaws
+pub mod ScanText
 pub mod Sizes
 pub mod SpelledRuns
 pub mod SpelledTests

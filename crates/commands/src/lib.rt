@@ -28,6 +28,7 @@ mod preparing;
 mod replay;
 mod rise_fall_replay;
 mod run_inputs;
+mod scan;
 mod serving;
 mod words_refusal;
 

@@ -1,6 +1,6 @@
 // The load string of a chain for a pair. What it does in the chain is said in specs/Shifting.antt.
 ghost use Rattle.std.specs.Prelude.{◌≡◌, ◌≢◌, ◌<◌, ◌≤◌, length, All, AllPairs, IfOk};
-ghost use Rattle.scan_load.specs.Shifting.{Loads, ShiftsOn, chain_bits};
+ghost use Rattle.scan_load.specs.Shifting.{Loads, ShiftsOn, chain_bits, load_bits};
 
 use pd_base::{LineId, OutOfMemory, Pair};
 use std::alloc::Global;
@@ -13,7 +13,8 @@ pub fn load_string(alloc: Global, chain: &[LineId], pair: &Pair) -> Result<Vec<b
     requires once { AllPairs (λ a b. a ≢ b) chain.now }
     requires in_range { All (λ line. line.0 < length pair.now.first) chain.now }
     requires shifts_on { ShiftsOn chain.now pair.now }
-    ensures { IfOk result (λ string. Loads chain.now pair.now string.items) }
+    ensures loads { IfOk result (λ string. Loads chain.now pair.now string.items) }
+    ensures bits { IfOk result (λ string. string.items ≡ load_bits chain.now pair.now) }
 {
     let first = pair.first();
     let second = pair.second();
