@@ -1,5 +1,5 @@
 -- The stages of `scan` behind NET: what is passed up to its text, and how the call ends there.
-use Rattle.std.proofs.Common.{◌≡◌, ℕ, List, [], ◌∷◌, ◌++◌, All, codes, length, Result, Ok, Err, IfErr, IfOk, refl, sym, ap, subst, ◌∙◌}
+use Rattle.std.proofs.Common.{◌≡◌, ℕ, List, [], ◌∷◌, ◌++◌, All, codes, get_or, take, ◌<◌, Result, Ok, Err, IfErr, IfOk, refl, sym, ap, subst, ◌∙◌}
 use Rattle.std.specs.Prelude.{Vec}
 use Rattle.std.specs.declared.alloc.Global.{Global}
 use Rattle.std.proofs.lemmas.List.Elements.{All-weaker}
@@ -41,7 +41,8 @@ module _ (c : Circuit) (is : IsCircuit c) (chains : List (List LineId)) (are : A
   -- lawful tests have bits for all flip-flops
   pub tests_have_bits : (tests : List Test) → AreLawfulTests c tests → All (λ test. HasBitsFor chains test.pair) tests
   tests_have_bits tests lawful place d within chain_place chain_d chain_within at line inside =
-      subst (λ (n : ℕ). _) (sym (lawful place d within).first) (sources_in_each c is chains are chain_place chain_d chain_within at line inside)
+      subst (λ (n : ℕ). (get_or (get_or chains chain_place chain_d) at line).0 < n) (sym (lawful place d within).first)
+      (sources_in_each c is chains are chain_place chain_d chain_within at line inside)
 
   -- the bits of a pair move on exactly where the last shift launches it
   shifts : (test : Test) → IsShifted c chains test → ShiftsInAll chains test
@@ -58,17 +59,17 @@ module _ (c : Circuit) (is : IsCircuit c) (chains : List (List LineId)) (are : A
     item = first.item;
     at = first.at;
     lacks = λ kept. first.lacks (shifts first.item kept);
-    earlier = λ k d within. launched _ (first.earlier k d within);
+    earlier = λ k d within. launched (get_or (take first.place tests) k d) (first.earlier k d within);
     counted = first.counted;
   }
 
   pub all_launched : (tests : List Test) → All (ShiftsInAll chains) tests → All (IsShifted c chains) tests
-  all_launched tests all k d within = launched _ (all k d within)
+  all_launched tests all k d within = launched (get_or tests k d) (all k d within)
 
   -- the bits load the pairs
   pub all_loaded : (tests : List Test) → All (ShiftsInAll chains) tests → All (AreLoaded chains) tests
   all_loaded tests all k d within at chain inside =
-      loads_by_bits _ _ (are.are.some at chain inside) (all k d within at chain inside)
+      loads_by_bits (get_or tests k d).pair (get_or chains at chain) (are.are.some at chain inside) (all k d within at chain inside)
 
 module _ (call : ScanCall) (c : Circuit) (old mid new : FilesSeen) (net : GivesNet call.net c old mid) where
   -- NET was judged

@@ -181,8 +181,8 @@ abbrev pub input_stages : {Own : Type 0} → List ℕ → List ℕ → List (Sta
 input_stages net delays = delays_stages columns.Delay net delays
 
 -- SCAN is read behind so many inputs, and has to give chains
-abbrev pub chains_stages : {Own : Type 0} → ℕ → List ℕ → List (Stage (Requirement Own))
-chains_stages place scan = read_stages role.Scan scan ++ Require (SpellsChains place) ∷ []
+abbrev pub scan_stages : {Own : Type 0} → ℕ → List ℕ → List (Stage (Requirement Own))
+scan_stages place scan = read_stages role.Scan scan ++ Require (SpellsChains place) ∷ []
 
 -- TESTS and REPORT are read, in this order
 abbrev pub tests_and_report_stages : {Own : Type 0} → List ℕ → List ℕ → List (Stage (Requirement Own))

@@ -4,13 +4,13 @@ use Rattle.std.specs.Prelude.{ℕ, ◌+◌, List, [], ◌∷◌, ◌++◌}
 use Rattle.command_line.specs.Modes.{RunMode, enhanced, broadside, skewed}
 use Rattle.command_line.specs.Words.{RunCall}
 use Rattle.calls.specs.Work.{Stage}
-use Rattle.commands.specs.InputRequirements.{Requirement, input_at, input_stages, chains_stages}
+use Rattle.commands.specs.InputRequirements.{Requirement, input_at, input_stages, scan_stages}
 
 -- SCAN is read for a skewed load, and has to give the chains of the circuit
 abbrev pub launch_stages : {Own : Type 0} → RunMode → List (Stage (Requirement Own))
 launch_stages enhanced = []
 launch_stages broadside = []
-launch_stages (skewed scan) = chains_stages 2 scan
+launch_stages (skewed scan) = scan_stages 2 scan
 
 -- NET and DELAYS are read and judged, and then what the mode needs
 abbrev pub run_input_stages : {Own : Type 0} → RunCall → List (Stage (Requirement Own))

@@ -15,7 +15,7 @@ use Rattle.calls.specs.declared.refusal.Refusal.{Refusal}
 use Rattle.calls.specs.declared.role.Role.TheVariants as role
 use Rattle.calls.specs.Work.{Work, Stage, Require, Products}
 use Rattle.commands.specs.Grading.{IsFirstWithout}
-use Rattle.commands.specs.InputRequirements.{InputCommand, Requirement, WellFormed, chains_stages, net_stages, own, read_stages, work_on_inputs}
+use Rattle.commands.specs.InputRequirements.{InputCommand, Requirement, WellFormed, net_stages, own, read_stages, scan_stages, work_on_inputs}
 use Rattle.commands.specs.ModeRules.{IsOfMode}
 use Rattle.commands.specs.ScanText.{load_text}
 use Rattle.commands.specs.SpelledTests.{SpellsTests}
@@ -28,11 +28,11 @@ pub data ScanRequirement : Type 0 where
 
 -- NET is read and judged, and then SCAN
 abbrev pub scan_front : ScanCall → List (Stage (Requirement ScanRequirement))
-scan_front call = net_stages call.net ++ chains_stages 1 call.scan
+scan_front call = net_stages call.net ++ scan_stages 1 call.scan
 
 -- TESTS is read behind them, and has to have its form; then the last shift has to launch each pair
-abbrev pub scan_stages : ScanCall → List (Stage (Requirement ScanRequirement))
-scan_stages call =
+abbrev pub scan_command_stages : ScanCall → List (Stage (Requirement ScanRequirement))
+scan_command_stages call =
     scan_front call ++ read_stages role.Tests call.tests ++ Require (WellFormed role.Tests 2) ∷ Require (own LaunchesPairs) ∷ []
 
 -- NET has this circuit, SCAN gives these chains of it, and TESTS is the file of these tests
@@ -89,7 +89,7 @@ abbrev pub scan_command : ScanCall → InputCommand
 scan_command call = record {
   Own = ScanRequirement;
   word = codes "scan";
-  stages = scan_stages call;
+  stages = scan_command_stages call;
   RefusesOwn = RefusesPairs;
   Gives = GivesScan;
 }
