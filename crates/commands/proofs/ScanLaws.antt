@@ -1,6 +1,7 @@
 -- Which inputs `scan` accepts: what can be scanned, and the tests that gen left in mode skewed, with the same NET and SCAN.
-use Rattle.std.proofs.Common.{◌≡◌, ℕ, ◌≤◌, List, [], ◌∷◌, All, length, map, Some, refl, sym, ap, subst, ◌∙◌, arith}
+use Rattle.std.proofs.Common.{◌≡◌, ℕ, ◌≤◌, List, [], ◌∷◌, ◌++◌, All, length, map, Some, refl, sym, ap, subst, ◌∙◌, arith}
 use Rattle.pd_base.specs.declared.ids.LineId.{LineId}
+use Rattle.pd_base.specs.declared.limits.TheConstants.{MOST_BYTES}
 use Rattle.pd_io.specs.Folder.{Folder, bytes_at}
 use Rattle.pd_io.specs.Seen.{Outside}
 use Rattle.netlist.specs.Circuit.{Circuit}
@@ -13,15 +14,16 @@ use Rattle.command_line.specs.Words.{HasRunNumbers, RunCall, ScanCall}
 use Rattle.calls.specs.declared.role.Role.TheVariants as role
 use Rattle.calls.specs.declared.status.Status.{Status}
 use Rattle.calls.specs.Calls.{Ends, HasAcceptedInputs}
+use Rattle.calls.specs.Work.{Require, Stage}
 use Rattle.calls.proofs.Calls.{completes}
 use Rattle.commands.specs.declared.inputs.reading.TheConstants.{INPUT_LIMIT}
 use Rattle.commands.specs.declared.launch.Launch.{Launch}
 use Rattle.commands.specs.declared.launch.Launch.TheVariants.{Skewed}
-use Rattle.commands.specs.InputRequirements.{net_stages}
+use Rattle.commands.specs.InputRequirements.{Requirement, WellFormed, own, read_stages}
 use Rattle.commands.specs.LaterCalls.{HasNamesApart, scan_names, scans_in}
 use Rattle.commands.specs.Launches.{HasLaunch, IsShiftedBy}
-use Rattle.commands.specs.ModeRules.{AreRulesOf, IsOfMode}
-use Rattle.commands.specs.Scan.{IsShifted, scan_command, scan_work}
+use Rattle.commands.specs.ModeRules.{AreRulesOf}
+use Rattle.commands.specs.Scan.{LaunchesPairs, ScanRequirement, scan_command, scan_work}
 use Rattle.commands.specs.ScanLaws.{CanBeScanned, FindsSkewedTests, KeepsScanLaws}
 use Rattle.commands.proofs.AskedRuns.{asks_for}
 use Rattle.commands.proofs.ChainStages.{chains_pass}
@@ -43,6 +45,10 @@ module _ (call : ScanCall) (now : Folder) where
   abbrev tests : List ℕ
   tests = bytes_at now.held call.tests
 
+  -- the stages behind SCAN
+  abbrev behind_scan : List (Stage (Requirement ScanRequirement))
+  behind_scan = read_stages role.Tests call.tests ++ Require (WellFormed role.Tests 2) ∷ Require (own LaunchesPairs) ∷ []
+
   -- what can be scanned is accepted
   pub scan_accepted : CanBeScanned call now → HasAcceptedInputs (scan_work call) (Some now)
   scan_accepted can = record {
@@ -55,7 +61,7 @@ module _ (call : ScanCall) (now : Folder) where
         accepts_size (scan_command call) role.Net [] net can.net_within,
         (
           accepts_net (scan_command call) net [] can.circuit can.are.has,
-          chains_pass (scan_command call) net [] can.circuit can.are.has call.scan 1 refl now _ (scanned_inputs call net scan tests) can.chains
+          chains_pass (scan_command call) net [] can.circuit can.are.has call.scan 1 refl now behind_scan (scanned_inputs call net scan tests) can.chains
               can.are.gives can.scan_within (
                 tests,
                 refl,
@@ -108,7 +114,7 @@ module _ (run : RunCall) (numbers : HasRunNumbers run) (left now : Folder) (it :
     net_within = subst (λ (bytes : List ℕ). length bytes ≤ INPUT_LIMIT) (sym (finds.same_net ∙ it.net_is)) it.net_within;
     scan_within =
         (subst (All (λ (bytes : List ℕ). length bytes ≤ INPUT_LIMIT)) scans_are it.scans_within) 0 [] (omega arith);
-    tests_within = subst (λ (bytes : List ℕ). length bytes ≤ _) (sym (finds.same_tests ∙ it.tests_is)) short.tests;
+    tests_within = subst (λ (bytes : List ℕ). length bytes ≤ MOST_BYTES) (sym (finds.same_tests ∙ it.tests_is)) short.tests;
   }
 
 -- what holds of a call of scan

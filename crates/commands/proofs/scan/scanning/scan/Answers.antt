@@ -2,7 +2,6 @@
 use Rattle.command_line.specs.ScanForm.{scan_call_of}
 use Rattle.commands.specs.Scan.{scan_work}
 use Rattle.commands.proofs.Printed.{printed_behind}
-use Rattle.commands.proofs.ScanLaws.{scan_laws}
 use Rattle.commands.proofs.scan.scanning.scan.Goals as goal
 
 pub returns-in-Ok : goal.returns-in-Ok
