@@ -66,7 +66,7 @@ module _ (command : InputCommand) (net : List ℕ) (later : List (List ℕ)) (c 
     read_first = append_assoc stages (Read role.Scan name ∷ []) (Require (WithinLimit role.Scan) ∷ [])
 
     -- SCAN gives no chains
-    pub chains_fail : (behind : List (Stage (Requirement command.Own))) → command.stages ≡ stages ++ chains_stages place name ++ behind
+    pub chains_fail : (behind : List (Stage (Requirement command.Own))) → command.stages ≡ stages ++ (chains_stages place name ++ behind)
         → (ending : Ending) → FailsToGiveChains name c ending mid new → Stops (work_on_inputs command) ending old new
     chains_fail behind is ending (judging.not_read fails) =
         stops_unwhole command role.Scan name ending before (

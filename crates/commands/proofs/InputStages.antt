@@ -156,7 +156,7 @@ module _ (command : InputCommand) where
       paths_passed short = then_required (work_on_inputs command) (ShortPathText paths) before (accepts_paths net later c has paths short)
 
       -- texts may be too long
-      pub texts_fail : (behind : List (Stage (Requirement command.Own))) → command.stages ≡ stages ++ short_stages paths ++ behind
+      pub texts_fail : (behind : List (Stage (Requirement command.Own))) → command.stages ≡ stages ++ (short_stages paths ++ behind)
           → (ending : Ending) → HasLongTexts paths c ending → Stops (work_on_inputs command) ending old new
       texts_fail behind place ending (long_paths over is) =
           subst (λ (e : Ending). Stops (work_on_inputs command) e old new) (sym is)
