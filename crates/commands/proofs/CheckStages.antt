@@ -110,7 +110,7 @@ module _ (call : RunCall) where
   behind_short = claim_reads call ++ form_stages call.mode ++ Require (own GoodRun) ∷ []
 
   -- all stages, parted behind the front
-  pub stages_are : check_stages call ≡ run_input_stages call ++ short_stages call.paths ++ behind_short
+  pub stages_are : check_stages call ≡ run_input_stages call ++ (short_stages call.paths ++ behind_short)
   stages_are = append_assoc front up_to_forms (form_stages call.mode ++ Require (own GoodRun) ∷ [])
 
   -- the reads of the three files, behind short texts
@@ -218,13 +218,13 @@ module _ (call : RunCall) where
       module _ (first new : FilesSeen) (before : HasPassed (check_work call) (stages_read call) inputs first new) where
         -- up to the form of the tests, and up to that of the report
         tests_passed : (listed : List Test) → SpellsTests c texts.tests listed
-            → HasPassed (check_work call) (front ++ up_to_forms ++ form_of_tests ∷ []) inputs first new
+            → HasPassed (check_work call) (front ++ (up_to_forms ++ form_of_tests ∷ [])) inputs first new
         tests_passed listed spells =
             required_behind (check_command call) front up_to_forms (WellFormed role.Tests (claims_place call.mode)) before
             (accepts_tests listed spells)
 
         report_passed : (listed : List Test) (paths : List ListedPath) → SpellsTests c texts.tests listed → SpellsReport c texts.report paths
-            → HasPassed (check_work call) (front ++ up_to_forms ++ form_of_tests ∷ form_of_report ∷ []) inputs first new
+            → HasPassed (check_work call) (front ++ (up_to_forms ++ form_of_tests ∷ form_of_report ∷ [])) inputs first new
         report_passed listed paths spells its =
             required_behind (check_command call) front (up_to_forms ++ form_of_tests ∷ [])
             (WellFormed role.Report (claims_place call.mode + 1)) (tests_passed listed spells) (accepts_report paths its)
@@ -232,7 +232,7 @@ module _ (call : RunCall) where
         -- all have their form
         proofs_passed : (listed : List Test) (paths : List ListedPath) (version : ProofsVersion) (of_them : List Proof)
             → SpellsTests c texts.tests listed → SpellsReport c texts.report paths → SpellsProofs c texts.proofs version of_them
-            → HasPassed (check_work call) (front ++ up_to_forms ++ form_of_tests ∷ form_of_report ∷ form_of_proofs ∷ []) inputs first new
+            → HasPassed (check_work call) (front ++ (up_to_forms ++ form_of_tests ∷ form_of_report ∷ form_of_proofs ∷ [])) inputs first new
         proofs_passed listed paths version of_them spells its theirs =
             required_behind (check_command call) front (up_to_forms ++ form_of_tests ∷ form_of_report ∷ [])
             (WellFormed role.Proofs (claims_place call.mode + 2)) (report_passed listed paths spells its)

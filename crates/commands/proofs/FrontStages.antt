@@ -19,7 +19,7 @@ module _ (command : InputCommand) (front : List (Stage (Requirement command.Own)
   -- stages that were passed, in the one form and in the other
   apart : {inputs : List (List ℕ)} {old new : FilesSeen} (more last : List (Stage (Requirement command.Own)))
       → HasPassed (work_on_inputs command) ((front ++ more) ++ last) inputs old new
-      → HasPassed (work_on_inputs command) (front ++ more ++ last) inputs old new
+      → HasPassed (work_on_inputs command) (front ++ (more ++ last)) inputs old new
   apart {inputs} {old} {new} more last passed =
       subst (λ (stages : List (Stage (Requirement command.Own))). HasPassed (work_on_inputs command) stages inputs old new)
       (append_assoc front more last) passed
@@ -28,7 +28,7 @@ module _ (command : InputCommand) (front : List (Stage (Requirement command.Own)
   pub whole_behind : {inputs : List (List ℕ)} {old mid new : FilesSeen} (more : List (Stage (Requirement command.Own))) (input : Role)
       (name : List ℕ) (read : Vec ℕ Global) → HasPassed (work_on_inputs command) (front ++ more) inputs old mid
       → ReadsWithin input name read mid new
-      → HasPassed (work_on_inputs command) (front ++ more ++ read_stages input name) (inputs ++ read.items ∷ []) old new
+      → HasPassed (work_on_inputs command) (front ++ (more ++ read_stages input name)) (inputs ++ read.items ∷ []) old new
   whole_behind {inputs} {old} {mid} {new} more input name read before it =
       apart more (read_stages input name)
       (subst (λ (stages : List (Stage (Requirement command.Own))).
@@ -40,15 +40,15 @@ module _ (command : InputCommand) (front : List (Stage (Requirement command.Own)
   pub more_whole_behind : {old mid new : FilesSeen} (inputs read_before : List (List ℕ)) (more : List (Stage (Requirement command.Own)))
       (input : Role) (name : List ℕ) (read : Vec ℕ Global)
       → HasPassed (work_on_inputs command) (front ++ more) (inputs ++ read_before) old mid → ReadsWithin input name read mid new
-      → HasPassed (work_on_inputs command) (front ++ more ++ read_stages input name) (inputs ++ read_before ++ read.items ∷ []) old new
+      → HasPassed (work_on_inputs command) (front ++ (more ++ read_stages input name)) (inputs ++ (read_before ++ read.items ∷ [])) old new
   more_whole_behind {old} {mid} {new} inputs read_before more input name read before it =
-      subst (λ (all : List (List ℕ)). HasPassed (work_on_inputs command) (front ++ more ++ read_stages input name) all old new)
+      subst (λ (all : List (List ℕ)). HasPassed (work_on_inputs command) (front ++ (more ++ read_stages input name)) all old new)
       (append_assoc inputs read_before (read.items ∷ [])) (whole_behind more input name read before it)
 
   -- it was not
   pub unwhole_behind : {inputs : List (List ℕ)} {old mid new : FilesSeen} (more behind : List (Stage (Requirement command.Own))) (input : Role)
       (name : List ℕ) (ending : Ending) → HasPassed (work_on_inputs command) (front ++ more) inputs old mid
-      → command.stages ≡ front ++ more ++ read_stages input name ++ behind → FailsWithin input name ending mid new
+      → command.stages ≡ front ++ (more ++ (read_stages input name ++ behind)) → FailsWithin input name ending mid new
       → Stops (work_on_inputs command) ending old new
   unwhole_behind {inputs} {old} {mid} {new} more behind input name ending before place fails =
       stops_unwhole command input name ending before (
@@ -64,14 +64,14 @@ module _ (command : InputCommand) (front : List (Stage (Requirement command.Own)
   pub required_behind : {inputs : List (List ℕ)} {old new : FilesSeen} (more : List (Stage (Requirement command.Own)))
       (requirement : Requirement command.Own) → HasPassed (work_on_inputs command) (front ++ more) inputs old new
       → Accepts (work_on_inputs command) requirement inputs
-      → HasPassed (work_on_inputs command) (front ++ more ++ Require requirement ∷ []) inputs old new
+      → HasPassed (work_on_inputs command) (front ++ (more ++ Require requirement ∷ [])) inputs old new
   required_behind more requirement before accepts =
       apart more (Require requirement ∷ []) (then_required (work_on_inputs command) requirement before accepts)
 
   -- it was judged, and gives nothing
   pub judged_behind : {inputs : List (List ℕ)} {old new : FilesSeen} (more behind : List (Stage (Requirement command.Own)))
       (requirement : Requirement command.Own) (Refuses : Refusal → Type 0) (ending : Ending)
-      → HasPassed (work_on_inputs command) (front ++ more) inputs old new → command.stages ≡ front ++ more ++ Require requirement ∷ behind
+      → HasPassed (work_on_inputs command) (front ++ more) inputs old new → command.stages ≡ front ++ (more ++ Require requirement ∷ behind)
       → ((refusal : Refusal) → Refuses refusal → RefusesInputs command requirement inputs refusal) → FailsFor Refuses ending
       → Stops (work_on_inputs command) ending old new
   judged_behind more behind requirement Refuses ending before place so fails =

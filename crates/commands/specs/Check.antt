@@ -47,11 +47,11 @@ form_stages mode =
 
 -- what a run is of is read and judged, and texts for so many paths have to be short; then the three files are read
 abbrev pub stages_read : RunCall → List (Stage (Requirement CheckRequirement))
-stages_read call = run_input_stages call ++ short_stages call.paths ++ claim_reads call
+stages_read call = run_input_stages call ++ (short_stages call.paths ++ claim_reads call)
 
 -- only then they have to have their form, and their run has to be good
 abbrev pub check_stages : RunCall → List (Stage (Requirement CheckRequirement))
-check_stages call = stages_read call ++ form_stages call.mode ++ Require (own GoodRun) ∷ []
+check_stages call = stages_read call ++ (form_stages call.mode ++ Require (own GoodRun) ∷ [])
 
 -- NET has this circuit, DELAYS gives these delays to its pins, so pairs are launched, and the claim files spell this run of them
 pub record SpellAll (mode : RunMode) (texts : RunTexts) (c : Circuit) (delays : Delays) (launch : Launch) (run : Run) : Type 0 where

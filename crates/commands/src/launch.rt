@@ -32,9 +32,9 @@ pub(crate) fn launch_from<F: Files>(
     mode: Mode,
 ) -> Result<Launch, Ending>
     ensures fits { IfOk result (FitsLaunch net.now) }
-    ensures gives { IfOk result (λ launch. GivesLaunch (run_mode_of mode) net.now launch
+    ensures gives { IfOk result (λ launch. GivesLaunch (run_mode_of mode.entry) net.now launch
         (files_seen F.Files files.old) (files_seen F.Files files.new)) }
-    ensures fails { IfErr result (λ ending. FailsToGiveLaunch (run_mode_of mode) net.now ending
+    ensures fails { IfErr result (λ ending. FailsToGiveLaunch (run_mode_of mode.entry) net.now ending
         (files_seen F.Files files.old) (files_seen F.Files files.new)) }
 {
     match mode {

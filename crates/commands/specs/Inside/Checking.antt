@@ -43,7 +43,7 @@ abbrev pub stages_short : RunCall → List (Stage (Requirement CheckRequirement)
 stages_short call = run_input_stages call ++ short_stages call.paths
 
 abbrev pub stages_formed : RunCall → List (Stage (Requirement CheckRequirement))
-stages_formed call = run_input_stages call ++ short_stages call.paths ++ claim_reads call ++ form_stages call.mode
+stages_formed call = run_input_stages call ++ (short_stages call.paths ++ claim_reads call ++ form_stages call.mode)
 
 -- the inputs that tell what a run is of, with those that spell it
 abbrev pub all_inputs : List ℕ → List ℕ → List (List ℕ) → ClaimTexts → List (List ℕ)
