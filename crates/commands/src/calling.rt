@@ -51,6 +51,11 @@ use std::alloc::Global;
 /// that (`bounds_work` in specs/Bounds.antt). Both refuse a listed path that is no path of NET, a test that expects other bits than the
 /// values under its second vector, and more than 1,000,000 tests times faults.
 ///
+/// `scan NET SCAN TESTS` reads these three files and writes none. At status 0 out has a line for each test of TESTS: its number and, for each
+/// scan chain of SCAN, the bits to shift in. From every state of the chain all but the last of them load the first vector of the test's pair
+/// there, and one more shift launches the second (`scan_work` in specs/Scan.antt). A test whose pair the last shift does not launch is refused,
+/// the first such test.
+///
 /// `make N` does the work of `gen` on a ladder of N stages, with a delay of 1 at each pin, and prints one line that counts the verdicts of a
 /// good run (`make_work` in specs/Make.antt). No words but refused ones, failed writes on out and want of memory keep it from status 0.
 ///

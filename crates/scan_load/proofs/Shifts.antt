@@ -2,7 +2,7 @@
 use Rattle.std.proofs.Common.{◌≡◌, ◌≢◌, ◌∙◌, ◌+◌, ◌-◌, ◌<◌, ◌≤◌, ℕ, zero, suc, Bool, true, false, not, List, [], ◌∷◌, ◌++◌, length, get_or, take, reverse, refl, sym, ap, ap₂, subst, append_assoc, append-nil, arith}
 use Rattle.std.specs.Bool.{beq}
 use Rattle.std.specs.List.{All, AllByRecursion}
-use Rattle.std.proofs.lemmas.List.{length-append, length-map, length-reverse, length-take, reverse-append, reverse-reverse, take_all, take_at, take-take}
+use Rattle.std.proofs.lemmas.List.{get_or-map, get_or-reverse, length-append, length-map, length-reverse, length-take, reverse-append, reverse-reverse, take_all, take_at, take_more, take-take}
 use Rattle.std.proofs.lemmas.List.Elements.{All-push, recursion_from_All}
 use Rattle.pd_base.specs.Pair.{Vectors}
 use Rattle.pd_base.specs.declared.ids.LineId.{LineId}
@@ -131,3 +131,23 @@ bits_agree false false told = refl
 bits_agree false true told = cc
 bits_agree true false told = cc
 bits_agree true true told = refl
+
+-- one bit more of those from the last line of a chain on
+pub one_more_bit : (chain : List LineId) (vector string : List Bool) (at : ℕ) (d : LineId) → at < length chain
+    → string ≡ take at (reverse (chain_bits chain vector))
+    → string ++ bit_of vector (get_or chain (length chain - 1 - at) d).0 ∷ [] ≡ take (at + 1) (reverse (chain_bits chain vector))
+one_more_bit chain vector string at d within is =
+    let bits : List Bool = chain_bits chain vector in
+    let long : length bits ≡ length chain = length-map chain (λ line. bit_of vector line.0) in
+    let there : get_or (reverse bits) at false ≡ bit_of vector (get_or chain (length chain - 1 - at) d).0 =
+    get_or-reverse bits at false (omega (arith, long)) ∙ ap (λ (n : ℕ). get_or bits (n - 1 - at) false) long
+    ∙ get_or-map (λ (line : LineId). bit_of vector line.0) chain (length chain - 1 - at) d false (omega arith) in
+    ap₂ (λ (front : List Bool) (bit : Bool). front ++ bit ∷ []) is (sym there)
+    ∙ sym (take_more (reverse bits) at false (omega (arith, length-reverse bits, long)))
+
+-- all of them
+pub all_bits : (chain : List LineId) (vector string : List Bool) (at : ℕ) → length chain ≤ at → string ≡ take at (reverse (chain_bits chain vector))
+    → string ≡ reverse (chain_bits chain vector)
+all_bits chain vector string at past is =
+    is ∙ take_all at (reverse (chain_bits chain vector))
+    (omega (arith, past, length-reverse (chain_bits chain vector), length-map chain (λ (line : LineId). bit_of vector line.0)))
