@@ -17,7 +17,7 @@ pub record NeedsNone (needs_none launch : Launch) (old new : FilesSeen) : Type 0
   pub unread : new ≡ old
 
 -- SCAN was read, and gives the chains by whose last shift pairs are launched
-pub record IsShifted (name : List ℕ) (c : Circuit) (launch : Launch) (old new : FilesSeen) : Type 0 where
+pub record GivesSkewed (name : List ℕ) (c : Circuit) (launch : Launch) (old new : FilesSeen) : Type 0 where
   pub chains : List (List LineId)
   pub gives : GivesChains name c chains old new
   pub is : launch ≡ launches.Skewed chains
@@ -26,7 +26,7 @@ pub record IsShifted (name : List ℕ) (c : Circuit) (launch : Launch) (old new 
 abbrev pub GivesLaunch : RunMode → Circuit → Launch → FilesSeen → FilesSeen → Type 0
 GivesLaunch enhanced c launch old new = NeedsNone launches.Enhanced launch old new
 GivesLaunch broadside c launch old new = NeedsNone launches.Broadside launch old new
-GivesLaunch (skewed scan) c launch old new = IsShifted scan c launch old new
+GivesLaunch (skewed scan) c launch old new = GivesSkewed scan c launch old new
 
 -- how they are is not told: SCAN gives no chains
 abbrev pub FailsToGiveLaunch : RunMode → Circuit → Ending → FilesSeen → FilesSeen → Type 0
