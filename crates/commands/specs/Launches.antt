@@ -8,7 +8,7 @@ use Rattle.commands.specs.declared.launch.Launch.{Launch}
 use Rattle.commands.specs.declared.launch.Launch.TheVariants as launches
 
 -- pairs are launched by the last shift of the chains of this scan file
-pub record IsSkewedBy (c : Circuit) (scan : List ℕ) (launch : Launch) : Type 0 where
+pub record IsShiftedBy (c : Circuit) (scan : List ℕ) (launch : Launch) : Type 0 where
   pub chains : List (List LineId)
   pub has : HasChains c scan chains
   pub is : launch ≡ launches.Skewed chains
@@ -17,5 +17,5 @@ pub record IsSkewedBy (c : Circuit) (scan : List ℕ) (launch : Launch) : Type 0
 abbrev pub HasLaunch : RunMode → Circuit → List (List ℕ) → Launch → Type 0
 HasLaunch enhanced c [] launch = launch ≡ launches.Enhanced
 HasLaunch broadside c [] launch = launch ≡ launches.Broadside
-HasLaunch (skewed name) c (scan ∷ []) launch = IsSkewedBy c scan launch
+HasLaunch (skewed name) c (scan ∷ []) launch = IsShiftedBy c scan launch
 HasLaunch mode c inputs launch = ⊥
