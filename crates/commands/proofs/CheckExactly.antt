@@ -49,8 +49,8 @@ as_many_read work folder (Require requirement ∷ stages) first all (accepts, pa
 -- a mode reads as many as it has names
 reads_of_mode : (mode : RunMode) (later : List (Stage (Requirement CheckRequirement)))
     → length (names_read (launch_stages mode ++ later)) ≡ length (scan_names mode) + length (names_read later)
-reads_of_mode enhanced later = refl
-reads_of_mode broadside later = refl
+reads_of_mode enhanced later = omega arith
+reads_of_mode broadside later = omega arith
 reads_of_mode (skewed scan) later = omega arith
 
 -- all that these stages refuse is refused as claims are
