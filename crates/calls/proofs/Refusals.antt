@@ -123,6 +123,8 @@ cause_of exit.Words = causes.Words
 cause_of exit.Netlist = causes.Netlist
 cause_of exit.Delays = causes.Delays
 cause_of exit.Size = causes.Size
+cause_of exit.Scan = causes.Scan
+cause_of exit.Pair = causes.Pair
 cause_of exit.Log = causes.Log
 cause_of status = causes.Claims
 
@@ -134,6 +136,8 @@ cause_of-status_for causes.Words = refl
 cause_of-status_for causes.Netlist = refl
 cause_of-status_for causes.Delays = refl
 cause_of-status_for causes.Size = refl
+cause_of-status_for causes.Scan = refl
+cause_of-status_for causes.Pair = refl
 cause_of-status_for causes.Log = refl
 
 one_cause : (first second : Cause) → status_for first ≡ status_for second → first ≡ second

@@ -1,7 +1,7 @@
 -- The status and the line on err of each ending (this project's own).
 use Rattle.std.specs.Prelude.{ℕ, List, [], ◌++◌, codes}
 use Rattle.calls.specs.declared.role.Role.{Role}
-use Rattle.calls.specs.declared.role.Role.TheVariants.{Net, Delays, Tests, Report, Proofs, Log, Out}
+use Rattle.calls.specs.declared.role.Role.TheVariants.{Net, Delays, Scan, Tests, Report, Proofs, Log, Out}
 use Rattle.calls.specs.declared.cause.Cause.{Cause}
 use Rattle.calls.specs.declared.cause.Cause.TheVariants as cause
 use Rattle.calls.specs.declared.refusal.Refusal.{Refusal}
@@ -15,6 +15,7 @@ use Rattle.text_pieces.specs.Tokens.{line}
 abbrev pub role_word : Role → List ℕ
 role_word Net = codes "NET"
 role_word Delays = codes "DELAYS"
+role_word Scan = codes "SCAN"
 role_word Tests = codes "TESTS"
 role_word Report = codes "REPORT"
 role_word Proofs = codes "PROOFS"
@@ -41,6 +42,8 @@ status_for cause.Words = exit.Words
 status_for cause.Netlist = exit.Netlist
 status_for cause.Delays = exit.Delays
 status_for cause.Size = exit.Size
+status_for cause.Scan = exit.Scan
+status_for cause.Pair = exit.Pair
 status_for cause.Log = exit.Log
 
 -- the status of an ending
@@ -63,4 +66,6 @@ number_of exit.ReadFault = 5
 number_of exit.WriteFault = 6
 number_of exit.NoMemory = 7
 number_of exit.Size = 8
+number_of exit.Scan = 10
+number_of exit.Pair = 11
 number_of exit.Log = 12

@@ -18,6 +18,10 @@ pub enum Cause {
     Delays,
     /// A length, a number of changes, or tests times faults, over its limit.
     Size,
+    /// The scan file.
+    Scan,
+    /// A test, whose pair of vectors no shift launches.
+    Pair,
     /// The tester's log.
     Log,
 }
@@ -33,6 +37,8 @@ impl Cause {
             Cause::Netlist => Status::Netlist,
             Cause::Delays => Status::Delays,
             Cause::Size => Status::Size,
+            Cause::Scan => Status::Scan,
+            Cause::Pair => Status::Pair,
             Cause::Log => Status::Log,
         }
     }

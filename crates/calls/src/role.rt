@@ -9,6 +9,8 @@ pub enum Role {
     Net,
     /// The delays.
     Delays,
+    /// The scan chains.
+    Scan,
     /// The tests.
     Tests,
     /// The report on the listed paths.
@@ -29,6 +31,7 @@ impl Role {
         match self {
             Role::Net => b"NET",
             Role::Delays => b"DELAYS",
+            Role::Scan => b"SCAN",
             Role::Tests => b"TESTS",
             Role::Report => b"REPORT",
             Role::Proofs => b"PROOFS",

@@ -25,6 +25,10 @@ pub enum Status {
     /// An input has more bytes than are read of it, the texts may be too long, a line changes too often under a test, or there are too many
     /// tests for so many faults.
     Size = 8,
+    /// The scan file gives no chains of the circuit.
+    Scan = 10,
+    /// A test has a pair of vectors that the last shift of the chains does not launch.
+    Pair = 11,
     /// The log is refused: it is no log of these tests.
     Log = 12,
 }

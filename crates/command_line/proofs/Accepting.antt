@@ -312,6 +312,26 @@ value_allowed options distinct option among (value ∷ values) text allowed foun
       | inr other ↦ value_allowed options distinct option among values text allowed.2 (rw other at found)
     ]
 
+-- the option was given this value, among others
+pub data HasValue (option : OptionName) (text : List ℕ) : List OptionValue → Type 0 where
+  this_value : (value : OptionValue) (values : List OptionValue) → value.option ≡ option → value.text ≡ text
+      → HasValue option text (value ∷ values)
+  later_value : (value : OptionValue) {values : List OptionValue} → HasValue option text values → HasValue option text (value ∷ values)
+
+-- the value that is found for an option was given to it
+pub value_given_to : (options : List OptionName) → are_apart options ≡ true → (option : OptionName) → IsAmong option options
+    → (values : List OptionValue) (text : List ℕ) → AreAllowed options values → value_among (option_word option) values ≡ Some text
+    → HasValue option text values
+unfolding AreAllowed
+value_given_to options distinct option among [] text allowed found = absurd cc
+value_given_to options distinct option among (value ∷ values) text allowed found =
+    elim (cases_Bool (pointwise nat_eq (option_word value.option) (option_word option))) [
+      | inl same ↦
+          let first : Some value.text ≡ Some text = rw same at found in
+          this_value value values (one_option options distinct value.option option allowed.0 among same) (cc)
+      | inr other ↦ later_value value (value_given_to options distinct option among values text allowed.2 (rw other at found))
+    ]
+
 module _ (form : WordsForm) (named : list_all has_name form.options ≡ true) (words : List (List ℕ)) (place : ℕ) (given end : Given)
     (is : words_taken form place given words ≡ Ok end) where
   follows : (list : List (List ℕ)) (more : Given) → AreItems form.options (said_of more) more.due list end → Follow form.options list end more

@@ -5,7 +5,7 @@ use Rattle.std.proofs.lemmas.Bool.{cases_Bool, leb-true}
 use Rattle.pd_base.specs.declared.limits.TheConstants.{MOST_BUDGET, MOST_PATHS}
 use Rattle.command_line.specs.Options.{are_apart, option_entry, option_word}
 use Rattle.command_line.specs.RunForm.{HasRunNumbers, number_asked, number_of, product_reason, run_call, run_form}
-use Rattle.command_line.specs.Scan.{OptionValue, Texts, accepted_texts, first_place, first_same, none_given, reason_or, value_among}
+use Rattle.command_line.specs.Scan.{OptionValue, Texts, accepted_texts, first_place, first_same, none_given, reason_or, texts_given, value_among}
 use Rattle.command_line.specs.Values.{is_allowed, number_spelled}
 use Rattle.command_line.specs.declared.number.TheConstants.{MOST_DIGITS}
 use Rattle.command_line.specs.declared.option_name.OptionName.{OptionName}
@@ -58,5 +58,5 @@ run_numbers words texts accepted =
       small_budget = subst (λ n. n ≤ MOST_BUDGET) (sym budget_is) small.below;
       product =
           subst (λ (t : Texts). number_asked Paths t * number_asked Budget t ≤ MOST_PRODUCT) is.said
-          (small_product _ (no_second (first_same is.given.names) _ is.no_reason));
+          (small_product _ (no_second (first_same is.given.names) _ (no_second (run_form.before_names (texts_given is.given)) _ is.no_reason)));
     }

@@ -10,6 +10,7 @@ pub mod ReplayForm
 pub mod RiseFallReplayForm
 pub mod RunForm
 pub mod Scan
+pub mod ScanForm
 pub mod Taken
 pub mod Times
 pub mod Values

@@ -1,17 +1,16 @@
 -- The options of the commands: the list of them, each with its name, what its value may be, and the value where none is given (this
 -- project's own). Which commands know an option, their forms say.
-use Rattle.std.specs.Prelude.{◌≡◌, ℕ, ◌==◌, ◌||◌, Bool, true, false, not, List, [], ◌∷◌, Option, Some, codes, nat_eq}
+use Rattle.std.specs.Prelude.{◌≡◌, ℕ, ◌==◌, ◌||◌, Bool, true, false, not, List, [], ◌∷◌, Option, None, Some, codes, nat_eq}
 use Rattle.std.specs.List.{list_all, list_any}
 use Rattle.std.specs.Cmp.Lexicographic.{pointwise}
 use denote.Enum.Bare.{sameb}
 use Rattle.pd_base.specs.declared.limits.TheConstants.{MOST_BUDGET, MOST_PATHS}
-use Rattle.command_line.specs.Modes.{mode_word}
-use Rattle.command_line.specs.Values.{Allowed, number, one_of, hyphen}
+use Rattle.command_line.specs.Modes.{enhanced_word, mode_words}
+use Rattle.command_line.specs.Values.{Allowed, number, one_of, file_name, hyphen}
 use Rattle.command_line.specs.contracts.option_name.OptionName.{the_type}
-use Rattle.command_line.specs.declared.mode.Mode.TheVariants.{Enhanced, Broadside}
 use Rattle.command_line.specs.declared.number.TheConstants.{MOST_DIGITS}
 use Rattle.command_line.specs.declared.option_name.OptionName.{OptionName}
-use Rattle.command_line.specs.declared.option_name.OptionName.TheVariants.{Paths, Budget, Mode}
+use Rattle.command_line.specs.declared.option_name.OptionName.TheVariants.{Paths, Budget, Mode, Scan}
 
 -- the byte of the sign that parts an option's word from its value, where they are one word
 abbrev pub equals_sign : ℕ
@@ -23,15 +22,13 @@ pub record OptionEntry : Type 0 where
   pub allowed : Allowed
   pub default : Option (List ℕ)
 
--- the list of options: how many paths are to be listed, how many splits each search may make, and the mode of the run
+-- the list of options: how many paths are to be listed, how many splits each search may make, the mode of the run,
+-- and the file of the scan chains
 abbrev pub option_entry : OptionName → OptionEntry
 option_entry Paths = record { name = codes "paths"; allowed = number 1 MOST_PATHS MOST_DIGITS; default = Some (codes "100") }
 option_entry Budget = record { name = codes "budget"; allowed = number 1 MOST_BUDGET MOST_DIGITS; default = Some (codes "1000") }
-option_entry Mode = record {
-  name = codes "mode";
-  allowed = one_of (mode_word Enhanced ∷ mode_word Broadside ∷ []);
-  default = Some (mode_word Enhanced);
-}
+option_entry Mode = record { name = codes "mode"; allowed = one_of mode_words; default = Some enhanced_word }
+option_entry Scan = record { name = codes "scan"; allowed = file_name; default = None }
 
 -- the word of an option is its name behind two hyphens
 abbrev pub option_word : OptionName → List ℕ

@@ -8,9 +8,10 @@ use Rattle.command_line.specs.MakeForm.{MakeCall, HasMakeNumbers, asked_make, ma
 use Rattle.command_line.specs.RiseFallReplayForm.{RiseFallReplayCall, HasRiseFallReplayNumbers, asked_rise_fall_replay, rise_fall_replay_call_of}
 use Rattle.command_line.specs.CompactForm.{CompactCall, asked_compact, compact_call_of}
 use Rattle.command_line.specs.BoundsForm.{BoundsCall, asked_bounds, bounds_call_of}
+use Rattle.command_line.specs.ScanForm.{ScanCall, asked_scan, scan_call_of}
 use Rattle.command_line.specs.Scan.{then_taken}
 use Rattle.command_line.specs.declared.command.Command.{Command}
-use Rattle.command_line.specs.declared.command.Command.TheVariants.{Gen, Check, Replay, Make, RiseFallReplay, Compact, Bounds}
+use Rattle.command_line.specs.declared.command.Command.TheVariants.{Gen, Check, Replay, Make, RiseFallReplay, Compact, Bounds, Scan}
 use Rattle.command_line.specs.declared.refusal.WordsRefusal.{WordsRefusal}
 use Rattle.command_line.specs.declared.refusal.WordsRefusal.TheVariants.{Command as NoCommand}
 pub use Rattle.command_line.specs.RunForm.{RunCall, HasRunNumbers}
@@ -19,6 +20,7 @@ pub use Rattle.command_line.specs.MakeForm.{MakeCall, HasMakeNumbers}
 pub use Rattle.command_line.specs.RiseFallReplayForm.{RiseFallReplayCall, HasRiseFallReplayNumbers}
 pub use Rattle.command_line.specs.CompactForm.{CompactCall}
 pub use Rattle.command_line.specs.BoundsForm.{BoundsCall}
+pub use Rattle.command_line.specs.ScanForm.{ScanCall}
 
 -- what is asked for, by command
 pub data Call : Type 0 where
@@ -29,6 +31,7 @@ pub data Call : Type 0 where
   rise_fall_replay : RiseFallReplayCall → Call
   compact : CompactCall → Call
   bounds : BoundsCall → Call
+  scan : ScanCall → Call
 
 -- the numbers of a call are within their limits, where it has any
 abbrev pub HasLawfulNumbers : Call → Type 0
@@ -39,6 +42,7 @@ HasLawfulNumbers (make call) = HasMakeNumbers call
 HasLawfulNumbers (rise_fall_replay call) = HasRiseFallReplayNumbers call
 HasLawfulNumbers (compact call) = ⊤
 HasLawfulNumbers (bounds call) = ⊤
+HasLawfulNumbers (scan call) = ⊤
 
 -- the call that a command stands for
 abbrev pub call_of : Command → Call
@@ -49,6 +53,7 @@ call_of (Make command) = make (make_call_of command)
 call_of (RiseFallReplay command) = rise_fall_replay (rise_fall_replay_call_of command)
 call_of (Compact command) = compact (compact_call_of command)
 call_of (Bounds command) = bounds (bounds_call_of command)
+call_of (Scan command) = scan (scan_call_of command)
 
 -- a call of a command, if its words are accepted
 abbrev pub as_call : {A : Type 0} → (A → Call) → Result A WordsRefusal → Result Call WordsRefusal
@@ -69,4 +74,5 @@ asked_call (first ∷ words) =
     else if is_word first (codes "rfreplay") then as_call rise_fall_replay (asked_rise_fall_replay words)
     else if is_word first (codes "compact") then as_call compact (asked_compact words)
     else if is_word first (codes "bounds") then as_call bounds (asked_bounds words)
+    else if is_word first (codes "scan") then as_call scan (asked_scan words)
     else Err NoCommand

@@ -10,6 +10,7 @@ use crate::forms::make::{MakeCommand, read_make};
 use crate::forms::replay::{ReplayCommand, read_replay};
 use crate::forms::rise_fall_replay::{RiseFallReplayCommand, read_rise_fall_replay};
 use crate::forms::run::{RunCommand, read_run};
+use crate::forms::scan::{ScanCommand, read_scan};
 use crate::{WordsFault, WordsRefusal};
 use std::alloc::Global;
 
@@ -31,12 +32,14 @@ pub enum Command<'a> {
     Compact(CompactCommand<'a>),
     /// Bounds the paths' delays by what a tester saw. No file is written.
     Bounds(BoundsCommand<'a>),
+    /// Prints what a tester shifts into the scan chains for each test. No file is written.
+    Scan(ScanCommand<'a>),
 }
 
 /// The command that the words ask for, or the first reason why they are refused, or want of memory. The words are those behind the
-/// program's own name: `gen NET DELAYS TESTS REPORT PROOFS [--paths N] [--budget N] [--mode M]`, the options in any place behind
-/// `gen`, `check` with the same words behind it, `replay NET DELAYS TESTS TIME`, `make N`, `rfreplay NET DELAYS TESTS REPORT TIME`,
-/// `compact NET TESTS REPORT OUT`, or `bounds NET TESTS REPORT LOG`.
+/// program's own name: `gen NET DELAYS TESTS REPORT PROOFS [--paths N] [--budget N] [--mode M] [--scan SCAN]`, the options in
+/// any place behind `gen`, `check` with the same words behind it, `replay NET DELAYS TESTS TIME`, `make N`,
+/// `rfreplay NET DELAYS TESTS REPORT TIME`, `compact NET TESTS REPORT OUT`, `bounds NET TESTS REPORT LOG`, or `scan NET SCAN TESTS`.
 pub fn read_words<'a>(alloc: Global, words: &'a [&'a str]) -> Result<Command<'a>, WordsFault>
     ensures asked { IfOk result (λ command. asked_call (bytes_of_words words.entry.now) ≡ Ok (call_of command)) }
     ensures fault { IfErr result (IsFaultOf (asked_call (bytes_of_words words.entry.now))) }
@@ -65,6 +68,9 @@ pub fn read_words<'a>(alloc: Global, words: &'a [&'a str]) -> Result<Command<'a>
     }
     if *first == "bounds" {
         return Ok(Command::Bounds(read_bounds(alloc, words, later)?));
+    }
+    if *first == "scan" {
+        return Ok(Command::Scan(read_scan(alloc, words, later)?));
     }
     Err(WordsFault::Refused(WordsRefusal::Command))
 }

@@ -6,3 +6,4 @@ pub(crate) mod make;
 pub(crate) mod replay;
 pub(crate) mod rise_fall_replay;
 pub(crate) mod run;
+pub(crate) mod scan;

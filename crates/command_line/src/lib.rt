@@ -29,6 +29,7 @@ pub use forms::make::MakeCommand;
 pub use forms::replay::ReplayCommand;
 pub use forms::rise_fall_replay::RiseFallReplayCommand;
 pub use forms::run::RunCommand;
+pub use forms::scan::ScanCommand;
 pub use mode::Mode;
 pub use option_name::OptionName;
 pub use refusal::WordsRefusal;

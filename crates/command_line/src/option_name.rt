@@ -17,6 +17,8 @@ pub enum OptionName {
     Budget,
     /// How a tester applies the two vectors of a pair.
     Mode,
+    /// The file of the scan chains.
+    Scan,
 }
 
 /// What the rules say of an option.
@@ -62,8 +64,14 @@ impl OptionName {
             OptionName::Mode => OptionEntry {
                 word: "--mode",
                 name: "mode",
-                kind: ValueKind::OneOf(&["enhanced", "broadside"]),
+                kind: ValueKind::OneOf(&["enhanced", "broadside", "skewed"]),
                 default: Some("enhanced"),
+            },
+            OptionName::Scan => OptionEntry {
+                word: "--scan",
+                name: "scan",
+                kind: ValueKind::FileName,
+                default: None,
             },
         }
     }

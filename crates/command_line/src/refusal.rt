@@ -16,6 +16,8 @@ pub enum WordsRefusal {
     EmptyAt(usize),
     /// There are too many or too few positional words.
     Count,
+    /// A scan file is named without the mode that shifts by it, or that mode is asked for without one.
+    Scan,
     /// The words at these two places are the same file name.
     SameAt(usize, usize),
     /// The number of paths times the budget, this product, is over its limit.

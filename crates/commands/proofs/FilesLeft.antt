@@ -1,13 +1,14 @@
--- What stands under five names of which no two are the same, once texts were put under the last three.
-use Rattle.std.proofs.Common.{◌≡◌, ◌≢◌, ⊎_elim, ℕ, true, false, List, [], Some, ap, ◌∙◌, arith, nat_eq}
+-- What stands under the names of a run, of which no two are the same, once texts were put under those of its claim files.
+use Rattle.std.proofs.Common.{◌≡◌, ◌≢◌, ⊎_elim, ℕ, true, false, List, [], ◌∷◌, map, Some, refl, sym, ap, ◌∙◌, arith, nat_eq, AllPairs}
 use Rattle.std.specs.Cmp.Lexicographic.{pointwise}
 use Rattle.std.specs.Prelude.{if◌then◌else◌, unwrap_or}
 use Rattle.std.proofs.lemmas.Bool.{cases_Bool}
 use Rattle.std.proofs.lemmas.Slice.Eq.{bytes_eq-Decides}
 use Rattle.pd_io.specs.Folder.{bytes_at, put, Contents}
 use Rattle.pd_io.proofs.OpenFile.{bytes_at-put}
+use Rattle.command_line.specs.Modes.{RunMode, enhanced, broadside, skewed}
 use Rattle.command_line.specs.Words.{RunCall}
-use Rattle.commands.specs.LaterCalls.{HasNamesApart}
+use Rattle.commands.specs.LaterCalls.{HasNamesApart, scan_names}
 
 -- another name has the bytes that it had
 pub bytes_at-put_other : (held : Contents) (name other bytes : List ℕ) → other ≢ name → bytes_at (put held name bytes) other ≡ bytes_at held other
@@ -43,6 +44,20 @@ module _ (held : Contents) (call : RunCall) (apart : HasNamesApart call) (tests 
   delays_left =
       as_it_was call.delays (apart 1 2 [] (omega arith) (omega arith)) (apart 1 3 [] (omega arith) (omega arith))
       (apart 1 4 [] (omega arith) (omega arith))
+
+  -- so has that of the scan file, if the mode reads one
+  scans_as_they_were : (mode : RunMode)
+      → AllPairs (λ a b. a ≢ b) (call.net ∷ call.delays ∷ call.tests ∷ call.report ∷ call.proofs ∷ scan_names mode)
+      → map (λ name. bytes_at left name) (scan_names mode) ≡ map (λ name. bytes_at held name) (scan_names mode)
+  scans_as_they_were enhanced differ = refl
+  scans_as_they_were broadside differ = refl
+  scans_as_they_were (skewed scan) differ =
+      ap (λ (bytes : List ℕ). bytes ∷ [])
+      (as_it_was scan (λ same. differ 2 5 [] (omega arith) (omega arith) (sym same)) (λ same. differ 3 5 [] (omega arith) (omega arith) (sym same))
+      (λ same. differ 4 5 [] (omega arith) (omega arith) (sym same)))
+
+  pub scans_left : map (λ name. bytes_at left name) (scan_names call.mode) ≡ map (λ name. bytes_at held name) (scan_names call.mode)
+  scans_left = scans_as_they_were call.mode apart
 
   -- and those have their texts
   pub tests_left : bytes_at left call.tests ≡ tests

@@ -6,9 +6,7 @@ use Rattle.pd_base.specs.declared.rules.Rules.{Rules}
 use Rattle.pd_io.specs.Folder.{Folder, bytes_at}
 use Rattle.pd_io.specs.Seen.{Outside}
 use Rattle.netlist.specs.Circuit.{Circuit}
-use Rattle.bench_reader.specs.Circuits.{HasCircuit}
 use Rattle.netlist.specs.Waves.{Delays}
-use Rattle.delay_annotation.specs.DelayFile.{HasDelays}
 use Rattle.runs.specs.declared.run.ListedPath.{ListedPath}
 use Rattle.runs.specs.declared.run.Verdict.{Verdict}
 use Rattle.trees.specs.Bounds.{AreSupport, states_of_source}
@@ -18,41 +16,39 @@ use Rattle.command_line.specs.Words.{RunCall}
 use Rattle.calls.specs.declared.status.Status.{Status}
 use Rattle.calls.specs.Calls.{Ends, HasAcceptedInputs}
 use Rattle.calls.specs.Work.{Products}
-use Rattle.commands.specs.declared.inputs.reading.TheConstants.{INPUT_LIMIT}
 use Rattle.commands.specs.InputRequirements.{short_stages}
 use Rattle.commands.specs.ModeRules.{searched_rules}
-use Rattle.commands.specs.Sizes.{HasShortTexts}
-use Rattle.commands.proofs.InputStages.{inputs_pass, texts_pass}
+use Rattle.commands.proofs.InputStages.{texts_pass}
+use Rattle.commands.proofs.RunInputStages.{inputs_are_accepted}
 use Rattle.commands.proofs.ModeRules.{keeps_mode, searched_are}
 use Rattle.calls.proofs.Calls.{completes}
-use Rattle.commands.specs.GenLaws.{KeepsGenLaws}
+use Rattle.commands.specs.GenLaws.{CanBeGenerated, KeepsGenLaws}
+use Rattle.commands.specs.LaterCalls.{scans_in}
+use Rattle.commands.specs.RunTexts.{front_inputs}
+use Rattle.commands.specs.declared.launch.Launch.{Launch}
 use Rattle.commands.specs.Gen.{GivesProductsOf, gen_command, gen_work}
 
 module _ (call : RunCall) (told : Folder) where
-  -- the bytes under the name of NET
-  abbrev net : List ℕ
-  net = bytes_at told.held call.net
+  -- the inputs, as they stand in the folder
+  abbrev inputs : List (List ℕ)
+  inputs = front_inputs (bytes_at told.held call.net) (bytes_at told.held call.delays) (scans_in call told)
 
-  -- and under that of DELAYS
-  abbrev delays : List ℕ
-  delays = bytes_at told.held call.delays
-
-  -- NET, which has a circuit, and DELAYS, which gives delays to its pins, are accepted where they are within their limits, and the
-  -- texts are short
-  pub circuit_is_accepted : (c : Circuit) (given : Delays) → length net ≤ INPUT_LIMIT → HasCircuit net c
-      → length delays ≤ INPUT_LIMIT → HasDelays c delays given → HasShortTexts call.paths c → HasAcceptedInputs (gen_work call) (Some told)
-  circuit_is_accepted c given within has delays_within gives short = record {
+  -- inputs of which a run can be generated are accepted
+  pub generated_inputs_are_accepted : CanBeGenerated call told → HasAcceptedInputs (gen_work call) (Some told)
+  generated_inputs_are_accepted can = record {
     told = tt;
-    inputs = net ∷ delays ∷ [];
-    passed = inputs_pass (gen_command call) told call.net call.delays (short_stages call.paths) c given (net ∷ delays ∷ []) within has
-        delays_within gives
-        (texts_pass (gen_command call) call.net call.delays call.paths net delays c has told [] (net ∷ delays ∷ []) short refl);
+    inputs = inputs;
+    passed = inputs_are_accepted (gen_command call) call told (short_stages call.paths) can.circuit inputs can.given can.launch can.net_within can.has
+        can.delays_within can.gives can.launched can.scans_within
+        (texts_pass (gen_command call) call.paths (bytes_at told.held call.net) (bytes_at told.held call.delays ∷ scans_in call told) can.circuit
+        can.has told [] inputs can.short refl);
   }
 
-module _ (call : RunCall) (c : Circuit) (delays : Delays) (products : Products) (gives : GivesProductsOf call c delays products) where
+module _ (call : RunCall) (c : Circuit) (delays : Delays) (launch : Launch) (products : Products)
+    (gives : GivesProductsOf call c delays launch products) where
   -- the rules of the search
   abbrev rules : Rules
-  rules = searched_rules call.mode c
+  rules = searched_rules launch c
 
   -- where the budget is at least the number of states that they leave a source, to the power of the number of sources in the support of a
   -- fault's path, its own not counted, the fault is not aborted, and its verdict tells what there is
@@ -70,10 +66,8 @@ pub gen_laws : (call : RunCall) (status : Status) (old new : Outside) → Ends (
 gen_laws call status old new ends = record {
   complete = λ now can told none.
       completes (gen_work call) status old new ends
-      (subst (HasAcceptedInputs (gen_work call)) (sym told)
-      (circuit_is_accepted call now can.circuit can.given can.net_within can.has can.delays_within can.gives can.short)) none;
-  keeps_mode = λ c delays products gives.
-      keeps_mode call.mode c delays call.paths call.budget gives.run (searched_are call.mode c gives.run.rules gives.rules) gives.good
-      gives.promises;
-  great_budget = λ c delays products. power_decides call c delays products;
+      (subst (HasAcceptedInputs (gen_work call)) (sym told) (generated_inputs_are_accepted call now can)) none;
+  keeps_mode = λ c delays launch products gives.
+      keeps_mode launch c delays call.paths call.budget gives.run (searched_are launch c gives.run.rules gives.rules) gives.good gives.promises;
+  great_budget = λ c delays launch products. power_decides call c delays launch products;
 }

@@ -45,7 +45,7 @@ module _ (call : RunCall) (numbers : HasRunNumbers call) (left now : Folder) (it
   spell =
       let spells =
       spelled_run it.circuit (is_circuit it.net it.circuit it.has) call numbers it.delay_file it.delays it.has_delays it.run it.good it.lawful
-      it.of_mode in
+      it.launch it.of_mode in
       record { tests_are = spells.tests_are; report_is = spells.report_is }
 
   -- NET has the circuit of gen's tests

@@ -29,6 +29,7 @@ use Rattle.command_line.specs.Words.{HasRunNumbers, RunCall}
 use Rattle.commands.specs.ModeRules.{AreRulesOf}
 use Rattle.commands.specs.SpelledRuns.{SpellsRun}
 use Rattle.commands.specs.Sizes.{HasShortTexts}
+use Rattle.commands.specs.declared.launch.Launch.{Launch}
 use Rattle.commands.proofs.PathLengths.{length_within}
 use Rattle.commands.proofs.ProofsBound.{proofs_within, IsShortProof}
 use Rattle.commands.proofs.ReportBound.{report_within}
@@ -118,9 +119,9 @@ module _ (c : Circuit) (circuit : IsCircuit c) (call : RunCall) (numbers : HasRu
     few_splits = (tree_at place d within).few_splits;
   }
 
-  pub spelled_run : AreRulesOf call.mode c run.rules
-      → SpellsRun call.mode c (tests_text c run.tests) (report_text c run.paths) (proofs_text (version_of run.rules) run.proofs) run
-  spelled_run of_mode = record {
+  pub spelled_run : (launch : Launch) → AreRulesOf launch c run.rules
+      → SpellsRun launch c (tests_text c run.tests) (report_text c run.paths) (proofs_text (version_of run.rules) run.proofs) run
+  spelled_run launch of_mode = record {
     tests_are = record { lawful = lawful.tests; is_text = refl };
     report_is = record { lawful = spelled_report; is_text = refl };
     of_mode = of_mode;

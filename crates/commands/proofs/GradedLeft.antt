@@ -52,7 +52,7 @@ module _ (call : RunCall) (numbers : HasRunNumbers call) (left : Folder) (it : L
 
   left_gradable : HoldsGradable net tests report now
   left_gradable =
-      let spells = spelled_run it.circuit circuit_is call numbers it.delay_file it.delays it.has_delays it.run it.good it.lawful it.of_mode in
+      let spells = spelled_run it.circuit circuit_is call numbers it.delay_file it.delays it.has_delays it.run it.good it.lawful it.launch it.of_mode in
       record {
         circuit = it.circuit;
         has = subst (λ (bytes : List ℕ). HasCircuit bytes it.circuit) (sym (hold.net_is ∙ it.net_is)) it.has;

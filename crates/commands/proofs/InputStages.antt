@@ -1,6 +1,6 @@
 -- The stages that commands have alike: what is passed with NET and DELAYS, with short texts and with claim files, and how the call ends
 -- there.
-use Rattle.std.proofs.Common.{◌≡◌, ℕ, ◌≤◌, List, [], ◌∷◌, ◌++◌, length, Some, refl, sym, subst}
+use Rattle.std.proofs.Common.{◌≡◌, ℕ, ◌≤◌, List, [], ◌∷◌, ◌++◌, length, Some, refl, sym, ap, subst, ◌∙◌, append_assoc}
 use Rattle.pd_io.specs.Folder.{Folder, bytes_at}
 use Rattle.pd_io.specs.Seen.{FilesSeen}
 use Rattle.netlist.specs.Circuit.{Circuit}
@@ -14,7 +14,7 @@ use Rattle.pd_base.specs.declared.fault.Direction.TheVariants.{Rise}
 use Rattle.calls.specs.declared.ending.Ending.{Ending}
 use Rattle.calls.specs.declared.role.Role.{Role}
 use Rattle.calls.specs.declared.role.Role.TheVariants as role
-use Rattle.calls.specs.Work.{Stage}
+use Rattle.calls.specs.Work.{Require, Stage}
 use Rattle.calls.specs.Passing.{Accepts, HasPassed, Pass}
 use Rattle.calls.specs.Stopping.{Stops}
 use Rattle.calls.proofs.Stages.{begun, then_required, stops_refused}
@@ -146,35 +146,46 @@ module _ (command : InputCommand) where
       → Pass (work_on_inputs command) (Some told) (input_stages net_name delays_name ++ later) [] all
   inputs_pass = delays_pass column.Delay Rise
 
-  -- texts of so many paths, behind NET and DELAYS
-  module _ (net_name delays_name : List ℕ) (paths : ℕ) (net delays : List ℕ) (c : Circuit) (has : HasCircuit net c) where
-    module _ (old new : FilesSeen) (before : HasPassed (work_on_inputs command) (input_stages net_name delays_name) (net ∷ delays ∷ []) old new)
-      where
-        -- texts may be too long
-        pub texts_fail : (behind : List (Stage (Requirement command.Own)))
-            → command.stages ≡ (input_stages net_name delays_name ++ short_stages paths) ++ behind → (ending : Ending)
-            → HasLongTexts paths c ending → Stops (work_on_inputs command) ending old new
-        texts_fail behind place ending (long_paths over is) =
-            subst (λ (e : Ending). Stops (work_on_inputs command) e old new) (sym is)
-            (stops_refused (work_on_inputs command) (ShortPathText paths) (long_path_text (path_text_product paths c)) before (_, place)
-            (record { circuit = c; has = has; over = over; is = refl }))
-        texts_fail behind place ending (long_tests short over is) =
-            subst (λ (e : Ending). Stops (work_on_inputs command) e old new) (sym is)
-            (stops_refused (work_on_inputs command) (ShortTestText paths) (long_test_text (test_text_product paths c))
-            (then_required (work_on_inputs command) (ShortPathText paths) before (accepts_paths net (delays ∷ []) c has paths short)) (_, place)
-            (record { circuit = c; has = has; over = over; is = refl }))
+  -- texts of so many paths, behind NET and what was read then
+  module _ (paths : ℕ) (net : List ℕ) (later : List (List ℕ)) (c : Circuit) (has : HasCircuit net c) where
+    module _ (stages : List (Stage (Requirement command.Own))) (old new : FilesSeen)
+        (before : HasPassed (work_on_inputs command) stages (net ∷ later) old new) where
+      -- the texts of the paths are short
+      paths_passed : path_text_product paths c ≤ MOST_PATH_TEXT
+          → HasPassed (work_on_inputs command) (stages ++ Require (ShortPathText paths) ∷ []) (net ∷ later) old new
+      paths_passed short = then_required (work_on_inputs command) (ShortPathText paths) before (accepts_paths net later c has paths short)
 
-        -- they are short
-        pub texts_passed : HasShortTexts paths c
-            → HasPassed (work_on_inputs command) (input_stages net_name delays_name ++ short_stages paths) (net ∷ delays ∷ []) old new
-        texts_passed short =
-            then_required (work_on_inputs command) (ShortTestText paths)
-            (then_required (work_on_inputs command) (ShortPathText paths) before (accepts_paths net (delays ∷ []) c has paths short.path_text))
-            (accepts_tests net (delays ∷ []) c has paths short.test_text)
+      -- texts may be too long
+      pub texts_fail : (behind : List (Stage (Requirement command.Own))) → command.stages ≡ stages ++ (short_stages paths ++ behind)
+          → (ending : Ending) → HasLongTexts paths c ending → Stops (work_on_inputs command) ending old new
+      texts_fail behind place ending (long_paths over is) =
+          subst (λ (e : Ending). Stops (work_on_inputs command) e old new) (sym is)
+          (stops_refused (work_on_inputs command) (ShortPathText paths) (long_path_text (path_text_product paths c)) before
+          (_, place ∙ sym (append_assoc stages (Require (ShortPathText paths) ∷ []) (Require (ShortTestText paths) ∷ behind)))
+          (record { circuit = c; has = has; over = over; is = refl }))
+      texts_fail behind place ending (long_tests short over is) =
+          subst (λ (e : Ending). Stops (work_on_inputs command) e old new) (sym is)
+          (stops_refused (work_on_inputs command) (ShortTestText paths) (long_test_text (test_text_product paths c)) (paths_passed short) (
+            _,
+            place
+                ∙ sym (append_assoc stages (short_stages paths) behind)
+                ∙ ap (λ (front : List (Stage (Requirement command.Own))). front ++ behind)
+                (sym (append_assoc stages (Require (ShortPathText paths) ∷ []) (Require (ShortTestText paths) ∷ []))),
+          )
+          (record { circuit = c; has = has; over = over; is = refl }))
+
+      -- they are short
+      pub texts_passed : HasShortTexts paths c
+          → HasPassed (work_on_inputs command) (stages ++ short_stages paths) (net ∷ later) old new
+      texts_passed short =
+          subst (λ (front : List (Stage (Requirement command.Own))). HasPassed (work_on_inputs command) front (net ∷ later) old new)
+          (append_assoc stages (Require (ShortPathText paths) ∷ []) (Require (ShortTestText paths) ∷ []))
+          (then_required (work_on_inputs command) (ShortTestText paths) (paths_passed short.path_text)
+          (accepts_tests net later c has paths short.test_text))
 
     -- what follows is passed behind short texts
-    pub texts_pass : (told : Folder) (later : List (Stage (Requirement command.Own))) (all : List (List ℕ)) → HasShortTexts paths c
-        → Pass (work_on_inputs command) (Some told) later (net ∷ delays ∷ []) all
-        → Pass (work_on_inputs command) (Some told) (short_stages paths ++ later) (net ∷ delays ∷ []) all
-    texts_pass told later all short rest =
-        (accepts_paths net (delays ∷ []) c has paths short.path_text, (accepts_tests net (delays ∷ []) c has paths short.test_text, rest))
+    pub texts_pass : (told : Folder) (behind : List (Stage (Requirement command.Own))) (all : List (List ℕ)) → HasShortTexts paths c
+        → Pass (work_on_inputs command) (Some told) behind (net ∷ later) all
+        → Pass (work_on_inputs command) (Some told) (short_stages paths ++ behind) (net ∷ later) all
+    texts_pass told behind all short rest =
+        (accepts_paths net later c has paths short.path_text, (accepts_tests net later c has paths short.test_text, rest))

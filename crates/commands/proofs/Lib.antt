@@ -9,6 +9,9 @@ pub mod RiseFallReplayLaws
 pub mod RiseFallStages
 mod RiseFallTexts
 mod SameDelays
+pub mod ScanAccepting
+pub mod ScanLaws
+pub mod ScanStages
 mod TestCounts
 pub mod AgreeingDelays
 pub mod BoundsLaws
@@ -24,7 +27,10 @@ pub mod SpelledRuns
 pub mod FewLines
 mod FewListed
 pub mod FirstWithout
+pub mod ChainStages
+pub mod FrontStages
 pub mod InputStages
+pub mod RunInputStages
 pub mod InputsJudged
 pub mod ListedStages
 pub mod Printed
@@ -51,6 +57,7 @@ pub mod GenThenReplay
 pub mod GenThenRiseFall
 pub mod GoodTexts
 pub mod NameBounds
+mod NumberedLines
 pub mod PathLengths
 pub mod ProofsBound
 pub mod ReportBound

@@ -1,5 +1,6 @@
--- The rules of a mode: at most one of them has a version, and a good run under them keeps the mode.
-use Rattle.std.proofs.Common.{◌≡◌, ◌≢◌, ℕ, true, refl, sym, ap, subst, ◌∙◌}
+-- The rules of a launch: at most one of them has a version, and a good run under them keeps the mode.
+use Rattle.std.proofs.Common.{◌≡◌, ◌≢◌, ℕ, Option, None, Some, true, refl, sym, ap, subst, ◌∙◌}
+use Rattle.pd_base.specs.Links.{LinkList}
 use Rattle.pd_base.specs.Pair.{Vectors}
 use Rattle.pd_base.specs.Route.{Route}
 use Rattle.pd_base.specs.Target.{target_of}
@@ -21,14 +22,16 @@ use Rattle.good_runs.specs.Promises.{AllKeepPromises, ExcludesPairs, VerdictTell
 use Rattle.run_files.specs.ProofsText.{version_number, version_of}
 use Rattle.run_files.specs.declared.version.ProofsVersion.{ProofsVersion}
 use Rattle.run_files.specs.declared.version.ProofsVersion.TheVariants.{First, Second, Third}
-use Rattle.command_line.specs.declared.mode.Mode.{Mode}
-use Rattle.command_line.specs.declared.mode.Mode.TheVariants.{Enhanced, Broadside}
-use Rattle.commands.specs.ModeRules.{AreRulesOf, IsOfMode, KeepsMode, searched_rules}
+use Rattle.commands.specs.ModeRules.{AreRulesOf, AreRulesWith, IsOfMode, KeepsAny, KeepsMode, launch_links, rules_with, searched_rules}
+use Rattle.commands.specs.declared.launch.Launch.{Launch}
 
--- the rules of a search are of its mode
-pub searched_are : (mode : Mode) (c : Circuit) (rules : Rules) → rules ≡ searched_rules mode c → AreRulesOf mode c rules
-searched_are Enhanced c rules is = subst IsUnlinked (sym is) tt
-searched_are Broadside c rules is = is
+-- the rules of a search are those of a run
+searched_with : (links : Option LinkList) (rules : Rules) → rules ≡ rules_with links → AreRulesWith links rules
+searched_with None rules is = subst IsUnlinked (sym is) tt
+searched_with (Some links) rules is = is
+
+pub searched_are : (launch : Launch) (c : Circuit) (rules : Rules) → rules ≡ searched_rules launch c → AreRulesOf launch c rules
+searched_are launch c rules is = searched_with (launch_links launch c) rules is
 
 -- a number is that of one version
 pub version_by_number : (version other : ProofsVersion) → version_number version ≡ version_number other → version ≡ other
@@ -42,16 +45,16 @@ version_by_number Second Third same = absurd cc
 version_by_number Third First same = absurd cc
 version_by_number Third Second same = absurd cc
 
--- the numbers that are those of no rules of a mode
-pub none_enhanced : (c : Circuit) (number : ℕ) → number ≢ 1 → number ≢ 2 → (rules : Rules) → AreRulesOf Enhanced c rules
+-- the numbers that are those of no rules
+pub none_unlinked : (number : ℕ) → number ≢ 1 → number ≢ 2 → (rules : Rules) → AreRulesWith None rules
     → version_number (version_of rules) ≢ number
-none_enhanced c number no_first no_second One of same = no_first (sym same)
-none_enhanced c number no_first no_second Two of same = no_second (sym same)
-none_enhanced c number no_first no_second (Linked links) of same = absurd of
+none_unlinked number no_first no_second One of same = no_first (sym same)
+none_unlinked number no_first no_second Two of same = no_second (sym same)
+none_unlinked number no_first no_second (Linked links) of same = absurd of
 
-pub none_broadside : (c : Circuit) (number : ℕ) → number ≢ 3 → (rules : Rules) → AreRulesOf Broadside c rules
+pub none_linked : (links : LinkList) (number : ℕ) → number ≢ 3 → (rules : Rules) → AreRulesWith (Some links) rules
     → version_number (version_of rules) ≢ number
-none_broadside c number no_third rules of same = no_third (sym same ∙ ap (λ (r : Rules). version_number (version_of r)) of)
+none_linked links number no_third rules of same = no_third (sym same ∙ ap (λ (r : Rules). version_number (version_of r)) of)
 
 -- rules without links that have one version are the same
 unlinked_once : (rules other : Rules) → IsUnlinked rules → IsUnlinked other → version_of rules ≡ version_of other → rules ≡ other
@@ -63,22 +66,31 @@ unlinked_once (Linked links) other is its same = absurd is
 unlinked_once One (Linked links) is its same = absurd its
 unlinked_once Two (Linked links) is its same = absurd its
 
--- rules of a mode that have one version are the same
-pub rules_once : (mode : Mode) (c : Circuit) (rules other : Rules) → AreRulesOf mode c rules → AreRulesOf mode c other
+-- rules of a launch that have one version are the same
+once_with : (links : Option LinkList) (rules other : Rules) → AreRulesWith links rules → AreRulesWith links other
     → version_of rules ≡ version_of other → rules ≡ other
-rules_once Enhanced c rules other is its same = unlinked_once rules other is its same
-rules_once Broadside c rules other is its same = is ∙ sym its
+once_with None rules other is its same = unlinked_once rules other is its same
+once_with (Some links) rules other is its same = is ∙ sym its
 
--- under the rules of a mode, pairs of the rules are those of the mode
-pub of_rules : (mode : Mode) (c : Circuit) (rules : Rules) → AreRulesOf mode c rules → (pair : Vectors) → IsOfMode mode c pair
-    → IsOfRules c rules pair
-of_rules Enhanced c rules is pair keeps = every_pair_is_of_rules c rules (no_links rules is) pair
-of_rules Broadside c rules is pair keeps = subst (λ (r : Rules). IsOfRules c r pair) (sym is) keeps
+pub rules_once : (launch : Launch) (c : Circuit) (rules other : Rules) → AreRulesOf launch c rules → AreRulesOf launch c other
+    → version_of rules ≡ version_of other → rules ≡ other
+rules_once launch c rules other is its same = once_with (launch_links launch c) rules other is its same
 
-pub of_mode : (mode : Mode) (c : Circuit) (rules : Rules) → AreRulesOf mode c rules → (pair : Vectors) → IsOfRules c rules pair
-    → IsOfMode mode c pair
-of_mode Enhanced c rules is pair keeps = tt
-of_mode Broadside c rules is pair keeps = subst (λ (r : Rules). IsOfRules c r pair) is keeps
+module _ (c : Circuit) (rules : Rules) where
+  -- under the rules of a launch, pairs of the rules are those of the launch
+  keeps_of_rules : (links : Option LinkList) → AreRulesWith links rules → (pair : Vectors) → KeepsAny c links pair → IsOfRules c rules pair
+  keeps_of_rules None is pair keeps = every_pair_is_of_rules c rules (no_links rules is) pair
+  keeps_of_rules (Some links) is pair keeps = subst (λ (r : Rules). IsOfRules c r pair) (sym is) keeps
+
+  rules_keep : (links : Option LinkList) → AreRulesWith links rules → (pair : Vectors) → IsOfRules c rules pair → KeepsAny c links pair
+  rules_keep None is pair keeps = tt
+  rules_keep (Some links) is pair keeps = subst (λ (r : Rules). IsOfRules c r pair) is keeps
+
+  pub of_rules : (launch : Launch) → AreRulesOf launch c rules → (pair : Vectors) → IsOfMode launch c pair → IsOfRules c rules pair
+  of_rules launch is pair keeps = keeps_of_rules (launch_links launch c) is pair keeps
+
+  pub of_mode : (launch : Launch) → AreRulesOf launch c rules → (pair : Vectors) → IsOfRules c rules pair → IsOfMode launch c pair
+  of_mode launch is pair keeps = rules_keep (launch_links launch c) is pair keeps
 
 -- an untestable verdict tells that pairs of the rules are excluded
 excludes : (c : Circuit) (budget : ℕ) (run : Run) (number : ℕ) (path : Route) (direction : Direction) (verdict : Verdict)
@@ -89,13 +101,13 @@ excludes c budget run number path direction (Nonrobust test proof) tells is kind
 excludes c budget run number path direction (Untestable proof) tells is kind = tells.1 kind
 excludes c budget run number path direction (Aborted robust nonrobust) tells is kind = absurd cc
 
--- a good run under the rules of a mode keeps it
-module _ (mode : Mode) (c : Circuit) (delays : Delays) (paths budget : ℕ) (run : Run) (of : AreRulesOf mode c run.rules)
+-- a good run under the rules of a launch keeps the mode
+module _ (launch : Launch) (c : Circuit) (delays : Delays) (paths budget : ℕ) (run : Run) (of : AreRulesOf launch c run.rules)
     (good : IsGoodRun c delays paths budget run) (promises : AllKeepPromises c budget run) where
-  pub keeps_mode : KeepsMode mode c run
+  pub keeps_mode : KeepsMode launch c run
   keeps_mode = record {
-    written = λ place d within. of_mode mode c run.rules of _ (good.of_rules place d within);
+    written = λ place d within. of_mode c run.rules launch of _ (good.of_rules place d within);
     excluded = λ number listed direction verdict fault untestable kind pair keeps.
         excludes c budget run number listed.path direction verdict (promises number listed direction verdict fault).tells untestable kind pair
-        (of_rules mode c run.rules of pair keeps);
+        (of_rules c run.rules launch of pair keeps);
   }

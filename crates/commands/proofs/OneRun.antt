@@ -1,4 +1,4 @@
--- The three files tell their run, once circuit and mode are known: two runs with the same three texts are one, under the same rules.
+-- The three files tell their run, once circuit and launch are known: two runs with the same three texts are one, under the same rules.
 use Rattle.std.proofs.Common.{◌≡◌, ℕ, ◌<◌, ◌^◌, List, sym, ◌∙◌, arith}
 use Rattle.netlist.specs.Circuit.{Circuit, source_count}
 use Rattle.netlist.specs.Lawful.{IsCircuit}
@@ -7,14 +7,14 @@ use Rattle.run_files.proofs.TestFiles.{tests_once}
 use Rattle.run_files.proofs.ProofFiles.{proofs_once}
 use Rattle.run_files.proofs.ReportOnce.{report_once}
 use Rattle.run_files.specs.ProofsText.{version_of}
-use Rattle.command_line.specs.declared.mode.Mode.{Mode}
 use Rattle.commands.specs.SpelledRuns.{SpellsRun}
+use Rattle.commands.specs.declared.launch.Launch.{Launch}
 use Rattle.commands.proofs.ModeRules.{rules_once}
 
--- in one mode three texts spell one run of a circuit at most
-pub run_once : (mode : Mode) (c : Circuit) → IsCircuit c → (tests report proofs : List ℕ) (run other : Run)
-    → SpellsRun mode c tests report proofs run → SpellsRun mode c tests report proofs other → run ≡ other
-run_once mode c circuit tests report proofs run other spells spells' =
+-- of one launch three texts spell one run of a circuit at most
+pub run_once : (launch : Launch) (c : Circuit) → IsCircuit c → (tests report proofs : List ℕ) (run other : Run)
+    → SpellsRun launch c tests report proofs run → SpellsRun launch c tests report proofs other → run ≡ other
+run_once launch c circuit tests report proofs run other spells spells' =
     let few : source_count c < 2 ^ 64 = omega (arith, circuit.few_lines) in
     let same_tests =
     tests_once c run.tests other.tests spells.tests_are.lawful spells'.tests_are.lawful (sym spells.tests_are.is_text ∙ spells'.tests_are.is_text) in
@@ -25,5 +25,5 @@ run_once mode c circuit tests report proofs run other spells spells' =
     proofs_once c few (version_of run.rules) (version_of other.rules) run.proofs other.proofs
     spells.proofs_are.lawful spells'.proofs_are.lawful
     (sym spells.proofs_are.is_text ∙ spells'.proofs_are.is_text) in
-    let same_rules = rules_once mode c run.rules other.rules spells.of_mode spells'.of_mode same_proofs.0 in
+    let same_rules = rules_once launch c run.rules other.rules spells.of_mode spells'.of_mode same_proofs.0 in
     λ i. record { rules = same_rules i; paths = same_paths i; tests = same_tests i; proofs = same_proofs.1 i }

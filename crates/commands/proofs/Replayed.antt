@@ -1,5 +1,5 @@
--- The text of a replay, test by test, whichever waves the pair of a test gives the lines; and why tests whose lines change few times are refused for no line that changes too often.
-use Rattle.std.proofs.Common.{◌≡◌, ℕ, ◌+◌, ◌<◌, List, ◌∷◌, ◌++◌, take, drop, length, map, get_or, refl, sym, ap, subst, ◌∙◌, append_assoc, arith}
+-- Tests of a replay, one by one, whichever waves the pair of a test gives the lines; and why tests whose lines change few times are refused for no line that changes too often.
+use Rattle.std.proofs.Common.{◌≡◌, ℕ, ◌+◌, ◌<◌, List, ◌∷◌, ◌++◌, take, drop, length, map, get_or, refl, sym, ap, subst, ◌∙◌, arith}
 use Rattle.std.specs.List.{All, range_with_len}
 use Rattle.std.proofs.lemmas.List.{drop_more, get_or_at, length-append, length-take-le, take-append-drop, take_more}
 use Rattle.std.proofs.lemmas.List.Elements.{All-append, All-map, All-push}
@@ -12,7 +12,6 @@ use Rattle.netlist.specs.Levels.{IsRankOrder}
 use Rattle.delay_replay.specs.declared.line_waves.ReplayFault.{ReplayFault}
 use Rattle.delay_replay.specs.declared.line_waves.ReplayFault.TheVariants.{TooManyChanges, NoMemory}
 use Rattle.delay_replay.specs.ChangeLimits.{HasFewOf, IsFirstOf, RefusesWaves, ranked_lines}
-use Rattle.commands.specs.ReplayText.{numbered_lines}
 use Rattle.commands.specs.TestChanges.{HaveFewOf, IsFirstTestOf, PairWaves, RefusesTestsOf, replay_text_fault}
 use Rattle.commands.proofs.OneRankOrder.{one_rank_order}
 
@@ -58,15 +57,6 @@ module _ (c : Circuit) (waves : PairWaves) where
     -- the test at the place
     abbrev here : Test
     here = get_or tests place none
-
-    -- with its line the text goes on behind it
-    pub one_line_more : (line_for : ℕ → Test → List ℕ) (number : ℕ) (text whole : List ℕ)
-        → text ++ numbered_lines line_for number (drop place tests) ≡ whole
-        → (text ++ line_for number here) ++ numbered_lines line_for (number + 1) (drop (place + 1) tests) ≡ whole
-    one_line_more line_for number text whole is =
-        append_assoc text (line_for number here) (numbered_lines line_for (number + 1) (drop (place + 1) tests))
-        ∙ ap (λ lines. text ++ lines) (sym (ap (numbered_lines line_for number) (drop_more tests place none within)))
-        ∙ is
 
     module _ (few : HaveFewOf c waves (take place tests)) where
       -- with it one test more has few changes

@@ -16,9 +16,9 @@ use Rattle.run_files.specs.ReportText.{report_text}
 use Rattle.run_files.specs.declared.fault.TextFault.{TextFault}
 use Rattle.run_files.specs.declared.fault.TextFault.TheVariants.{Malformed}
 use Rattle.run_files.specs.declared.version.ProofsVersion.{ProofsVersion}
-use Rattle.command_line.specs.declared.mode.Mode.{Mode}
 use Rattle.commands.specs.Inside.Checking.{SpellsNumbered}
 use Rattle.commands.specs.SpelledRuns.{IsMalformedProofs, IsMalformedReport, SpellsProofs, SpellsReport, SpellsRun}
+use Rattle.commands.specs.declared.launch.Launch.{Launch}
 use Rattle.commands.proofs.ModeRules.{version_by_number}
 
 module _ (c : Circuit) (text : List ℕ) where
@@ -60,9 +60,9 @@ in_version c text number proofs rules read is =
     subst (λ (version : ProofsVersion). SpellsProofs c text version proofs) same read.spells
 
 -- the files can spell the run
-pub spelled_is_lawful : (mode : Mode) (c : Circuit) (tests report proofs : List ℕ) (run : Run) → SpellsRun mode c tests report proofs run
+pub spelled_is_lawful : (launch : Launch) (c : Circuit) (tests report proofs : List ℕ) (run : Run) → SpellsRun launch c tests report proofs run
     → IsLawfulRun c run
-spelled_is_lawful mode c tests report proofs run spells = record {
+spelled_is_lawful launch c tests report proofs run spells = record {
   tests = spells.tests_are.lawful;
   report = spells.report_is.lawful.lawful;
   proofs = spells.proofs_are.lawful.lawful;

@@ -5,7 +5,7 @@ use Rattle.pd_io.specs.Seen.{Outside}
 use Rattle.command_line.specs.declared.refusal.WordsRefusal.{WordsRefusal}
 use Rattle.command_line.specs.declared.fault.WordsFault.{WordsFault}
 use Rattle.command_line.specs.declared.fault.WordsFault.TheVariants as fault
-use Rattle.command_line.specs.Words.{Call, gen, check, replay, make, rise_fall_replay, compact, bounds, asked_call}
+use Rattle.command_line.specs.Words.{Call, gen, check, replay, make, rise_fall_replay, compact, bounds, scan, asked_call}
 use Rattle.calls.specs.declared.ending.Ending.{Ending}
 use Rattle.calls.specs.declared.ending.Ending.TheVariants as ended
 use Rattle.calls.specs.Work.{Work}
@@ -25,6 +25,8 @@ use Rattle.commands.specs.Replay.{replay_work}
 use Rattle.commands.specs.ReplayLaws.{KeepsReplayLaws}
 use Rattle.commands.specs.RiseFallReplay.{rise_fall_replay_work}
 use Rattle.commands.specs.RiseFallReplayLaws.{KeepsRiseFallReplayLaws}
+use Rattle.commands.specs.Scan.{scan_work}
+use Rattle.commands.specs.ScanLaws.{KeepsScanLaws}
 use Rattle.commands.specs.WordsRefusals.{words_refusal}
 
 -- the work of a command, or of words that are refused
@@ -36,6 +38,7 @@ work_of (Ok (make call)) = make_work call
 work_of (Ok (rise_fall_replay call)) = rise_fall_replay_work call
 work_of (Ok (compact call)) = compact_work call
 work_of (Ok (bounds call)) = bounds_work call
+work_of (Ok (scan call)) = scan_work call
 work_of (Err reason) = refused_at_once (words_refusal reason)
 
 -- what holds of a call of a command, which these words ask for, beside what holds of every call; one with refused words reports them, or
@@ -48,6 +51,7 @@ KeepsLawsOf words (Ok (make call)) status old new = KeepsMakeLaws status old new
 KeepsLawsOf words (Ok (rise_fall_replay call)) status old new = KeepsRiseFallReplayLaws call status old new
 KeepsLawsOf words (Ok (compact call)) status old new = KeepsCompactLaws call status old new
 KeepsLawsOf words (Ok (bounds call)) status old new = KeepsBoundsLaws call status old new
+KeepsLawsOf words (Ok (scan call)) status old new = KeepsScanLaws call status old new
 KeepsLawsOf words (Err reason) status old new = ReportsAtOnce (words_refusal reason) status old.err new.err
 
 -- the work that these words ask for

@@ -19,15 +19,19 @@ use Rattle.run_files.specs.Summary.{summary_text}
 use Rattle.command_line.specs.Words.{RunCall}
 use Rattle.calls.specs.declared.role.Role.TheVariants as role
 use Rattle.calls.specs.Work.{Work, Stage, Due, due_file, Products}
-use Rattle.commands.specs.InputRequirements.{InputCommand, RefusesNoMore, Requirement, input_stages, short_stages, work_on_inputs}
+use Rattle.commands.specs.InputRequirements.{InputCommand, RefusesNoMore, Requirement, short_stages, work_on_inputs}
 use Rattle.commands.specs.ModeRules.{searched_rules}
+use Rattle.commands.specs.Launches.{HasLaunch}
+use Rattle.commands.specs.RunTexts.{run_input_stages}
 use Rattle.commands.specs.Sizes.{HasShortTexts}
+use Rattle.commands.specs.declared.launch.Launch.{Launch}
 use Rattle.commands.specs.declared.preparing.Generated.{Generated}
 use Rattle.commands.specs.declared.preparing.ToldRun.{ToldRun}
 
--- NET is read, and has to have a circuit; then DELAYS is read, and has to give delays; then the texts have to be short
+-- NET is read, and has to have a circuit; then DELAYS is read, and has to give delays; for a skewed load SCAN is read, and has to give
+-- chains; then the texts have to be short
 abbrev pub gen_stages : RunCall → List (Stage (Requirement ⊥))
-gen_stages call = input_stages call.net call.delays ++ short_stages call.paths
+gen_stages call = run_input_stages call ++ short_stages call.paths
 
 -- the files that are written for a circuit and a run
 abbrev pub tests_due : RunCall → Circuit → Run → Due
@@ -47,12 +51,12 @@ run_files call c run = tests_due call c run ∷ report_due call c run ∷ proofs
 abbrev pub gen_products : RunCall → Circuit → Run → Products
 gen_products call c run = record { files = run_files call c run; out = summary_text run }
 
--- the products are the texts of one good run under the rules of the mode, for the paths and the budget that are asked for, which the files
+-- the products are the texts of one good run under the rules of the launch, for the paths and the budget that are asked for, which the files
 -- can spell: its tests are numbered in the order of the report, and each proof where it is first named; its verdicts keep their promises,
 -- and a refutation whose prefix implication alone refutes is one closed leaf at the shortest such prefix
-pub record GivesProductsOf (call : RunCall) (c : Circuit) (delays : Delays) (products : Products) : Type 0 where
+pub record GivesProductsOf (call : RunCall) (c : Circuit) (delays : Delays) (launch : Launch) (products : Products) : Type 0 where
   pub run : Run
-  pub rules : run.rules ≡ searched_rules call.mode c
+  pub rules : run.rules ≡ searched_rules launch c
   pub good : IsGoodRun c delays call.paths call.budget run
   pub lawful : IsLawfulRun c run
   pub promises : AllKeepPromises c call.budget run
@@ -60,22 +64,24 @@ pub record GivesProductsOf (call : RunCall) (c : Circuit) (delays : Delays) (pro
   pub texts : products ≡ gen_products call c run
 
 -- the texts are short, and the products are those of a good run
-pub record GivesShort (call : RunCall) (c : Circuit) (delays : Delays) (products : Products) : Type 0 where
+pub record GivesShort (call : RunCall) (c : Circuit) (delays : Delays) (launch : Launch) (products : Products) : Type 0 where
   pub short : HasShortTexts call.paths c
-  pub products_of_run : GivesProductsOf call c delays products
+  pub products_of_run : GivesProductsOf call c delays launch products
 
--- NET has this circuit, DELAYS gives these delays to its pins, the texts are short, and the products are those of a good run for
--- them
-pub record GivesRun (call : RunCall) (net delay_file : List ℕ) (products : Products) : Type 0 where
+-- NET has this circuit, DELAYS gives these delays to its pins, so pairs are launched, the texts are short, and the products are those of a
+-- good run for them
+pub record GivesRun (call : RunCall) (net delay_file : List ℕ) (scans : List (List ℕ)) (products : Products) : Type 0 where
   pub circuit : Circuit
   pub has : HasCircuit net circuit
   pub delays : Delays
   pub has_delays : HasDelays circuit delay_file delays
-  pub short : GivesShort call circuit delays products
+  pub launch : Launch
+  pub has_launch : HasLaunch call.mode circuit scans launch
+  pub short : GivesShort call circuit delays launch products
 
--- what gen gives for its two inputs
+-- what gen gives for its inputs
 abbrev pub GivesGen : RunCall → List (List ℕ) → Products → Type 0
-GivesGen call (net ∷ delays ∷ []) products = GivesRun call net delays products
+GivesGen call (net ∷ delays ∷ scans) products = GivesRun call net delays scans products
 GivesGen call inputs products = ⊥
 
 -- the command with its names and numbers

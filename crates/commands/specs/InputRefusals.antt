@@ -6,6 +6,10 @@ use Rattle.bench_reader.specs.declared.fault.BenchFault.{BenchFault}
 use Rattle.bench_reader.specs.declared.fault.BenchFault.TheVariants as bench
 use Rattle.delay_annotation.specs.declared.fault.DelayFault.{DelayFault}
 use Rattle.delay_annotation.specs.declared.fault.DelayFault.TheVariants as delay
+use Rattle.netlist.specs.Circuit.{Circuit}
+use Rattle.netlist.specs.Names.{name_at}
+use Rattle.scan_order.specs.declared.scan_fault.ScanFault.{ScanFault}
+use Rattle.scan_order.specs.declared.scan_fault.ScanFault.TheVariants as scan
 use Rattle.calls.specs.CauseAndText.{refusal_for}
 use Rattle.calls.specs.Lines.{role_word}
 use Rattle.calls.specs.declared.cause.Cause.TheVariants as cause
@@ -58,6 +62,21 @@ delays_ending (delay.UnknownGate row) = wrong_in row (codes " unknown gate")
 delays_ending (delay.BadPin row) = wrong_in row (codes " bad pin")
 delays_ending (delay.BadNumber row) = wrong_in row (codes " bad number")
 delays_ending delay.NoMemory = NoMemory
+
+-- a line of SCAN, and what is wrong there
+abbrev pub wrong_scan_line : ℕ → List ℕ → Ending
+wrong_scan_line place reason = Refused (refusal_for cause.Scan (codes "scan: line " ++ decimal place ++ reason))
+
+-- the flip-flop of this name stands on no line of SCAN
+abbrev pub missing_flop : List ℕ → Refusal
+missing_flop name = refusal_for cause.Scan (codes "scan: missing " ++ name)
+
+-- how a call ends for which SCAN gives no chains of this circuit
+abbrev pub scan_ending : Circuit → ScanFault → Ending
+scan_ending c (scan.Unknown place) = wrong_scan_line place (codes " unknown")
+scan_ending c (scan.Twice place) = wrong_scan_line place (codes " twice")
+scan_ending c (scan.Missing flop) = Refused (missing_flop (name_at c flop.0))
+scan_ending c scan.NoMemory = NoMemory
 
 -- the texts of the paths may be too long: the product that bounds them
 abbrev pub long_path_text : ℕ → Refusal

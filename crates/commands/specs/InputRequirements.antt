@@ -9,6 +9,8 @@ use Rattle.delay_annotation.specs.DelayFile.{RefusesFile}
 use Rattle.delay_annotation.specs.declared.fault.DelayFault.{DelayFault}
 use Rattle.delay_annotation.specs.declared.setting.Columns.{Columns}
 use Rattle.delay_annotation.specs.declared.setting.Columns.TheVariants as columns
+use Rattle.scan_order.specs.ScanRefusals.{RefusesScan}
+use Rattle.scan_order.specs.declared.scan_fault.ScanFault.{ScanFault}
 use Rattle.pd_base.specs.declared.limits.TheConstants.{MOST_BYTES}
 use Rattle.calls.specs.declared.ending.Ending.TheVariants.{Refused}
 use Rattle.calls.specs.declared.refusal.Refusal.{Refusal}
@@ -16,7 +18,7 @@ use Rattle.calls.specs.declared.role.Role.{Role}
 use Rattle.calls.specs.declared.role.Role.TheVariants as role
 use Rattle.calls.specs.Work.{Work, Products, Stage, Read, Require}
 use Rattle.commands.specs.Grading.{RefusesExpected, RefusesGrades, RefusesPaths}
-use Rattle.commands.specs.InputRefusals.{delays_ending, long_path_text, long_test_text, malformed, netlist_ending, too_long}
+use Rattle.commands.specs.InputRefusals.{delays_ending, long_path_text, long_test_text, malformed, netlist_ending, scan_ending, too_long}
 use Rattle.commands.specs.Sizes.{path_text_product, test_text_product}
 use Rattle.commands.specs.SpelledTests.{HasMalformedTests}
 use Rattle.commands.specs.SpelledRuns.{HasMalformedProofs, HasMalformedReport}
@@ -31,6 +33,8 @@ pub data Requirement (Own : Type 0) : Type 0 where
   SpellsCircuit : Requirement Own
   -- DELAYS, which was read next, gives delays to its pins: in these columns, one for each pin, or one for a rise and one for a fall
   SpellsDelays : Columns → Requirement Own
+  -- SCAN, before which so many inputs were read, gives the scan chains of NET's circuit
+  SpellsChains : ℕ → Requirement Own
   -- the product that bounds the texts of so many paths is within its limit
   ShortPathText : ℕ → Requirement Own
   -- so is the one that bounds the texts of so many tests
@@ -50,6 +54,7 @@ pub data Requirement (Own : Type 0) : Type 0 where
 abbrev pub limit_of : Role → ℕ
 limit_of role.Net = INPUT_LIMIT
 limit_of role.Delays = INPUT_LIMIT
+limit_of role.Scan = INPUT_LIMIT
 limit_of role.Tests = MOST_BYTES
 limit_of role.Report = MOST_BYTES
 limit_of role.Proofs = MOST_BYTES
@@ -89,6 +94,18 @@ pub record HasNoDelays (columns : Columns) (net delays : List ℕ) (refusal : Re
   pub has : HasCircuit net circuit
   pub none : HasNoDelaysFor circuit columns delays refusal
 
+-- the text gives no scan chains of this circuit, and is refused so
+pub record HasNoChainsFor (c : Circuit) (text : List ℕ) (refusal : Refusal) : Type 0 where
+  pub fault : ScanFault
+  pub refused : RefusesScan c text fault
+  pub is : scan_ending c fault ≡ Refused refusal
+
+-- NET has a circuit, of which SCAN gives no chains
+pub record HasNoChains (net scan : List ℕ) (refusal : Refusal) : Type 0 where
+  pub circuit : Circuit
+  pub has : HasCircuit net circuit
+  pub none : HasNoChainsFor circuit scan refusal
+
 -- NET has a circuit, whose product is over its limit, which is refused so
 pub record IsOverProduct (net : List ℕ) (product_of : Circuit → ℕ) (limit : ℕ) (refused_so : ℕ → Refusal) (refusal : Refusal) : Type 0 where
   pub circuit : Circuit
@@ -122,6 +139,7 @@ abbrev pub RefusesInputs : (command : InputCommand) → Requirement command.Own 
 RefusesInputs command (WithinLimit input) inputs refusal = IsOverLimit input (last_input inputs) refusal
 RefusesInputs command SpellsCircuit inputs refusal = LacksCircuit (input_at inputs 0) refusal
 RefusesInputs command (SpellsDelays columns) inputs refusal = HasNoDelays columns (input_at inputs 0) (input_at inputs 1) refusal
+RefusesInputs command (SpellsChains place) inputs refusal = HasNoChains (input_at inputs 0) (input_at inputs place) refusal
 RefusesInputs command (ShortPathText paths) inputs refusal =
     IsOverProduct (input_at inputs 0) (path_text_product paths) MOST_PATH_TEXT long_path_text refusal
 RefusesInputs command (ShortTestText paths) inputs refusal =
@@ -161,6 +179,10 @@ delays_stages columns net delays = net_stages net ++ read_stages role.Delays del
 -- it has to give one delay for each pin
 abbrev pub input_stages : {Own : Type 0} → List ℕ → List ℕ → List (Stage (Requirement Own))
 input_stages net delays = delays_stages columns.Delay net delays
+
+-- SCAN is read behind so many inputs, and has to give chains
+abbrev pub scan_stages : {Own : Type 0} → ℕ → List ℕ → List (Stage (Requirement Own))
+scan_stages place scan = read_stages role.Scan scan ++ Require (SpellsChains place) ∷ []
 
 -- TESTS and REPORT are read, in this order
 abbrev pub tests_and_report_stages : {Own : Type 0} → List ℕ → List ℕ → List (Stage (Requirement Own))

@@ -6,4 +6,6 @@ pub mod InputJudging
 pub mod Judging
 pub mod ReplayEndings
 pub mod RiseFallReplaying
+pub mod RunJudging
+pub mod ScanJudging
 pub mod TestsAndPaths

@@ -1,7 +1,8 @@
 -- What a call of `gen` left behind, as calls of other commands find it later (this project's own).
-use Rattle.std.specs.Prelude.{◌≡◌, ◌≢◌, ℕ, List, [], ◌∷◌, All, AllPairs, Ok, Some, codes}
+use Rattle.std.specs.Prelude.{◌≡◌, ◌≢◌, ℕ, List, [], ◌∷◌, map, All, AllPairs, Ok, Some, codes}
 use Rattle.pd_io.specs.Folder.{bytes_at, Folder}
 use Rattle.pd_io.specs.Seen.{Outside}
+use Rattle.command_line.specs.Modes.{RunMode, enhanced, broadside, skewed}
 use Rattle.command_line.specs.Words.{ReplayCall, RiseFallReplayCall, RunCall, asked_call, gen}
 use Rattle.calls.specs.Work.{Work}
 use Rattle.calls.specs.Passing.{Pass}
@@ -12,9 +13,19 @@ use Rattle.commands.specs.InputRequirements.{delays_stages, input_stages}
 use Rattle.commands.specs.Replay.{replay_work}
 use Rattle.commands.specs.RiseFallReplay.{rise_fall_replay_work}
 
--- the names of the files of a run, in the order of the words
+-- the name of the scan file that a mode reads, if it reads one
+abbrev pub scan_names : RunMode → List (List ℕ)
+scan_names enhanced = []
+scan_names broadside = []
+scan_names (skewed scan) = scan ∷ []
+
+-- the names of the files of a run
 abbrev pub run_names : RunCall → List (List ℕ)
-run_names call = call.net ∷ call.delays ∷ call.tests ∷ call.report ∷ call.proofs ∷ []
+run_names call = call.net ∷ call.delays ∷ call.tests ∷ call.report ∷ call.proofs ∷ scan_names call.mode
+
+-- what the scan file holds that a run's mode reads, if it reads one
+abbrev pub scans_in : RunCall → Folder → List (List ℕ)
+scans_in call now = map (λ name. bytes_at now.held name) (scan_names call.mode)
 
 -- no two of them are the same
 abbrev pub HasNamesApart : RunCall → Type 0

@@ -14,6 +14,7 @@ pub mod InputRefusals
 pub mod InputRequirements
 pub mod Inside
 pub mod LaterCalls
+pub mod Launches
 pub mod Make
 pub mod MakeLaws
 pub mod ModeRules
@@ -24,6 +25,10 @@ pub mod ReplayText
 pub mod RiseFallReplay
 pub mod RiseFallReplayLaws
 pub mod RiseFallReplayText
+pub mod RunTexts
+pub mod Scan
+pub mod ScanLaws
+pub mod ScanText
 pub mod Sizes
 pub mod SpelledRuns
 pub mod SpelledTests

@@ -1,4 +1,4 @@
--- Which run three texts spell in a mode, or which line of which of them is malformed (this project's own).
+-- Which run three texts spell, or which line of which of them is malformed (this project's own).
 use Rattle.std.specs.Prelude.{◌≡◌, ◌≢◌, ℕ, List}
 use Rattle.pd_base.specs.declared.rules.Rules.{Rules}
 use Rattle.pd_base.specs.declared.test.Test.{Test}
@@ -13,9 +13,11 @@ use Rattle.run_files.specs.ProofsText.{proofs_text, version_of}
 use Rattle.run_files.specs.ReportForm.{IsSpelledReport, report_form, report_headings, report_start}
 use Rattle.run_files.specs.ReportText.{report_text}
 use Rattle.run_files.specs.declared.version.ProofsVersion.{ProofsVersion}
-use Rattle.command_line.specs.declared.mode.Mode.{Mode}
+use Rattle.command_line.specs.Modes.{RunMode}
 use Rattle.commands.specs.ModeRules.{AreRulesOf}
+use Rattle.commands.specs.Launches.{HasLaunch}
 use Rattle.commands.specs.SpelledTests.{SpellsTests}
+use Rattle.commands.specs.declared.launch.Launch.{Launch}
 
 -- the text is the report of these paths, which a report of the circuit may list
 pub record SpellsReport (c : Circuit) (text : List ℕ) (paths : List ListedPath) : Type 0 where
@@ -32,11 +34,11 @@ pub record SpellTestsAndPaths (c : Circuit) (tests report : List ℕ) (listed : 
   pub tests_are : SpellsTests c tests listed
   pub report_is : SpellsReport c report paths
 
--- the three texts spell this run of the circuit in this mode: its rules are those of the mode that have the version of the proofs
-pub record SpellsRun (mode : Mode) (c : Circuit) (tests report proofs : List ℕ) (run : Run) : Type 0 where
+-- the three texts spell this run of the circuit and the launch: its rules are those of the launch that have the version of the proofs
+pub record SpellsRun (launch : Launch) (c : Circuit) (tests report proofs : List ℕ) (run : Run) : Type 0 where
   pub tests_are : SpellsTests c tests run.tests
   pub report_is : SpellsReport c report run.paths
-  pub of_mode : AreRulesOf mode c run.rules
+  pub of_mode : AreRulesOf launch c run.rules
   pub proofs_are : SpellsProofs c proofs (version_of run.rules) run.proofs
 
 -- a text is the report of no such paths, and its line of this number is the first that lacks its form
@@ -61,15 +63,17 @@ pub record HasMalformedProofs (net text : List ℕ) (line : ℕ) : Type 0 where
   pub has : HasCircuit net circuit
   pub malformed : IsMalformedProofs circuit text line
 
--- a text is the proofs file of such proofs in a version that no rules of this mode have
-pub record HasOtherVersion (mode : Mode) (c : Circuit) (text : List ℕ) : Type 0 where
+-- a text is the proofs file of such proofs in a version that no rules of this launch have
+pub record HasOtherVersion (launch : Launch) (c : Circuit) (text : List ℕ) : Type 0 where
   pub version : ProofsVersion
   pub proofs : List Proof
   pub spells : SpellsProofs c text version proofs
-  pub none_has : (rules : Rules) → AreRulesOf mode c rules → version ≢ version_of rules
+  pub none_has : (rules : Rules) → AreRulesOf launch c rules → version ≢ version_of rules
 
--- NET has a circuit, of which this text spells proofs in such a version
-pub record HasProofsOfOtherMode (mode : Mode) (net text : List ℕ) : Type 0 where
+-- NET has a circuit, of which this text spells proofs in such a version, where pairs are launched as the mode and its inputs tell
+pub record HasProofsOfOtherMode (mode : RunMode) (net : List ℕ) (scans : List (List ℕ)) (text : List ℕ) : Type 0 where
   pub circuit : Circuit
   pub has : HasCircuit net circuit
-  pub other : HasOtherVersion mode circuit text
+  pub launch : Launch
+  pub has_launch : HasLaunch mode circuit scans launch
+  pub other : HasOtherVersion launch circuit text

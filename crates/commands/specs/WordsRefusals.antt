@@ -2,7 +2,7 @@
 use Rattle.std.specs.Prelude.{ℕ, List, ◌++◌, codes, decimal}
 use Rattle.command_line.specs.Options.{option_word}
 use Rattle.command_line.specs.declared.refusal.WordsRefusal.{WordsRefusal}
-use Rattle.command_line.specs.declared.refusal.WordsRefusal.TheVariants.{Command, Repeat, Value, OptionAt, EmptyAt, Count, SameAt, Product, Time, Stages}
+use Rattle.command_line.specs.declared.refusal.WordsRefusal.TheVariants.{Command, Repeat, Value, OptionAt, EmptyAt, Count, Scan, SameAt, Product, Time, Stages}
 use Rattle.calls.specs.CauseAndText.{refusal_for}
 use Rattle.calls.specs.declared.cause.Cause.TheVariants as cause
 use Rattle.calls.specs.declared.refusal.Refusal.{Refusal}
@@ -18,6 +18,7 @@ words_refusal (Value option) = wrong_words (codes "value " ++ option_word option
 words_refusal (OptionAt place) = wrong_words (codes "option at " ++ decimal place)
 words_refusal (EmptyAt place) = wrong_words (codes "empty at " ++ decimal place)
 words_refusal Count = wrong_words (codes "count")
+words_refusal Scan = wrong_words (codes "scan")
 words_refusal (SameAt first second) = wrong_words (codes "same at " ++ decimal first ++ codes " " ++ decimal second)
 words_refusal (Product product) = wrong_words (codes "product " ++ decimal product)
 words_refusal Time = wrong_words (codes "value TIME")

@@ -16,16 +16,20 @@ use std::alloc::Global;
 /// `gen NET DELAYS TESTS REPORT PROOFS` reads the first two files and writes the other three, then a summary on out. At status 0
 /// the three files hold the texts of one good run: it lists the first paths of NET's circuit by nonincreasing length, each once, with
 /// one verdict for each transition. A robust test samples a wrong value under every delay assignment that makes its path late; a
-/// nonrobust one does where its side pins have settled, too; the refutation of an untestable fault excludes every pair of vectors; an
-/// aborted fault spent its budget; and a nonrobust or aborted one tells why no robust test was found (`gen_work` in specs/Gen.antt).
+/// nonrobust one does where its side pins have settled, too; the refutation of an untestable fault excludes every pair of vectors of the
+/// mode; an aborted fault spent its budget; and a nonrobust or aborted one tells why no robust test was found (`gen_work` in specs/Gen.antt).
 ///
-/// NET, DELAYS or LOG of more than 33,554,432 bytes are refused, other files that are read over 268,435,456 bytes, and so are a netlist
+/// NET, DELAYS, SCAN or LOG of more than 33,554,432 bytes are refused, other files that are read over 268,435,456 bytes, and so are a netlist
 /// that has no circuit, a delay file that gives its pins no delays, and a circuit whose texts might grow too long.
 ///
 /// `check NET DELAYS TESTS REPORT PROOFS` reads all five files and writes none. At status 0, and only then, out has the word `good`: the
 /// last three spell one run, which is good for NET and DELAYS and for as many paths and the budget as are asked for, judged from NET and
 /// DELAYS alone; so its verdicts promise what those of `gen` do. Status 1 tells the first line of a file that lacks its form, or else the
 /// first flaw of the run (`check_work` in specs/Check.antt).
+///
+/// Both are of a mode, whose pairs of vectors alone count: `--mode enhanced`, where none is given, `--mode broadside`, or
+/// `--mode skewed --scan SCAN`. The last reads SCAN behind DELAYS, and is refused where it gives no scan chains of NET's circuit
+/// (specs/ModeRules.antt).
 ///
 /// `replay NET DELAYS TESTS TIME` reads these three files and writes none. At status 0 out has a line for each test of TESTS: its number,
 /// what each observed line has at TIME under the test's pair and the delays, and `same` or `differs`, by whether these are the bits that
@@ -46,6 +50,11 @@ use std::alloc::Global;
 /// of a row of LOG by which a test passed that covers the fault, or a dash. Under all delays that agree with LOG the path is no longer than
 /// that (`bounds_work` in specs/Bounds.antt). Both refuse a listed path that is no path of NET, a test that expects other bits than the
 /// values under its second vector, and more than 1,000,000 tests times faults.
+///
+/// `scan NET SCAN TESTS` reads these three files and writes none. At status 0 out has a line for each test of TESTS: its number and, for each
+/// scan chain of SCAN, the bits to shift in. From every state of the chain all but the last of them load the first vector of the test's pair
+/// there, and one more shift launches the second (`scan_work` in specs/Scan.antt). A test whose pair the last shift does not launch is refused,
+/// the first such test.
 ///
 /// `make N` does the work of `gen` on a ladder of N stages, with a delay of 1 at each pin, and prints one line that counts the verdicts of a
 /// good run (`make_work` in specs/Make.antt). No words but refused ones, failed writes on out and want of memory keep it from status 0.

@@ -13,6 +13,7 @@ use crate::generating::generate;
 use crate::making::make;
 use crate::replay::replay;
 use crate::rise_fall_replay::rise_fall_replay;
+use crate::scan::scan;
 use crate::words_refusal::words_refusal;
 use calls::Ending;
 use command_line::{Command, WordsFault, read_words};
@@ -53,6 +54,7 @@ fn perform_command<F: Files, O: Sink>(
         Command::RiseFallReplay(command) => rise_fall_replay(alloc, command, files, out),
         Command::Compact(command) => compact(alloc, command, files, out),
         Command::Bounds(command) => bounds(alloc, command, files, out),
+        Command::Scan(command) => scan(alloc, command, files, out),
         Command::Make(command) => make(alloc, command, out),
     }
 }

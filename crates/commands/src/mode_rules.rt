@@ -1,54 +1,70 @@
-// The rules of a run, by its mode: those under which `gen` searches, and those of the runs that `check` judges.
-ghost use Rattle.std.specs.Prelude.{◌≡◌, IfErr, IfOk};
-ghost use Rattle.netlist.specs.LinkedPairs.{FitRules};
+// The rules of a run, by how its pairs are launched: those under which `gen` searches, and those of the runs that `check` judges.
+ghost use Rattle.std.specs.Prelude.{◌≡◌, ⊤, IfErr, IfOk, MatchOption, option_map};
+ghost use Rattle.netlist.specs.Lawful.{IsCircuit};
+ghost use Rattle.netlist.specs.LinkedPairs.{AreLinksOf, FitRules};
 ghost use Rattle.run_files.specs.ProofsText.{version_number, version_of};
 ghost use Rattle.commands.specs.Inside.Checking.{FailsRules};
-ghost use Rattle.commands.specs.ModeRules.{AreRulesOf, broadside_rules, searched_rules};
+ghost use Rattle.commands.specs.ModeRules.{AreRulesOf, FitsLaunch, launch_links, searched_rules};
 
 use crate::inputs::malformed;
+use crate::launch::Launch;
 use calls::{Ending, Role};
-use command_line::Mode;
 use netlist::Netlist;
 use path_model::broadside_links;
-use pd_base::{OutOfMemory, Rules};
+use pd_base::{Links, OutOfMemory, Rules};
+use scan_order::skewed_links;
 use std::alloc::Global;
 
-/// The rules under which tests are searched in this mode. They fit the circuit. The one error is that memory ran out.
-pub(crate) fn searched_rules(alloc: Global, net: &Netlist, mode: Mode) -> Result<Rules, OutOfMemory>
-    ensures rules { IfOk result (λ rules. rules ≡ searched_rules mode net.now) }
+/// The rules under which tests are searched for pairs that are launched so. They fit the circuit. The one error is that memory ran out.
+pub(crate) fn searched_rules(
+    alloc: Global,
+    net: &Netlist,
+    launch: &Launch,
+) -> Result<Rules, OutOfMemory>
+    requires circuit { IsCircuit net.now }
+    requires fits { FitsLaunch net.now launch.now }
+    ensures rules { IfOk result (λ rules. rules ≡ searched_rules launch.now net.now) }
     ensures fit { IfOk result (FitRules net.now) }
 {
-    match mode {
-        Mode::Enhanced => Ok(Rules::Two),
-        Mode::Broadside => broadside_rules(alloc, net),
+    match launch_links(alloc, net, launch)? {
+        None => Ok(Rules::Two),
+        Some(links) => Ok(Rules::Linked(links)),
     }
 }
 
-/// The rules of this mode that have the version of this number. PROOFS of a version that none of them has is refused for its first line,
-/// on which the version stands.
+/// The rules for pairs that are launched so that have the version of this number. PROOFS of a version that none of them has is refused for
+/// its first line, on which the version stands.
 pub(crate) fn judged_rules(
     alloc: Global,
     net: &Netlist,
-    mode: Mode,
+    launch: &Launch,
     version: u32,
 ) -> Result<Rules, Ending>
-    ensures rules { IfOk result (AreRulesOf mode net.now) }
+    requires circuit { IsCircuit net.now }
+    requires fits { FitsLaunch net.now launch.now }
+    ensures rules { IfOk result (AreRulesOf launch.now net.now) }
     ensures version { IfOk result (λ rules. version_number (version_of rules) ≡ version) }
     ensures fit { IfOk result (FitRules net.now) }
-    ensures fails { IfErr result (FailsRules mode net.now version) }
+    ensures fails { IfErr result (FailsRules launch.now net.now version) }
 {
-    match (mode, version) {
-        (Mode::Enhanced, 1) => Ok(Rules::One),
-        (Mode::Enhanced, 2) => Ok(Rules::Two),
-        (Mode::Broadside, 3) => Ok(broadside_rules(alloc, net)?),
+    match (launch_links(alloc, net, launch)?, version) {
+        (None, 1) => Ok(Rules::One),
+        (None, 2) => Ok(Rules::Two),
+        (Some(links), 3) => Ok(Rules::Linked(links)),
         _ => Err(Ending::Refused(malformed(b"check", Role::Proofs, 1))),
     }
 }
 
-// The rules of launch on capture.
-fn broadside_rules(alloc: Global, net: &Netlist) -> Result<Rules, OutOfMemory>
-    ensures rules { IfOk result (λ rules. rules ≡ broadside_rules net.now) }
-    ensures fit { IfOk result (FitRules net.now) }
+// The links that pairs keep which are launched so, if they keep any. They are of the circuit.
+fn launch_links(alloc: Global, net: &Netlist, launch: &Launch) -> Result<Option<Links>, OutOfMemory>
+    requires circuit { IsCircuit net.now }
+    requires fits { FitsLaunch net.now launch.now }
+    ensures links { IfOk result (λ links. option_map (λ kept. kept.pairs) links ≡ launch_links launch.now net.now) }
+    ensures fit { IfOk result (λ links. MatchOption links ⊤ (λ kept. AreLinksOf net.now kept.pairs)) }
 {
-    Ok(Rules::Linked(broadside_links(alloc, net)?))
+    match launch {
+        Launch::Enhanced => Ok(None),
+        Launch::Broadside => Ok(Some(broadside_links(alloc, net)?)),
+        Launch::Skewed(chains) => Ok(Some(skewed_links(alloc, chains)?)),
+    }
 }

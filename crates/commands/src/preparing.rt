@@ -8,6 +8,7 @@ ghost use Rattle.calls.specs.Preparing.{Prepares};
 ghost use Rattle.delay_annotation.specs.Annotation.{Fits, delays_of};
 ghost use Rattle.commands.specs.Inside.Judging.{FailsShort};
 ghost use Rattle.commands.specs.Gen.{CanBeWritten, GivesProductsOf, GivesShort, gen_work, generated_products, told_products};
+ghost use Rattle.commands.specs.ModeRules.{FitsLaunch};
 ghost use Rattle.good_runs.specs.GoodRun.{IsGoodRun};
 ghost use Rattle.good_runs.specs.Shortest.{IsShortestRun};
 ghost use Rattle.prefix_sensitize.specs.Walks.{IsBudget};
@@ -15,8 +16,9 @@ ghost use Rattle.netlist.specs.LinkedPairs.{FitRules};
 ghost use Rattle.netlist.specs.Lawful.{IsCircuit};
 ghost use Rattle.runs.specs.Lawful.{IsLawfulRun};
 
-use crate::inputs::{delays_from, netlist_from, require_short_texts};
+use crate::inputs::require_short_texts;
 use crate::mode_rules::searched_rules;
+use crate::run_inputs::{RunInputs, run_inputs_from};
 use calls::Ending;
 use command_line::RunCommand;
 use delay_annotation::Delays;
@@ -47,8 +49,7 @@ pub(crate) struct Generated {
     pub(crate) told: ToldRun,
 }
 
-/// Reads NET, which has to have a circuit, and DELAYS, which has to give delays to its pins; requires that the texts can't grow
-/// too long; and makes a good run and its summary. Nothing is written.
+/// Reads what a run is of; requires that the texts can't grow too long; and makes a good run and its summary. Nothing is written.
 pub(crate) fn prepare_gen<F: Files>(
     alloc: Global,
     command: &RunCommand,
@@ -59,46 +60,43 @@ pub(crate) fn prepare_gen<F: Files>(
         (files_seen F.Files files.old) (files_seen F.Files files.new) }
     ensures writable { IfOk result (λ generated. CanBeWritten generated.net generated.told.run) }
 {
-    let net = netlist_from(alloc, files, command.net)?;
-    let delays = delays_from(alloc, files, &net, command.delays)?;
-    let told = short_run(alloc, command, &net, &delays)?;
+    let inputs = run_inputs_from(alloc, files, command)?;
+    let told = short_run(alloc, command, &inputs)?;
+    let RunInputs { net, .. } = inputs;
     Ok(Generated { net, told })
 }
 
 // A good run, if its texts can't grow too long.
-fn short_run(
-    alloc: Global,
-    command: &RunCommand,
-    net: &Netlist,
-    delays: &Delays,
-) -> Result<ToldRun, Ending>
-    requires circuit { IsCircuit net.now }
-    requires fits { Fits net.now delays.now }
+fn short_run(alloc: Global, command: &RunCommand, inputs: &RunInputs) -> Result<ToldRun, Ending>
+    requires circuit { IsCircuit inputs.now.net }
+    requires fits { Fits inputs.now.net inputs.now.delays }
+    requires launch { FitsLaunch inputs.now.net inputs.now.launch }
     requires numbers { HasRunNumbers (run_call_of command.now) }
-    ensures gives { IfOk result (λ told. GivesShort (run_call_of command.now) net.now (delays_of net.now delays.now)
-        (told_products (run_call_of command.now) net.now told)) }
-    ensures lawful { IfOk result (λ told. IsLawfulRun net.now told.run) }
-    ensures fails { IfErr result (FailsShort command.now.paths net.now) }
+    ensures gives { IfOk result (λ told. GivesShort (run_call_of command.now) inputs.now.net (delays_of inputs.now.net inputs.now.delays)
+        inputs.now.launch (told_products (run_call_of command.now) inputs.now.net told)) }
+    ensures lawful { IfOk result (λ told. IsLawfulRun inputs.now.net told.run) }
+    ensures fails { IfErr result (FailsShort command.now.paths inputs.now.net) }
 {
-    require_short_texts(net, command.paths)?;
-    Ok(told_run(alloc, command, net, delays)?)
+    require_short_texts(&inputs.net, command.paths)?;
+    Ok(told_run(alloc, command, inputs)?)
 }
 
-// A good run for the paths, the budget and the mode that are asked for, with its summary.
-fn told_run(
-    alloc: Global,
-    command: &RunCommand,
-    net: &Netlist,
-    delays: &Delays,
-) -> Result<ToldRun, OutOfMemory>
-    requires circuit { IsCircuit net.now }
-    requires fits { Fits net.now delays.now }
+// A good run for the paths and the budget that are asked for, of pairs that are launched so, with its summary.
+fn told_run(alloc: Global, command: &RunCommand, inputs: &RunInputs) -> Result<ToldRun, OutOfMemory>
+    requires circuit { IsCircuit inputs.now.net }
+    requires fits { Fits inputs.now.net inputs.now.delays }
+    requires launch { FitsLaunch inputs.now.net inputs.now.launch }
     requires numbers { HasRunNumbers (run_call_of command.now) }
-    ensures gives { IfOk result (λ told. GivesProductsOf (run_call_of command.now) net.now (delays_of net.now delays.now)
-        (told_products (run_call_of command.now) net.now told)) }
-    ensures lawful { IfOk result (λ told. IsLawfulRun net.now told.run) }
+    ensures gives { IfOk result (λ told. GivesProductsOf (run_call_of command.now) inputs.now.net
+        (delays_of inputs.now.net inputs.now.delays) inputs.now.launch (told_products (run_call_of command.now) inputs.now.net told)) }
+    ensures lawful { IfOk result (λ told. IsLawfulRun inputs.now.net told.run) }
 {
-    let rules = searched_rules(alloc, net, command.mode)?;
+    let RunInputs {
+        net,
+        delays,
+        launch,
+    } = inputs;
+    let rules = searched_rules(alloc, net, launch)?;
     let run = run_of(alloc, net, delays, command.paths, command.budget, rules)?;
     let summary = summary_text(alloc, &run)?;
     Ok(ToldRun { run, summary })

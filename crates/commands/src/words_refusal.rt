@@ -16,6 +16,7 @@ pub(crate) fn words_refusal(reason: WordsRefusal) -> Refusal
         WordsRefusal::OptionAt(place) => wrong_number(b"option at ", place as u64),
         WordsRefusal::EmptyAt(place) => wrong_number(b"empty at ", place as u64),
         WordsRefusal::Count => wrong_words(b"count"),
+        WordsRefusal::Scan => wrong_words(b"scan"),
         WordsRefusal::SameAt(place, later) => same_words(place as u64, later as u64),
         WordsRefusal::Product(product) => wrong_number(b"product ", product),
         WordsRefusal::Time => wrong_words(b"value TIME"),

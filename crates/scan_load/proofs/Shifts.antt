@@ -1,13 +1,15 @@
 -- What bits that are shifted in leave, and what one shift more does to the first vector of a pair.
-use Rattle.std.proofs.Common.{◌≡◌, ◌∙◌, ◌-◌, ◌≤◌, ℕ, suc, Bool, List, [], ◌∷◌, ◌++◌, length, get_or, take, reverse, refl, sym, ap, ap₂, subst, append_assoc, append-nil, arith}
-use Rattle.std.specs.List.{AllByRecursion}
-use Rattle.std.proofs.lemmas.List.{length-append, length-map, length-reverse, length-take, reverse-append, reverse-reverse, take_all, take_at, take-take}
-use Rattle.std.proofs.lemmas.List.Elements.{recursion_from_All}
+use Rattle.std.proofs.Common.{◌≡◌, ◌≢◌, ◌∙◌, ◌+◌, ◌-◌, ◌<◌, ◌≤◌, ℕ, zero, suc, Bool, true, false, not, List, [], ◌∷◌, ◌++◌, length, get_or, take, reverse, refl, sym, ap, ap₂, subst, append_assoc, append-nil, arith}
+use Rattle.std.specs.Bool.{beq}
+use Rattle.std.specs.List.{All, AllByRecursion}
+use Rattle.std.proofs.lemmas.List.{get_or-map, get_or-reverse, length-append, length-map, length-reverse, length-take, reverse-append, reverse-reverse, take_all, take_at, take_more, take-take}
+use Rattle.std.proofs.lemmas.List.Elements.{All-push, recursion_from_All}
 use Rattle.pd_base.specs.Pair.{Vectors}
 use Rattle.pd_base.specs.declared.ids.LineId.{LineId}
 use Rattle.netlist.specs.Values.{bit_of}
 use Rattle.scan_order.specs.SkewedLinks.{links_along}
-use Rattle.scan_load.specs.Shifting.{Loads, ShiftsOn, after_shifts, chain_bits, shift}
+use Rattle.scan_order.proofs.Linked.{links_along-next}
+use Rattle.scan_load.specs.Shifting.{Loads, ShiftsOn, after_shifts, chain_bits, load_bits, shift}
 
 -- bits that are shifted in stand there in reverse, before what is left of the state
 shifted_in : (bits state : List Bool) → length bits ≤ length state → after_shifts state bits ≡ reverse bits ++ take (length state - length bits) state
@@ -72,3 +74,80 @@ pub loads_of : (pair : Vectors) (chain : List LineId) (d : LineId) (string : Lis
     → string ≡ reverse (chain_bits chain pair.first) ++ bit_of pair.second (get_or chain 0 d).0 ∷ [] → Loads chain pair string
 loads_of pair [] d string some shifts is = absurd (omega arith)
 loads_of pair (line ∷ chain) d string some shifts is = subst (Loads (line ∷ chain) pair) (sym is) (loads pair line chain shifts)
+
+-- the bit at the first line of a chain
+pub first_bit : (chain : List LineId) (d : LineId) (vector : List Bool) → 1 ≤ length chain
+    → bit_of vector (get_or chain 0 d).0 ∷ [] ≡ take 1 (chain_bits chain vector)
+first_bit [] d vector some = absurd (omega arith)
+first_bit (line ∷ chain) d vector some = refl
+
+-- the bits for a pair load it
+pub loads_by_bits : (pair : Vectors) (chain : List LineId) → 1 ≤ length chain → ShiftsOn chain pair → Loads chain pair (load_bits chain pair)
+loads_by_bits pair [] some shifts = absurd (omega arith)
+loads_by_bits pair (line ∷ chain) some shifts = loads pair line chain shifts
+
+-- ---- links along a chain, one by one
+
+length_links : (chain : List LineId) → length (links_along chain) ≡ length chain - 1
+length_links [] = refl
+length_links (line ∷ []) = refl
+length_links (line ∷ next ∷ chain) = let rest = length_links (next ∷ chain) in omega (arith, rest)
+
+link_at : (chain : List LineId) (place : ℕ) (d : LineId) → suc place < length chain
+    → get_or (links_along chain) place (d, d) ≡ (get_or chain (suc place) d, get_or chain place d)
+link_at [] place d within = absurd (omega arith)
+link_at (line ∷ []) place d within = absurd (omega arith)
+link_at (line ∷ next ∷ chain) zero d within = refl
+link_at (line ∷ next ∷ chain) (suc place) d within = link_at (next ∷ chain) place d (omega arith)
+
+module _ (chain : List LineId) (pair : Vectors) where
+  abbrev MovesOn : LineId × LineId → Type 0
+  MovesOn link = bit_of pair.second link.0.0 ≡ bit_of pair.first link.1.0
+
+  -- where the bits move on along the chain, they do so to the flip-flop at each place but the first
+  pub moved_to : (at : ℕ) (d : LineId) → 1 ≤ at → at < length chain → ShiftsOn chain pair
+      → bit_of pair.second (get_or chain at d).0 ≡ bit_of pair.first (get_or chain (at - 1) d).0
+  moved_to zero d some within shifts = absurd (omega arith)
+  moved_to (suc place) d some within shifts =
+      subst MovesOn (link_at chain place d within ∙ ap (λ (n : ℕ). (get_or chain (suc place) d, get_or chain n d)) (let same : place ≡ suc place - 1 = omega arith in same))
+      (shifts place (d, d) (omega (arith, length_links chain)))
+
+  -- one flip-flop more
+  pub one_more_moved : (at : ℕ) (d : LineId) → 1 ≤ at → at < length chain → ShiftsOn (take at chain) pair
+      → bit_of pair.second (get_or chain at d).0 ≡ bit_of pair.first (get_or chain (at - 1) d).0 → ShiftsOn (take (at + 1) chain) pair
+  one_more_moved at d some within shifts moved =
+      subst (All MovesOn) (sym (links_along-next at chain d some within))
+      (All-push MovesOn (links_along (take at chain)) (get_or chain at d, get_or chain (at - 1) d) shifts moved)
+
+-- two bits that are told apart, or not
+pub bits_differ : (a b : Bool) → not (beq a b) ≡ true → a ≢ b
+bits_differ false false told same = cc
+bits_differ false true told same = cc
+bits_differ true false told same = cc
+bits_differ true true told same = cc
+
+pub bits_agree : (a b : Bool) → not (beq a b) ≡ false → a ≡ b
+bits_agree false false told = refl
+bits_agree false true told = cc
+bits_agree true false told = cc
+bits_agree true true told = refl
+
+-- one bit more of those from the last line of a chain on
+pub one_more_bit : (chain : List LineId) (vector string : List Bool) (at : ℕ) (d : LineId) → at < length chain
+    → string ≡ take at (reverse (chain_bits chain vector))
+    → string ++ bit_of vector (get_or chain (length chain - 1 - at) d).0 ∷ [] ≡ take (at + 1) (reverse (chain_bits chain vector))
+one_more_bit chain vector string at d within is =
+    let bits : List Bool = chain_bits chain vector in
+    let long : length bits ≡ length chain = length-map chain (λ line. bit_of vector line.0) in
+    let there : get_or (reverse bits) at false ≡ bit_of vector (get_or chain (length chain - 1 - at) d).0 =
+    get_or-reverse bits at false (omega (arith, long)) ∙ ap (λ (n : ℕ). get_or bits (n - 1 - at) false) long
+    ∙ get_or-map (λ (line : LineId). bit_of vector line.0) chain (length chain - 1 - at) d false (omega arith) in
+    ap₂ (λ (front : List Bool) (bit : Bool). front ++ bit ∷ []) is (sym there)
+    ∙ sym (take_more (reverse bits) at false (omega (arith, length-reverse bits, long)))
+
+-- all of them
+pub all_bits : (chain : List LineId) (vector string : List Bool) (at : ℕ) → length chain ≤ at → string ≡ take at (reverse (chain_bits chain vector))
+    → string ≡ reverse (chain_bits chain vector)
+all_bits chain vector string at past is =
+    is ∙ take_all at (reverse (chain_bits chain vector))
+    (omega (arith, past, length-reverse (chain_bits chain vector), length-map chain (λ (line : LineId). bit_of vector line.0)))

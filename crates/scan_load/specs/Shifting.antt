@@ -1,5 +1,5 @@
 -- Bits that are shifted into a scan chain (scan design).
-use Rattle.std.specs.Prelude.{◌≡◌, ◌+◌, ◌-◌, Bool, List, ◌∷◌, length, take, map, fold, All}
+use Rattle.std.specs.Prelude.{◌≡◌, ◌+◌, ◌-◌, Bool, List, ◌∷◌, ◌++◌, length, take, reverse, map, fold, All}
 use Rattle.pd_base.specs.Pair.{Vectors}
 use Rattle.pd_base.specs.declared.ids.LineId.{LineId}
 use Rattle.netlist.specs.Values.{bit_of}
@@ -28,3 +28,8 @@ pub record Loads (chain : List LineId) (pair : Vectors) (string : List Bool) : T
   pub first : (state : List Bool) → length state ≡ length chain
       → after_shifts state (take (length chain) string) ≡ chain_bits chain pair.first
   pub second : (state : List Bool) → length state ≡ length chain → after_shifts state string ≡ chain_bits chain pair.second
+
+-- the bits that are shifted in for a pair: the first vector's at the flip-flops of the chain, the last flip-flop's first, and then the second
+-- vector's at the first flip-flop
+abbrev pub load_bits : List LineId → Vectors → List Bool
+load_bits chain pair = reverse (chain_bits chain pair.first) ++ take 1 (chain_bits chain pair.second)

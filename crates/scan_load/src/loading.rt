@@ -1,6 +1,6 @@
 // The load string of a chain for a pair. What it does in the chain is said in specs/Shifting.antt.
 ghost use Rattle.std.specs.Prelude.{◌≡◌, ◌≢◌, ◌<◌, ◌≤◌, length, All, AllPairs, IfOk};
-ghost use Rattle.scan_load.specs.Shifting.{Loads, ShiftsOn, chain_bits};
+ghost use Rattle.scan_load.specs.Shifting.{Loads, ShiftsOn, load_bits};
 
 use pd_base::{LineId, OutOfMemory, Pair};
 use std::alloc::Global;
@@ -13,24 +13,16 @@ pub fn load_string(alloc: Global, chain: &[LineId], pair: &Pair) -> Result<Vec<b
     requires once { AllPairs (λ a b. a ≢ b) chain.now }
     requires in_range { All (λ line. line.0 < length pair.now.first) chain.now }
     requires shifts_on { ShiftsOn chain.now pair.now }
-    ensures { IfOk result (λ string. Loads chain.now pair.now string.items) }
+    ensures loads { IfOk result (λ string. Loads chain.now pair.now string.items) }
+    ensures bits { IfOk result (λ string. string.items ≡ load_bits chain.now pair.now) }
 {
     let first = pair.first();
     let second = pair.second();
-    let mut string = bits_along(alloc, chain, first)?;
-    string.reverse();
+    // One request for memory a chain, since there may be as many chains as flip-flops.
+    let mut string = Vec::with_capacity(alloc, chain.len() + 1)?;
+    for at in 0..chain.len() {
+        string.push(first[chain[chain.len() - 1 - at].0 as usize])?;
+    }
     string.push(second[chain[0].0 as usize])?;
     Ok(string)
-}
-
-// The bits that a vector has at the lines of a chain, in order.
-fn bits_along(alloc: Global, chain: &[LineId], vector: &[bool]) -> Result<Vec<bool>, OutOfMemory>
-    requires { All (λ line. line.0 < length vector.now) chain.now }
-    ensures { IfOk result (λ bits. bits.items ≡ chain_bits chain.now vector.now) }
-{
-    let bits = chain
-        .iter()
-        .map(|line| vector[line.0 as usize])
-        .collect(alloc)?;
-    Ok(bits)
 }

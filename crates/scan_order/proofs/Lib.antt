@@ -5,5 +5,7 @@ mod ChainLines
 mod Passing
 mod Refused
 mod Taken
-mod Linked
+pub mod Linked
 mod ReadSoFar
+pub mod CircuitChains
+pub mod ScanLaws

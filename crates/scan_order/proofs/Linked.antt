@@ -111,18 +111,20 @@ apart_tails [] apart = tt
 apart_tails ([] ∷ chains) apart = apart_tails chains apart
 apart_tails ((flop ∷ chain) ∷ chains) apart = apart_behind chain chains (apart_tails chains) apart.1
 
--- the links of a circuit's chains are of the circuit
+-- the links of a circuit's chains are of flip-flops
+pub links_of_flops : (c : Circuit) (chains : List (List LineId)) → AreChainsOf c chains
+    → All (λ link. IsFlop c link.0 × IsFlop c link.1) (links_of_chains chains)
+links_of_flops c chains are =
+    All-from_recursion (λ (link : LineId × LineId). IsFlop c link.0 × IsFlop c link.1) (links_of_chains chains)
+    (all_links (IsFlop c) chains (in_each (IsFlop c) chains (recursion_from_All (IsFlop c) (in_chains chains) are.flops)))
+
+-- they are links of the circuit
 pub links_of_circuit : (c : Circuit) → IsCircuit c → (chains : List (List LineId)) → AreChainsOf c chains → AreLinksOf c (links_of_chains chains)
 links_of_circuit c is chains are = record {
   sources = All-weaker (λ (link : LineId × LineId). IsFlop c link.0 × IsFlop c link.1) (λ link. link.0.0 < source_count c)
-      (λ link both. (flop_is_late c is link.0 both.0).1) (links_of_chains chains) flops;
+      (λ link both. (flop_is_late c is link.0 both.0).1) (links_of_chains chains) (links_of_flops c chains are);
   lines = All-weaker (λ (link : LineId × LineId). IsFlop c link.0 × IsFlop c link.1) (λ link. link.1.0 < line_count c)
-      (λ link both. flop_in_circuit c is link.1 both.1) (links_of_chains chains) flops;
+      (λ link both. flop_in_circuit c is link.1 both.1) (links_of_chains chains) (links_of_flops c chains are);
   once = pairs_from_apart (links_of_chains chains)
       (subst AreApart (sym (heads_of_chains chains)) (apart_tails chains (apart_from_pairs (in_chains chains) are.are.once)));
 }
-  where
-    flops : All (λ link. IsFlop c link.0 × IsFlop c link.1) (links_of_chains chains)
-    flops =
-        All-from_recursion (λ (link : LineId × LineId). IsFlop c link.0 × IsFlop c link.1) (links_of_chains chains)
-        (all_links (IsFlop c) chains (in_each (IsFlop c) chains (recursion_from_All (IsFlop c) (in_chains chains) are.flops)))

@@ -13,9 +13,9 @@ use Rattle.scan_order.specs.ScanFile.{scan_lines, scan_text, text_of_lines}
 use Rattle.scan_order.specs.ScanRefusals.{FailsAs, HavePassed, IsMissingFlop, RefusesScan}
 use Rattle.scan_order.specs.ScanRefusals.FailsAs.{missing as fails_missing, twice as fails_twice, unknown as fails_unknown}
 use Rattle.scan_order.specs.ScanRefusals.RefusesScan.{fails, no_memory}
-use Rattle.scan_order.specs.Inside.Growing.{FailsToEnd, FailsToTake, IsFirstOutside, IsGrowing, TakesLine, chains_so_far, lines_so_far}
+use Rattle.scan_order.specs.Inside.Growing.{FailsToEnd, FailsToTakeLine, IsFirstOutside, HoldsChainsSoFar, TakesLine, chains_so_far, lines_so_far}
 use Rattle.scan_order.specs.Inside.Growing.FailsToEnd.{missing, no_memory as no_memory_to_end}
-use Rattle.scan_order.specs.Inside.Growing.FailsToTake.{twice, unknown, no_memory as no_memory_to_take}
+use Rattle.scan_order.specs.Inside.Growing.FailsToTakeLine.{twice, unknown, no_memory as no_memory_to_take}
 use Rattle.scan_order.specs.declared.growing.Growing.{Growing}
 use Rattle.scan_order.specs.declared.scan_fault.ScanFault.{ScanFault}
 use Rattle.scan_order.specs.declared.scan_fault.ScanFault.TheVariants as fault
@@ -27,13 +27,13 @@ use Rattle.scan_order.proofs.Refused.{chains_read, no_chains_read}
 module _ (c : Circuit) (text : List ℕ) where
   -- the lines before the one of this number, which the rest begins with, are those of the chains so far
   pub record IsReadTo (growing : Growing) (number : ℕ) (rest : List ℕ) : Type 0 where
-    pub grown : IsGrowing c growing
+    pub grown : HoldsChainsSoFar c growing
     pub whole : text ≡ text_of_lines (lines_so_far c growing) ++ rest
     pub count : number ≡ length (lines_so_far c growing) + 1
     pub short : number + length rest ≤ length text + 1
     pub goes_on : growing.chain.items ≡ [] → (growing.ended.items ≡ []) ⊎ (rest ≢ [])
 
-  pub none_read : (growing : Growing) → IsGrowing c growing → chains_so_far growing ≡ [] ∷ [] → IsReadTo growing 1 text
+  pub none_read : (growing : Growing) → HoldsChainsSoFar c growing → chains_so_far growing ≡ [] ∷ [] → IsReadTo growing 1 text
   none_read growing grown none = record {
     grown = grown;
     whole = ap (λ (chains : List (List LineId)). text_of_lines (scan_lines c chains) ++ text) (sym none);
@@ -46,7 +46,7 @@ module _ (c : Circuit) (text : List ℕ) where
   line_is_long [] behind = omega arith
   line_is_long (byte ∷ said) behind = omega (arith, line_is_long said behind)
 
-  pub one_read : (old new : Growing) (number : ℕ) (rest behind : List ℕ) → IsReadTo old number rest → IsGrowing c new → TakesLine c rest old new behind
+  pub one_read : (old new : Growing) (number : ℕ) (rest behind : List ℕ) → IsReadTo old number rest → HoldsChainsSoFar c new → TakesLine c rest old new behind
       → IsReadTo new (number + 1) behind
   one_read old new number rest behind read grown takes = record {
     grown = grown;
@@ -66,11 +66,11 @@ module _ (c : Circuit) (text : List ℕ) where
       (recursion_from_All (λ (chain : List LineId). 1 ≤ length chain) growing.ended.items read.grown.some)
       (flops_in_each c is chains read.grown.flops read.grown.once) read.goes_on) read.whole
 
-  refused : (growing : Growing) → IsGrowing c growing → (why : ScanFault) → FailsAs c text why → RefusesScan c text why
+  refused : (growing : Growing) → HoldsChainsSoFar c growing → (why : ScanFault) → FailsAs c text why → RefusesScan c text why
   refused growing grown why failure = fails failure (no_chains_read c grown.circuit text why failure)
 
   -- a line that is not taken
-  pub not_taken : (growing : Growing) (number : ℕ) (rest : List ℕ) → IsReadTo growing number rest → (why : ScanFault) → FailsToTake c number rest growing why
+  pub not_taken : (growing : Growing) (number : ℕ) (rest : List ℕ) → IsReadTo growing number rest → (why : ScanFault) → FailsToTakeLine c number rest growing why
       → RefusesScan c text why
   not_taken growing number rest read why (unknown bad) =
       refused growing read.grown (fault.Unknown number)
@@ -100,7 +100,7 @@ module _ (c : Circuit) (text : List ℕ) where
 
 -- ---- how chains end
 
-module _ (c : Circuit) (growing : Growing) (grown : IsGrowing c growing) where
+module _ (c : Circuit) (growing : Growing) (grown : HoldsChainsSoFar c growing) where
   -- a flip-flop outside the chains is on none of their lines
   pub outside_missing : (flop : LineId) → IsFirstOutside (in_chains (chains_so_far growing)) (flop_lines c) flop → IsMissingFlop c (lines_so_far c growing) flop
   outside_missing flop is = record {

@@ -18,7 +18,7 @@ use Rattle.scan_order.specs.Chains.{IsFlop, in_chains}
 use Rattle.scan_order.specs.ScanFile.{scan_lines}
 use Rattle.scan_order.specs.ScanRefusals.{IsMisplaced, IsRepeatedLine, IsUnknownLine}
 use Rattle.scan_order.specs.ScanRefusals.IsMisplaced.{first, behind_empty, last}
-use Rattle.scan_order.specs.Inside.Growing.{IsGrowing, MarksPlaced, TakesLine, chains_so_far, lines_so_far}
+use Rattle.scan_order.specs.Inside.Growing.{HoldsChainsSoFar, MarksPlaced, TakesLine, chains_so_far, lines_so_far}
 use Rattle.scan_order.specs.declared.growing.Growing.{Growing}
 use Rattle.scan_order.proofs.FlopNames.{flop_is_late, name_is_one_line, name_is_some}
 use Rattle.scan_order.proofs.ChainLines.{in_lines, inside-part, inside-place, lines-begin, lines-part, lines-place}
@@ -39,7 +39,7 @@ module _ (c : Circuit) (chains : List (List LineId)) (growing : Growing) (marks 
 module _ (c : Circuit) (is : IsCircuit c) where
   -- ---- a chain ends
 
-  module _ (old new : Growing) (growing : IsGrowing c old) (some : 1 ≤ length old.chain.items)
+  module _ (old new : Growing) (growing : HoldsChainsSoFar c old) (some : 1 ≤ length old.chain.items)
       (ended : new.ended.items ≡ old.ended.items ++ old.chain.items ∷ []) (chain : new.chain.items ≡ []) (placed : new.placed.items ≡ old.placed.items) where
     parted : chains_so_far new ≡ chains_so_far old ++ [] ∷ []
     parted = ap₂ (λ (chains : List (List LineId)) (one : List LineId). chains ++ one ∷ []) ended chain
@@ -47,7 +47,7 @@ module _ (c : Circuit) (is : IsCircuit c) where
     same_inside : in_chains (chains_so_far old) ≡ in_chains (chains_so_far new)
     same_inside = sym (ap in_chains parted ∙ inside-part (chains_so_far old))
 
-    pub growing_parted : IsGrowing c new
+    pub growing_parted : HoldsChainsSoFar c new
     growing_parted = record {
       circuit = is;
       some = subst (All (λ (one : List LineId). 1 ≤ length one)) (sym ended) (All-push (λ (one : List LineId). 1 ≤ length one) old.ended.items old.chain.items growing.some some);
@@ -73,7 +73,7 @@ module _ (c : Circuit) (is : IsCircuit c) where
 
   -- ---- a flip-flop is placed
 
-  module _ (old new : Growing) (growing : IsGrowing c old) (flop : LineId) (is_flop : IsFlop c flop) (unplaced : ¬ Contains (in_chains (chains_so_far old)) flop)
+  module _ (old new : Growing) (growing : HoldsChainsSoFar c old) (flop : LineId) (is_flop : IsFlop c flop) (unplaced : ¬ Contains (in_chains (chains_so_far old)) flop)
       (ended : new.ended.items ≡ old.ended.items) (chain : new.chain.items ≡ old.chain.items ++ flop ∷ [])
       (placed : new.placed.items ≡ set old.placed.items flop.0 true) where
     so_far : chains_so_far new ≡ old.ended.items ++ (old.chain.items ++ flop ∷ []) ∷ []
@@ -105,7 +105,7 @@ module _ (c : Circuit) (is : IsCircuit c) where
                   (Contains-push_cases inside flop (record { 0 = source }) h))),
             )
 
-    pub growing_placed : IsGrowing c new
+    pub growing_placed : HoldsChainsSoFar c new
     growing_placed = record {
       circuit = is;
       some = subst (All (λ (one : List LineId). 1 ≤ length one)) (sym ended) growing.some;

@@ -1,8 +1,8 @@
 -- Why a text is refused as a scan file: at the first line that fails, or else for the first flip-flop that stands nowhere (this project's
 -- own format).
-use Rattle.std.specs.Prelude.{◌≡◌, ◌≢◌, ℕ, ◌+◌, List, [], ◌∷◌, ◌++◌, length, All, Contains, None}
+use Rattle.std.specs.Prelude.{◌≡◌, ◌≢◌, ⊤, ℕ, ◌+◌, ◌<◌, List, [], ◌∷◌, ◌++◌, length, All, Contains, None}
 use Rattle.pd_base.specs.declared.ids.LineId.{LineId}
-use Rattle.netlist.specs.Circuit.{Circuit}
+use Rattle.netlist.specs.Circuit.{Circuit, line_count}
 use Rattle.netlist.specs.Names.{name_at}
 use Rattle.text_pieces.specs.Cuts.{Lacks}
 use Rattle.text_pieces.specs.Reads.{Reads}
@@ -70,3 +70,8 @@ pub data FailsAs (c : Circuit) (text : List ℕ) : ScanFault → Type 0 where
 pub data RefusesScan (c : Circuit) (text : List ℕ) (why : ScanFault) : Type 0 where
   fails : FailsAs c text why → Reads (scan_text c) (AreChainsOf c) text None → RefusesScan c text why
   no_memory : why ≡ fault.NoMemory → RefusesScan c text why
+
+-- a fault names a line of the circuit, if it names a flip-flop
+abbrev pub NamesFlop : Circuit → ScanFault → Type 0
+NamesFlop c (fault.Missing flop) = flop.0 < line_count c
+NamesFlop c why = ⊤

@@ -21,12 +21,12 @@ pub(crate) struct Growing {
 }
 
 impl Growing {
-    ghost use Rattle.scan_order.specs.Inside.Growing.{FailsToEnd, FailsToTake, IsFirstOutside, IsGrowing, TakesLine, chains_so_far, lines_so_far};
+    ghost use Rattle.scan_order.specs.Inside.Growing.{FailsToEnd, FailsToTakeLine, IsFirstOutside, HoldsChainsSoFar, TakesLine, chains_so_far, lines_so_far};
 
     // No flip-flop stands in a chain yet.
     pub(crate) fn new(alloc: Global, net: &Netlist) -> Result<Growing, OutOfMemory>
         ensures none { IfOk result (λ growing. chains_so_far growing ≡ [] ∷ []) }
-        ensures growing { IfOk result (IsGrowing net.now) }
+        ensures growing { IfOk result (HoldsChainsSoFar net.now) }
     {
         Ok(Growing {
             ended: Vec::new(alloc),
@@ -43,11 +43,11 @@ impl Growing {
         number: u32,
         text: &'a [u8],
     ) -> Result<&'a [u8], ScanFault>
-        requires growing { IsGrowing net.now self.old }
+        requires growing { HoldsChainsSoFar net.now self.old }
         requires goes_on { text.now ≢ [] }
-        ensures growing { OnOk result (IsGrowing net.now self.new) }
+        ensures growing { OnOk result (HoldsChainsSoFar net.now self.new) }
         ensures takes { IfOk result (λ behind. TakesLine net.now text.now self.old self.new behind.now) }
-        ensures fails { IfErr result (FailsToTake net.now number text.now self.old) }
+        ensures fails { IfErr result (FailsToTakeLine net.now number text.now self.old) }
     {
         let Some((said, behind)) = split_line(text) else {
             return Err(ScanFault::Unknown(number));
@@ -94,7 +94,7 @@ impl Growing {
 
     // The chains, where all flip-flops stand in them; else the first one that does not is missing.
     pub(crate) fn into_chains(self, net: &Netlist) -> Result<Chains, ScanFault>
-        requires growing { IsGrowing net.now self }
+        requires growing { HoldsChainsSoFar net.now self }
         requires ended { self.chain.items ≡ [] → self.ended.items ≡ [] }
         ensures chains { IfOk result (AreChainsOf net.now) }
         ensures lines { IfOk result (λ chains. scan_lines net.now chains ≡ lines_so_far net.now self) }
@@ -116,7 +116,7 @@ impl Growing {
 
     // The first flip-flop of the circuit that stands in no chain.
     fn first_missing(&self, net: &Netlist) -> Option<LineId>
-        requires { IsGrowing net.now self.now }
+        requires { HoldsChainsSoFar net.now self.now }
         ensures { MatchOption result (All (Contains (in_chains (chains_so_far self.now))) (flop_lines net.now))
             (IsFirstOutside (in_chains (chains_so_far self.now)) (flop_lines net.now)) }
     {

@@ -4,7 +4,7 @@ ghost use Rattle.pd_base.specs.declared.limits.TheConstants.{MOST_BYTES};
 ghost use Rattle.text_pieces.specs.Reads.{Reads};
 ghost use Rattle.scan_order.specs.Chains.{AreChainsOf};
 ghost use Rattle.scan_order.specs.ScanFile.{scan_text};
-ghost use Rattle.scan_order.specs.ScanRefusals.{RefusesScan};
+ghost use Rattle.scan_order.specs.ScanRefusals.{NamesFlop, RefusesScan};
 
 use crate::growing::Growing;
 use crate::{Chains, ScanFault};
@@ -18,6 +18,7 @@ pub fn read_scan(alloc: Global, net: &Netlist, bytes: &[u8]) -> Result<Chains, S
     requires { length bytes.now ≤ MOST_BYTES }
     ensures chains { IfOk result (λ chains. Reads (scan_text net.now) (AreChainsOf net.now) bytes.now (Some chains)) }
     ensures refused { IfErr result (RefusesScan net.now bytes.now) }
+    ensures named { IfErr result (NamesFlop net.now) }
 {
     let mut growing = Growing::new(alloc, net)?;
     let mut rest = bytes;

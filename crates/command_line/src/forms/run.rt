@@ -1,12 +1,13 @@
-// The words of `gen` and of `check`: the names of five files, and as options how many paths, how many splits, and the mode.
+// The words of `gen` and of `check`: the names of five files, and as options how many paths, how many splits, and the mode, with a scan
+// file where it needs one.
 ghost use Rattle.std.specs.Prelude.{◌≡◌, ◌*◌, ℕ, List, ◌∷◌, Ok, IfOk, IfErr, length, option_map, refl};
 ghost use Rattle.command_line.specs.Commands.{bytes_of_words};
-ghost use Rattle.command_line.specs.RunForm.{HasRunNumbers, asked_run, number_of, product_reason, run_call, run_call_of, run_form};
+ghost use Rattle.command_line.specs.RunForm.{HasRunNumbers, asked_run, number_of, product_reason, run_call, run_call_of, run_form, scan_reason};
 ghost use Rattle.command_line.specs.Scan.{texts_given};
 ghost use Rattle.command_line.specs.Taken.{IsFaultOf, given_of, texts_parsed};
 
 use crate::form::{CommandForm, WordsForm};
-use crate::mode::mode_of;
+use crate::mode::{is_skewed, mode_of};
 use crate::number::{MOST_DIGITS, number};
 use crate::parsing::Parsed;
 use crate::reading::accepted_words;
@@ -35,7 +36,7 @@ pub struct RunCommand<'a> {
     /// How many splits each search may make.
     pub budget: u32,
     /// The mode, whose pairs alone are looked for and excluded.
-    pub mode: Mode,
+    pub mode: Mode<'a>,
 }
 
 // The form of these words.
@@ -46,14 +47,21 @@ impl CommandForm for RunForm {
 
     fn words() -> WordsForm {
         WordsForm {
-            options: &[OptionName::Paths, OptionName::Budget, OptionName::Mode],
+            options: &[
+                OptionName::Paths,
+                OptionName::Budget,
+                OptionName::Mode,
+                OptionName::Scan,
+            ],
             positional: 5,
             files: 5,
         }
     }
 
-    fn before_names(_taken: &Taken) -> Option<WordsRefusal> {
-        None
+    fn before_names(taken: &Taken) -> Option<WordsRefusal> {
+        let mode = taken.value_asked(OptionName::Mode);
+        let scan = taken.value_asked(OptionName::Scan);
+        scan_reason(is_skewed(mode), scan.is_some())
     }
 
     fn after_names(taken: &Taken) -> Option<WordsRefusal> {
@@ -94,7 +102,10 @@ fn run_command<'a>(parsed: &Parsed<'a>) -> RunCommand<'a>
         proofs: names[4],
         paths: number_of(parsed.value_asked(OptionName::Paths)),
         budget: number_of(parsed.value_asked(OptionName::Budget)),
-        mode: mode_of(parsed.value_asked(OptionName::Mode)),
+        mode: mode_of(
+            parsed.value_asked(OptionName::Mode),
+            parsed.value_asked(OptionName::Scan),
+        ),
     }
 }
 
@@ -105,6 +116,16 @@ fn number_of(value: Option<&str>) -> u32
     match value {
         Some(text) => number(text, MOST_DIGITS).unwrap_or(0),
         None => 0,
+    }
+}
+
+// Why words are refused that name a skewed load, or name none, and that give a scan file, or give none, if they are.
+fn scan_reason(is_skewed: bool, has_scan: bool) -> Option<WordsRefusal>
+    ensures { result ≡ scan_reason is_skewed has_scan }
+{
+    match (is_skewed, has_scan) {
+        (true, true) | (false, false) => None,
+        _ => Some(WordsRefusal::Scan),
     }
 }
 

@@ -10,14 +10,17 @@ use Rattle.bench_reader.specs.Circuits.{HasCircuit}
 use Rattle.delay_annotation.specs.DelayFile.{HasDelays, HasRiseFall}
 use Rattle.delay_annotation.specs.declared.setting.Columns.{Columns}
 use Rattle.delay_annotation.specs.declared.setting.Columns.TheVariants as columns
+use Rattle.pd_base.specs.declared.ids.LineId.{LineId}
+use Rattle.scan_order.specs.ScanFile.{HasChains}
+use Rattle.scan_order.specs.declared.scan_fault.ScanFault.{ScanFault}
 use Rattle.calls.specs.declared.ending.Ending.{Ending}
 use Rattle.calls.specs.declared.ending.Ending.TheVariants.{Refused, NoMemory}
 use Rattle.calls.specs.declared.refusal.Refusal.{Refusal}
 use Rattle.calls.specs.declared.role.Role.{Role}
 use Rattle.calls.specs.declared.role.Role.TheVariants as role
 use Rattle.calls.specs.Inputs.{FailsToRead, ReadsInput}
-use Rattle.commands.specs.InputRefusals.{too_long}
-use Rattle.commands.specs.InputRequirements.{LacksCircuit, HasNoDelaysFor, LacksForm, limit_of}
+use Rattle.commands.specs.InputRefusals.{scan_ending, too_long}
+use Rattle.commands.specs.InputRequirements.{LacksCircuit, HasNoChainsFor, HasNoDelaysFor, LacksForm, limit_of}
 use Rattle.commands.specs.SpelledRuns.{IsMalformedProofs, IsMalformedReport}
 use Rattle.commands.specs.SpelledTests.{IsMalformedTests, SpellsTests}
 
@@ -45,6 +48,15 @@ FailsNet net ending = FailsFor (LacksCircuit net) ending
 -- there are no delays in these columns
 abbrev pub FailsDelays : Columns → Circuit → List ℕ → Ending → Type 0
 FailsDelays columns c delays ending = FailsFor (HasNoDelaysFor c columns delays) ending
+
+-- there are no chains
+abbrev pub FailsChains : Circuit → List ℕ → Ending → Type 0
+FailsChains c scan ending = FailsFor (HasNoChainsFor c scan) ending
+
+-- a call ends so for a fault of SCAN; memory may run out while it is told, too
+pub data EndsForScan (c : Circuit) (fault : ScanFault) (ending : Ending) : Type 0 where
+  scan_told : ending ≡ scan_ending c fault → EndsForScan c fault ending
+  scan_untold : ending ≡ NoMemory → EndsForScan c fault ending
 
 -- there are no tests, as the command of this word says
 abbrev pub FailsTests : List ℕ → Circuit → List ℕ → Ending → Type 0
@@ -98,6 +110,14 @@ FailsToGiveDelays name c ending old new = FailsToGive columns.Delay name c endin
 -- nor a rise and a fall delay
 abbrev pub FailsToGiveRiseFall : List ℕ → Circuit → Ending → FilesSeen → FilesSeen → Type 0
 FailsToGiveRiseFall name c ending old new = FailsToGive columns.RiseAndFall name c ending old new
+
+-- SCAN was read, and its text has these chains of the circuit
+abbrev pub GivesChains : List ℕ → Circuit → List (List LineId) → FilesSeen → FilesSeen → Type 0
+GivesChains name c chains old new = GivesFrom role.Scan name (λ text. HasChains c text chains) old new
+
+-- SCAN gives none of it
+abbrev pub FailsToGiveChains : List ℕ → Circuit → Ending → FilesSeen → FilesSeen → Type 0
+FailsToGiveChains name c ending old new = FailsFrom role.Scan name (FailsChains c) ending old new
 
 -- TESTS was read, and its text spells these tests of the circuit
 abbrev pub GivesTests : List ℕ → Circuit → List Test → FilesSeen → FilesSeen → Type 0

@@ -9,14 +9,14 @@ ghost use Rattle.delay_annotation.specs.Annotation.{Fits, delays_of};
 ghost use Rattle.netlist.specs.Lawful.{IsCircuit};
 ghost use Rattle.commands.specs.Check.{check_work, good_products};
 ghost use Rattle.commands.specs.Inside.Checking.{JudgesClaims};
+ghost use Rattle.commands.specs.ModeRules.{FitsLaunch};
 
 use crate::check::judging::judge_run;
 use crate::check::spelling::run_from;
-use crate::inputs::{delays_from, netlist_from, require_short_texts};
+use crate::inputs::require_short_texts;
+use crate::run_inputs::{RunInputs, run_inputs_from};
 use calls::{Ending, print};
 use command_line::RunCommand;
-use delay_annotation::Delays;
-use netlist::Netlist;
 use pd_io::{Files, Sink};
 use std::alloc::Global;
 
@@ -37,32 +37,36 @@ pub(crate) fn check<F: Files, O: Sink>(
     }
 }
 
-// Reads and judges the five files.
+// Reads and judges all files.
 fn judge_files<F: Files>(alloc: Global, command: &RunCommand, files: &mut F) -> Result<(), Ending>
     requires { HasRunNumbers (run_call_of command.now) }
     ensures { Prepares (λ (done : ⊤). good_products) (check_work (run_call_of command.now)) result
         (files_seen F.Files files.old) (files_seen F.Files files.new) }
 {
-    let net = netlist_from(alloc, files, command.net)?;
-    let delays = delays_from(alloc, files, &net, command.delays)?;
-    judge_claims(alloc, command, &net, &delays, files)
+    let inputs = run_inputs_from(alloc, files, command)?;
+    judge_claims(alloc, command, &inputs, files)
 }
 
-// Requires that texts for so many paths are short, reads the other three files, and judges the run that they spell.
+// Requires that texts for so many paths are short, reads the three claim files, and judges the run that they spell.
 fn judge_claims<F: Files>(
     alloc: Global,
     command: &RunCommand,
-    net: &Netlist,
-    delays: &Delays,
+    inputs: &RunInputs,
     files: &mut F,
 ) -> Result<(), Ending>
-    requires circuit { IsCircuit net.now }
-    requires fits { Fits net.now delays.now }
+    requires circuit { IsCircuit inputs.now.net }
+    requires fits { Fits inputs.now.net inputs.now.delays }
+    requires launch { FitsLaunch inputs.now.net inputs.now.launch }
     requires numbers { HasRunNumbers (run_call_of command.now) }
-    ensures { JudgesClaims (run_call_of command.now) net.now (delays_of net.now delays.now) result
+    ensures { JudgesClaims (run_call_of command.now) inputs.now.net (delays_of inputs.now.net inputs.now.delays) inputs.now.launch result
         (files_seen F.Files files.old) (files_seen F.Files files.new) }
 {
+    let RunInputs {
+        net,
+        delays,
+        launch,
+    } = inputs;
     require_short_texts(net, command.paths)?;
-    let run = run_from(alloc, command, net, files)?;
+    let run = run_from(alloc, command, net, launch, files)?;
     judge_run(alloc, command, net, delays, &run)
 }

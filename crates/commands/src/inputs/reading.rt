@@ -10,7 +10,7 @@ use pd_base::MOST_BYTES;
 use pd_io::Files;
 use std::alloc::Global;
 
-/// How many bytes NET, DELAYS and LOG may have.
+/// How many bytes NET, DELAYS, SCAN and LOG may have.
 pub const INPUT_LIMIT: usize = 33_554_432;
 
 /// The bytes of the input of this role. One over its limit is refused, and a failed read ends the call.
@@ -36,7 +36,7 @@ fn limit_of(role: Role) -> usize
     ensures { result ≡ limit_of role }
 {
     match role {
-        Role::Net | Role::Delays | Role::Log | Role::Out => INPUT_LIMIT,
+        Role::Net | Role::Delays | Role::Scan | Role::Log | Role::Out => INPUT_LIMIT,
         Role::Tests | Role::Report | Role::Proofs => MOST_BYTES,
     }
 }

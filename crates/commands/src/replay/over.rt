@@ -1,8 +1,9 @@
 // Tests whose lines change too often, under whichever delay model: the fault of a text, and how the call ends for it.
-ghost use Rattle.std.specs.Prelude.{◌≡◌, IfOk};
+ghost use Rattle.std.specs.Prelude.{◌≡◌};
 ghost use Rattle.commands.specs.Inside.ReplayEndings.{EndsForFault, NamesLine};
 ghost use Rattle.commands.specs.TestChanges.{changes_too_often, replay_text_fault};
 
+use crate::copied::copied;
 use calls::{Cause, Ending, Part, Refusal};
 use delay_replay::ReplayFault;
 use netlist::Netlist;
@@ -65,11 +66,4 @@ fn changes_too_often(number: u32, name: Items<u8>) -> Refusal
         ],
         name,
     )
-}
-
-// A copy of a name.
-fn copied(alloc: Global, name: &[u8]) -> Result<Items<u8>, OutOfMemory>
-    ensures { IfOk result (λ copy. copy ≡ name.now) }
-{
-    Ok(Items::new(Vec::from_slice(alloc, name)?))
 }

@@ -22,7 +22,7 @@ pub record MarksPlaced (c : Circuit) (chains : List (List LineId)) (growing : Gr
       → IsTrue (slice_index_or growing.placed.items source false) ↔ Contains (in_chains chains) (record { 0 = source })
 
 -- the chains so far are of flip-flops of the circuit, each once; only the last may be empty
-pub record IsGrowing (c : Circuit) (growing : Growing) : Type 0 where
+pub record HoldsChainsSoFar (c : Circuit) (growing : Growing) : Type 0 where
   pub circuit : IsCircuit c
   pub some : All (λ chain. 1 ≤ length chain) growing.ended.items
   pub flops : All (IsFlop c) (in_chains (chains_so_far growing))
@@ -41,10 +41,10 @@ pub record TakesLine (c : Circuit) (text : List ℕ) (old new : Growing) (behind
   pub goes_on : new.chain.items ≡ [] → behind ≢ []
 
 -- why the line of this number, the first of the text, is not taken
-pub data FailsToTake (c : Circuit) (number : ℕ) (text : List ℕ) (old : Growing) : ScanFault → Type 0 where
-  unknown : IsUnknownLine c (lines_so_far c old) text → FailsToTake c number text old (fault.Unknown number)
-  twice : IsRepeatedLine c (lines_so_far c old) text → FailsToTake c number text old (fault.Twice number)
-  no_memory : FailsToTake c number text old fault.NoMemory
+pub data FailsToTakeLine (c : Circuit) (number : ℕ) (text : List ℕ) (old : Growing) : ScanFault → Type 0 where
+  unknown : IsUnknownLine c (lines_so_far c old) text → FailsToTakeLine c number text old (fault.Unknown number)
+  twice : IsRepeatedLine c (lines_so_far c old) text → FailsToTakeLine c number text old (fault.Twice number)
+  no_memory : FailsToTakeLine c number text old fault.NoMemory
 
 -- this is the first of the lines that is not inside
 pub record IsFirstOutside (inside lines : List LineId) (line : LineId) : Type 0 where

@@ -22,3 +22,6 @@ read_compact-requires c = first_and_later c.args.words.now c.in-len1-up.len_at_l
 
 pub read_bounds-requires : goal.read_bounds-requires
 read_bounds-requires c = first_and_later c.args.words.now c.in-len1-up.len_at_least
+
+pub read_scan-requires : goal.read_scan-requires
+read_scan-requires c = first_and_later c.args.words.now c.in-len1-up.len_at_least

@@ -22,3 +22,6 @@ returns-in-Bounds g c = rw c.in-Bounds.is c.bounds.ensures
 
 pub returns-in-Make : goal.returns-in-Make
 returns-in-Make g c = rw c.in-Make.is (c.make.ensures (files_seen g.F.Files c.args.files.now))
+
+pub returns-in-Scan : goal.returns-in-Scan
+returns-in-Scan g c = rw c.in-Scan.is c.scan.ensures

@@ -12,8 +12,8 @@ returns-clause-gives c = record {
   rules = c.in_ok-run.ensures.rules ∙ c.in_ok-rules.ensures.rules;
   good = c.in_ok-run.ensures.good;
   lawful = c.in_ok-run.ensures.lawful;
-  promises = good_run_keeps c.args.net.now c.requires.circuit _ _ _ c.in_ok-run.run'
-      (subst (FitRules c.args.net.now) (sym c.in_ok-run.ensures.rules) c.in_ok-rules.ensures.fit) c.in_ok-run.ensures.good;
+  promises = good_run_keeps c.args.inputs.now.net c.requires.circuit _ _ _ c.in_ok-run.run'
+      (subst (FitRules c.args.inputs.now.net) (sym c.in_ok-run.ensures.rules) c.in_ok-rules.ensures.fit) c.in_ok-run.ensures.good;
   shortest = c.in_ok-run.ensures.shortest;
-  texts = λ i. record { files = run_files (run_call_of c.args.command.now) c.args.net.now c.in_ok-run.run'; out = c.in_ok-summary.ensures i };
+  texts = λ i. record { files = run_files (run_call_of c.args.command.now) c.args.inputs.now.net c.in_ok-run.run'; out = c.in_ok-summary.ensures i };
 }

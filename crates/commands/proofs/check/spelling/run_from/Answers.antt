@@ -10,15 +10,15 @@ use Rattle.commands.proofs.check.spelling.run_from.Goals as goal
 pub returns-in_err-texts-clause-reads : goal.returns-in_err-texts-clause-reads
 returns-in_err-texts-clause-reads g c =
     let p = err_from_is_err_and c.from_residual.result c.from_residual.ensures.1 in
-    rw (p.1, p.2) (λ first net delays has before. c.in_err-texts.ensures.reads first net delays before)
+    rw (p.1, p.2) (λ first net delays scans has launched before. c.in_err-texts.ensures.reads first net delays scans before)
 
 pub returns-clause-lawful : goal.returns-clause-lawful
 returns-clause-lawful g c =
     let texts = c.in_ok-texts.texts in
-    IfOk-weaker c.run_in.result (SpellsRun c.args.command.now.mode c.args.net.now texts.tests.items texts.report.items texts.proofs.items) (IsLawfulRun c.args.net.now)
-    (λ run spells. spelled_is_lawful c.args.command.now.mode c.args.net.now texts.tests.items texts.report.items texts.proofs.items run spells) c.run_in.ensures.spells
+    IfOk-weaker c.run_in.result (SpellsRun c.args.launch.now c.args.net.now texts.tests.items texts.report.items texts.proofs.items) (IsLawfulRun c.args.net.now)
+    (λ run spells. spelled_is_lawful c.args.launch.now c.args.net.now texts.tests.items texts.report.items texts.proofs.items run spells) c.run_in.ensures.spells
 
 pub returns-clause-reads : goal.returns-clause-reads
-returns-clause-reads g c first net delays has before =
-    run_read (run_call_of c.args.command.now) net delays c.in_ok-texts.texts c.args.net.now has first _
-    (c.in_ok-texts.ensures.reads first net delays before) c.run_in.result c.run_in.ensures.spells c.run_in.ensures.fails
+returns-clause-reads g c first net delays scans has launched before =
+    run_read (run_call_of c.args.command.now) net delays scans c.in_ok-texts.texts c.args.net.now has c.args.launch.now launched first _
+    (c.in_ok-texts.ensures.reads first net delays scans before) c.run_in.result c.run_in.ensures.spells c.run_in.ensures.fails

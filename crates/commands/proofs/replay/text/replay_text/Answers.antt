@@ -9,7 +9,8 @@ use Rattle.delay_annotation.specs.Annotation.{delays_of}
 use Rattle.delay_replay.specs.ChangeLimits.{HasFewChanges, RefusesReplay}
 use Rattle.commands.specs.ReplayText.{replay_text, replayed_line, replayed_lines}
 use Rattle.commands.specs.TestChanges.{HaveFewChanges, RefusesTests}
-use Rattle.commands.proofs.Replayed.{one_line_more, one_more_few, refused_here}
+use Rattle.commands.proofs.NumberedLines.{one_line_more}
+use Rattle.commands.proofs.Replayed.{one_more_few, refused_here}
 use Rattle.commands.proofs.replay.text.replay_text.Goals as goal
 
 pub returns-in-Err-clause-refused : goal.returns-in-Err-clause-refused
@@ -34,7 +35,7 @@ loop-index-preserved c =
       written =
           ap (λ text. text ++ replayed_lines net delays time (place + 1 + 1) (drop (place + 1) tests))
           (c.in_default.ensures.line ∙ ap (λ (t : Test). c.loop-index.text.items ++ replayed_line net delays time (place + 1) t) at)
-          ∙ one_line_more net (λ (pair : Vectors). wave_of net pair delays) tests place test c.loop-index-test.true (replayed_line net delays time) (place + 1)
+          ∙ one_line_more tests place test c.loop-index-test.true (replayed_line net delays time) (place + 1)
           c.loop-index.text.items _
           c.loop-index.invariant.written;
       few =

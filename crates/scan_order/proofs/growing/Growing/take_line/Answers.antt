@@ -5,7 +5,7 @@ use Rattle.std.proofs.lemmas.List.{nil_from_length}
 use Rattle.std.proofs.lemmas.Result.{err_from_is_err_and}
 use Rattle.text_pieces.proofs.ReadLines.{none_left, some_left}
 use Rattle.scan_order.specs.Inside.Growing.{chains_so_far, lines_so_far}
-use Rattle.scan_order.specs.Inside.Growing.FailsToTake.{no_memory, twice, unknown}
+use Rattle.scan_order.specs.Inside.Growing.FailsToTakeLine.{no_memory, twice, unknown}
 use Rattle.scan_order.proofs.Taken.{growing_parted, growing_placed, marked, misplaced, names_none, repeated, takes_name, takes_parting, unended, unmarked}
 use Rattle.scan_order.proofs.growing.Growing.take_line.Goals as goal
 use Rattle.scan_order.proofs.growing.Growing.take_line.Goals.{then-is_empty-2-via-then-is_empty-2, then-is_empty-2-via-else-is_empty-2+then-is_empty-3}

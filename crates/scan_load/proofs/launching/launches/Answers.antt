@@ -1,0 +1,22 @@
+-- One chain more, or the first in which the pair is not launched.
+use Rattle.std.proofs.Common.{All, List, ap, arith, length, subst, ◌∙◌}
+use Rattle.std.specs.Prelude.{slice_index_or}
+use Rattle.std.proofs.lemmas.List.{take_all}
+use Rattle.std.proofs.lemmas.List.Elements.{All-more}
+use Rattle.pd_base.specs.declared.ids.LineId.{LineId}
+use Rattle.scan_load.specs.Shifting.{ShiftsOn}
+use Rattle.scan_load.proofs.launching.launches.Goals as goal
+
+pub loop-chain-preserved : goal.loop-chain-preserved
+loop-chain-preserved c =
+    All-more (λ chain. ShiftsOn chain c.args.pair.now) c.args.chains.now c.loop-chain.chain-index (c.chain-item.result) (omega (arith, ap length c.chains-chain-items.ensures.chains)) c.loop-chain.invariant
+    (subst (λ (chain : List LineId). ShiftsOn chain c.args.pair.now)
+    (c.as_slice.ensures ∙ c.chain-item.is
+    ∙ ap (λ (chains : List (List LineId)). slice_index_or chains c.loop-chain.chain-index c.chain-item.result) c.chains-chain-items.ensures.chains)
+    (c.shifts_on.ensures.0 c.if-not-shifts_on.false))
+
+pub returns : goal.returns
+returns c = (
+  (λ is. subst (All (λ chain. ShiftsOn chain c.args.pair.now)) (take_all c.loop-chain.chain-index c.args.chains.now (omega (arith, ap length c.chains-chain-items.ensures.chains))) c.loop-chain.invariant),
+  λ shifts. cc,
+)
