@@ -1,6 +1,6 @@
 // A log of bare fields: no byte of a field is a comma or below it, so that no quote, blank or line end stands in one. Its rows are cut at
 // commas and line feeds, which takes a fraction of what csv takes. What isn't of this form, and what is refused, is left to csv (reading.rt).
-ghost use Rattle.std.specs.Prelude.{◌≡◌, ◌<◌, [], ◌∷◌, ◌++◌, length, IfOk, IfSome};
+ghost use Rattle.std.specs.Prelude.{◌≡◌, ◌<◌, ◌∷◌, ◌++◌, length, IfOk, IfSome};
 ghost use Rattle.delay_bounds.specs.LogFile.{IsLog};
 ghost use Rattle.delay_bounds.specs.Inside.Bare.{AreAbove, bare_text, comma};
 
@@ -23,7 +23,11 @@ struct BareRow<'t> {
 
 /// The log of so many tests, where the file has the titles and accepted rows of bare fields, each ended by a line feed. None elsewhere, which
 /// says nothing of the file. It fails only where memory runs out.
-pub(crate) fn bare_log(alloc: Global, tests: u32, bytes: &[u8]) -> Result<Option<Vec<LogRow>>, OutOfMemory>
+pub(crate) fn bare_log(
+    alloc: Global,
+    tests: u32,
+    bytes: &[u8],
+) -> Result<Option<Vec<LogRow>>, OutOfMemory>
     ensures { IfOk result (λ read. IfSome read (λ log. IsLog tests bytes.now log.items)) }
 {
     let mut log = Vec::new(alloc);
