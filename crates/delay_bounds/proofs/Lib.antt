@@ -3,5 +3,6 @@ mod Passes
 mod Shown
 mod Results
 mod Taken
+mod BareRows
 mod Gathering
 pub mod LogLaws

@@ -10,7 +10,7 @@ use Rattle.delay_bounds.specs.declared.log_fault.LogFault.TheVariants as fault
 use Rattle.delay_bounds.specs.declared.log_row.LogRow.{LogRow}
 
 -- accepted rows with one more
-accepted_more : (tests : ℕ) (rows : List Row) (row : Row) (log : List LogRow) (said : LogRow)
+pub accepted_more : (tests : ℕ) (rows : List Row) (row : Row) (log : List LogRow) (said : LogRow)
     → AreLogRows tests rows log → IsLogRow tests row said → AreLogRows tests (rows ++ row ∷ []) (log ++ said ∷ [])
 accepted_more tests [] row [] said accepted is = (is, tt)
 accepted_more tests [] row (first ∷ log) said accepted is = absurd accepted

@@ -5,6 +5,7 @@
 //! (specs/Bounds.antt).
 #![tactic(auto)]
 
+mod bare;
 mod bounding;
 mod earliest;
 mod log_fault;

@@ -1,4 +1,4 @@
-// From the bytes of a log to its rows.
+// From the bytes of a log to its rows: by csv, but where all fields are bare (bare.rt).
 ghost use Rattle.std.specs.Prelude.{◌≡◌, ◌≤◌, true, Some, [], ◌∷◌, ◌++◌, length, IfErr, IfOk, MatchResult, OnOk};
 ghost use Rattle.csv.specs.Reading.{Ready, ReadRecord, reader_trim, took_first};
 ghost use Rattle.csv.specs.Records.{fields_of};
@@ -8,6 +8,7 @@ ghost use Rattle.delay_bounds.specs.LogFile.{IsLog, RefusesLog};
 ghost use Rattle.delay_bounds.specs.LogRows.{AreTitles, IsLogRow, RefusesRow};
 ghost use Rattle.delay_bounds.specs.Inside.Taking.{FailsToTake, TakesRow};
 
+use crate::bare::bare_log;
 use crate::row::{are_titles, read_row};
 use crate::{LogFault, LogRow};
 use csv::{ByteRecord, Reader, ReaderBuilder};
@@ -19,6 +20,18 @@ use std::alloc::Global;
 /// by the first reason of that row in the order of `LogFault`. A refusal asks nothing of the rows behind that one. `NoMemory` may come
 /// in place of any answer. A file has at most 268,435,456 bytes.
 pub fn read_log(alloc: Global, tests: u32, bytes: &[u8]) -> Result<Vec<LogRow>, LogFault>
+    requires { length bytes.now ≤ MOST_BYTES }
+    ensures log { IfOk result (λ log. IsLog tests bytes.now log.items) }
+    ensures refused { IfErr result (RefusesLog tests bytes.now) }
+{
+    if let Some(log) = bare_log(alloc, tests, bytes)? {
+        return Ok(log);
+    }
+    csv_log(alloc, tests, bytes)
+}
+
+// Reads any log, row by row as csv finds them.
+fn csv_log(alloc: Global, tests: u32, bytes: &[u8]) -> Result<Vec<LogRow>, LogFault>
     requires { length bytes.now ≤ MOST_BYTES }
     ensures log { IfOk result (λ log. IsLog tests bytes.now log.items) }
     ensures refused { IfErr result (RefusesLog tests bytes.now) }

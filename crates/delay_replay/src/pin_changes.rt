@@ -87,7 +87,8 @@ pub(crate) fn pin_waves<P: PinCopies>(alloc: Global, copies: &P) -> Result<PinWa
     ensures order { IfOk result (λ seen. IsHeap sooner (heap_items seen.nexts)) }
 {
     let mut ones = 0;
-    let mut nexts = BinaryHeap::with_capacity(alloc, copies.pins())?;
+    // It takes no memory until a pin changes: the pins of most gates don't.
+    let mut nexts = BinaryHeap::new(alloc);
     for pin in 0..copies.pins() {
         let value = copies.earliest(pin);
         if value {
@@ -99,6 +100,7 @@ pub(crate) fn pin_waves<P: PinCopies>(alloc: Global, copies: &P) -> Result<PinWa
 }
 
 // Adds a change, if there is one. It fails only where memory runs out.
+#[inline(always)]
 fn add(nexts: &mut BinaryHeap<PinChange>, change: Option<PinChange>) -> Result<(), OutOfMemory>
     ensures added { IfOk result (λ _. IsPermutation (option_to_list change ++ heap_items nexts.old) (heap_items nexts.new)) }
     ensures order { IfOk result (λ _. IsHeap sooner (heap_items nexts.old) → IsHeap sooner (heap_items nexts.new)) }
@@ -110,6 +112,7 @@ fn add(nexts: &mut BinaryHeap<PinChange>, change: Option<PinChange>) -> Result<(
 }
 
 // The change that a pin sees at this place, where it has that value until then. None where it sees no further change.
+#[inline(always)]
 fn next_change<P: PinCopies>(copies: &P, pin: usize, place: usize, value: bool) -> Option<PinChange>
     requires can { P.can_read copies.now }
     requires pin { pin < length (P.copies copies.now) }

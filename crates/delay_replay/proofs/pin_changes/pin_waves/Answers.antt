@@ -35,7 +35,7 @@ overflow_add-ones g c = omega (arith, c.loop-pin.invariant.among.most, c.require
 
 pub loop-pin-init : goal.loop-pin-init
 loop-pin-init g c =
-    let none = c.in_ok-nexts.ensures.items in record {
+    let none = c.new-nexts.ensures.items in record {
       order = search rules;
       among = subst (AreAmong 0 0) (sym none) (record { least = omega arith; most = omega arith });
       each = λ k d within. absurd (omega (arith, ap length none, within));

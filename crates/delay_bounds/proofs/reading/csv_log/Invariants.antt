@@ -1,6 +1,6 @@
 use Rattle.std.proofs.Common.{◌-◌, length}
 use Rattle.delay_bounds.proofs.Gathering.{HasTaken}
-use Rattle.delay_bounds.proofs.reading.read_log.Given as goal
+use Rattle.delay_bounds.proofs.reading.csv_log.Given as goal
 
 -- the rows so far are taken
 abbrev pub invariant-rows : goal.invariant-rows

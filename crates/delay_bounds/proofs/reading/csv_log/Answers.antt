@@ -6,7 +6,7 @@ use Rattle.csv.specs.Records.{fields_of}
 use Rattle.delay_annotation.specs.DelayFile.{Row}
 use Rattle.delay_annotation.proofs.Gathering.{BytesReader, has_read_none}
 use Rattle.delay_bounds.proofs.Gathering.{HasTaken, few_taken, taken_more, taken_refused}
-use Rattle.delay_bounds.proofs.reading.read_log.Goals as goal
+use Rattle.delay_bounds.proofs.reading.csv_log.Goals as goal
 
 pub rows-init : goal.rows-init
 rows-init c =
