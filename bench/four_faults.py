@@ -1,5 +1,6 @@
 """A netlist of two paths and four faults, with the three files of its run, a delay file of two delays for each pin and a tester's log, written
-down by hand; the same with a flip-flop, in mode broadside; and calls on them. For the scripts beside it."""
+down by hand; the same with a flip-flop, in mode broadside, and with a scan chain of two, in mode skewed; and calls on them. For the scripts
+beside it."""
 
 NET = "INPUT(a)\nOUTPUT(y)\nn = BUFF(a)\ny = AND(a, n)\n"
 DELAYS = "gate,pin,delay\n"
@@ -37,12 +38,28 @@ LINKED_REPORT = (
 )
 LINKED_PROOFS = "pdfgen proofs 3\n1 refutes nonrobust rise 1 1 X\n2 refutes nonrobust rise 2 0 X\n3 refutes robust fall 2 1 X\n"
 LINKED_SUMMARY = "paths 2 robust 1 nonrobust 1 untestable 2 aborted 0\n"
+# A scan chain of two flip-flops, which take the conjunction of both, their run in mode skewed, and what scan prints of its tests.
+SCANNED_NET = "OUTPUT(d)\nq1 = DFF(d)\nq2 = DFF(d)\nd = AND(q1, q2)\n"
+SCAN = "q1\nq2\n"
+SCANNED_TESTS = ("pdfgen tests 1\nsources q1 q2\nobserved d\n"
+                 "1 1 fall robust 11 01 0\n2 2 rise robust 10 11 1\n3 2 fall nonrobust 01 10 0\n")
+SCANNED_REPORT = (
+    "path,direction,length,source,steps,verdict,test,robust_proof,nonrobust_proof\n"
+    "1,rise,1,q1,d:0,untestable,-,-,1\n"
+    "1,fall,1,q1,d:0,robust,1,-,-\n"
+    "2,rise,1,q2,d:1,robust,2,-,-\n"
+    "2,fall,1,q2,d:1,nonrobust,3,2,-\n"
+)
+SCANNED_PROOFS = "pdfgen proofs 3\n1 refutes nonrobust rise 1 1 X\n2 refutes robust fall 2 1 X\n"
+SCANNED_SUMMARY = "paths 2 robust 2 nonrobust 1 untestable 1 aborted 0\n"
+STRINGS = "1 110\n2 011\n3 101\n"
 # Longer than each of the outputs, so that it shows where a file was not cut.
 OLD = "0" * 1000
 
 OUTPUTS = (("tests", TESTS), ("report", REPORT), ("proofs", PROOFS), ("kept", OLD))
 INPUTS = (("net", NET), ("delays", DELAYS), ("two_delays", TWO_DELAYS), ("log", LOG), ("linked_net", LINKED_NET), ("linked_tests", LINKED_TESTS),
-          ("linked_report", LINKED_REPORT), ("linked_proofs", LINKED_PROOFS))
+          ("linked_report", LINKED_REPORT), ("linked_proofs", LINKED_PROOFS), ("scanned_net", SCANNED_NET), ("scan", SCAN),
+          ("scanned_tests", SCANNED_TESTS), ("scanned_report", SCANNED_REPORT), ("scanned_proofs", SCANNED_PROOFS))
 # Files that are refused, each for a reason whose line names something.
 REFUSED = (
     ("other_net", NET.replace("BUFF(a)", "BUFF(b)")),
@@ -53,18 +70,26 @@ REFUSED = (
     ("other_report", REPORT.replace("n:0 y:1", "n:0 y:0")),
     ("other_bits", TESTS.replace("0 1 1\n2", "0 1 0\n2")),
     ("other_log", LOG + "3,1,pass\n"),
+    ("other_scan", "q1\n"),
+    ("other_pair", SCANNED_TESTS.replace("11 01 0", "11 00 0")),
 )
 
 FILES = ["net", "delays", "tests", "report", "proofs"]
 GEN_FILES = [TESTS, REPORT, GEN_PROOFS]
 LINKED_GEN = ["gen", "linked_net", *FILES[1:], "--mode", "broadside"]
 LINKED_CHECK = ["check", "linked_net", "delays", "linked_tests", "linked_report", "linked_proofs"]
+SKEWED = ["--mode", "skewed", "--scan"]
+SCANNED_GEN = ["gen", "scanned_net", *FILES[1:], *SKEWED, "scan"]
+SCANNED_CHECK = ["check", "scanned_net", "delays", "scanned_tests", "scanned_report", "scanned_proofs", *SKEWED]
 # What is called, the words, and the status.
 CALLS = [
     ("gen", ["gen", *FILES], 0),
     ("check", ["check", *FILES], 0),
     ("gen, mode broadside", LINKED_GEN, 0),
     ("check, mode broadside", [*LINKED_CHECK, "--mode=broadside"], 0),
+    ("gen, mode skewed", SCANNED_GEN, 0),
+    ("check, mode skewed", [*SCANNED_CHECK, "scan"], 0),
+    ("scan", ["scan", "scanned_net", "scan", "scanned_tests"], 0),
     ("replay", ["replay", "net", "delays", "tests", "1"], 0),
     ("make", ["make", "2"], 0),
     ("rfreplay", ["rfreplay", "net", "two_delays", "tests", "report", "5"], 0),
@@ -76,6 +101,7 @@ CALLS = [
     ("rfreplay, a line malformed", ["rfreplay", "net", "two_delays", "other_tests", "report", "5"], 1),
     ("compact, a path wrong", ["compact", "net", "tests", "other_report", "kept"], 1),
     ("bounds, bits wrong", ["bounds", "net", "other_bits", "report", "log"], 1),
+    ("scan, a line malformed", ["scan", "scanned_net", "scan", "tests"], 1),
     ("no words", [], 2),
     ("an option twice", ["gen", *FILES, "--paths=5", "--paths", "6"], 2),
     ("gen, a netlist refused", ["gen", "other_net", *FILES[1:]], 3),
@@ -86,6 +112,9 @@ CALLS = [
     ("gen, REPORT in no folder", ["gen", "net", "delays", "tests", "absent/report", "proofs"], 6),
     ("compact, OUT in no folder", ["compact", "net", "tests", "report", "absent/kept"], 6),
     ("gen, texts too long", ["gen", "long_name", "delays", *FILES[2:], "--paths", "10000", "--budget", "1"], 8),
+    ("gen, a scan file refused", [*SCANNED_GEN[:-1], "other_scan"], 10),
+    ("check, a scan file refused", [*SCANNED_CHECK, "other_scan"], 10),
+    ("scan, a pair that no shift launches", ["scan", "scanned_net", "scan", "other_pair"], 11),
     ("bounds, a log refused", ["bounds", "net", "tests", "report", "other_log"], 12),
 ]
 
@@ -117,15 +146,17 @@ def outputs_in(folder):
 
 def is_as_written_down(words, out, files):
     """Whether a call with memory leaves what a person wrote down: the run of gen, a test that compact keeps; for the others the files as
-    before, and what rfreplay and bounds print."""
+    before, and what rfreplay, bounds and scan print."""
     *others, kept = files
     if words == ["gen", *FILES]:
         return out == SUMMARY and files == [*GEN_FILES, OLD]
     if words == LINKED_GEN:
         return out == LINKED_SUMMARY and files == [LINKED_TESTS, LINKED_REPORT, LINKED_PROOFS, OLD]
+    if words == SCANNED_GEN:
+        return out == SCANNED_SUMMARY and files == [SCANNED_TESTS, SCANNED_REPORT, SCANNED_PROOFS, OLD]
     if out and words[0] == "compact":
         return out == KEPT and others == before(words)[:-1] and kept in KEPT_FILES
-    printed = {"rfreplay": LATE, "bounds": BOUNDS}.get(words[0] if words else None)
+    printed = {"rfreplay": LATE, "bounds": BOUNDS, "scan": STRINGS}.get(words[0] if words else None)
     return words[:1] == ["gen"] or (files == before(words) and (not out or printed in (None, out)))
 
 

@@ -73,11 +73,11 @@ fn play(
     Ok(())
 }
 
-// From now on each call finds a netlist of this shape and size.
+// From now on each call finds a text of this shape and size.
 fn build(alloc: Global, table: &mut Table, shape: Shape, size: u32) -> Result<(), Trouble> {
     let mut text = Text::new(alloc);
     shape.add(alloc, size, &mut text)?;
-    table.put_as_is("net", text.read()?)?;
+    table.put_as_is(shape.file(), text.read()?)?;
     Ok(())
 }
 

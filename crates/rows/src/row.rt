@@ -62,7 +62,7 @@ pub enum Row<'a> {
     Heading,
     /// From now on each call finds this text under this name; `\n` stands for LF (texts.rt has all signs).
     Put(&'a str, &'a str),
-    /// From now on each call finds the netlist of this shape and size under the name `net`.
+    /// From now on each call finds the text of this shape and size, a netlist under the name `net`.
     Build(Shape, u32),
     /// From now on the name is absent.
     Remove(&'a str),

@@ -1,10 +1,10 @@
-// Texts of netlists of one shape and any size, for rows on what is large: wide, deep, with long names, or with a gate of many pins; and
-// those of large_texts.rt.
+// Texts of netlists of one shape and any size, for rows on what is large: wide, deep, with long names, with a gate of many pins, or with many
+// flip-flops and their scan file; and those of large_texts.rt.
 use crate::large_texts::{add_broad, add_ladder, add_parity};
 use row_answers::{Text, Trouble};
 use std::alloc::Global;
 
-/// A shape of netlists.
+/// A shape of netlists, or of what belongs to one.
 #[derive(Clone, Copy)]
 pub enum Shape {
     /// So many buffers of one source, all observed.
@@ -21,6 +21,10 @@ pub enum Shape {
     Parity,
     /// The ladder of so many stages.
     Ladder,
+    /// A shift register of so many flip-flops behind an input, of which the last one is an output.
+    Register,
+    /// The scan file of that register: one chain, in the order in which data is shifted.
+    RegisterOrder,
 }
 
 impl Shape {
@@ -34,11 +38,21 @@ impl Shape {
             "broad" => Ok(Shape::Broad),
             "parity" => Ok(Shape::Parity),
             "ladder" => Ok(Shape::Ladder),
+            "register" => Ok(Shape::Register),
+            "register_order" => Ok(Shape::RegisterOrder),
             _ => Err(Trouble::NoRow),
         }
     }
 
-    /// Adds the text of the netlist of this shape and size.
+    /// The name under which calls find it.
+    pub fn file(self) -> &'static str {
+        match self {
+            Shape::RegisterOrder => "chains",
+            _ => "net",
+        }
+    }
+
+    /// Adds the text of this shape and size.
     pub fn add(self, alloc: Global, size: u32, text: &mut Text) -> Result<(), Trouble> {
         match self {
             Shape::Broad => add_broad(size, text),
@@ -62,7 +76,7 @@ impl Shape {
     fn add_head(self, size: u32, text: &mut Text) {
         match self {
             Shape::Wide => text.add("INPUT(a)\n"),
-            Shape::Chain | Shape::LongNames => self.add_chain_head(size, text),
+            Shape::Chain | Shape::LongNames | Shape::Register => self.add_chain_head(size, text),
             Shape::Pins => text.add("INPUT(a)\nOUTPUT(y)\ny = AND("),
             _ => {}
         }
@@ -81,7 +95,9 @@ impl Shape {
     fn add_part(self, number: u32, text: &mut Text) {
         match self {
             Shape::Wide => self.add_observed_buffer(number, text),
-            Shape::Chain | Shape::LongNames => self.add_chained_buffer(number, text),
+            Shape::Chain | Shape::LongNames => self.add_chained(number, " = BUFF(", text),
+            Shape::Register => self.add_chained(number, " = DFF(", text),
+            Shape::RegisterOrder => self.add_name_line(number, text),
             Shape::Pins => text.add(if number == 1 { "a" } else { ", a" }),
             _ => {}
         }
@@ -96,12 +112,18 @@ impl Shape {
         text.add(" = BUFF(a)\n");
     }
 
-    // A buffer behind the one before.
-    fn add_chained_buffer(self, number: u32, text: &mut Text) {
+    // A gate or a flip-flop behind the line before.
+    fn add_chained(self, number: u32, kind: &str, text: &mut Text) {
         self.add_name(number, text);
-        text.add(" = BUFF(");
+        text.add(kind);
         self.add_name(number.saturating_sub(1), text);
         text.add(")\n");
+    }
+
+    // The name of this number in a line of its own.
+    fn add_name_line(self, number: u32, text: &mut Text) {
+        self.add_name(number, text);
+        text.add("\n");
     }
 
     // The name of the line of this number.
