@@ -15,14 +15,18 @@ class JudgedPair:
         self.after = circuit.lines_with(second)
         self.steady = circuit.lines_with([a if a == b else None for a, b in zip(first, second)])
 
-    def launches(self, fault):
-        """Whether the fault's source changes in its direction."""
-        last = 1 if fault.direction == "rise" else 0
-        return (self.before[fault.source], self.after[fault.source]) == (1 - last, last)
+    def launches(self, source, direction):
+        """Whether a source changes in this direction."""
+        last = 1 if direction == "rise" else 0
+        return (self.before[source], self.after[source]) == (1 - last, last)
 
     def meets(self, fault, kind):
         """Whether the pair meets the conditions of this kind for the fault."""
-        return self.launches(fault) and all(self.meets_at(step, kind) for step in fault.steps)
+        return self.launches(fault.source, fault.direction) and all(self.meets_at(step, kind) for step in fault.steps)
+
+    def serves(self, fault):
+        """Whether the pair is a robust test of the fault, or a nonrobust one where REPORT says nonrobust."""
+        return self.meets(fault, "robust") or fault.verdict == "nonrobust" and self.meets(fault, "nonrobust")
 
     def meets_at(self, step, kind):
         """Whether all side pins of a step meet its condition."""

@@ -8,7 +8,7 @@ from refusing import Refused, read_text
 
 MAP_HEADER = "what,name,line,value"
 NAME_BYTES_AT_MOST = 255
-NOT_IN_NAMES = re.compile(rb"[^!$-&'+\--<>-~]|%")
+PLAIN = set(range(33, 127)) - set(b'"#(),=%*')
 
 
 class MapRow(NamedTuple):
@@ -21,10 +21,10 @@ class MapRow(NamedTuple):
 
 def escaped(name):
     """A name as NET and MAP spell it."""
-    text = NOT_IN_NAMES.sub(lambda found: b"%%%02X" % found[0], name.encode())
-    if len(text) > NAME_BYTES_AT_MOST - len("%clock_to_q") or not text:
+    text = "".join(chr(byte) if byte in PLAIN else f"%{byte:02X}" for byte in name.encode())
+    if not 1 <= len(text) <= NAME_BYTES_AT_MOST - len("%clock_to_q"):
         raise Refused(f"a name is empty or too long: {name[:40]}")
-    return text.decode()
+    return text
 
 
 def unescaped(name):
