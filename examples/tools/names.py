@@ -53,6 +53,13 @@ def name_nets(module):
     return names
 
 
+def name_of_net(names, bit):
+    """The name of a net."""
+    if bit not in names:
+        raise Refused(f"net {bit} has no name, or only one that another net has")
+    return names[bit]
+
+
 def read_map(file_name):
     """The rows of a map."""
     header, *lines = read_text(file_name).split("\n")

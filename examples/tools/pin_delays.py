@@ -19,7 +19,7 @@ def port_of(word):
     """The pin that an entry names, and which transitions of it are meant: (posedge A) is A, rising."""
     if isinstance(word, str):
         return word, (RISE, FALL)
-    if len(word) != 2 or str(word[0]).upper() not in EDGES:
+    if len(word) != 2 or not all(isinstance(part, str) for part in word) or word[0].upper() not in EDGES:
         raise Refused(f"SDF: no port: {word}")
     return word[1], EDGES[word[0].upper()]
 
@@ -81,6 +81,8 @@ class PinDelays:
 
     def add_setup(self, cell, entry):
         """A SETUP or a SETUPHOLD: how long before the clock's edge the data pin has to stand. A negative one counts as 0."""
+        if len(entry) < 4:
+            raise Refused("SDF: an entry without values")
         name, edges = port_of(condition_dropped(entry[1]))
         value = value_of(entry[3], self.corner)
         if (cell, name) in self.pins and value is not None:

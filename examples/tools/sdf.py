@@ -37,10 +37,17 @@ def parts(of, *words):
     return [part for part in of if isinstance(part, list) and part and isinstance(part[0], str) and part[0].upper() in words]
 
 
+def words_of(of, word):
+    """What stands behind a word in the lists inside a list, joined: the text of an entry like (TIMESCALE 1 ns), or nothing."""
+    words = [part for entry in parts(of, word) for part in entry[1:]]
+    if not all(isinstance(part, str) for part in words):
+        raise Refused(f"SDF: {word} with a list inside")
+    return "".join(words)
+
+
 def picoseconds_of(file):
     """What one unit of the file's numbers is: its TIMESCALE, else 1 ns."""
-    found = parts(file, "TIMESCALE")
-    text = "".join(found[0][1:]) if found else "1ns"
+    text = words_of(file, "TIMESCALE") or "1ns"
     scale = re.fullmatch(r"(1|10|100)(?:\.0+)?(ps|ns|us)", text)
     if not scale:
         raise Refused(f"SDF: TIMESCALE {text}")
@@ -49,7 +56,7 @@ def picoseconds_of(file):
 
 def value_of(values, corner):
     """The value of a list like (0.1:0.2:0.3) or (0.2) in a corner, or None of an empty one."""
-    triple = "".join(values).split(":") if all(isinstance(word, str) for word in values) else ["?"]
+    triple = "".join(values).split(":") if isinstance(values, list) and all(isinstance(word, str) for word in values) else ["?"]
     text = triple[CORNERS.index(corner)] if len(triple) == 3 else triple[0]
     if triple == [""]:
         return None
@@ -58,7 +65,7 @@ def value_of(values, corner):
     return Fraction(text)
 
 
-def name_of(words, divider):
+def name_of(text, divider):
     """The name of an instance as a flattened design has it: its parts joined by a point, without backslashes."""
-    parts_of_name = re.findall(rf"(?:\\.|[^\\{re.escape(divider)}])+", "".join(words))
+    parts_of_name = re.findall(rf"(?:\\.|[^\\{re.escape(divider)}])+", text)
     return ".".join(re.sub(r"\\(.)", r"\1", part) for part in parts_of_name)
