@@ -45,7 +45,8 @@ def signals(chip):
     """The declarations of all signals. No two may have one name."""
     places = range(1, len(chip.chains) + 1)
     controls = [chip.clock, SCAN_ENABLE, *(port.name for port in chip.held)]
-    names = controls + [port.name for port in chip.inputs + chip.outputs] + [name(place) for place in places for name in (scan_in, scan_out)]
+    names = controls + [port.name for port in chip.inputs + chip.outputs]
+    names += [scan_in(place) for place in places] + [scan_out(place) for place in places]
     if len(set(names)) < len(names):
         raise Refused("two signals have one name (the clock, scan_enable, scan_in1, scan_out1 and so on are added to the ports)")
     lines = [f"  {quoted(name)} In;" for name in controls + [port.name for port in chip.inputs]]
