@@ -1,0 +1,41 @@
+"""What all tools here share: files read and written whole, and bad input refused with one line and status 1.
+
+Texts are read byte for byte (latin-1), since a netlist's comments may hold any bytes."""
+import os
+import sys
+
+
+class Refused(Exception):
+    """Bad input. Its text is the line that the tool prints on err."""
+
+
+def read_text(name):
+    """The text of a file, its ends of lines as they stand."""
+    try:
+        with open(name, encoding="latin-1", newline="") as file:
+            return file.read()
+    except OSError as fault:
+        raise Refused(f"{name}: {fault.strerror}")
+
+
+def write_text(name, text):
+    """Makes the text the content of a file. Called last of all, when nothing is left to be refused."""
+    try:
+        with open(name, "w", encoding="latin-1", newline="") as file:
+            file.write(text)
+    except OSError as fault:
+        raise Refused(f"{name}: {fault.strerror}")
+
+
+def run(main):
+    """Runs a tool and ends with its status, or with 1 and the refusal's line. Words are refused by argparse, with 2."""
+    try:
+        status = main()
+        sys.stdout.flush()
+    except Refused as refusal:
+        print(f"{os.path.basename(sys.argv[0])}: {refusal}", file=sys.stderr)
+        status = 1
+    except BrokenPipeError:
+        os.dup2(os.open(os.devnull, os.O_WRONLY), sys.stdout.fileno())
+        status = 1
+    sys.exit(status)

@@ -1,0 +1,79 @@
+"""verilog_to_bench, on a design in yosys JSON written by hand, and on chip.v where yosys is at hand."""
+import json
+import subprocess
+import sys
+from calling import EXAMPLES, NEEDS_YOSYS, TOOLS, ToolTest, lines
+from circuit import read_circuit
+from names import escaped, unescaped
+
+
+def cell(kind, **pins):
+    return {"type": kind, "connections": {pin: [net] for pin, net in pins.items()}}
+
+
+def net(*bits, hidden=0, **more):
+    return {"bits": list(bits), "hide_name": hidden, **more}
+
+
+def port(direction, *bits, **more):
+    return {"direction": direction, "bits": list(bits), **more}
+
+
+def design(**more_cells):
+    """q(0) takes AND(in[4], q) at each rising edge of clk; rst_n resets it; z is always 1."""
+    ports = {"clk": port("input", 2), "rst_n": port("input", 3), "in": port("input", 4, 5, offset=4), "y": port("output", 6),
+             "z": port("output", "1")}
+    cells = {"u#1": cell("$_AND_", A=4, B=7, Y=8), "u2": cell("$_NOT_", A=7, Y=6), "ff": cell("$_DFF_PN0_", C=2, R=3, D=8, Q=7), **more_cells}
+    nets = {"$auto$9": net(8, hidden=1), "q(0)": net(7), "in": net(4, 5, offset=4), "clk": net(2), "rst_n": net(3), "y": net(6)}
+    return {"modules": {"top": {"attributes": {"top": "1"}, "ports": ports, "cells": cells, "netnames": nets}}}
+
+
+class VerilogToBench(ToolTest):
+    def written(self, text, *options):
+        """NET and MAP of a design."""
+        self.assertEqual(self.call("verilog_to_bench", self.write("json", text), self.path("net"), self.path("map"), *options), "")
+        return self.read("net"), self.read("map")
+
+    def test_names_ports_and_flip_flops(self):
+        net_text, map_text = self.written(json.dumps(design()))
+        self.assertEqual(net_text, lines(
+            "INPUT(in[4])", "INPUT(in[5])", "OUTPUT(y)", "q%280%29 = DFF($auto$9)", "$auto$9 = AND(in[4], q%280%29)", "y = NOT(q%280%29)"))
+        self.assertEqual(map_text, lines(
+            "what,name,line,value", "clock,clk,,rising", "held,rst_n,,1", "input,in[4],in[4],", "input,in[5],in[5],", "output,y,y,",
+            "constant,z,,1", "flip_flop,ff,q%280%29,", "gate,u%231,$auto$9,A B", "gate,u2,y,A"))
+
+    def test_buffers_carry_the_times_of_flip_flops(self):
+        net_text, map_text = self.written(json.dumps(design()), "--flip-flop-delays")
+        self.assertIn(lines("q%280%29%setup = BUFF($auto$9)", "q%280%29%clock_to_q = BUFF(q%280%29)", "q%280%29 = DFF(q%280%29%setup)"), net_text)
+        self.assertIn("y = NOT(q%280%29%clock_to_q)\n", net_text)
+        self.assertIn(lines("setup,ff,q%280%29%setup,D", "clock_to_q,ff,q%280%29%clock_to_q,C"), map_text)
+
+    def test_names_come_back(self):
+        for name in ("a[3]", "\\weird name", "50%", "*", "a,b", 'say "x"', "ümlaut"):
+            self.assertEqual(unescaped(escaped(name)), name)
+            self.assertRegex(escaped(name), r'^[^"#(),= \x7f-\xff]+$')
+
+    def refused(self, reason, text):
+        self.refuse("verilog_to_bench", reason, self.write("json", text), self.path("net"), self.path("map"))
+        self.assertFalse((self.folder / "net").exists())
+
+    def test_what_a_bench_netlist_cannot_have_is_refused(self):
+        self.refused("JSON: not what yosys writes", "{")
+        self.refused("cell m: $_MUX_ is no gate of a .bench netlist", json.dumps(design(m=cell("$_MUX_", A=4, B=5, S=7, Y=9))))
+        self.refused("cell g pin A: a constant, or not connected", json.dumps(design(g=cell("$_AND_", A="0", B=5, Y=9))))
+        self.refused("cell g: reads a constant, a clock, a reset, or a net that nothing drives",
+                     json.dumps(design(g=cell("$_AND_", A=2, B=5, Y=9))))
+        self.refused("flip-flops have several clocks, or both edges of one", json.dumps(design(f=cell("$_DFF_N_", C=2, D=5, Q=9))))
+        self.refused("a clock or a reset is no input port", json.dumps(design(ff=cell("$_DFF_P_", C=8, D=5, Q=7))))
+
+    def test_a_port_both_ways_is_refused(self):
+        text = design()
+        text["modules"]["top"]["ports"]["b"] = port("inout", 4)
+        self.refused("port b: neither input nor output", json.dumps(text))
+
+    @NEEDS_YOSYS
+    def test_chip(self):
+        mapped = subprocess.run(["yosys", "-q", "-s", "map.ys"], cwd=EXAMPLES / "chip", capture_output=True, text=True, check=True)
+        self.written(mapped.stdout)
+        circuit = read_circuit(self.path("net"))
+        self.assertEqual((len(circuit.inputs), len(circuit.flip_flops), len(circuit.outputs)), (25, 52, 23))
