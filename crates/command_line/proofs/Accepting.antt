@@ -8,7 +8,7 @@ use Rattle.std.proofs.lemmas.List.{append-nil}
 use denote.Enum.Bare.{same_true, true_same}
 use Rattle.command_line.specs.Kinds.{Kind, alone, valued, hyphened, empty, plain, kind_behind, other_kind, without_front, word_kind}
 use Rattle.command_line.specs.Options.{are_apart, has_name, option_entry, option_word, same_option, told_apart}
-use Rattle.command_line.specs.Scan.{Given, GivesWords, OptionValue, WordsForm, due_taken, end_reason, first_place, kind_taken, none_given, then_taken, unless_refused, value_among, value_given, value_taken, with_positional, with_value, word_taken, words_taken}
+use Rattle.command_line.specs.Reading.{Given, GivesWords, OptionValue, WordsForm, due_taken, end_reason, first_place, kind_taken, none_given, then_taken, unless_refused, value_among, value_given, value_taken, with_positional, with_value, word_taken, words_taken}
 use Rattle.command_line.specs.Values.{is_allowed}
 use Rattle.command_line.specs.contracts.option_name.OptionName.{the_type}
 use Rattle.command_line.specs.declared.option_name.OptionName.{OptionName}

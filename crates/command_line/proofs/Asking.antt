@@ -4,7 +4,7 @@ use Rattle.std.specs.List.{list_all}
 use Rattle.std.proofs.lemmas.List.{take_all}
 use Rattle.command_line.specs.Commands.{bytes_of_words}
 use Rattle.command_line.specs.Options.{has_name}
-use Rattle.command_line.specs.Scan.{AreAccepted, Form, Given, GivesWords, Texts, WordsForm, accepted_texts, first_place, none_given, reason_or, texts_given, texts_judged, then_taken, together_reason, unless_refused, words_taken}
+use Rattle.command_line.specs.Reading.{AreAccepted, Form, Given, GivesWords, Texts, WordsForm, accepted_texts, first_place, none_given, reason_or, texts_given, texts_judged, then_taken, together_reason, unless_refused, words_taken}
 use Rattle.command_line.specs.Taken.{IsFaultOf}
 use denote.Ref.{Bor}
 use Rattle.command_line.proofs.Accepting.{all_positional}

@@ -5,7 +5,7 @@ use Rattle.std.proofs.lemmas.Bool.{cases_Bool}
 use Rattle.command_line.specs.MakeForm.{HasMakeNumbers, make_call, make_form, stages_reason, stages_spelled}
 use Rattle.command_line.specs.ReplayForm.{HasReplayNumbers, replay_call, replay_form}
 use Rattle.command_line.specs.RiseFallReplayForm.{HasRiseFallReplayNumbers, rise_fall_replay_call, rise_fall_replay_form}
-use Rattle.command_line.specs.Scan.{Texts, accepted_texts}
+use Rattle.command_line.specs.Reading.{Texts, accepted_texts}
 use Rattle.command_line.specs.Times.{time_reason, time_spelled}
 use Rattle.command_line.specs.Values.{is_within}
 use Rattle.pd_base.specs.declared.limits.TheConstants.{MOST_STAGES}

@@ -3,7 +3,7 @@ use Rattle.std.proofs.Common.{◌≡◌, ◌≢◌, ℕ, true, List, [], ◌∷�
 use Rattle.std.specs.Prelude.{⊤}
 use Rattle.std.specs.List.{list_any}
 use Rattle.command_line.specs.Options.{has_name, option_word, same_option}
-use Rattle.command_line.specs.Scan.{OptionValue, value_among}
+use Rattle.command_line.specs.Reading.{OptionValue, value_among}
 use Rattle.command_line.specs.declared.option_name.OptionName.{OptionName}
 
 -- a positional word, an option with its value behind it, or an option with its value attached

@@ -4,7 +4,7 @@ use Rattle.std.specs.Prelude.{codes, if◌then◌else◌}
 use Rattle.std.proofs.lemmas.Bool.{cases_Bool}
 use Rattle.command_line.specs.Kinds.{Kind, plain, other_kind}
 use Rattle.command_line.specs.MakeForm.{make_call, make_form, stages_spelled}
-use Rattle.command_line.specs.Scan.{Texts, first_place, kind_taken, none_given, reason_or, texts_judged, then_taken, unless_refused, words_taken}
+use Rattle.command_line.specs.Reading.{Texts, first_place, kind_taken, none_given, reason_or, texts_judged, then_taken, unless_refused, words_taken}
 use Rattle.command_line.specs.Values.{is_plain, is_within, number}
 use Rattle.command_line.specs.Words.{make, asked_call}
 use Rattle.pd_base.specs.declared.limits.TheConstants.{MOST_STAGES}

@@ -16,7 +16,7 @@ use Rattle.clap.specs.declared.parser.matches.Found.{Found}
 use Rattle.clap.proofs.WalkLemmas.{first_value-rows, raw_values-rows}
 use Rattle.command_line.specs.ClapWords.{texts_found, words_app}
 use Rattle.command_line.specs.Options.{is_option_name, option_entry, option_word}
-use Rattle.command_line.specs.Scan.{Given, OptionValue, texts_given, value_among}
+use Rattle.command_line.specs.Reading.{Given, OptionValue, texts_given, value_among}
 use Rattle.command_line.specs.declared.option_name.OptionName.{OptionName}
 use Rattle.command_line.proofs.Accepting.{said_of}
 use Rattle.command_line.proofs.Items.{Item, lone, apart, attached, words_of, IsKnown, Said, nothing_said, said_value, said_with, MayCome, MayFollow, all_said}

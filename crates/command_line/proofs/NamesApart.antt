@@ -8,7 +8,7 @@ use Rattle.std.proofs.lemmas.List.Elements.{All-from_recursion}
 use Rattle.std.proofs.lemmas.List.Kept.{AllPairs-cons}
 use Rattle.std.proofs.lemmas.Slice.Eq.{bytes_eq-Decides}
 use Rattle.command_line.specs.Options.{are_apart, has_name, option_entry, option_word}
-use Rattle.command_line.specs.Scan.{Form, Given, OptionValue, PlacedWord, Texts, WordsForm, accepted_texts, first_place, first_same, names_with, none_given, place_of, value_among, words_taken}
+use Rattle.command_line.specs.Reading.{Form, Given, OptionValue, PlacedWord, Texts, WordsForm, accepted_texts, first_place, first_same, names_with, none_given, place_of, value_among, words_taken}
 use Rattle.command_line.specs.Values.{is_file_name}
 use Rattle.command_line.specs.declared.option_name.OptionName.{OptionName}
 use Rattle.std.specs.Prelude.{if◌then◌else◌}

@@ -5,7 +5,7 @@ use Rattle.std.proofs.lemmas.Bool.{cases_Bool, leb-true}
 use Rattle.pd_base.specs.declared.limits.TheConstants.{MOST_BUDGET, MOST_PATHS}
 use Rattle.command_line.specs.Options.{are_apart, option_entry, option_word}
 use Rattle.command_line.specs.RunForm.{HasRunNumbers, number_asked, number_of, product_reason, run_call, run_form}
-use Rattle.command_line.specs.Scan.{OptionValue, Texts, accepted_texts, first_place, first_same, none_given, reason_or, texts_given, value_among}
+use Rattle.command_line.specs.Reading.{OptionValue, Texts, accepted_texts, first_place, first_same, none_given, reason_or, texts_given, value_among}
 use Rattle.command_line.specs.Values.{is_allowed, number_spelled}
 use Rattle.command_line.specs.declared.number.TheConstants.{MOST_DIGITS}
 use Rattle.command_line.specs.declared.option_name.OptionName.{OptionName}

@@ -5,7 +5,7 @@ use Rattle.clap.specs.declared.builder.action.ArgAction.TheVariants.{Append}
 use Rattle.clap.specs.Words.{App, Rule, first_value, matched_of, new_app, new_rule, raw_values}
 use Rattle.clap.specs.declared.parser.matches.Found.{Found}
 use Rattle.command_line.specs.Options.{option_entry, option_word}
-use Rattle.command_line.specs.Scan.{Texts}
+use Rattle.command_line.specs.Reading.{Texts}
 use Rattle.command_line.specs.declared.option_name.OptionName.{OptionName}
 
 -- the argument that takes all positional words

@@ -6,10 +6,10 @@ pub mod Kinds
 pub mod MakeForm
 pub mod Modes
 pub mod Options
+pub mod Reading
 pub mod ReplayForm
 pub mod RiseFallReplayForm
 pub mod RunForm
-pub mod Scan
 pub mod ScanForm
 pub mod Taken
 pub mod Times

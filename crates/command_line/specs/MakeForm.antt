@@ -1,6 +1,6 @@
 -- The words of `make`: the number of stages of a ladder (this project's own).
 use Rattle.std.specs.Prelude.{ℕ, ◌≤◌, List, [], Option, None, Some, Result, slice_index_or, unwrap_or, if◌then◌else◌}
-use Rattle.command_line.specs.Scan.{Form, Texts, asked_by}
+use Rattle.command_line.specs.Reading.{Form, Texts, asked_by}
 use Rattle.command_line.specs.Values.{is_within, number_spelled}
 use Rattle.command_line.specs.declared.forms.make.MakeCommand.{MakeCommand}
 use Rattle.command_line.specs.declared.refusal.WordsRefusal.{WordsRefusal}

@@ -1,6 +1,6 @@
 -- The words of `rfreplay`: the names of four files, and a time (this project's own).
 use Rattle.std.specs.Prelude.{ℕ, ◌≤◌, List, [], None, Result, slice_index_or, unwrap_or}
-use Rattle.command_line.specs.Scan.{Form, Texts, asked_by}
+use Rattle.command_line.specs.Reading.{Form, Texts, asked_by}
 use Rattle.command_line.specs.Times.{time_reason, time_spelled}
 use Rattle.command_line.specs.declared.forms.rise_fall_replay.RiseFallReplayCommand.{RiseFallReplayCommand}
 use Rattle.command_line.specs.declared.forms.rise_fall_replay.TheConstants.{RISE_FALL_REPLAY_FILES}

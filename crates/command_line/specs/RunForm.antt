@@ -3,7 +3,7 @@
 use Rattle.std.specs.Prelude.{ℕ, ◌*◌, ◌≤◌, leb, Bool, true, false, List, [], ◌∷◌, Option, None, Some, Result, is_some, option_and_then, slice_index_or, unwrap_or, if◌then◌else◌}
 use Rattle.pd_base.specs.declared.limits.TheConstants.{MOST_BUDGET, MOST_PATHS}
 use Rattle.command_line.specs.Modes.{RunMode, is_skewed, mode_of, run_mode_of}
-use Rattle.command_line.specs.Scan.{Form, Texts, asked_by, value_asked}
+use Rattle.command_line.specs.Reading.{Form, Texts, asked_by, value_asked}
 use Rattle.command_line.specs.Values.{number_spelled}
 use Rattle.command_line.specs.declared.forms.run.RunCommand.{RunCommand}
 use Rattle.command_line.specs.declared.forms.run.TheConstants.{MOST_PRODUCT}

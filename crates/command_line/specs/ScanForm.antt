@@ -1,6 +1,6 @@
 -- The words of `scan`: the names of three files (this project's own).
 use Rattle.std.specs.Prelude.{ℕ, List, [], None, Result, slice_index_or}
-use Rattle.command_line.specs.Scan.{Form, Texts, asked_by}
+use Rattle.command_line.specs.Reading.{Form, Texts, asked_by}
 use Rattle.command_line.specs.declared.forms.scan.ScanCommand.{ScanCommand}
 use Rattle.command_line.specs.declared.refusal.WordsRefusal.{WordsRefusal}
 

@@ -4,7 +4,7 @@ use Rattle.clap.specs.Words.{first_value, found_of}
 use Rattle.command_line.specs.Commands.{bytes_of_words}
 use Rattle.command_line.specs.Kinds.{Kind, alone, valued, hyphened, empty, plain}
 use Rattle.command_line.specs.Options.{OptionEntry, option_word}
-use Rattle.command_line.specs.Scan.{Given, OptionValue, PlacedWord, Texts, WordsForm}
+use Rattle.command_line.specs.Reading.{Given, OptionValue, PlacedWord, Texts, WordsForm}
 use Rattle.command_line.specs.Values.{Allowed, number, one_of, file_name}
 use Rattle.command_line.specs.declared.fault.WordsFault.{WordsFault}
 use Rattle.command_line.specs.declared.fault.WordsFault.TheVariants.{Refused, NoMemory}

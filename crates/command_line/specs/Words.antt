@@ -9,7 +9,7 @@ use Rattle.command_line.specs.RiseFallReplayForm.{RiseFallReplayCall, HasRiseFal
 use Rattle.command_line.specs.CompactForm.{CompactCall, asked_compact, compact_call_of}
 use Rattle.command_line.specs.BoundsForm.{BoundsCall, asked_bounds, bounds_call_of}
 use Rattle.command_line.specs.ScanForm.{ScanCall, asked_scan, scan_call_of}
-use Rattle.command_line.specs.Scan.{then_taken}
+use Rattle.command_line.specs.Reading.{then_taken}
 use Rattle.command_line.specs.declared.command.Command.{Command}
 use Rattle.command_line.specs.declared.command.Command.TheVariants.{Gen, Check, Replay, Make, RiseFallReplay, Compact, Bounds, Scan}
 use Rattle.command_line.specs.declared.refusal.WordsRefusal.{WordsRefusal}

@@ -1,7 +1,7 @@
 // What a command takes behind its own word.
 ghost use Rattle.std.specs.Prelude.{◌≡◌};
 ghost use Rattle.command_line.specs.Options.{AreLawful};
-ghost use Rattle.command_line.specs.Scan.{Form, texts_given};
+ghost use Rattle.command_line.specs.Reading.{Form, texts_given};
 ghost use Rattle.command_line.specs.Taken.{form_seen, given_of};
 
 use crate::taken::Taken;

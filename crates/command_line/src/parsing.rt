@@ -5,7 +5,7 @@ ghost use Rattle.clap.specs.Words.{app_of, found_of, kind_of, rule_of, with_rule
 ghost use Rattle.command_line.specs.ClapWords.{argument_rule, option_rule, texts_found, word_rule, words_app};
 ghost use Rattle.command_line.specs.Commands.{bytes_of_words};
 ghost use Rattle.command_line.specs.Options.{has_name};
-ghost use Rattle.command_line.specs.Scan.{Given, GivesWords, texts_given, value_asked};
+ghost use Rattle.command_line.specs.Reading.{Given, GivesWords, texts_given, value_asked};
 ghost use Rattle.command_line.specs.Taken.{form_seen, texts_parsed};
 
 use crate::OptionName;

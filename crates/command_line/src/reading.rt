@@ -1,7 +1,7 @@
 // The words behind a command's own, read by its form.
 ghost use Rattle.std.specs.Prelude.{◌≡◌, ℕ, List, ◌∷◌, Ok, IfOk, IfErr, OnOk};
 ghost use Rattle.command_line.specs.Commands.{bytes_of_words};
-ghost use Rattle.command_line.specs.Scan.{AreAccepted, accepted_texts, together_reason};
+ghost use Rattle.command_line.specs.Reading.{AreAccepted, accepted_texts, together_reason};
 ghost use Rattle.command_line.specs.Taken.{IsFaultOf, given_of, texts_parsed};
 
 use crate::form::CommandForm;

@@ -1,6 +1,6 @@
 // Equal names among the names of files.
 ghost use Rattle.std.specs.Prelude.{◌≡◌};
-ghost use Rattle.command_line.specs.Scan.{first_same, place_of};
+ghost use Rattle.command_line.specs.Reading.{first_same, place_of};
 ghost use Rattle.command_line.specs.Taken.{names_placed};
 
 use crate::WordsRefusal;

@@ -1,6 +1,6 @@
 // What the words of a command gave so far, read from the left, and how one word more is taken.
 ghost use Rattle.std.specs.Prelude.{◌≡◌, [], Ok, option_map, slice_index_or};
-ghost use Rattle.command_line.specs.Scan.{missing_reason, name_added, none_given, option_due, option_taken, positional_taken, texts_given, value_asked, value_given, value_taken, word_taken};
+ghost use Rattle.command_line.specs.Reading.{missing_reason, name_added, none_given, option_due, option_taken, positional_taken, texts_given, value_asked, value_given, value_taken, word_taken};
 ghost use Rattle.command_line.specs.Taken.{TakesAs, form_seen, given_of};
 
 use crate::form::WordsForm;

@@ -1,7 +1,7 @@
 // The words of a command, taken from the left.
 ghost use Rattle.std.specs.Prelude.{◌≡◌, Ok, IfOk, IfErr};
 ghost use Rattle.command_line.specs.Commands.{bytes_of_words};
-ghost use Rattle.command_line.specs.Scan.{first_place, none_given, words_taken};
+ghost use Rattle.command_line.specs.Reading.{first_place, none_given, words_taken};
 ghost use Rattle.command_line.specs.Taken.{IsFaultOf, form_seen, given_of};
 
 use crate::WordsFault;

@@ -5,7 +5,7 @@ use Rattle.std.specs.Cmp.Lexicographic.{pointwise}
 use Rattle.std.proofs.lemmas.List.{append-nil}
 use Rattle.command_line.specs.Modes.{RunMode, enhanced, broadside, skewed, broadside_word, is_skewed, mode_of, skewed_word}
 use Rattle.command_line.specs.RunForm.{run_call, run_form, scan_reason}
-use Rattle.command_line.specs.Scan.{Texts, accepted_texts, reason_or, texts_given, value_asked}
+use Rattle.command_line.specs.Reading.{Texts, accepted_texts, reason_or, texts_given, value_asked}
 use Rattle.command_line.specs.declared.option_name.OptionName.TheVariants as option
 use Rattle.command_line.proofs.Asking.{all_texts_there, is_given, no_first}
 use Rattle.command_line.proofs.NamesApart.{files_and_value_apart, files_apart}

@@ -2,7 +2,7 @@
 use Rattle.std.proofs.Common.{◌≡◌, ◌⊎◌, ⊎_elim, inl, inr, ℕ, List, ◌∷◌, Result, Ok, Err, codes, refl, sym, ap, ◌∙◌}
 use Rattle.command_line.specs.declared.refusal.WordsRefusal.{WordsRefusal}
 use Rattle.command_line.specs.RunForm.{run_call, run_form}
-use Rattle.command_line.specs.Scan.{Texts, accepted_texts, then_taken}
+use Rattle.command_line.specs.Reading.{Texts, accepted_texts, then_taken}
 use Rattle.command_line.specs.Words.{asked_call, check, gen, Call, HasRunNumbers, RunCall}
 use Rattle.command_line.proofs.RunNumbers.{run_numbers}
 use Rattle.commands.specs.LaterCalls.{HasNamesApart}

@@ -18,7 +18,7 @@ use Rattle.commands.specs.declared.inputs.reading.TheConstants.{INPUT_LIMIT}
 use Rattle.commands.specs.CheckLaws.{texts_in}
 use Rattle.commands.specs.InputRequirements.{Requirement, own, short_stages}
 use Rattle.commands.specs.LaterCalls.{scans_in}
-use Rattle.commands.specs.Launches.{HasLaunch}
+use Rattle.commands.specs.LaunchModes.{HasLaunch}
 use Rattle.commands.specs.RunTexts.{front_inputs, inputs_of}
 use Rattle.commands.specs.Sizes.{HasShortTexts}
 use Rattle.commands.proofs.InputStages.{texts_pass}

@@ -34,8 +34,8 @@ use Rattle.calls.specs.Work.{Stage, Require}
 use Rattle.commands.specs.Inside.InputJudging.{FailsProofs, FailsReport, FailsTests, FailsWithin, ReadsWithin}
 use Rattle.commands.specs.InputRequirements.{HasMalformed, LacksForm, Requirement, WellFormed, own, read_stages, short_stages}
 use Rattle.commands.specs.LaterCalls.{scan_names}
-use Rattle.commands.specs.Launches.{HasLaunch}
-use Rattle.commands.specs.RunTexts.{RunTexts, claims_place, front_inputs, inputs_of, run_input_stages, texts_of}
+use Rattle.commands.specs.LaunchModes.{HasLaunch}
+use Rattle.commands.specs.RunTexts.{RunTexts, claims_place, front_inputs, inputs_of, run_input_stages, run_texts_of}
 use Rattle.commands.specs.SpelledTests.{IsMalformedTests, SpellsTests}
 use Rattle.commands.proofs.InputFaults.{proofs_formed, report_formed, tests_formed}
 use Rattle.commands.proofs.InputStages.{accepts_form}
@@ -63,10 +63,10 @@ fits_mode (skewed name) c (scan ∷ next ∷ more) launch has = absurd has
 
 -- so the files of a run among its inputs are these
 pub texts_found : (mode : RunMode) (texts : RunTexts) → length texts.scans ≡ length (scan_names mode)
-    → texts_of mode (inputs_of texts) ≡ texts
+    → run_texts_of mode (inputs_of texts) ≡ texts
 texts_found mode texts fits = by_scans mode texts.scans texts.net texts.delays texts.tests texts.report texts.proofs fits where
   by_scans : (mode : RunMode) (scans : List (List ℕ)) (net delays tests report proofs : List ℕ) → length scans ≡ length (scan_names mode)
-      → texts_of mode (front_inputs net delays scans ++ tests ∷ report ∷ proofs ∷ [])
+      → run_texts_of mode (front_inputs net delays scans ++ tests ∷ report ∷ proofs ∷ [])
       ≡ (record { net = net; delays = delays; scans = scans; tests = tests; report = report; proofs = proofs })
   by_scans enhanced [] net delays tests report proofs fits = refl
   by_scans broadside [] net delays tests report proofs fits = refl
@@ -162,7 +162,7 @@ module _ (call : RunCall) where
       inputs = inputs_of texts
 
       -- each text is found at its place
-      found : texts_of call.mode inputs ≡ texts
+      found : run_texts_of call.mode inputs ≡ texts
       found = texts_found call.mode texts (fits_mode call.mode c texts.scans launch has_launch)
 
       -- those behind NET

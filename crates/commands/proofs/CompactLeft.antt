@@ -14,7 +14,7 @@ use Rattle.test_grade.specs.Compacted.{IsCompacted}
 use Rattle.test_grade.specs.Serving.{Serves}
 use Rattle.run_files.specs.TestsText.{tests_text}
 use Rattle.command_line.specs.CompactForm.{compact_call, compact_form}
-use Rattle.command_line.specs.Scan.{Texts, accepted_texts, then_taken}
+use Rattle.command_line.specs.Reading.{Texts, accepted_texts, then_taken}
 use Rattle.command_line.specs.Words.{Call, CompactCall, asked_call, compact}
 use Rattle.command_line.specs.declared.refusal.WordsRefusal.{WordsRefusal}
 use Rattle.command_line.proofs.Asking.{all_texts_there}

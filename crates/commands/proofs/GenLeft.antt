@@ -28,7 +28,7 @@ use Rattle.commands.specs.InputRequirements.{IsOverLimit, limit_of, short_stages
 use Rattle.commands.specs.Sizes.{HasShortTexts}
 use Rattle.commands.specs.Gen.{gen_stages, gen_work, GivesGen, GivesRun, run_files}
 use Rattle.commands.specs.LaterCalls.{HasNamesApart, IsLeftBy, scan_names, scans_in}
-use Rattle.commands.specs.Launches.{HasLaunch}
+use Rattle.commands.specs.LaunchModes.{HasLaunch}
 use Rattle.commands.specs.RunTexts.{front_inputs, launch_stages}
 use Rattle.commands.specs.declared.launch.Launch.{Launch}
 use Rattle.commands.specs.ModeRules.{AreRulesOf}

@@ -18,7 +18,7 @@ use Rattle.commands.specs.Check.{check_work}
 use Rattle.commands.specs.SpelledRuns.{SpellsRun}
 use Rattle.commands.specs.Gen.{gen_work}
 use Rattle.commands.specs.LaterCalls.{HasNamesApart, HaveKept, HoldsAs, IsLeftBy, WasLeftByGen, run_names, scan_names, scans_in}
-use Rattle.commands.specs.Launches.{HasLaunch}
+use Rattle.commands.specs.LaunchModes.{HasLaunch}
 use Rattle.commands.proofs.AskedRuns.{asks_for, AskForRun}
 use Rattle.commands.proofs.CheckLaws.{good_run_is_accepted, AreReadable}
 use Rattle.commands.proofs.GenLeft.{files_left, LeftFiles}

@@ -24,7 +24,7 @@ use Rattle.commands.specs.Inside.InputJudging.{GivesDelays, GivesNet}
 use Rattle.commands.specs.Inside.RunJudging.{FailsToGiveInputs, FailsToGiveLaunch, GivesInputs, GivesLaunch, no_delays, no_launch, no_net}
 use Rattle.commands.specs.InputRequirements.{InputCommand, Requirement, input_stages, work_on_inputs}
 use Rattle.commands.specs.LaterCalls.{scan_names, scans_in}
-use Rattle.commands.specs.Launches.{HasLaunch}
+use Rattle.commands.specs.LaunchModes.{HasLaunch}
 use Rattle.commands.specs.RunTexts.{front_inputs, launch_stages, run_input_stages}
 use Rattle.commands.proofs.ChainStages.{chains_fail, chains_pass, chains_passed}
 use Rattle.commands.proofs.InputStages.{delays_fail, inputs_pass, inputs_passed, net_fails}

@@ -21,7 +21,7 @@ use Rattle.commands.specs.declared.launch.Launch.{Launch}
 use Rattle.commands.specs.declared.launch.Launch.TheVariants.{Skewed}
 use Rattle.commands.specs.InputRequirements.{Requirement, WellFormed, own, read_stages}
 use Rattle.commands.specs.LaterCalls.{HasNamesApart, scan_names, scans_in}
-use Rattle.commands.specs.Launches.{HasLaunch, IsShiftedBy}
+use Rattle.commands.specs.LaunchModes.{HasLaunch, IsShiftedBy}
 use Rattle.commands.specs.ModeRules.{AreRulesOf}
 use Rattle.commands.specs.Scan.{LaunchesPairs, ScanRequirement, scan_command, scan_work}
 use Rattle.commands.specs.ScanLaws.{CanBeScanned, FindsSkewedTests, KeepsScanLaws}

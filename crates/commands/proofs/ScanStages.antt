@@ -29,7 +29,7 @@ use Rattle.commands.specs.Inside.InputJudging.{FailsFor, FailsToGiveChains, Fail
 use Rattle.commands.specs.Inside.InputJudging as judging
 use Rattle.commands.specs.Inside.ScanJudging.{HasBitsFor, HaveUnlaunchedPair, ShiftsInAll}
 use Rattle.commands.specs.Printed.{printed_text}
-use Rattle.commands.specs.Scan.{AreLoaded, AreScanned, IsLaunched, LaunchesPairs, ScanRequirement, scan_front, scan_command, scan_work}
+use Rattle.commands.specs.Scan.{AreLoaded, AreScanned, IsOfLastShift, LaunchesPairs, ScanRequirement, scan_front, scan_command, scan_work}
 use Rattle.commands.specs.ScanText.{load_text}
 use Rattle.commands.specs.SpelledTests.{IsMalformedTests}
 use Rattle.commands.proofs.ChainStages.{chains_fail, chains_passed}
@@ -45,15 +45,15 @@ module _ (c : Circuit) (is : IsCircuit c) (chains : List (List LineId)) (are : A
       (sources_in_each c is chains are chain_place chain_d chain_within at line inside)
 
   -- the bits of a pair move on exactly where the last shift launches it
-  shifts : (test : Test) → IsLaunched c chains test → ShiftsInAll chains test
+  shifts : (test : Test) → IsOfLastShift c chains test → ShiftsInAll chains test
   shifts test = keeps_shifts c is chains are test.pair
 
-  launched : (test : Test) → ShiftsInAll chains test → IsLaunched c chains test
+  launched : (test : Test) → ShiftsInAll chains test → IsOfLastShift c chains test
   launched test = shifts_keep c is chains are test.pair
 
   -- so it is the first test that is not launched
   pub first_unlaunched : (tests : List Test) (number : ℕ) → IsFirstWithout (ShiftsInAll chains) tests number
-      → IsFirstWithout (IsLaunched c chains) tests number
+      → IsFirstWithout (IsOfLastShift c chains) tests number
   first_unlaunched tests number first = record {
     place = first.place;
     item = first.item;
@@ -63,7 +63,7 @@ module _ (c : Circuit) (is : IsCircuit c) (chains : List (List LineId)) (are : A
     counted = first.counted;
   }
 
-  pub all_launched : (tests : List Test) → All (ShiftsInAll chains) tests → All (IsLaunched c chains) tests
+  pub all_launched : (tests : List Test) → All (ShiftsInAll chains) tests → All (IsOfLastShift c chains) tests
   all_launched tests all k d within = launched (get_or tests k d) (all k d within)
 
   -- the bits load the pairs

@@ -23,8 +23,8 @@ use Rattle.calls.specs.declared.refusal.Refusal.{Refusal}
 use Rattle.calls.specs.Work.{Work, Stage, Require, Products}
 use Rattle.commands.specs.InputRefusals.{malformed}
 use Rattle.commands.specs.InputRequirements.{InputCommand, Requirement, WellFormed, own, read_stages, short_stages, work_on_inputs}
-use Rattle.commands.specs.Launches.{HasLaunch}
-use Rattle.commands.specs.RunTexts.{RunTexts, claims_place, run_input_stages, texts_of}
+use Rattle.commands.specs.LaunchModes.{HasLaunch}
+use Rattle.commands.specs.RunTexts.{RunTexts, claims_place, run_input_stages, run_texts_of}
 use Rattle.commands.specs.SpelledRuns.{HasProofsOfOtherMode, SpellsRun}
 use Rattle.commands.specs.declared.launch.Launch.{Launch}
 
@@ -105,8 +105,8 @@ pub record SpellFlawedRun (call : RunCall) (texts : RunTexts) (refusal : Refusal
 
 -- what check refuses by a requirement of its own
 abbrev pub RefusesClaims : RunCall → CheckRequirement → List (List ℕ) → Refusal → Type 0
-RefusesClaims call VersionOfMode inputs refusal = SpellOtherVersion call.mode (texts_of call.mode inputs) refusal
-RefusesClaims call GoodRun inputs refusal = SpellFlawedRun call (texts_of call.mode inputs) refusal
+RefusesClaims call VersionOfMode inputs refusal = SpellOtherVersion call.mode (run_texts_of call.mode inputs) refusal
+RefusesClaims call GoodRun inputs refusal = SpellFlawedRun call (run_texts_of call.mode inputs) refusal
 
 -- in the mode the texts spell a run that is good for so many paths and this budget, and its verdicts keep their promises
 pub record SpellGoodRun (call : RunCall) (texts : RunTexts) : Type 0 where
@@ -129,7 +129,7 @@ pub record SaysGood (call : RunCall) (texts : RunTexts) (products : Products) : 
 
 -- what check gives for its inputs
 abbrev pub GivesCheck : RunCall → List (List ℕ) → Products → Type 0
-GivesCheck call inputs products = SaysGood call (texts_of call.mode inputs) products
+GivesCheck call inputs products = SaysGood call (run_texts_of call.mode inputs) products
 
 -- the command with its names and numbers
 abbrev pub check_command : RunCall → InputCommand

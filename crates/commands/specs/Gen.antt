@@ -21,7 +21,7 @@ use Rattle.calls.specs.declared.role.Role.TheVariants as role
 use Rattle.calls.specs.Work.{Work, Stage, Due, due_file, Products}
 use Rattle.commands.specs.InputRequirements.{InputCommand, RefusesNoMore, Requirement, short_stages, work_on_inputs}
 use Rattle.commands.specs.ModeRules.{searched_rules}
-use Rattle.commands.specs.Launches.{HasLaunch}
+use Rattle.commands.specs.LaunchModes.{HasLaunch}
 use Rattle.commands.specs.RunTexts.{run_input_stages}
 use Rattle.commands.specs.Sizes.{HasShortTexts}
 use Rattle.commands.specs.declared.launch.Launch.{Launch}

@@ -19,7 +19,7 @@ use Rattle.calls.specs.Work.{Products}
 use Rattle.commands.specs.Gen.{GivesProductsOf}
 use Rattle.commands.specs.ModeRules.{KeepsMode, searched_rules}
 use Rattle.commands.specs.LaterCalls.{scans_in}
-use Rattle.commands.specs.Launches.{HasLaunch}
+use Rattle.commands.specs.LaunchModes.{HasLaunch}
 use Rattle.commands.specs.Sizes.{HasShortTexts}
 use Rattle.commands.specs.declared.launch.Launch.{Launch}
 use Rattle.commands.specs.declared.inputs.reading.TheConstants.{INPUT_LIMIT}

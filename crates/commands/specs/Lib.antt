@@ -14,7 +14,7 @@ pub mod InputRefusals
 pub mod InputRequirements
 pub mod Inside
 pub mod LaterCalls
-pub mod Launches
+pub mod LaunchModes
 pub mod Make
 pub mod MakeLaws
 pub mod ModeRules

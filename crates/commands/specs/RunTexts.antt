@@ -42,8 +42,8 @@ scans_of broadside inputs = []
 scans_of (skewed scan) inputs = input_at inputs 2 ∷ []
 
 -- the files of a run in this mode among these inputs
-abbrev pub texts_of : RunMode → List (List ℕ) → RunTexts
-texts_of mode inputs = record {
+abbrev pub run_texts_of : RunMode → List (List ℕ) → RunTexts
+run_texts_of mode inputs = record {
   net = input_at inputs 0;
   delays = input_at inputs 1;
   scans = scans_of mode inputs;

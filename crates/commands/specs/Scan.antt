@@ -43,8 +43,8 @@ pub record AreScanned (net scan tests : List ℕ) (c : Circuit) (chains : List (
 
 -- the pair of the test is launched by the last shift of these chains: the second vector has at each flip-flop but the first of a chain what
 -- the first has at the flip-flop before it
-abbrev pub IsLaunched : Circuit → List (List LineId) → Test → Type 0
-IsLaunched c chains test = IsOfMode (Skewed chains) c test.pair
+abbrev pub IsOfLastShift : Circuit → List (List LineId) → Test → Type 0
+IsOfLastShift c chains test = IsOfMode (Skewed chains) c test.pair
 
 -- the pair of the test of this number is not
 abbrev pub unlaunched_pair : ℕ → Refusal
@@ -57,7 +57,7 @@ pub record HasUnlaunchedPair (net scan tests : List ℕ) (refusal : Refusal) : T
   pub listed : List Test
   pub are : AreScanned net scan tests circuit chains listed
   pub number : ℕ
-  pub first : IsFirstWithout (IsLaunched circuit chains) listed number
+  pub first : IsFirstWithout (IsOfLastShift circuit chains) listed number
   pub is : refusal ≡ unlaunched_pair number
 
 -- what scan refuses by a requirement of its own
@@ -75,7 +75,7 @@ pub record GivesLoads (net scan tests : List ℕ) (products : Products) : Type 0
   pub chains : List (List LineId)
   pub listed : List Test
   pub are : AreScanned net scan tests circuit chains listed
-  pub shifted : All (IsLaunched circuit chains) listed
+  pub shifted : All (IsOfLastShift circuit chains) listed
   pub loads : All (AreLoaded chains) listed
   pub text : products ≡ record { files = []; out = load_text chains listed }
 

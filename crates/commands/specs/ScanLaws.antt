@@ -11,7 +11,7 @@ use Rattle.command_line.specs.Words.{RunCall, ScanCall}
 use Rattle.calls.specs.declared.status.Status.{Status}
 use Rattle.calls.specs.Calls.{IsDoneOrNoMemory, NoneFailed}
 use Rattle.commands.specs.LaterCalls.{HoldsAs, WasLeftByGen}
-use Rattle.commands.specs.Scan.{AreScanned, IsLaunched}
+use Rattle.commands.specs.Scan.{AreScanned, IsOfLastShift}
 use Rattle.commands.specs.declared.inputs.reading.TheConstants.{INPUT_LIMIT}
 
 -- NET has a circuit, SCAN gives chains of it, TESTS spells tests of it, whose pairs the last shift of the chains launches, and each is within
@@ -21,7 +21,7 @@ pub record CanBeScanned (call : ScanCall) (now : Folder) : Type 0 where
   pub chains : List (List LineId)
   pub listed : List Test
   pub are : AreScanned (bytes_at now.held call.net) (bytes_at now.held call.scan) (bytes_at now.held call.tests) circuit chains listed
-  pub shifted : All (IsLaunched circuit chains) listed
+  pub shifted : All (IsOfLastShift circuit chains) listed
   pub net_within : length (bytes_at now.held call.net) ≤ INPUT_LIMIT
   pub scan_within : length (bytes_at now.held call.scan) ≤ INPUT_LIMIT
   pub tests_within : length (bytes_at now.held call.tests) ≤ MOST_BYTES

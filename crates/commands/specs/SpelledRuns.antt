@@ -15,7 +15,7 @@ use Rattle.run_files.specs.ReportText.{report_text}
 use Rattle.run_files.specs.declared.version.ProofsVersion.{ProofsVersion}
 use Rattle.command_line.specs.Modes.{RunMode}
 use Rattle.commands.specs.ModeRules.{AreRulesOf}
-use Rattle.commands.specs.Launches.{HasLaunch}
+use Rattle.commands.specs.LaunchModes.{HasLaunch}
 use Rattle.commands.specs.SpelledTests.{SpellsTests}
 use Rattle.commands.specs.declared.launch.Launch.{Launch}
 

@@ -6,8 +6,8 @@ use pd_base::{LineId, Pair};
 use scan_order::Chains;
 
 /// Whether the last shift of these chains launches the pair: at each flip-flop but the first of its chain, the second vector has the bit that
-/// the first has at the flip-flop before. The vectors have bits for all flip-flops. It takes no memory, and a step for each flip-flop.
-pub fn launches(chains: &Chains, pair: &Pair) -> bool
+/// the first has at the flip-flop before. The vectors have bits for all flip-flops. It takes no memory.
+pub fn shifts_on_all(chains: &Chains, pair: &Pair) -> bool
     requires { All (λ chain. All (λ line. line.0 < length pair.now.first) chain) chains.now }
     ensures { IsTrue result ↔ All (λ chain. ShiftsOn chain pair.now) chains.now }
 {

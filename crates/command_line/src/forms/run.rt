@@ -3,7 +3,7 @@
 ghost use Rattle.std.specs.Prelude.{◌≡◌, ◌*◌, ℕ, List, ◌∷◌, Ok, IfOk, IfErr, length, option_map, refl};
 ghost use Rattle.command_line.specs.Commands.{bytes_of_words};
 ghost use Rattle.command_line.specs.RunForm.{HasRunNumbers, asked_run, number_of, product_reason, run_call, run_call_of, run_form, scan_reason};
-ghost use Rattle.command_line.specs.Scan.{texts_given};
+ghost use Rattle.command_line.specs.Reading.{texts_given};
 ghost use Rattle.command_line.specs.Taken.{IsFaultOf, given_of, texts_parsed};
 
 use crate::form::{CommandForm, WordsForm};

@@ -29,7 +29,7 @@ use Rattle.calls.specs.Work.{Stage}
 use Rattle.commands.specs.Inside.InputJudging.{FailsFor, FailsProofs, FailsReport, FailsTests}
 use Rattle.commands.specs.InputRefusals.{malformed}
 use Rattle.commands.specs.InputRequirements.{Requirement, short_stages}
-use Rattle.commands.specs.Launches.{HasLaunch}
+use Rattle.commands.specs.LaunchModes.{HasLaunch}
 use Rattle.commands.specs.RunTexts.{front_inputs, run_input_stages}
 use Rattle.commands.specs.SpelledTests.{SpellsTests}
 use Rattle.commands.specs.declared.check.reading.ClaimTexts.{ClaimTexts}

@@ -7,7 +7,7 @@ ghost use Rattle.commands.specs.Scan.{unlaunched_pair};
 
 use calls::{Cause, Ending, Part, Refusal};
 use pd_base::Test;
-use scan_load::launches;
+use scan_load::shifts_on_all;
 use scan_order::Chains;
 
 /// Refuses tests of which one has a pair that the last shift does not launch.
@@ -28,7 +28,7 @@ fn first_unlaunched(chains: &Chains, tests: &[Test]) -> Option<u64>
     ensures { MatchOption result (All (ShiftsInAll chains.now) tests.now) (IsFirstWithout (ShiftsInAll chains.now) tests.now) }
 {
     for (place, test) in tests.iter().enumerate() {
-        if !launches(chains, &test.pair) {
+        if !shifts_on_all(chains, &test.pair) {
             return Some(place as u64 + 1);
         }
     }

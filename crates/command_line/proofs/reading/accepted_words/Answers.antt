@@ -1,7 +1,7 @@
 -- clap has what accepted words give.
 use Rattle.std.proofs.Common.{◌∙◌, Ok, ap, sym, subst}
 use Rattle.command_line.specs.Commands.{bytes_of_words}
-use Rattle.command_line.specs.Scan.{GivesWords, WordsForm}
+use Rattle.command_line.specs.Reading.{GivesWords, WordsForm}
 use Rattle.command_line.proofs.Asking.{gives_words, texts_accepted}
 use Rattle.command_line.proofs.reading.accepted_words.Goals as goal
 

@@ -1,5 +1,5 @@
 use Rattle.std.proofs.Common.{◌≡◌, length}
-use Rattle.command_line.specs.Scan.{place_of}
+use Rattle.command_line.specs.Reading.{place_of}
 use Rattle.command_line.specs.Taken.{names_placed}
 use Rattle.command_line.proofs.same.place_of.Given as goal
 

@@ -1,5 +1,5 @@
 use Rattle.std.proofs.Common.{◌≡◌, length}
-use Rattle.command_line.specs.Scan.{first_same}
+use Rattle.command_line.specs.Reading.{first_same}
 use Rattle.command_line.specs.Taken.{names_placed}
 use Rattle.command_line.proofs.same.same_among.Given as goal
 

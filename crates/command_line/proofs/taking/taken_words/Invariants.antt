@@ -1,7 +1,7 @@
 use Rattle.std.proofs.Common.{◌≡◌, ◌+◌, drop}
 use Rattle.command_line.specs.Commands.{bytes_of_words}
 use Rattle.command_line.specs.Taken.{form_seen, given_of}
-use Rattle.command_line.specs.Scan.{first_place, none_given, words_taken}
+use Rattle.command_line.specs.Reading.{first_place, none_given, words_taken}
 use Rattle.command_line.proofs.taking.taken_words.Given as goal
 
 -- the words so far are taken

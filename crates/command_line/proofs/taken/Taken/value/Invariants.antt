@@ -1,6 +1,6 @@
 use Rattle.std.proofs.Common.{◌≡◌, length}
 use Rattle.command_line.specs.Options.{option_word}
-use Rattle.command_line.specs.Scan.{value_among, value_given}
+use Rattle.command_line.specs.Reading.{value_among, value_given}
 use Rattle.command_line.specs.Taken.{given_of, values_seen}
 use Rattle.command_line.proofs.taken.Taken.value.Given as goal
 

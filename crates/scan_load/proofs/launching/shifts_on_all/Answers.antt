@@ -5,7 +5,7 @@ use Rattle.std.proofs.lemmas.List.{take_all}
 use Rattle.std.proofs.lemmas.List.Elements.{All-more}
 use Rattle.pd_base.specs.declared.ids.LineId.{LineId}
 use Rattle.scan_load.specs.Shifting.{ShiftsOn}
-use Rattle.scan_load.proofs.launching.launches.Goals as goal
+use Rattle.scan_load.proofs.launching.shifts_on_all.Goals as goal
 
 pub loop-chain-preserved : goal.loop-chain-preserved
 loop-chain-preserved c =
