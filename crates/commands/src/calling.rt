@@ -23,8 +23,8 @@ use std::alloc::Global;
 /// that has no circuit, a delay file that gives its pins no delays, and a circuit whose texts might grow too long.
 ///
 /// `check NET DELAYS TESTS REPORT PROOFS` reads all five files and writes none. At status 0, and only then, out has the word `good`: the
-/// last three spell one run, which is good for NET and DELAYS and for as many paths and the budget as are asked for, judged from NET and
-/// DELAYS alone; so its verdicts promise what those of `gen` do. Status 1 tells the first line of a file that lacks its form, or else the
+/// last three spell one run, which is good for NET and DELAYS and for as many paths and the budget as are asked for, judged from NET, DELAYS
+/// and, in mode skewed, SCAN alone; so its verdicts promise what those of `gen` do. Status 1 tells the first line of a file that lacks its form, or else the
 /// first flaw of the run (`check_work` in specs/Check.antt).
 ///
 /// Both are of a mode, whose pairs of vectors alone count: `--mode enhanced`, where none is given, `--mode broadside`, or
