@@ -40,7 +40,7 @@ use Rattle.commands.specs.SpelledTests.{IsMalformedTests, SpellsTests}
 use Rattle.commands.proofs.InputFaults.{proofs_formed, report_formed, tests_formed}
 use Rattle.commands.proofs.InputStages.{accepts_form}
 use Rattle.commands.proofs.FrontStages.{judged_behind, more_whole_behind, required_behind, unwhole_behind, whole_behind}
-use Rattle.commands.specs.Check.{CheckRequirement, GivesCheck, GoodRun, VersionOfMode, SpellFlawedRun, SpellAll, SpellGoodRun, SpellOtherVersion, check_command, check_stages, check_work, claim_reads, form_stages, good_products, stages_read}
+use Rattle.commands.specs.Check.{CheckRequirement, GoodRun, VersionOfMode, SpellFlawedRun, SpellAll, SpellGoodRun, SpellOtherVersion, check_command, check_stages, check_work, claim_reads, form_stages, good_products, stages_read}
 use Rattle.commands.specs.Inside.Checking.{FailsRules, FailsRun, FailsToSpell, HasNoRules, HasSpelledRun, IsFlawed, IsGoodAndKeeps, SpellsNumbered, all_inputs, no_tests, no_report, no_proofs, no_rules, stages_formed, stages_short}
 use Rattle.commands.specs.ModeRules.{AreRulesOf}
 use Rattle.commands.specs.SpelledRuns.{HasOtherVersion, IsMalformedProofs, IsMalformedReport, SpellsProofs, SpellsReport, SpellsRun}

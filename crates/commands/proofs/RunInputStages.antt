@@ -13,7 +13,6 @@ use Rattle.scan_order.proofs.ScanLaws.{chains_once}
 use Rattle.command_line.specs.Modes.{RunMode, enhanced, broadside, skewed}
 use Rattle.command_line.specs.Words.{RunCall}
 use Rattle.calls.specs.declared.ending.Ending.{Ending}
-use Rattle.calls.specs.declared.role.Role.TheVariants as role
 use Rattle.calls.specs.Work.{Stage}
 use Rattle.calls.specs.Passing.{HasPassed, Pass}
 use Rattle.calls.specs.Stopping.{Stops}

@@ -1,6 +1,5 @@
 -- What each requirement of `scan` on TESTS accepts.
-use Rattle.std.proofs.Common.{◌≡◌, ℕ, ◌≤◌, List, [], ◌∷◌, All, length, subst}
-use Rattle.std.proofs.lemmas.List.Elements.{All-weaker}
+use Rattle.std.proofs.Common.{ℕ, ◌≤◌, List, [], ◌∷◌, All, length, subst}
 use Rattle.pd_base.specs.declared.ids.LineId.{LineId}
 use Rattle.pd_base.specs.declared.limits.TheConstants.{MOST_BYTES}
 use Rattle.pd_base.specs.declared.test.Test.{Test}

@@ -1,14 +1,10 @@
 -- Which inputs `scan` accepts: what can be scanned, and the tests that gen left in mode skewed, with the same NET and SCAN.
 use Rattle.std.proofs.Common.{◌≡◌, ℕ, ◌≤◌, List, [], ◌∷◌, ◌++◌, All, length, map, Some, refl, sym, ap, subst, ◌∙◌, arith}
-use Rattle.pd_base.specs.declared.ids.LineId.{LineId}
 use Rattle.pd_base.specs.declared.limits.TheConstants.{MOST_BYTES}
 use Rattle.pd_io.specs.Folder.{Folder, bytes_at}
 use Rattle.pd_io.specs.Seen.{Outside}
-use Rattle.netlist.specs.Circuit.{Circuit}
 use Rattle.bench_reader.specs.Circuits.{HasCircuit}
 use Rattle.bench_reader.proofs.LawfulCircuits.{is_circuit}
-use Rattle.run_files.specs.TestsText.{tests_text}
-use Rattle.scan_order.specs.ScanFile.{HasChains}
 use Rattle.command_line.specs.Modes.{RunMode, skewed}
 use Rattle.command_line.specs.Words.{HasRunNumbers, RunCall, ScanCall}
 use Rattle.calls.specs.declared.role.Role.TheVariants as role

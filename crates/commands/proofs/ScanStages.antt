@@ -2,17 +2,15 @@
 use Rattle.std.proofs.Common.{◌≡◌, ℕ, List, [], ◌∷◌, ◌++◌, All, codes, get_or, take, ◌<◌, Result, Ok, Err, IfErr, IfOk, refl, sym, ap, subst, ◌∙◌}
 use Rattle.std.specs.Prelude.{Vec}
 use Rattle.std.specs.declared.alloc.Global.{Global}
-use Rattle.std.proofs.lemmas.List.Elements.{All-weaker}
 use Rattle.pd_base.specs.declared.ids.LineId.{LineId}
 use Rattle.pd_base.specs.declared.test.Test.{Test}
 use Rattle.pd_io.specs.Seen.{FilesSeen}
-use Rattle.netlist.specs.Circuit.{Circuit, source_count}
+use Rattle.netlist.specs.Circuit.{Circuit}
 use Rattle.netlist.specs.Lawful.{IsCircuit}
 use Rattle.bench_reader.proofs.LawfulCircuits.{is_circuit}
 use Rattle.runs.specs.Lawful.{AreLawfulTests}
 use Rattle.scan_order.specs.Chains.{AreChainsOf}
 use Rattle.scan_order.proofs.CircuitChains.{sources_in_each}
-use Rattle.scan_load.specs.Shifting.{Loads, ShiftsOn, load_bits}
 use Rattle.scan_load.proofs.LaunchedPairs.{keeps_shifts, shifts_keep}
 use Rattle.scan_load.proofs.Shifts.{loads_by_bits}
 use Rattle.command_line.specs.Words.{ScanCall}

@@ -1,5 +1,5 @@
 -- An input was refused; or what was judged of the claim files.
-use Rattle.std.proofs.Common.{◌++◌, refl}
+use Rattle.std.proofs.Common.{◌++◌}
 use Rattle.std.proofs.lemmas.Result.{err_from_is_err_and}
 use Rattle.command_line.specs.Commands.{run_call_of}
 use Rattle.commands.specs.Check.{check_command}

@@ -1,5 +1,5 @@
 -- What is passed at each stage, and how the call ends there.
-use Rattle.std.proofs.Common.{List, All, refl, sym, subst}
+use Rattle.std.proofs.Common.{All, refl, sym, subst}
 use Rattle.std.proofs.lemmas.Result.{err_from_is_err_and}
 use Rattle.bench_reader.proofs.LawfulCircuits.{is_circuit}
 use Rattle.command_line.specs.ScanForm.{scan_call_of}

@@ -1,6 +1,5 @@
 -- Nothing stands twice in a chain.
-use Rattle.std.proofs.Common.{◌≢◌, List, AllPairs, ap, sym, subst, ◌∙◌}
-use Rattle.std.specs.Prelude.{slice_index_or}
+use Rattle.std.proofs.Common.{◌≢◌, AllPairs, sym, subst, ◌∙◌}
 use Rattle.pd_base.specs.declared.ids.LineId.{LineId}
 use Rattle.scan_order.specs.Chains.{AreChains}
 use Rattle.scan_order.proofs.CircuitChains.{once_in_each}
