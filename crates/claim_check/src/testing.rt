@@ -13,7 +13,7 @@ ghost use Rattle.claim_check.specs.Right.{HasItsTest};
 use crate::fault::Fault;
 use crate::numbered::numbered;
 use netlist::Netlist;
-use pair_judging::ConeJudge;
+use pair_judging::{ConeJudge, Target};
 use pd_base::{Kind, Test};
 use runs::{Run, Verdict};
 
@@ -70,8 +70,13 @@ fn has_nonrobust_test(
 {
     match numbered(tests, number) {
         Some(test) => {
+            let robust = Target {
+                path: fault.path,
+                direction: fault.direction,
+                kind: Kind::Robust,
+            };
             is_test_of(net, fault, Kind::Nonrobust, test, judge)
-                && !judge.meets(net, fault.path, fault.direction, Kind::Robust, &test.pair)
+                && !judge.meets(net, &robust, &test.pair)
         }
         None => false,
     }
@@ -85,10 +90,15 @@ fn is_test_of(net: &Netlist, fault: &Fault, kind: Kind, test: &Test, judge: &mut
     ensures tests { IsTrue result ↔ IsTestOf net.now fault.now.number (target_of fault.now.path.now fault.now.direction kind) test.now }
     ensures judge { IsJudgeOf 4 net.now judge.new }
 {
+    let target = Target {
+        path: fault.path,
+        direction: fault.direction,
+        kind,
+    };
     test.path == fault.number
         && test.dir == fault.direction
         && test.kind == kind
-        && judge.meets(net, fault.path, fault.direction, kind, &test.pair)
+        && judge.meets(net, &target, &test.pair)
 }
 
 // Whether the flag of a verdict's test is true, where each test has one; a verdict without a test, or whose test has no flag, lacks nothing.

@@ -5,3 +5,4 @@ pub mod SourceBits
 pub mod Judged
 pub mod Judges
 pub mod PathEnds
+pub mod Targets

@@ -1,21 +1,22 @@
 // The judging of finished pairs of vectors, one path at a time: on the cone of the path's end alone, the states of its sources are read off
 // the pair, those of its other lines computed, and the conditions read on them. The cone of the last end is kept.
 ghost use Rattle.std.specs.Prelude.{◌≡◌, ◌↔◌, length, IfOk, IsTrue};
-ghost use Rattle.pd_base.specs.Target.{target_of};
 ghost use Rattle.netlist.specs.Circuit.{source_count};
 ghost use Rattle.netlist.specs.Conditions.{Meets};
 ghost use Rattle.netlist.specs.Paths.{IsPrefix, end_of};
 ghost use Rattle.state_sets.specs.FourStates.{four_states};
 ghost use Rattle.pair_judging.specs.ConeStates.{HasConeStates};
 ghost use Rattle.pair_judging.specs.Judges.{IsJudgeOf};
+ghost use Rattle.pair_judging.specs.Targets.{seen_target};
 
 use crate::judging::{Judgement, compute_all};
 use crate::path_ends::end_of;
 use crate::path_states::judge_steps;
 use crate::source_bits::take_pair;
+use crate::target::Target;
 use cones::Cone;
 use netlist::Netlist;
-use pd_base::{Direction, Kind, OutOfMemory, Pair, Path};
+use pd_base::{OutOfMemory, Pair, Path};
 use state_sets::{FourStates, State};
 use std::alloc::Global;
 use std::marker::Model;
@@ -46,25 +47,18 @@ impl ConeJudge {
         Ok(ConeJudge { cone, states })
     }
 
-    /// Whether the pair is a test of this kind for the transition at the source of a path, or of a prefix. The pair has one bit per
+    /// Whether the pair is a test for this target. The pair has one bit per
     /// source, and the judge was made for this netlist, for which it serves any further call. What a test shows of the path is said at
     /// `meets` of path_model, which gives the same answer at the cost of the circuit. Takes no memory.
-    pub fn meets(
-        &mut self,
-        net: &Netlist,
-        path: &Path,
-        dir: Direction,
-        kind: Kind,
-        pair: &Pair,
-    ) -> bool
+    pub fn meets(&mut self, net: &Netlist, target: &Target, pair: &Pair) -> bool
         requires judge { IsJudgeOf 4 net.now self.old }
-        requires prefix { IsPrefix net.now path.now }
+        requires prefix { IsPrefix net.now target.now.path.now }
         requires bits { length pair.now.first ≡ source_count net.now }
         ensures judge { IsJudgeOf 4 net.now self.new }
-        ensures meets { IsTrue result ↔ Meets net.now (target_of path.now dir kind) pair.now }
+        ensures meets { IsTrue result ↔ Meets net.now (seen_target target.now) pair.now }
     {
-        self.take_states(net, path, pair);
-        match judge_steps::<FourStates>(net, path, dir, kind, self.states.as_slice()) {
+        self.take_states(net, target.path, pair);
+        match judge_steps::<FourStates>(net, target, self.states.as_slice()) {
             Judgement::IsTest => true,
             Judgement::FailsAt(_, _) => false,
         }

@@ -3,19 +3,20 @@
 // What is told of one finished pair stands in cone_judge.rt.
 ghost use Rattle.std.specs.Prelude.{◌≡◌, ◌<◌, ℕ, true, false, length, All, IfSome, IfNone, MatchOption};
 ghost use Rattle.pd_base.specs.Links.{IsLink};
-ghost use Rattle.pd_base.specs.Target.{target_of};
 ghost use Rattle.netlist.specs.Circuit.{HasGates, line_count};
 ghost use Rattle.netlist.specs.Lawful.{IsCircuit};
 ghost use Rattle.netlist.specs.Paths.{IsPrefix, end_of};
 ghost use Rattle.cones.specs.KeptCones.{IsConeFor, IsConeAt};
 ghost use Rattle.pair_judging.specs.ConeStates.{state_in, AreStates, AreLineStates, KeepsSourceStates};
+ghost use Rattle.pair_judging.specs.Targets.{seen_target};
 ghost use Rattle.pair_judging.specs.Judged.{IsJudgedAt, FailsInCone, AreComputed, RulesOut, LinksPass, IsFailingLink};
 
 use crate::gate_states::gate_state;
 use crate::path_states::judge_steps;
+use crate::target::Target;
 use cones::{Cone, SourceLinks};
 use netlist::Netlist;
-use pd_base::{Direction, GateId, Kind, LineId, Path};
+use pd_base::{GateId, LineId};
 use state_sets::{Algebra, State, StateSet};
 
 /// What is found of the pairs that have given states at the sources of a cone.
@@ -36,19 +37,17 @@ pub fn judge<A: Algebra>(
     net: &Netlist,
     cone: &Cone,
     labels: &[StateSet],
-    path: &Path,
-    dir: Direction,
-    kind: Kind,
+    target: &Target,
     states: &mut [State],
 ) -> Judgement
-    requires prefix { IsPrefix net.now path.now }
+    requires prefix { IsPrefix net.now target.now.path.now }
     requires made { IsConeFor net.now cone.now }
-    requires cone { IsConeAt net.now (end_of net.now path.now) cone.now }
+    requires cone { IsConeAt net.now (end_of net.now target.now.path.now) cone.now }
     requires labels { length labels.now ≡ line_count net.now }
     requires states { AreLineStates A.algebra.count net.now states.old }
     ensures kept { KeepsSourceStates A.algebra.count net.now states.old states.new }
-    ensures within { FailsInCone net.now cone.now.links (end_of net.now path.now) result }
-    ensures judged { IsJudgedAt A.algebra net.now cone.now.links (target_of path.now dir kind) labels.now states.new result }
+    ensures within { FailsInCone net.now cone.now.links (end_of net.now target.now.path.now) result }
+    ensures judged { IsJudgedAt A.algebra net.now cone.now.links (seen_target target.now) labels.now states.new result }
 {
     if let Some(line) = compute_states::<A>(net, cone.gates(), labels, states) {
         return Judgement::FailsAt(line, None);
@@ -56,7 +55,7 @@ pub fn judge<A: Algebra>(
     if let Some((source, line)) = failing_link::<A>(cone.links(), cone.sources(), states) {
         return Judgement::FailsAt(source, Some(line));
     }
-    judge_steps::<A>(net, path, dir, kind, states)
+    judge_steps::<A>(net, target, states)
 }
 
 // Computes the states of the lines of these gates, one after another, up to the first one that its label has not.

@@ -12,6 +12,7 @@ mod path_ends;
 mod path_states;
 mod read_states;
 mod source_bits;
+mod target;
 
 pub use cone_judge::ConeJudge;
 pub use gate_states::gate_state;
@@ -21,3 +22,4 @@ pub use path_ends::{end_of, ends_of};
 pub use path_states::judge_steps;
 pub use read_states::{take_least, take_preferred};
 pub use source_bits::read_test;
+pub use target::Target;

@@ -2,36 +2,36 @@
 // conditions, read on the states.
 ghost use Rattle.std.specs.Prelude.{◌≡◌, ◌<◌, ◌↔◌, length, All, IsTrue, MatchOption};
 ghost use Rattle.pd_base.specs.Links.{LinkList};
-ghost use Rattle.pd_base.specs.Target.{target_of};
 ghost use Rattle.netlist.specs.Circuit.{line_count};
 ghost use Rattle.netlist.specs.Conditions.{Allows};
 ghost use Rattle.netlist.specs.Paths.{IsPrefix, end_of};
 ghost use Rattle.state_sets.specs.Starts.{IsLaunching};
 ghost use Rattle.pair_judging.specs.ConeStates.{AreStates, AreLineStates};
+ghost use Rattle.pair_judging.specs.Targets.{seen_target};
 ghost use Rattle.pair_judging.specs.Judged.{IsJudgedBy, FailsInCone, StatesPass, IsFailingSide};
 
 use crate::judging::Judgement;
+use crate::target::Target;
 use netlist::{Netlist, SideCondition, final_bit, side_condition};
-use pd_base::{Direction, Kind, LineId, Path};
+use pd_base::{Direction, LineId};
 use state_sets::{Algebra, State};
 
 /// Judges the pairs under which the lines in the fan-in of a path's end are in these states. Takes no memory.
-pub fn judge_steps<A: Algebra>(
-    net: &Netlist,
-    path: &Path,
-    dir: Direction,
-    kind: Kind,
-    states: &[State],
-) -> Judgement
-    requires prefix { IsPrefix net.now path.now }
+pub fn judge_steps<A: Algebra>(net: &Netlist, target: &Target, states: &[State]) -> Judgement
+    requires prefix { IsPrefix net.now target.now.path.now }
     requires states { AreLineStates A.algebra.count net.now states.now }
-    ensures within { (links : LinkList) → FailsInCone net.now links (end_of net.now path.now) result }
-    ensures judged { IsJudgedBy A.algebra net.now (target_of path.now dir kind) states.now result }
+    ensures within { (links : LinkList) → FailsInCone net.now links (end_of net.now target.now.path.now) result }
+    ensures judged { IsJudgedBy A.algebra net.now (seen_target target.now) states.now result }
 {
+    let Target {
+        path,
+        direction,
+        kind,
+    } = *target;
     // A prefix begins at a source. What the states show is shown of a circuit, as which a netlist knows itself.
     let at_source = path.source().0 < net.lines();
     prove!(at_source);
-    if !launches::<A>(states[path.source().0 as usize], dir) {
+    if !launches::<A>(states[path.source().0 as usize], direction) {
         return Judgement::FailsAt(path.source(), None);
     }
     let mut line = path.source();
@@ -47,11 +47,11 @@ pub fn judge_steps<A: Algebra>(
 }
 
 // Whether a source in this state launches the transition.
-fn launches<A: Algebra>(state: State, dir: Direction) -> bool
+fn launches<A: Algebra>(state: State, direction: Direction) -> bool
     requires { state.0 < A.algebra.count }
-    ensures { IsTrue result ↔ IsLaunching A.algebra dir state }
+    ensures { IsTrue result ↔ IsLaunching A.algebra direction state }
 {
-    !A::is_steady(state) && A::last(state) == final_bit(dir)
+    !A::is_steady(state) && A::last(state) == final_bit(direction)
 }
 
 // The line of the first pin of a gate, but the on-path one, that is not as is asked of the side pins.

@@ -16,7 +16,7 @@ use crate::all_outcomes::FaultOutcomes;
 use crate::numbering::{Numbering, cited_proofs};
 use crate::outcome::Outcome;
 use netlist::Netlist;
-use pair_judging::ConeJudge;
+use pair_judging::{ConeJudge, Target};
 use pd_base::{Direction, Items, Kind, OutOfMemory, Pair, Path, Test};
 use runs::{Proof, Verdict};
 use std::alloc::Global;
@@ -212,7 +212,12 @@ fn is_robust(
     if refuted {
         return false;
     }
-    judge.meets(net, path, direction, Kind::Robust, pair)
+    let robust = Target {
+        path,
+        direction,
+        kind: Kind::Robust,
+    };
+    judge.meets(net, &robust, pair)
 }
 
 // Adds a test under the next number. It expects no bits yet.

@@ -2,7 +2,7 @@
 use Rattle.std.specs.Prelude.{◌≡◌, ℕ, ◌<◌, List, All, IsTrue}
 use Rattle.pd_base.specs.Links.{LinkList, links_of}
 use Rattle.pd_base.specs.Pair.{Vectors}
-use Rattle.pd_base.specs.Target.{Target, target_of}
+use Rattle.pd_base.specs.Target.{Target}
 use Rattle.pd_base.specs.declared.rules.Rules.{Rules}
 use Rattle.netlist.specs.Circuit.{Circuit, source_count}
 use Rattle.netlist.specs.Conditions.{Meets}
@@ -20,14 +20,9 @@ use Rattle.implication.specs.Standing.{Standing}
 use Rattle.pair_judging.specs.ConeStates.{state_in, HasSourceStates, HasLinkedStates}
 use Rattle.cones.specs.KeptCones.{IsConeFor, IsConeAt}
 use Rattle.pair_judging.specs.LeastStates.{IsTakenOf}
-use Rattle.refutation_check.specs.declared.asked.Asked.{Asked}
 use Rattle.refutation_check.specs.declared.trial.TrialRoom.{TrialRoom}
 use Rattle.refutation_check.specs.TrialStates.{AreTrialStates}
 use Rattle.refutation_check.specs.Walks.{IsScopeAt}
-
--- the target that is asked for
-abbrev pub asked_target : Asked → Target
-asked_target asked = target_of asked.path.now asked.dir asked.kind
 
 -- the room is made for this circuit and these rules, with the kind of states that the rules choose
 pub record IsTrialRoomFor (a : StateAlgebra) (c : Circuit) (rules : Rules) (room : TrialRoom) : Type 0 where

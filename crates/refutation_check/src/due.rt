@@ -5,12 +5,13 @@ ghost use Rattle.state_laws.specs.declared.half.Half.{Half};
 ghost use Rattle.implication.specs.Scopes.{standing};
 ghost use Rattle.implication.specs.Standing.{IsTold};
 ghost use Rattle.trees.specs.Spent.{IsDue};
-ghost use Rattle.refutation_check.specs.Trials.{asked_target, IsTrialRoomAt, IsScopeInSupport};
+ghost use Rattle.pair_judging.specs.Targets.{seen_target};
+ghost use Rattle.refutation_check.specs.Trials.{IsTrialRoomAt, IsScopeInSupport};
 
-use crate::asked::Asked;
 use crate::halves::has_both_halves;
 use crate::trial::{TrialRoom, is_open};
 use implication::{Scope, Setting};
+use pair_judging::Target;
 use pd_base::LineId;
 use state_sets::Algebra;
 
@@ -24,16 +25,16 @@ pub(crate) struct Split {
 // Whether a split is due at the node at which the scope stands. Its number is tried before a label is looked up.
 pub(crate) fn is_due<A: Algebra, S: Setting>(
     scope: &Scope<A, S>,
-    asked: &Asked,
+    target: &Target,
     room: &mut TrialRoom,
     split: Split,
 ) -> bool
-    requires prefix { IsPrefix (standing scope.now).net asked.now.path.now }
-    requires told { IsTold (standing scope.now) (end_of (standing scope.now).net asked.now.path.now) }
-    requires room { IsTrialRoomAt A.algebra (standing scope.now).net (standing scope.now).rules (asked_target asked.now) room.old }
-    ensures room { IsTrialRoomAt A.algebra (standing scope.now).net (standing scope.now).rules (asked_target asked.now) room.new }
-    ensures due { (halves : List Half) → IsScopeInSupport A.algebra (asked_target asked.now) halves (standing scope.now)
-        → IsTrue result ↔ IsDue (standing scope.now).net (standing scope.now).rules (asked_target asked.now) halves split.steadiness split.source }
+    requires prefix { IsPrefix (standing scope.now).net target.now.path.now }
+    requires told { IsTold (standing scope.now) (end_of (standing scope.now).net target.now.path.now) }
+    requires room { IsTrialRoomAt A.algebra (standing scope.now).net (standing scope.now).rules (seen_target target.now) room.old }
+    ensures room { IsTrialRoomAt A.algebra (standing scope.now).net (standing scope.now).rules (seen_target target.now) room.new }
+    ensures due { (halves : List Half) → IsScopeInSupport A.algebra (seen_target target.now) halves (standing scope.now)
+        → IsTrue result ↔ IsDue (standing scope.now).net (standing scope.now).rules (seen_target target.now) halves split.steadiness split.source }
 {
     let Split { source, steadiness } = split;
     if source >= scope.net().sources() || !room.cone.marks()[source as usize] {
@@ -45,5 +46,5 @@ pub(crate) fn is_due<A: Algebra, S: Setting>(
     if !has_both_halves::<A>(scope.label(LineId(source)), steadiness) {
         return false;
     }
-    is_open(scope, asked, room)
+    is_open(scope, target, room)
 }

@@ -18,10 +18,9 @@ ghost use Rattle.trees.specs.Refutations.{IsRefutation};
 ghost use Rattle.trees.specs.Spent.{IsSpent};
 ghost use Rattle.trees.specs.Bounds.{IsBelowBound};
 ghost use Rattle.refutation_check.specs.Answers.{TellsOfNodes, TellsOfRefutation, TellsOfSpent};
-ghost use Rattle.refutation_check.specs.Trials.{asked_target};
+ghost use Rattle.pair_judging.specs.Targets.{seen_target};
 
 use crate::TreeCheck;
-use crate::asked::Asked;
 use crate::dropping::drop_engine;
 use crate::refutation::refutes;
 use crate::spent::spends;
@@ -30,6 +29,7 @@ use crate::trial::TrialRoom;
 use crate::walk::Pending;
 use implication::{Engine, RuledNetlist};
 use netlist::Netlist;
+use pair_judging::Target;
 use pd_base::{Direction, Kind, LineId, OutOfMemory, Path, Rules};
 use state_sets::Algebra;
 use std::alloc::Global;
@@ -112,31 +112,31 @@ impl<'n, A: Algebra> TreeJudge<'n, A> {
     {
         // a netlist knows itself as a circuit
         let _ = self.engine.net().sources();
-        let asked = Asked {
+        let target = Target {
             path: prefix,
-            dir,
+            direction: dir,
             kind,
         };
-        self.refutes_on(&asked, tree)
+        self.refutes_on(&target, tree)
     }
 
     // What the nodes of a tree tell, on the judge's engine, or where that does not tell the sources that the tree splits, on one that does.
-    fn refutes_on(&mut self, asked: &Asked, tree: &Tree) -> Result<TreeCheck, OutOfMemory>
-        requires prefix { IsPrefix self.old.net asked.now.path.now }
-        requires told { IsToldBy self.old.net (links_of self.old.rules) self.old.ends (end_of self.old.net asked.now.path.now) }
+    fn refutes_on(&mut self, target: &Target, tree: &Tree) -> Result<TreeCheck, OutOfMemory>
+        requires prefix { IsPrefix self.old.net target.now.path.now }
+        requires told { IsToldBy self.old.net (links_of self.old.rules) self.old.ends (end_of self.old.net target.now.path.now) }
         ensures same { self.new ≡ self.old }
         ensures fit { FitRules self.old.net self.old.rules }
-        ensures tells { IfOk result (TellsOfNodes (IsRightInRefutation self.old.net self.old.rules (asked_target asked.now)) tree.now) }
+        ensures tells { IfOk result (TellsOfNodes (IsRightInRefutation self.old.net self.old.rules (seen_target target.now)) tree.now) }
     {
         if tells_splits(&self.engine, tree.nodes()) {
-            return refutes(&mut self.engine, &mut self.pending, asked, tree);
+            return refutes(&mut self.engine, &mut self.pending, target, tree);
         }
         refutes_apart::<A>(
             self.alloc,
             self.engine.net(),
             self.engine.rules(),
             &mut self.pending,
-            asked,
+            target,
             tree,
         )
     }
@@ -166,12 +166,16 @@ impl<'n, A: Algebra> TreeJudge<'n, A> {
         if tree.splits() != budget || !has_open(tree.nodes()) {
             return Ok(TreeCheck::No(0));
         }
-        let asked = Asked { path, dir, kind };
+        let target = Target {
+            path,
+            direction: dir,
+            kind,
+        };
         spends(
             &mut self.engine,
             &mut self.pending,
             &mut self.room,
-            &asked,
+            &target,
             tree,
         )
     }

@@ -5,7 +5,6 @@
 #![tactic(auto)]
 
 mod answer;
-mod asked;
 mod dropping;
 mod due;
 mod entering;

@@ -2,7 +2,8 @@
 // the node, and gives its labels. How a scope comes to the root of a tree stands in entering.rt, and how it goes down in walk.rt. No
 // command asks for this hull. It is a scope, so that there is one start and one way to settle.
 ghost use Rattle.std.specs.Prelude.{◌≡◌, ◌<◌, [], List, None, All, IfOk, length};
-ghost use Rattle.pd_base.specs.Target.{Target, target_of};
+ghost use Rattle.pd_base.specs.Target as seen;
+ghost use Rattle.pd_base.specs.Target.{target_of};
 ghost use Rattle.netlist.specs.Circuit.{source_count, line_count};
 ghost use Rattle.netlist.specs.LinkedPairs.{FitRules};
 ghost use Rattle.netlist.specs.Paths.{IsPrefix};
@@ -10,16 +11,16 @@ ghost use Rattle.state_laws.specs.declared.half.Half.{Half};
 ghost use Rattle.implication.specs.Scopes.{standing};
 ghost use Rattle.implication.specs.Settings.{IsSameSetting};
 ghost use Rattle.refutation_check.specs.NodeHulls.{IsAtNode, IsFoundAt, LosesNoPair, DecidesSingletons};
-ghost use Rattle.refutation_check.specs.Trials.{asked_target};
+ghost use Rattle.pair_judging.specs.Targets.{seen_target};
 ghost use Rattle.refutation_check.specs.Walks.{IsScopeAt};
 
 use crate::Hull;
-use crate::asked::Asked;
 use crate::dropping::drop_engine;
 use crate::entering::enter_root;
 use crate::walk::assume_half;
 use implication::{Engine, RuledNetlist, Scope, Setting};
 use netlist::Netlist;
+use pair_judging::Target;
 use pd_base::{Direction, Kind, LineId, OutOfMemory, Path, Rules};
 use state_laws::Half;
 use state_sets::{Algebra, FourStates, Labels, SixStates, StateSet};
@@ -49,12 +50,12 @@ pub fn hull(
 {
     // a netlist knows itself as a circuit
     let _ = net.sources();
-    let asked = Asked {
+    let target = Target {
         path: prefix,
-        dir,
+        direction: dir,
         kind,
     };
-    hull_by_rules(alloc, net, rules, &asked, halves)
+    hull_by_rules(alloc, net, rules, &target, halves)
 }
 
 // The same with the kind of states that the rules choose, without what it tells of pairs.
@@ -62,21 +63,21 @@ fn hull_by_rules(
     alloc: Global,
     net: &Netlist,
     rules: &Rules,
-    asked: &Asked,
+    target: &Target,
     halves: &[Half],
 ) -> Result<Hull, OutOfMemory>
     requires fit { FitRules net.now rules.now }
-    requires prefix { IsPrefix net.now asked.now.path.now }
+    requires prefix { IsPrefix net.now target.now.path.now }
     requires sources { All (λ half. half.source < source_count net.now) halves.now }
-    ensures { IfOk result (IsAtNode net.now rules.now (asked_target asked.now) halves.now) }
+    ensures { IfOk result (IsAtNode net.now rules.now (seen_target target.now) halves.now) }
 {
     match rules {
         Rules::One | Rules::Two => {
-            let found = hull_at::<FourStates>(alloc, net, rules, asked, halves)?;
+            let found = hull_at::<FourStates>(alloc, net, rules, target, halves)?;
             Ok(found.map_or_else(Hull::Empty, Hull::Rest))
         }
         Rules::Linked(_) => {
-            let found = hull_at::<SixStates>(alloc, net, rules, asked, halves)?;
+            let found = hull_at::<SixStates>(alloc, net, rules, target, halves)?;
             Ok(found.map_or_else(Hull::Empty, Hull::RestLinked))
         }
     }
@@ -87,16 +88,16 @@ fn hull_at<A: Algebra>(
     alloc: Global,
     net: &Netlist,
     rules: &Rules,
-    asked: &Asked,
+    target: &Target,
     halves: &[Half],
 ) -> Result<Result<Labels<A>, LineId>, OutOfMemory>
     requires fit { FitRules net.now rules.now }
-    requires prefix { IsPrefix net.now asked.now.path.now }
+    requires prefix { IsPrefix net.now target.now.path.now }
     requires sources { All (λ half. half.source < source_count net.now) halves.now }
-    ensures { IfOk result (IsFoundAt A.algebra net.now rules.now (asked_target asked.now) halves.now) }
+    ensures { IfOk result (IsFoundAt A.algebra net.now rules.now (seen_target target.now) halves.now) }
 {
     let mut engine = Engine::<A, RuledNetlist>::new(alloc, RuledNetlist { net, rules })?;
-    let found = hull_on(alloc, &mut engine, asked, halves);
+    let found = hull_on(alloc, &mut engine, target, halves);
     drop_engine(engine);
     found
 }
@@ -105,17 +106,17 @@ fn hull_at<A: Algebra>(
 fn hull_on<A: Algebra, S: Setting>(
     alloc: Global,
     engine: &mut Engine<A, S>,
-    asked: &Asked,
+    target: &Target,
     halves: &[Half],
 ) -> Result<Result<Labels<A>, LineId>, OutOfMemory>
     requires idle { engine.old.beginning ≡ None }
     requires all_told { engine.old.ends ≡ None }
-    requires prefix { IsPrefix engine.old.net asked.now.path.now }
+    requires prefix { IsPrefix engine.old.net target.now.path.now }
     requires sources { All (λ half. half.source < source_count engine.old.net) halves.now }
-    ensures { IfOk result (IsFoundAt A.algebra engine.old.net engine.old.rules (asked_target asked.now) halves.now) }
+    ensures { IfOk result (IsFoundAt A.algebra engine.old.net engine.old.rules (seen_target target.now) halves.now) }
 {
-    let prefix = asked.path;
-    let mut scope = Scope::begin(engine, prefix.source(), asked.dir, asked.kind);
+    let prefix = target.path;
+    let mut scope = Scope::begin(engine, prefix.source(), target.direction, target.kind);
     enter_root(&mut scope, prefix);
     assume_halves(&mut scope, halves);
     hull_of(alloc, &scope)
@@ -126,7 +127,7 @@ fn assume_halves<A: Algebra, S: Setting>(scope: &mut Scope<A, S>, halves: &[Half
     requires all_told { (standing scope.old).ends ≡ None }
     requires sources { All (λ half. half.source < source_count (standing scope.old).net) halves.now }
     ensures setting { IsSameSetting (standing scope.old) (standing scope.new) }
-    ensures below { (target : Target) → IsScopeAt A.algebra target [] (standing scope.old) → IsScopeAt A.algebra target halves.now (standing scope.new) }
+    ensures below { (target : seen.Target) → IsScopeAt A.algebra target [] (standing scope.old) → IsScopeAt A.algebra target halves.now (standing scope.new) }
 {
     for half in halves {
         assume_half(scope, *half);
@@ -139,7 +140,7 @@ fn hull_of<A: Algebra, S: Setting>(
     scope: &Scope<A, S>,
 ) -> Result<Result<Labels<A>, LineId>, OutOfMemory>
     requires all_told { (standing scope.now).ends ≡ None }
-    ensures { (target : Target) (halves : List Half) → IsScopeAt A.algebra target halves (standing scope.now)
+    ensures { (target : seen.Target) (halves : List Half) → IsScopeAt A.algebra target halves (standing scope.now)
         → IfOk result (IsFoundAt A.algebra (standing scope.now).net (standing scope.now).rules target halves) }
 {
     if let Some(conflict) = scope.conflict() {

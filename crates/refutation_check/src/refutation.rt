@@ -1,6 +1,6 @@
 // Whether a tree refutes: what is asked of each node, on a scope that walks over it.
 ghost use Rattle.std.specs.Prelude.{◌≡◌, ◌↔◌, [], List, None, All, IfOk, IsTrue};
-ghost use Rattle.pd_base.specs.Target.{Target};
+ghost use Rattle.pd_base.specs.Target as seen;
 ghost use Rattle.netlist.specs.Paths.{IsPrefix, end_of};
 ghost use Rattle.state_laws.specs.declared.half.Half.{Half};
 ghost use Rattle.implication.specs.Scopes.{IsSameScope, standing};
@@ -8,15 +8,15 @@ ghost use Rattle.implication.specs.Standing.{IsTold};
 ghost use Rattle.implication.specs.declared.assumption.Origin.TheVariants.{Begun};
 ghost use Rattle.trees.specs.Faults.{RefutesAtNode};
 ghost use Rattle.implication.specs.Settings.{IsSameSetting};
-ghost use Rattle.refutation_check.specs.Trials.{asked_target};
+ghost use Rattle.pair_judging.specs.Targets.{seen_target};
 ghost use Rattle.refutation_check.specs.Walks.{IsScopeAt, IsRoot, IsToldAt};
 ghost use Rattle.refutation_check.specs.Answers.{TellsOfNodes, IsIdleOn};
 
 use crate::TreeCheck;
-use crate::asked::Asked;
 use crate::entering::enter_root;
 use crate::walk::{Pending, pass};
 use implication::{Engine, Scope, Setting};
+use pair_judging::Target;
 use pd_base::OutOfMemory;
 use state_sets::Algebra;
 use trees::{Node, Tree};
@@ -26,18 +26,18 @@ use trees::{Node, Tree};
 pub(crate) fn refutes<A: Algebra, S: Setting>(
     engine: &mut Engine<A, S>,
     pending: &mut Vec<Pending>,
-    asked: &Asked,
+    target: &Target,
     tree: &Tree,
 ) -> Result<TreeCheck, OutOfMemory>
     requires idle { engine.old.beginning ≡ None }
-    requires prefix { IsPrefix engine.old.net asked.now.path.now }
-    requires told { IsTold engine.old (end_of engine.old.net asked.now.path.now) }
+    requires prefix { IsPrefix engine.old.net target.now.path.now }
+    requires told { IsTold engine.old (end_of engine.old.net target.now.path.now) }
     requires splits { All (IsToldAt engine.old) tree.now }
     ensures idle { IsIdleOn engine.old engine.new }
-    ensures tells { IfOk result (TellsOfNodes (RefutesAtNode A.algebra engine.old.net engine.old.rules (asked_target asked.now)) tree.now) }
+    ensures tells { IfOk result (TellsOfNodes (RefutesAtNode A.algebra engine.old.net engine.old.rules (seen_target target.now)) tree.now) }
 {
-    let prefix = asked.path;
-    let mut scope = Scope::begin(engine, prefix.source(), asked.dir, asked.kind);
+    let prefix = target.path;
+    let mut scope = Scope::begin(engine, prefix.source(), target.direction, target.kind);
     enter_root(&mut scope, prefix);
     walk_refutation(&mut scope, pending, tree)
 }
@@ -53,7 +53,7 @@ fn walk_refutation<A: Algebra, S: Setting>(
     requires splits { All (IsToldAt (standing scope.old)) tree.now }
     ensures scope { IsSameScope scope.old scope.new }
     ensures setting { IsSameSetting (standing scope.old) (standing scope.new) }
-    ensures tells { (target : Target) → IsScopeAt A.algebra target [] (standing scope.old)
+    ensures tells { (target : seen.Target) → IsScopeAt A.algebra target [] (standing scope.old)
         → IfOk result (TellsOfNodes (RefutesAtNode A.algebra (standing scope.old).net (standing scope.old).rules target) tree.now) }
 {
     pending.clear();
@@ -68,7 +68,7 @@ fn walk_refutation<A: Algebra, S: Setting>(
 
 // Whether a node is as a refutation asks.
 fn refutes_at<A: Algebra, S: Setting>(scope: &Scope<A, S>, node: Node) -> bool
-    ensures { (target : Target) (halves : List Half) → IsScopeAt A.algebra target halves (standing scope.now)
+    ensures { (target : seen.Target) (halves : List Half) → IsScopeAt A.algebra target halves (standing scope.now)
         → IsTrue result ↔ RefutesAtNode A.algebra (standing scope.now).net (standing scope.now).rules target halves node }
 {
     match node {

@@ -13,13 +13,12 @@ ghost use Rattle.trees.specs.Refutations.{IsRefutation};
 ghost use Rattle.trees.specs.Spent.{IsSpent};
 ghost use Rattle.trees.specs.Bounds.{IsBelowBound};
 ghost use Rattle.refutation_check.specs.Answers.{TellsOfNodes, TellsOfRefutation, TellsOfSpent};
-ghost use Rattle.refutation_check.specs.Trials.{asked_target};
+ghost use Rattle.pair_judging.specs.Targets.{seen_target};
 
-use crate::asked::Asked;
 use crate::split_ends::refutes_apart;
 use crate::{TreeCheck, TreeJudge};
 use netlist::Netlist;
-use pair_judging::end_of;
+use pair_judging::{Target, end_of};
 use pd_base::{Direction, Kind, OutOfMemory, Path, Rules};
 use state_sets::{Algebra, FourStates, SixStates};
 use std::alloc::Global;
@@ -53,12 +52,12 @@ pub fn check_tree(
 {
     // a netlist knows itself as a circuit
     let _ = net.lines();
-    let asked = Asked {
+    let target = Target {
         path: prefix,
-        dir,
+        direction: dir,
         kind,
     };
-    refutes_by_rules(alloc, net, rules, &asked, tree)
+    refutes_by_rules(alloc, net, rules, &target, tree)
 }
 
 // What the nodes tell, with the kind of states that the rules choose.
@@ -66,20 +65,20 @@ fn refutes_by_rules(
     alloc: Global,
     net: &Netlist,
     rules: &Rules,
-    asked: &Asked,
+    target: &Target,
     tree: &Tree,
 ) -> Result<TreeCheck, OutOfMemory>
     requires fit { FitRules net.now rules.now }
-    requires prefix { IsPrefix net.now asked.now.path.now }
-    ensures { IfOk result (TellsOfNodes (IsRightInRefutation net.now rules.now (asked_target asked.now)) tree.now) }
+    requires prefix { IsPrefix net.now target.now.path.now }
+    ensures { IfOk result (TellsOfNodes (IsRightInRefutation net.now rules.now (seen_target target.now)) tree.now) }
 {
     let mut pending = Vec::new(alloc);
     match rules {
         Rules::One | Rules::Two => {
-            refutes_apart::<FourStates>(alloc, net, rules, &mut pending, asked, tree)
+            refutes_apart::<FourStates>(alloc, net, rules, &mut pending, target, tree)
         }
         Rules::Linked(_) => {
-            refutes_apart::<SixStates>(alloc, net, rules, &mut pending, asked, tree)
+            refutes_apart::<SixStates>(alloc, net, rules, &mut pending, target, tree)
         }
     }
 }
@@ -108,8 +107,12 @@ pub fn check_spent(
         (check ≡ TreeCheck.Yes) ↔ IsSpent net.now rules.now (target_of path.now dir kind) budget tree.now) }
     ensures bound { result ≡ Ok TreeCheck.Yes → IsBelowBound net.now rules.now path.now budget }
 {
-    let asked = Asked { path, dir, kind };
-    spends_by_rules(alloc, net, rules, &asked, budget, tree)
+    let target = Target {
+        path,
+        direction: dir,
+        kind,
+    };
+    spends_by_rules(alloc, net, rules, &target, budget, tree)
 }
 
 // What the tree tells, with the kind of states that the rules choose.
@@ -117,19 +120,19 @@ fn spends_by_rules(
     alloc: Global,
     net: &Netlist,
     rules: &Rules,
-    asked: &Asked,
+    target: &Target,
     budget: u32,
     tree: &Tree,
 ) -> Result<TreeCheck, OutOfMemory>
     requires fit { FitRules net.now rules.now }
-    requires prefix { IsPrefix net.now asked.now.path.now }
-    ensures { IfOk result (TellsOfSpent net.now rules.now (asked_target asked.now) budget tree.now) }
+    requires prefix { IsPrefix net.now target.now.path.now }
+    ensures { IfOk result (TellsOfSpent net.now rules.now (seen_target target.now) budget tree.now) }
 {
     match rules {
         Rules::One | Rules::Two => {
-            spends_with::<FourStates>(alloc, net, rules, asked, budget, tree)
+            spends_with::<FourStates>(alloc, net, rules, target, budget, tree)
         }
-        Rules::Linked(_) => spends_with::<SixStates>(alloc, net, rules, asked, budget, tree),
+        Rules::Linked(_) => spends_with::<SixStates>(alloc, net, rules, target, budget, tree),
     }
 }
 
@@ -138,18 +141,18 @@ fn spends_with<A: Algebra>(
     alloc: Global,
     net: &Netlist,
     rules: &Rules,
-    asked: &Asked,
+    target: &Target,
     budget: u32,
     tree: &Tree,
 ) -> Result<TreeCheck, OutOfMemory>
     requires chosen { A.algebra ≡ algebra_of rules.now }
     requires fit { FitRules net.now rules.now }
-    requires prefix { IsPrefix net.now asked.now.path.now }
-    ensures { IfOk result (TellsOfSpent net.now rules.now (asked_target asked.now) budget tree.now) }
+    requires prefix { IsPrefix net.now target.now.path.now }
+    ensures { IfOk result (TellsOfSpent net.now rules.now (seen_target target.now) budget tree.now) }
 {
-    let ends = [end_of(net, asked.path)];
+    let ends = [end_of(net, target.path)];
     let mut judge = TreeJudge::<A>::new(alloc, net, rules, &ends)?;
-    let told = judge.check_spent(asked.path, asked.dir, asked.kind, budget, tree);
+    let told = judge.check_spent(target.path, target.direction, target.kind, budget, tree);
     judge.drop_judge();
     told
 }

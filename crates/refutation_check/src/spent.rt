@@ -8,18 +8,18 @@ ghost use Rattle.implication.specs.Standing.{IsTold};
 ghost use Rattle.implication.specs.declared.assumption.Origin.TheVariants.{Begun};
 ghost use Rattle.trees.specs.Faults.{IsRightInSpent};
 ghost use Rattle.implication.specs.Settings.{IsSameSetting};
+ghost use Rattle.pair_judging.specs.Targets.{seen_target};
 ghost use Rattle.refutation_check.specs.Answers.{TellsOfNodes, IsIdleOn};
-ghost use Rattle.refutation_check.specs.Trials.{asked_target, IsTrialRoomFor, IsTrialRoomAt, IsScopeInSupport};
+ghost use Rattle.refutation_check.specs.Trials.{IsTrialRoomFor, IsTrialRoomAt, IsScopeInSupport};
 ghost use Rattle.refutation_check.specs.Walks.{IsScopeAt};
 
 use crate::TreeCheck;
-use crate::asked::Asked;
 use crate::due::{Split, is_due};
 use crate::entering::enter_root;
 use crate::trial::{TrialRoom, is_open};
 use crate::walk::{Pending, pass};
 use implication::{Engine, Scope, Setting};
-use pair_judging::end_of;
+use pair_judging::{Target, end_of};
 use pd_base::OutOfMemory;
 use state_sets::Algebra;
 use trees::{Node, Tree};
@@ -29,24 +29,24 @@ pub(crate) fn spends<A: Algebra, S: Setting>(
     engine: &mut Engine<A, S>,
     pending: &mut Vec<Pending>,
     room: &mut TrialRoom,
-    asked: &Asked,
+    target: &Target,
     tree: &Tree,
 ) -> Result<TreeCheck, OutOfMemory>
     requires idle { engine.old.beginning ≡ None }
-    requires prefix { IsPrefix engine.old.net asked.now.path.now }
-    requires told { IsTold engine.old (end_of engine.old.net asked.now.path.now) }
+    requires prefix { IsPrefix engine.old.net target.now.path.now }
+    requires told { IsTold engine.old (end_of engine.old.net target.now.path.now) }
     requires room { IsTrialRoomFor A.algebra engine.old.net engine.old.rules room.old }
     ensures idle { IsIdleOn engine.old engine.new }
     ensures room { IsTrialRoomFor A.algebra engine.old.net engine.old.rules room.new }
-    ensures tells { IfOk result (TellsOfNodes (IsRightInSpent engine.old.net engine.old.rules (asked_target asked.now)) tree.now) }
+    ensures tells { IfOk result (TellsOfNodes (IsRightInSpent engine.old.net engine.old.rules (seen_target target.now)) tree.now) }
 {
-    let path = asked.path;
-    let mut scope = Scope::begin(engine, path.source(), asked.dir, asked.kind);
+    let path = target.path;
+    let mut scope = Scope::begin(engine, path.source(), target.direction, target.kind);
     enter_root(&mut scope, path);
     let net = scope.net();
     room.cone.set_end(net, end_of(net, path));
     room.failed = false;
-    walk_spent(&mut scope, pending, room, asked, tree)
+    walk_spent(&mut scope, pending, room, target, tree)
 }
 
 // The same on a scope that stands at the root.
@@ -54,22 +54,22 @@ fn walk_spent<A: Algebra, S: Setting>(
     scope: &mut Scope<A, S>,
     pending: &mut Vec<Pending>,
     room: &mut TrialRoom,
-    asked: &Asked,
+    target: &Target,
     tree: &Tree,
 ) -> Result<TreeCheck, OutOfMemory>
     requires begun { scope.old.origin ≡ Begun }
-    requires prefix { IsPrefix (standing scope.old).net asked.now.path.now }
-    requires told { IsTold (standing scope.old) (end_of (standing scope.old).net asked.now.path.now) }
-    requires root { IsScopeAt A.algebra (asked_target asked.now) [] (standing scope.old) }
-    requires room { IsTrialRoomAt A.algebra (standing scope.old).net (standing scope.old).rules (asked_target asked.now) room.old }
+    requires prefix { IsPrefix (standing scope.old).net target.now.path.now }
+    requires told { IsTold (standing scope.old) (end_of (standing scope.old).net target.now.path.now) }
+    requires root { IsScopeAt A.algebra (seen_target target.now) [] (standing scope.old) }
+    requires room { IsTrialRoomAt A.algebra (standing scope.old).net (standing scope.old).rules (seen_target target.now) room.old }
     ensures scope { IsSameScope scope.old scope.new }
     ensures setting { IsSameSetting (standing scope.old) (standing scope.new) }
-    ensures room { IsTrialRoomAt A.algebra (standing scope.old).net (standing scope.old).rules (asked_target asked.now) room.new }
-    ensures tells { IfOk result (TellsOfNodes (IsRightInSpent (standing scope.old).net (standing scope.old).rules (asked_target asked.now)) tree.now) }
+    ensures room { IsTrialRoomAt A.algebra (standing scope.old).net (standing scope.old).rules (seen_target target.now) room.new }
+    ensures tells { IfOk result (TellsOfNodes (IsRightInSpent (standing scope.old).net (standing scope.old).rules (seen_target target.now)) tree.now) }
 {
     pending.clear();
     for (place, node) in tree.nodes().iter().enumerate() {
-        if !is_right_at(scope, asked, room, *node) {
+        if !is_right_at(scope, target, room, *node) {
             return Ok(TreeCheck::No(place as u32));
         }
         pass(scope, pending, *node)?;
@@ -80,33 +80,33 @@ fn walk_spent<A: Algebra, S: Setting>(
 // Whether a node is as a spent tree asks.
 fn is_right_at<A: Algebra, S: Setting>(
     scope: &Scope<A, S>,
-    asked: &Asked,
+    target: &Target,
     room: &mut TrialRoom,
     node: Node,
 ) -> bool
-    requires prefix { IsPrefix (standing scope.now).net asked.now.path.now }
-    requires told { IsTold (standing scope.now) (end_of (standing scope.now).net asked.now.path.now) }
-    requires room { IsTrialRoomAt A.algebra (standing scope.now).net (standing scope.now).rules (asked_target asked.now) room.old }
-    ensures room { IsTrialRoomAt A.algebra (standing scope.now).net (standing scope.now).rules (asked_target asked.now) room.new }
-    ensures right { (halves : List Half) → IsScopeInSupport A.algebra (asked_target asked.now) halves (standing scope.now)
-        → IsTrue result ↔ IsRightInSpent (standing scope.now).net (standing scope.now).rules (asked_target asked.now) halves node }
+    requires prefix { IsPrefix (standing scope.now).net target.now.path.now }
+    requires told { IsTold (standing scope.now) (end_of (standing scope.now).net target.now.path.now) }
+    requires room { IsTrialRoomAt A.algebra (standing scope.now).net (standing scope.now).rules (seen_target target.now) room.old }
+    ensures room { IsTrialRoomAt A.algebra (standing scope.now).net (standing scope.now).rules (seen_target target.now) room.new }
+    ensures right { (halves : List Half) → IsScopeInSupport A.algebra (seen_target target.now) halves (standing scope.now)
+        → IsTrue result ↔ IsRightInSpent (standing scope.now).net (standing scope.now).rules (seen_target target.now) halves node }
 {
     match node {
         Node::Closed => scope.conflict().is_some(),
-        Node::Waiting => scope.conflict().is_none() && is_open(scope, asked, room),
+        Node::Waiting => scope.conflict().is_none() && is_open(scope, target, room),
         Node::Value(source) => {
             let split = Split {
                 source,
                 steadiness: false,
             };
-            is_due(scope, asked, room, split)
+            is_due(scope, target, room, split)
         }
         Node::Steadiness(source) => {
             let split = Split {
                 source,
                 steadiness: true,
             };
-            is_due(scope, asked, room, split)
+            is_due(scope, target, room, split)
         }
     }
 }

@@ -8,17 +8,16 @@ ghost use Rattle.netlist.specs.Paths.{IsPrefix, end_of};
 ghost use Rattle.trees.specs.Faults.{RefutesAtNode};
 ghost use Rattle.refutation_check.specs.Answers.{TellsOfNodes};
 ghost use Rattle.refutation_check.specs.SplitEnds.{IsEndAt, AddsEnds};
-ghost use Rattle.refutation_check.specs.Trials.{asked_target};
+ghost use Rattle.pair_judging.specs.Targets.{seen_target};
 ghost use Rattle.refutation_check.specs.Walks.{IsToldAt};
 
 use crate::TreeCheck;
-use crate::asked::Asked;
 use crate::dropping::drop_engine;
 use crate::refutation::refutes;
 use crate::walk::Pending;
 use implication::{Engine, RuledNetlist, Setting};
 use netlist::Netlist;
-use pair_judging::end_of;
+use pair_judging::{Target, end_of};
 use pd_base::{LineId, OutOfMemory, Path, Rules};
 use state_sets::Algebra;
 use std::alloc::Global;
@@ -57,20 +56,20 @@ pub(crate) fn refutes_apart<A: Algebra>(
     net: &Netlist,
     rules: &Rules,
     pending: &mut Vec<Pending>,
-    asked: &Asked,
+    target: &Target,
     tree: &Tree,
 ) -> Result<TreeCheck, OutOfMemory>
     requires fit { FitRules net.now rules.now }
-    requires prefix { IsPrefix net.now asked.now.path.now }
-    ensures { IfOk result (TellsOfNodes (RefutesAtNode A.algebra net.now rules.now (asked_target asked.now)) tree.now) }
+    requires prefix { IsPrefix net.now target.now.path.now }
+    ensures { IfOk result (TellsOfNodes (RefutesAtNode A.algebra net.now rules.now (seen_target target.now)) tree.now) }
 {
-    let ends = ends_of_tree(alloc, net, asked.path, tree.nodes())?;
+    let ends = ends_of_tree(alloc, net, target.path, tree.nodes())?;
     let mut engine = Engine::<A, RuledNetlist>::within(
         alloc,
         RuledNetlist { net, rules },
         ends.as_slice(),
     )?;
-    let told = refutes(&mut engine, pending, asked, tree);
+    let told = refutes(&mut engine, pending, target, tree);
     drop_engine(engine);
     told
 }

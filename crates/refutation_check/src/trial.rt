@@ -13,15 +13,15 @@ ghost use Rattle.trees.specs.Algebras.{algebra_of};
 ghost use Rattle.trees.specs.Spent.{IsOpen};
 ghost use Rattle.cones.specs.KeptCones.{IsConeFor, IsConeAt};
 ghost use Rattle.pair_judging.specs.Taken.{AreLeast};
+ghost use Rattle.pair_judging.specs.Targets.{seen_target};
 ghost use Rattle.refutation_check.specs.TrialStates.{AreTrialStates};
-ghost use Rattle.refutation_check.specs.Trials.{asked_target, IsTrialRoomFor, IsTrialRoomAt, AreLeastOf, EachIsTest, EachFails, IsScopeInSupport};
+ghost use Rattle.refutation_check.specs.Trials.{IsTrialRoomFor, IsTrialRoomAt, AreLeastOf, EachIsTest, EachFails, IsScopeInSupport};
 
-use crate::asked::Asked;
 use crate::trial_states::TrialStates;
 use cones::Cone;
 use implication::{Scope, Setting};
 use netlist::Netlist;
-use pair_judging::{Judgement, failing_link, judge_steps, least};
+use pair_judging::{Judgement, Target, failing_link, judge_steps, least};
 use pd_base::{LineId, OutOfMemory, Rules};
 use state_sets::{Algebra, State, StateSet};
 use std::alloc::Global;
@@ -59,26 +59,26 @@ impl TrialRoom {
 // Whether the trial closes of the node at which a scope stands that has no conflict.
 pub(crate) fn is_open<A: Algebra, S: Setting>(
     scope: &Scope<A, S>,
-    asked: &Asked,
+    target: &Target,
     room: &mut TrialRoom,
 ) -> bool
-    requires prefix { IsPrefix (standing scope.now).net asked.now.path.now }
-    requires told { IsTold (standing scope.now) (end_of (standing scope.now).net asked.now.path.now) }
+    requires prefix { IsPrefix (standing scope.now).net target.now.path.now }
+    requires told { IsTold (standing scope.now) (end_of (standing scope.now).net target.now.path.now) }
     requires free { (standing scope.now).conflict ≡ None }
-    requires room { IsTrialRoomAt A.algebra (standing scope.now).net (standing scope.now).rules (asked_target asked.now) room.old }
-    ensures room { IsTrialRoomAt A.algebra (standing scope.now).net (standing scope.now).rules (asked_target asked.now) room.new }
-    ensures open { (halves : List Half) → IsScopeInSupport A.algebra (asked_target asked.now) halves (standing scope.now)
-        → IsTrue result ↔ ((hull : List StateSet) × IsOpen (standing scope.now).net (standing scope.now).rules (asked_target asked.now) halves hull) }
+    requires room { IsTrialRoomAt A.algebra (standing scope.now).net (standing scope.now).rules (seen_target target.now) room.old }
+    ensures room { IsTrialRoomAt A.algebra (standing scope.now).net (standing scope.now).rules (seen_target target.now) room.new }
+    ensures open { (halves : List Half) → IsScopeInSupport A.algebra (seen_target target.now) halves (standing scope.now)
+        → IsTrue result ↔ ((hull : List StateSet) × IsOpen (standing scope.now).net (standing scope.now).rules (seen_target target.now) halves hull) }
 {
     // a netlist knows itself as a circuit
     let net = scope.net();
-    let at_source = asked.path.source().0 < net.sources();
+    let at_source = target.path.source().0 < net.sources();
     prove!(at_source);
     let labels = scope.labels();
     if fails_again::<A>(room, labels) {
         return true;
     }
-    if are_tests::<A>(net, labels, asked, &room.cone, &mut room.kept) {
+    if are_tests::<A>(net, labels, target, &room.cone, &mut room.kept) {
         room.failed = false;
         return false;
     }
@@ -115,19 +115,19 @@ fn are_least<A: Algebra>(sources: &[LineId], labels: &[StateSet], states: &[Stat
 fn are_tests<A: Algebra>(
     net: &Netlist,
     labels: &[StateSet],
-    asked: &Asked,
+    target: &Target,
     cone: &Cone,
     kept: &mut TrialStates,
 ) -> bool
-    requires prefix { IsPrefix net.now asked.now.path.now }
+    requires prefix { IsPrefix net.now target.now.path.now }
     requires labels { length labels.now ≡ line_count net.now }
     requires made { IsConeFor net.now cone.now }
-    requires cone { IsConeAt net.now (end_of net.now asked.now.path.now) cone.now }
+    requires cone { IsConeAt net.now (end_of net.now target.now.path.now) cone.now }
     requires kept { AreTrialStates A.algebra net.now kept.old }
     ensures kept { AreTrialStates A.algebra net.now kept.new }
-    ensures least { AreLeastOf A.algebra.count net.now cone.now.links (end_of net.now asked.now.path.now) labels.now kept.new.states.items }
-    ensures each { IsTrue result → EachIsTest A.algebra net.now cone.now.links (asked_target asked.now) kept.new.states.items }
-    ensures fails { result ≡ false → EachFails A.algebra net.now cone.now.links (asked_target asked.now) kept.new.states.items }
+    ensures least { AreLeastOf A.algebra.count net.now cone.now.links (end_of net.now target.now.path.now) labels.now kept.new.states.items }
+    ensures each { IsTrue result → EachIsTest A.algebra net.now cone.now.links (seen_target target.now) kept.new.states.items }
+    ensures fails { result ≡ false → EachFails A.algebra net.now cone.now.links (seen_target target.now) kept.new.states.items }
 {
     // a netlist knows itself as a circuit
     let _ = net.lines();
@@ -137,7 +137,7 @@ fn are_tests<A: Algebra>(
     if let Some(_link) = failing_link::<A>(cone.links(), cone.sources(), states) {
         return false;
     }
-    match judge_steps::<A>(net, asked.path, asked.dir, asked.kind, states) {
+    match judge_steps::<A>(net, target, states) {
         Judgement::IsTest => true,
         Judgement::FailsAt(_, _) => false,
     }

@@ -2,7 +2,7 @@
 use Rattle.std.proofs.Common.{◌<◌, List, length, sym, subst, subst₂, arith}
 use Rattle.std.specs.Prelude.{All, Contains}
 use Rattle.pd_base.specs.Links.{LinkList, IsLink}
-use Rattle.pd_base.specs.Target.{target_of}
+use Rattle.pair_judging.specs.Targets.{seen_target}
 use Rattle.pd_base.specs.declared.ids.LineId.{LineId}
 use Rattle.pd_base.specs.declared.ids.GateId.{GateId}
 use Rattle.netlist.specs.Circuit.{HasGates}
@@ -16,11 +16,11 @@ use Rattle.pair_judging.proofs.judging.judge.Goals as goal
 pub compute_states-requires-clause-gates : goal.compute_states-requires-clause-gates
 compute_states-requires-clause-gates g c =
     subst (HasGates c.args.net.now) (sym c.gates.ensures)
-    (gates_inside c.args.net.now c.args.cone.now.links (end_of c.args.net.now c.args.path.now) c.args.cone.now.gates c.requires.cone.gates)
+    (gates_inside c.args.net.now c.args.cone.now.links (end_of c.args.net.now c.args.target.now.path.now) c.args.cone.now.gates c.requires.cone.gates)
 
 pub returns-in-Some-clause-judged : goal.returns-in-Some-clause-judged
 returns-in-Some-clause-judged g c =
-    let target = target_of c.args.path.now c.args.dir c.args.kind in
+    let target = seen_target c.args.target.now in
     let cone = c.args.cone.now in
     ruled_out g.A.Algebra.algebra c.args.net.now c.compute_states.ensures.circuit cone.links c.requires.made.fit target
     c.requires.prefix cone.gates c.requires.cone.gates c.args.states.now c.compute_states.new.states c.compute_states.ensures.kept.sources
@@ -32,7 +32,7 @@ pub failing_link-requires-clause-sources : goal.failing_link-requires-clause-sou
 failing_link-requires-clause-sources g c =
     let states = c.compute_states.new.states in
     subst (λ (ls : List LineId). All (λ (source : LineId). source.0 < length states) ls) (sym c.sources.ensures)
-    (sources_below c.args.net.now c.args.cone.now.links (end_of c.args.net.now c.args.path.now) c.args.cone.now.sources c.requires.cone.sources
+    (sources_below c.args.net.now c.args.cone.now.links (end_of c.args.net.now c.args.target.now.path.now) c.args.cone.now.sources c.requires.cone.sources
     (length states) (omega (arith, c.compute_states.ensures.kept.places, c.requires.states.places)))
 
 pub failing_link-requires-clause-lines : goal.failing_link-requires-clause-lines
@@ -44,7 +44,7 @@ failing_link-requires-clause-lines g c =
 pub returns-in-Some-failing_link-clause-within : goal.returns-in-Some-failing_link-clause-within
 returns-in-Some-failing_link-clause-within g c =
     let net = c.args.net.now in
-    let end = end_of net c.args.path.now in
+    let end = end_of net c.args.target.now.path.now in
     let cone = c.args.cone.now in
     let source = c.in-Some-failing_link.source in
     let line = c.in-Some-failing_link.line in
@@ -58,7 +58,7 @@ returns-in-Some-failing_link-clause-within g c =
 
 pub returns-in-Some-failing_link-clause-judged : goal.returns-in-Some-failing_link-clause-judged
 returns-in-Some-failing_link-clause-judged g c = λ pair has.
-    let target = target_of c.args.path.now c.args.dir c.args.kind in
+    let target = seen_target c.args.target.now in
     let cone = c.args.cone.now in
     let states = c.compute_states.new.states in
     let source = c.in-Some-failing_link.source in
@@ -75,7 +75,7 @@ returns-clause-within g c = c.judge_steps.ensures.within c.args.cone.now.links
 
 pub returns-clause-judged : goal.returns-clause-judged
 returns-clause-judged g c =
-    let target = target_of c.args.path.now c.args.dir c.args.kind in
+    let target = seen_target c.args.target.now in
     let cone = c.args.cone.now in
     let states = c.compute_states.new.states in
     judged_at g.A.Algebra.algebra c.args.net.now c.compute_states.ensures.circuit cone.links c.requires.made.fit target

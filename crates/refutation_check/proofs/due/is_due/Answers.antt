@@ -5,7 +5,7 @@ use Rattle.netlist.specs.Circuit.{Circuit, source_count}
 use Rattle.netlist.specs.Paths.{end_of}
 use Rattle.implication.proofs.Told.{told_support}
 use Rattle.implication.specs.Scopes.{standing}
-use Rattle.refutation_check.specs.Trials.{asked_target}
+use Rattle.pair_judging.specs.Targets.{seen_target}
 use Rattle.refutation_check.proofs.Spending.{conflict_stands, none_stands, marked_in_support, unmarked_outside, cone_under, closing_not_due, outside_not_due, lacking_not_due, open_due}
 use Rattle.refutation_check.proofs.due.is_due.Goals as goal
 use Rattle.refutation_check.proofs.due.is_due.Goals.{then-source-sources-via-then-source-sources, then-source-sources-via-else-source-sources+then-not-marks-source}
@@ -14,14 +14,14 @@ pub returns-then-source-sources-clause-due : goal.returns-then-source-sources-cl
 returns-then-source-sources-clause-due g c = λ halves within.
     let now = standing c.args.scope.now in let split = c.args.split in
     let P : Circuit → Type 0 = λ n. split.source < source_count n in
-    outside_not_due (asked_target c.args.asked.now) halves now split.steadiness split.source
+    outside_not_due (seen_target c.args.target.now) halves now split.steadiness split.source
     (elim c.then-source-sources.branch [
       | then-source-sources-via-then-source-sources w ↦ (λ support.
           let within = subst P (sym c.net.ensures) support.is_source in omega (arith, within, w.if-source-sources.true, c.sources.ensures.count))
       | then-source-sources-via-else-source-sources+then-not-marks-source w ↦
-          unmarked_outside now.net now.rules c.args.asked.now.path.now c.args.room.now.cone.found.lines w.marks.result.now split.source
+          unmarked_outside now.net now.rules c.args.target.now.path.now c.args.room.now.cone.found.lines w.marks.result.now split.source
           w.marks.ensures.exactly
-          (cone_under now.net now.rules (end_of now.net c.args.asked.now.path.now) c.args.room.now.cone c.requires.room.made.linked c.requires.room.cone)
+          (cone_under now.net now.rules (end_of now.net c.args.target.now.path.now) c.args.room.now.cone c.requires.room.made.linked c.requires.room.cone)
           w.if-not-marks-source.true
     ])
 
@@ -55,7 +55,7 @@ pub returns-then-is_some-clause-due : goal.returns-then-is_some-clause-due
 returns-then-is_some-clause-due g c = λ halves at.
     let now = standing c.args.scope.now in let split = c.args.split in
     let stands = conflict_stands now.conflict c.conflict.result c.conflict.ensures.some c.is_some.result c.is_some.ensures c.if-is_some.true in
-    closing_not_due (asked_target c.args.asked.now) halves now split.steadiness split.source stands.0 stands.1 g.A.Algebra.algebra c.requires.room.made.chosen at.at
+    closing_not_due (seen_target c.args.target.now) halves now split.steadiness split.source stands.0 stands.1 g.A.Algebra.algebra c.requires.room.made.chosen at.at
 
 pub returns-then-not-has_both_halves-clause-due : goal.returns-then-not-has_both_halves-clause-due
 returns-then-not-has_both_halves-clause-due g c = λ halves at.
@@ -64,16 +64,16 @@ returns-then-not-has_both_halves-clause-due g c = λ halves at.
     let labels = c.label.ensures.told free in
     let P : Circuit → Type 0 = λ n. split.source < source_count n in
     let within = subst P c.net.ensures (omega (arith, c.if-source-sources.false, c.sources.ensures.count)) in
-    let support = marked_in_support now.net now.rules c.args.asked.now.path.now c.args.room.now.cone.found.lines c.marks.result.now split.source
+    let support = marked_in_support now.net now.rules c.args.target.now.path.now c.args.room.now.cone.found.lines c.marks.result.now split.source
     c.marks.ensures.exactly
-    (cone_under now.net now.rules (end_of now.net c.args.asked.now.path.now) c.args.room.now.cone c.requires.room.made.linked c.requires.room.cone)
+    (cone_under now.net now.rules (end_of now.net c.args.target.now.path.now) c.args.room.now.cone c.requires.room.made.linked c.requires.room.cone)
     within c.if-not-marks-source.false in
-    lacking_not_due (asked_target c.args.asked.now) halves now split.steadiness split.source free labels.0 c.label.result c.has_both_halves.result
+    lacking_not_due (seen_target c.args.target.now) halves now split.steadiness split.source free labels.0 c.label.result c.has_both_halves.result
     g.A.Algebra.algebra c.requires.room.made.chosen
     (record {
       at = at.at;
       labelled = labels.1;
-      seen = labels.2.told (told_support now.net (links_of now.rules) now.ends (end_of now.net c.args.asked.now.path.now) split.source c.requires.told support.supported);
+      seen = labels.2.told (told_support now.net (links_of now.rules) now.ends (end_of now.net c.args.target.now.path.now) split.source c.requires.told support.supported);
       tells = c.has_both_halves.ensures;
     })
     c.if-not-has_both_halves.true
@@ -85,16 +85,16 @@ returns-clause-due g c = λ halves at.
     let labels = c.label.ensures.told free in
     let P : Circuit → Type 0 = λ n. split.source < source_count n in
     let within = subst P c.net.ensures (omega (arith, c.if-source-sources.false, c.sources.ensures.count)) in
-    let support = marked_in_support now.net now.rules c.args.asked.now.path.now c.args.room.now.cone.found.lines c.marks.result.now split.source
+    let support = marked_in_support now.net now.rules c.args.target.now.path.now c.args.room.now.cone.found.lines c.marks.result.now split.source
     c.marks.ensures.exactly
-    (cone_under now.net now.rules (end_of now.net c.args.asked.now.path.now) c.args.room.now.cone c.requires.room.made.linked c.requires.room.cone)
+    (cone_under now.net now.rules (end_of now.net c.args.target.now.path.now) c.args.room.now.cone c.requires.room.made.linked c.requires.room.cone)
     within c.if-not-marks-source.false in
-    open_due (asked_target c.args.asked.now) halves now split.steadiness split.source free labels.0 c.label.result c.has_both_halves.result
+    open_due (seen_target c.args.target.now) halves now split.steadiness split.source free labels.0 c.label.result c.has_both_halves.result
     g.A.Algebra.algebra c.requires.room.made.chosen
     (record {
       at = at.at;
       labelled = labels.1;
-      seen = labels.2.told (told_support now.net (links_of now.rules) now.ends (end_of now.net c.args.asked.now.path.now) split.source c.requires.told support.supported);
+      seen = labels.2.told (told_support now.net (links_of now.rules) now.ends (end_of now.net c.args.target.now.path.now) split.source c.requires.told support.supported);
       tells = c.has_both_halves.ensures;
     })
     c.if-not-has_both_halves.false support c.is_open.result (c.is_open.ensures.open halves at)

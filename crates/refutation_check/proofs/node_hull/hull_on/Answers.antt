@@ -6,7 +6,7 @@ use Rattle.netlist.specs.Paths.{end_of}
 use Rattle.state_laws.specs.declared.half.Half.{Half}
 use Rattle.implication.specs.Scopes.{standing}
 use Rattle.refutation_check.specs.NodeHulls.{IsFoundAt}
-use Rattle.refutation_check.specs.Trials.{asked_target}
+use Rattle.pair_judging.specs.Targets.{seen_target}
 use Rattle.refutation_check.proofs.SameSettings.{all_are_told}
 use Rattle.refutation_check.proofs.node_hull.hull_on.Goals as goal
 
@@ -16,7 +16,7 @@ use Rattle.refutation_check.proofs.node_hull.hull_on.Goals as goal
 pub enter_root-requires-clause-told : goal.enter_root-requires-clause-told
 enter_root-requires-clause-told g c =
     let begun = standing c.begin-scope.result in
-    all_are_told begun (c.begin-scope.ensures.begun.ends ∙ c.requires.all_told) (end_of begun.net c.args.asked.now.path.now)
+    all_are_told begun (c.begin-scope.ensures.begun.ends ∙ c.requires.all_told) (end_of begun.net c.args.target.now.path.now)
 
 pub assume_halves-requires : goal.assume_halves-requires
 assume_halves-requires g c =
@@ -34,10 +34,10 @@ hull_of-requires g c = record {
 
 pub returns : goal.returns
 returns g c =
-    let target = asked_target c.args.asked.now in
+    let target = seen_target c.args.target.now in
     let begun = c.begin-scope.ensures.begun in let entered = c.enter_root.ensures.setting in let assumed = c.assume_halves.ensures.setting in
     let root = c.enter_root.ensures.root target refl
-    (begun.beginning ∙ (λ i. Some (record { source = c.source.ensures i; direction = c.args.asked.now.dir; kind = c.args.asked.now.kind }))) in
+    (begun.beginning ∙ (λ i. Some (record { source = c.source.ensures i; direction = c.args.target.now.direction; kind = c.args.target.now.kind }))) in
     let P : Circuit → Rules → Type 0 = λ n rules. IfOk c.hull_of.result (IsFoundAt g.A.Algebra.algebra n rules target c.args.halves.now) in
     subst₂ P (assumed.net ∙ entered.net ∙ begun.net) (assumed.rules ∙ entered.rules ∙ begun.rules)
     (c.hull_of.ensures target c.args.halves.now (c.assume_halves.ensures.below target root))
@@ -46,7 +46,7 @@ pub enter_root-requires-clause-begun : goal.enter_root-requires-clause-begun
 enter_root-requires-clause-begun g c =
     let begun = c.begin-scope.ensures.begun in
     record {
-      begun = record { source = c.source.result; direction = c.args.asked.now.dir; kind = c.args.asked.now.kind };
+      begun = record { source = c.source.result; direction = c.args.target.now.direction; kind = c.args.target.now.kind };
       beginning = begun.beginning;
       source = c.source.ensures;
       nothing = begun.nothing;

@@ -8,7 +8,8 @@ use Rattle.trees.specs.declared.tree.Node.{Node}
 use Rattle.implication.specs.Scopes.{standing}
 use Rattle.implication.specs.Standing.{Standing}
 use Rattle.trees.specs.Faults.{IsRightInSpent}
-use Rattle.refutation_check.specs.Trials.{asked_target, IsScopeInSupport}
+use Rattle.pair_judging.specs.Targets.{seen_target}
+use Rattle.refutation_check.specs.Trials.{IsScopeInSupport}
 use Rattle.refutation_check.proofs.NodeLabels.{closes_told}
 use Rattle.refutation_check.proofs.Spending.{closes_by_rules}
 use Rattle.refutation_check.proofs.spent.is_right_at.Goals as goal
@@ -62,20 +63,20 @@ returns-in-Steadiness-clause-room g c = c.is_due-in-Steadiness.ensures.room
 
 pub returns-in-Closed-clause-right : goal.returns-in-Closed-clause-right
 returns-in-Closed-clause-right g c =
-    let target = asked_target c.args.asked.now in let now = standing c.args.scope.now in
+    let target = seen_target c.args.target.now in let now = standing c.args.scope.now in
     subst (TellsOf g.A.Algebra.algebra target now c.is_some.result) (sym c.in-Closed.is)
     (λ halves within. closes_by_rules now target halves g.A.Algebra.algebra c.requires.room.made.chosen c.is_some.result
     (closes_told g.A.Algebra.algebra target halves now within.at c.conflict.result c.conflict.ensures.none c.conflict.ensures.some c.is_some.result c.is_some.ensures))
 
 pub returns-then-is_none-clause-right : goal.returns-then-is_none-clause-right
 returns-then-is_none-clause-right g c =
-    subst (TellsOf g.A.Algebra.algebra (asked_target c.args.asked.now) (standing c.args.scope.now) c.is_open.result) (sym c.in-Waiting.is) c.is_open.ensures.open
+    subst (TellsOf g.A.Algebra.algebra (seen_target c.args.target.now) (standing c.args.scope.now) c.is_open.result) (sym c.in-Waiting.is) c.is_open.ensures.open
 
 pub returns-in-Value-clause-right : goal.returns-in-Value-clause-right
 returns-in-Value-clause-right g c =
-    subst (TellsOf g.A.Algebra.algebra (asked_target c.args.asked.now) (standing c.args.scope.now) c.is_due.result) (sym c.in-Value.is) c.is_due.ensures.due
+    subst (TellsOf g.A.Algebra.algebra (seen_target c.args.target.now) (standing c.args.scope.now) c.is_due.result) (sym c.in-Value.is) c.is_due.ensures.due
 
 pub returns-in-Steadiness-clause-right : goal.returns-in-Steadiness-clause-right
 returns-in-Steadiness-clause-right g c =
-    subst (TellsOf g.A.Algebra.algebra (asked_target c.args.asked.now) (standing c.args.scope.now) c.is_due-in-Steadiness.result) (sym c.in-Steadiness.is)
+    subst (TellsOf g.A.Algebra.algebra (seen_target c.args.target.now) (standing c.args.scope.now) c.is_due-in-Steadiness.result) (sym c.in-Steadiness.is)
     c.is_due-in-Steadiness.ensures.due

@@ -9,7 +9,7 @@ use Rattle.implication.specs.Standing.{IsTold}
 use Rattle.implication.proofs.Settings.{same_twice}
 use Rattle.trees.specs.Faults.{IsRightInSpent}
 use Rattle.refutation_check.specs.Answers.{TellsOfNodes}
-use Rattle.refutation_check.specs.Trials.{asked_target}
+use Rattle.pair_judging.specs.Targets.{seen_target}
 use Rattle.refutation_check.proofs.SameSettings.{end_told_there, begun_same, own_told}
 use Rattle.refutation_check.proofs.spent.spends.Goals as goal
 
@@ -20,23 +20,23 @@ begin-scope-requires-clause-source g c =
 pub begin-scope-requires-clause-told : goal.begin-scope-requires-clause-told
 begin-scope-requires-clause-told g c =
     let P : LineId → Type 0 = λ line. IsTold c.args.engine.now line.0 in
-    subst P (sym c.source.ensures) (own_told c.args.engine.now c.args.asked.now.path.now c.requires.prefix c.requires.told)
+    subst P (sym c.source.ensures) (own_told c.args.engine.now c.args.target.now.path.now c.requires.prefix c.requires.told)
 
 pub enter_root-requires-clause-prefix : goal.enter_root-requires-clause-prefix
 enter_root-requires-clause-prefix g c =
-    let P : Circuit → Type 0 = λ n. IsPrefix n c.args.asked.now.path.now in subst P (sym c.begin-scope.ensures.begun.net) c.requires.prefix
+    let P : Circuit → Type 0 = λ n. IsPrefix n c.args.target.now.path.now in subst P (sym c.begin-scope.ensures.begun.net) c.requires.prefix
 
 pub enter_root-requires-clause-told : goal.enter_root-requires-clause-told
 enter_root-requires-clause-told g c =
     end_told_there c.args.engine.now (standing c.begin-scope.result)
-    (begun_same (record { source = c.source.result; direction = c.args.asked.now.dir; kind = c.args.asked.now.kind }) c.args.engine.now
-    (standing c.begin-scope.result) c.begin-scope.ensures.begun) c.args.asked.now.path.now c.requires.told
+    (begun_same (record { source = c.source.result; direction = c.args.target.now.direction; kind = c.args.target.now.kind }) c.args.engine.now
+    (standing c.begin-scope.result) c.begin-scope.ensures.begun) c.args.target.now.path.now c.requires.told
 
 pub enter_root-requires-clause-begun : goal.enter_root-requires-clause-begun
 enter_root-requires-clause-begun g c =
     let begun = c.begin-scope.ensures.begun in
     record {
-      begun = record { source = c.source.result; direction = c.args.asked.now.dir; kind = c.args.asked.now.kind };
+      begun = record { source = c.source.result; direction = c.args.target.now.direction; kind = c.args.target.now.kind };
       beginning = begun.beginning;
       source = c.source.ensures;
       nothing = begun.nothing;
@@ -46,25 +46,25 @@ enter_root-requires-clause-begun g c =
 
 pub walk_spent-requires-clause-prefix : goal.walk_spent-requires-clause-prefix
 walk_spent-requires-clause-prefix g c =
-    let P : Circuit → Type 0 = λ n. IsPrefix n c.args.asked.now.path.now in
+    let P : Circuit → Type 0 = λ n. IsPrefix n c.args.target.now.path.now in
     subst P (sym (c.enter_root.ensures.setting.net ∙ c.begin-scope.ensures.begun.net)) c.requires.prefix
 
 pub walk_spent-requires-clause-told : goal.walk_spent-requires-clause-told
 walk_spent-requires-clause-told g c =
     end_told_there c.args.engine.now (standing c.enter_root.new.scope)
     (same_twice c.args.engine.now (standing c.begin-scope.result) (standing c.enter_root.new.scope)
-    (begun_same (record { source = c.source.result; direction = c.args.asked.now.dir; kind = c.args.asked.now.kind }) c.args.engine.now
-    (standing c.begin-scope.result) c.begin-scope.ensures.begun) c.enter_root.ensures.setting) c.args.asked.now.path.now c.requires.told
+    (begun_same (record { source = c.source.result; direction = c.args.target.now.direction; kind = c.args.target.now.kind }) c.args.engine.now
+    (standing c.begin-scope.result) c.begin-scope.ensures.begun) c.enter_root.ensures.setting) c.args.target.now.path.now c.requires.told
 
 pub walk_spent-requires-clause-root : goal.walk_spent-requires-clause-root
 walk_spent-requires-clause-root g c =
-    c.enter_root.ensures.root (asked_target c.args.asked.now) refl
+    c.enter_root.ensures.root (seen_target c.args.target.now) refl
     (c.begin-scope.ensures.begun.beginning
-    ∙ (λ i. Some (record { source = c.source.ensures i; direction = c.args.asked.now.dir; kind = c.args.asked.now.kind })))
+    ∙ (λ i. Some (record { source = c.source.ensures i; direction = c.args.target.now.direction; kind = c.args.target.now.kind })))
 
 pub returns-clause-tells : goal.returns-clause-tells
 returns-clause-tells g c =
     let begun = c.begin-scope.ensures.begun in let setting = c.enter_root.ensures.setting in
     let P : Circuit → Rules → Type 0 =
-    λ n rules. IfOk c.walk_spent.result (TellsOfNodes (IsRightInSpent n rules (asked_target c.args.asked.now)) c.args.tree.now) in
+    λ n rules. IfOk c.walk_spent.result (TellsOfNodes (IsRightInSpent n rules (seen_target c.args.target.now)) c.args.tree.now) in
     subst₂ P (setting.net ∙ begun.net) (setting.rules ∙ begun.rules) c.walk_spent.ensures.tells

@@ -12,9 +12,10 @@ use Rattle.implication.proofs.Restoring.{same_scope_twice}
 use Rattle.trees.specs.Halves.{halves_of}
 use Rattle.trees.specs.Faults.{IsRightInSpent, IsFirstFaultOf}
 use Rattle.trees.specs.Spent.{IsInSupport}
+use Rattle.pair_judging.specs.Targets.{seen_target}
 use Rattle.refutation_check.specs.declared.answer.TreeCheck.TheVariants.{Yes}
 use Rattle.refutation_check.specs.Answers.{TellsOfNodes}
-use Rattle.refutation_check.specs.Trials.{asked_target, IsTrialRoomAt}
+use Rattle.refutation_check.specs.Trials.{IsTrialRoomAt}
 use Rattle.refutation_check.proofs.Checking.{checked_none, checked_walk, checked_on, checked_fault, checked_more, checked_all, spends_there, spent_splits_on, supported_on, on_there}
 use Rattle.refutation_check.proofs.SameSettings.{end_told_there}
 use Rattle.implication.proofs.Settings.{same_itself, same_twice}
@@ -27,8 +28,8 @@ loop-place-init g c =
       scope = record { engine = refl; origin = refl };
       setting = same_itself old;
       room = c.requires.room;
-      checked = checked_none g.A.Algebra.algebra (IsRightInSpent old.net old.rules (asked_target c.args.asked.now))
-          (IsInSupport old.net old.rules (asked_target c.args.asked.now).path) (asked_target c.args.asked.now)
+      checked = checked_none g.A.Algebra.algebra (IsRightInSpent old.net old.rules (seen_target c.args.target.now))
+          (IsInSupport old.net old.rules (seen_target c.args.target.now).path) (seen_target c.args.target.now)
           c.nodes-node-items.result.now old c.clear.new.self.items c.requires.root c.clear.ensures.items;
     }
 
@@ -42,7 +43,7 @@ pub returns-then-not-is_right_at-clause-room : goal.returns-then-not-is_right_at
 returns-then-not-is_right_at-clause-room g c =
     let setting = c.loop-place.invariant.setting in
     let P : Circuit → Rules → Type 0 =
-    λ n rules. IsTrialRoomAt g.A.Algebra.algebra n rules (asked_target c.args.asked.now) c.is_right_at.new.room in
+    λ n rules. IsTrialRoomAt g.A.Algebra.algebra n rules (seen_target c.args.target.now) c.is_right_at.new.room in
     subst₂ P setting.net setting.rules c.is_right_at.ensures.room
 
 pub pass-requires-clause-begun : goal.pass-requires-clause-begun
@@ -61,7 +62,7 @@ pub returns-in_err-pass-clause-room : goal.returns-in_err-pass-clause-room
 returns-in_err-pass-clause-room g c =
     let setting = c.loop-place.invariant.setting in
     let P : Circuit → Rules → Type 0 =
-    λ n rules. IsTrialRoomAt g.A.Algebra.algebra n rules (asked_target c.args.asked.now) c.is_right_at.new.room in
+    λ n rules. IsTrialRoomAt g.A.Algebra.algebra n rules (seen_target c.args.target.now) c.is_right_at.new.room in
     subst₂ P setting.net setting.rules c.is_right_at.ensures.room
 
 pub returns-clause-scope : goal.returns-clause-scope
@@ -77,7 +78,7 @@ pub returns-then-not-is_right_at-clause-tells : goal.returns-then-not-is_right_a
 returns-then-not-is_right_at-clause-tells g c =
     let old = standing c.args.scope.now in let now = standing c.loop-place.scope in
     let items = c.nodes-node-items.result.now in let place = c.loop-place.place in let inv = c.loop-place.invariant in
-    let target = asked_target c.args.asked.now in let Is = IsRightInSpent old.net old.rules target in
+    let target = seen_target c.args.target.now in let Is = IsRightInSpent old.net old.rules target in
     let On = IsInSupport old.net old.rules target.path in
     let checked = inv.checked in let node = get_or items place Closed in
     subst (λ (nodes : List Node). IsFirstFaultOf Is nodes place) c.nodes-node-items.ensures.nodes
@@ -89,25 +90,25 @@ returns-then-not-is_right_at-clause-tells g c =
 
 pub is_right_at-requires-clause-prefix : goal.is_right_at-requires-clause-prefix
 is_right_at-requires-clause-prefix g c =
-    let P : Circuit → Type 0 = λ n. IsPrefix n c.args.asked.now.path.now in
+    let P : Circuit → Type 0 = λ n. IsPrefix n c.args.target.now.path.now in
     subst P (sym c.loop-place.invariant.setting.net) c.requires.prefix
 
 pub is_right_at-requires-clause-told : goal.is_right_at-requires-clause-told
 is_right_at-requires-clause-told g c =
-    end_told_there (standing c.args.scope.now) (standing c.loop-place.scope) c.loop-place.invariant.setting c.args.asked.now.path.now
+    end_told_there (standing c.args.scope.now) (standing c.loop-place.scope) c.loop-place.invariant.setting c.args.target.now.path.now
     c.requires.told
 
 pub is_right_at-requires-clause-room : goal.is_right_at-requires-clause-room
 is_right_at-requires-clause-room g c =
     let setting = c.loop-place.invariant.setting in
     let P : Circuit → Rules → Type 0 =
-    λ n rules. IsTrialRoomAt g.A.Algebra.algebra n rules (asked_target c.args.asked.now) c.loop-place.room in
+    λ n rules. IsTrialRoomAt g.A.Algebra.algebra n rules (seen_target c.args.target.now) c.loop-place.room in
     subst₂ P (sym setting.net) (sym setting.rules) c.loop-place.invariant.room
 
 pub pass-requires-clause-walk : goal.pass-requires-clause-walk
 pass-requires-clause-walk g c =
     let old = standing c.args.scope.now in let now = standing c.loop-place.scope in
-    let target = asked_target c.args.asked.now in
+    let target = seen_target c.args.target.now in
     checked_walk g.A.Algebra.algebra (IsRightInSpent old.net old.rules target) (IsInSupport old.net old.rules target.path) target c.nodes-node-items.result.now c.loop-place.place now
     c.loop-place.pending.items (c.loop-place.invariant.checked)
 
@@ -115,7 +116,7 @@ pub pass-requires-clause-split : goal.pass-requires-clause-split
 pass-requires-clause-split g c =
     let old = standing c.args.scope.now in let now = standing c.loop-place.scope in
     let items = c.nodes-node-items.result.now in let place = c.loop-place.place in let inv = c.loop-place.invariant in
-    let target = asked_target c.args.asked.now in let Is = IsRightInSpent old.net old.rules target in
+    let target = seen_target c.args.target.now in let Is = IsRightInSpent old.net old.rules target in
     let On = IsInSupport old.net old.rules target.path in
     let checked = inv.checked in let node = get_or items place Closed in
     let right = (spends_there g.A.Algebra.algebra old now inv.setting node c.is_right_at.result target (halves_of checked.above)
@@ -133,10 +134,10 @@ loop-place-preserved g c =
       setting = same_twice old now next inv.setting c.pass.ensures.setting;
       room =
           let P : Circuit → Rules → Type 0 =
-          λ n rules. IsTrialRoomAt g.A.Algebra.algebra n rules (asked_target c.args.asked.now) c.is_right_at.new.room in
+          λ n rules. IsTrialRoomAt g.A.Algebra.algebra n rules (seen_target c.args.target.now) c.is_right_at.new.room in
           subst₂ P inv.setting.net inv.setting.rules c.is_right_at.ensures.room;
       checked =
-          let target = asked_target c.args.asked.now in let Is = IsRightInSpent old.net old.rules target in
+          let target = seen_target c.args.target.now in let Is = IsRightInSpent old.net old.rules target in
           let On = IsInSupport old.net old.rules target.path in
           let checked = inv.checked in
           let right = (spends_there g.A.Algebra.algebra old now inv.setting node c.is_right_at.result target (halves_of checked.above)
@@ -149,7 +150,7 @@ loop-place-preserved g c =
 pub returns-clause-tells : goal.returns-clause-tells
 returns-clause-tells g c =
     let old = standing c.args.scope.now in
-    let target = asked_target c.args.asked.now in let Is = IsRightInSpent old.net old.rules target in
+    let target = seen_target c.args.target.now in let Is = IsRightInSpent old.net old.rules target in
     let On = IsInSupport old.net old.rules target.path in
     subst (λ (nodes : List Node). TellsOfNodes Is nodes Yes) c.nodes-node-items.ensures.nodes
     (checked_all g.A.Algebra.algebra Is On target c.nodes-node-items.result.now c.loop-place.place (standing c.loop-place.scope) c.loop-place.pending.items

@@ -12,7 +12,7 @@ pub refutes-told-requires-clause-told : goal.refutes-told-requires-clause-told
 refutes-told-requires-clause-told g c =
     let made = c.in_ok-engine.ensures in
     own_end_told c.in_ok-engine.engine c.args.net.now c.args.rules.now c.in_ok-ends.ends.items (ap (λ (s : Standing). s.net) made)
-    (ap (λ (s : Standing). s.rules) made) (ap (λ (s : Standing). s.ends) made ∙ ap Some c.as_slice.ensures.value) c.args.asked.now.path.now
+    (ap (λ (s : Standing). s.rules) made) (ap (λ (s : Standing). s.ends) made ∙ ap Some c.as_slice.ensures.value) c.args.target.now.path.now
     c.in_ok-ends.ensures.end
 
 pub refutes-told-requires-clause-splits : goal.refutes-told-requires-clause-splits

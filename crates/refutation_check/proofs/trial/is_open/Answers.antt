@@ -9,26 +9,27 @@ use Rattle.netlist.specs.Paths.{IsPrefix, end_of}
 use Rattle.implication.specs.Scopes.{standing}
 use Rattle.implication.proofs.Told.{told_support}
 use Rattle.cones.specs.KeptCones.{IsConeFor, IsConeAt}
+use Rattle.pair_judging.specs.Targets.{seen_target}
 use Rattle.refutation_check.specs.TrialStates.{AreTrialStates}
-use Rattle.refutation_check.specs.Trials.{asked_target, AreLeastOf, EachIsTest, EachFails}
+use Rattle.refutation_check.specs.Trials.{AreLeastOf, EachIsTest, EachFails}
 use Rattle.refutation_check.proofs.Trying.{sources_within, least_in_cone, test_not_open, failed_open}
 use Rattle.refutation_check.proofs.trial.is_open.Goals as goal
 
 pub fails_again-requires-clause-labels : goal.fails_again-requires-clause-labels
 fails_again-requires-clause-labels g c =
     let now = standing c.args.scope.now in let cone = c.args.room.now.cone in
-    sources_within now.net cone.links (end_of now.net c.args.asked.now.path.now) cone.sources cone.sources refl c.requires.room.cone.sources
+    sources_within now.net cone.links (end_of now.net c.args.target.now.path.now) cone.sources cone.sources refl c.requires.room.cone.sources
     (length c.labels-labels.result.now) c.labels-labels.ensures.one_each
 
 pub fails_again-requires-clause-states : goal.fails_again-requires-clause-states
 fails_again-requires-clause-states g c =
     let now = standing c.args.scope.now in let cone = c.args.room.now.cone in
-    sources_within now.net cone.links (end_of now.net c.args.asked.now.path.now) cone.sources cone.sources refl c.requires.room.cone.sources
+    sources_within now.net cone.links (end_of now.net c.args.target.now.path.now) cone.sources cone.sources refl c.requires.room.cone.sources
     (length c.args.room.now.kept.states.items) c.requires.room.made.kept.room.states.places
 
 pub are_tests-requires-clause-prefix : goal.are_tests-requires-clause-prefix
 are_tests-requires-clause-prefix g c =
-    let P : Circuit → Type 0 = λ n. IsPrefix n c.args.asked.now.path.now in subst P (sym c.net-net.ensures) c.requires.prefix
+    let P : Circuit → Type 0 = λ n. IsPrefix n c.args.target.now.path.now in subst P (sym c.net-net.ensures) c.requires.prefix
 
 pub are_tests-requires-clause-labels : goal.are_tests-requires-clause-labels
 are_tests-requires-clause-labels g c =
@@ -41,7 +42,7 @@ are_tests-requires-clause-made g c =
 
 pub are_tests-requires-clause-cone : goal.are_tests-requires-clause-cone
 are_tests-requires-clause-cone g c =
-    let P : Circuit → Type 0 = λ n. IsConeAt n (end_of n c.args.asked.now.path.now) c.args.room.now.cone in
+    let P : Circuit → Type 0 = λ n. IsConeAt n (end_of n c.args.target.now.path.now) c.args.room.now.cone in
     subst P (sym c.net-net.ensures) c.requires.room.cone
 
 pub are_tests-requires-clause-kept : goal.are_tests-requires-clause-kept
@@ -68,7 +69,7 @@ under_rules P c d ls ms same_net same holds = let Q : Circuit → Type 0 = λ n.
 
 pub returns-clause-room : goal.returns-clause-room
 returns-clause-room g c =
-    let now = standing c.args.scope.now in let target = asked_target c.args.asked.now in let made = c.requires.room.made in
+    let now = standing c.args.scope.now in let target = seen_target c.args.target.now in let made = c.requires.room.made in
     let K : Circuit → Type 0 = λ n. AreTrialStates g.A.Algebra.algebra n c.are_tests.new.kept in
     let N : Circuit → LinkList → Type 0 = λ n ls. EachFails g.A.Algebra.algebra n ls target c.are_tests.new.kept.states.items in
     record {
@@ -80,7 +81,7 @@ returns-clause-room g c =
 
 pub returns-then-fails_again-clause-open : goal.returns-then-fails_again-clause-open
 returns-then-fails_again-clause-open g c = λ halves within.
-    let now = standing c.args.scope.now in let target = asked_target c.args.asked.now in
+    let now = standing c.args.scope.now in let target = seen_target c.args.target.now in
     let labels = c.labels-labels.ensures.told c.requires.free in let room = c.args.room.now in let made = c.requires.room.made in
     let C : Circuit → Type 0 = λ n. IsCircuit n in
     let F : LinkList → Type 0 = λ ls. AreLinksOf now.net ls in
@@ -102,7 +103,7 @@ returns-then-fails_again-clause-open g c = λ halves within.
 
 pub returns-then-are_tests-clause-open : goal.returns-then-are_tests-clause-open
 returns-then-are_tests-clause-open g c = λ halves within.
-    let now = standing c.args.scope.now in let target = asked_target c.args.asked.now in
+    let now = standing c.args.scope.now in let target = seen_target c.args.target.now in
     let labels = c.labels-labels.ensures.told c.requires.free in let room = c.args.room.now in let made = c.requires.room.made in
     let states = c.are_tests.new.kept.states.items in
     let C : Circuit → Type 0 = λ n. IsCircuit n in
@@ -125,7 +126,7 @@ returns-then-are_tests-clause-open g c = λ halves within.
 
 pub returns-clause-open : goal.returns-clause-open
 returns-clause-open g c = λ halves within.
-    let now = standing c.args.scope.now in let target = asked_target c.args.asked.now in
+    let now = standing c.args.scope.now in let target = seen_target c.args.target.now in
     let labels = c.labels-labels.ensures.told c.requires.free in let room = c.args.room.now in let made = c.requires.room.made in
     let states = c.are_tests.new.kept.states.items in
     let C : Circuit → Type 0 = λ n. IsCircuit n in
