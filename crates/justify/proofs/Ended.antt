@@ -26,7 +26,7 @@ use Rattle.justify.specs.Answers.{IsFound, HasCounted, CountsConflicts, IsOutcom
 use Rattle.justify.specs.Ends.{IsEnd, IsAnswerOf, IsReplacedBy, is_spent}
 use Rattle.justify.specs.Growths.{DueTree, IsGrowing}
 use Rattle.justify.specs.Searches.{IsGrowthOf}
-use Rattle.justify.specs.Tasks.{task_target}
+use Rattle.pair_judging.specs.Targets.{seen_target}
 use Rattle.justify.specs.Tests.{IsFitTest}
 use Rattle.implication.proofs.ScopeLabels.{there_too}
 
@@ -136,25 +136,25 @@ module _ (a : StateAlgebra) (task : Task) (old new : Standing) (growth : Growth)
     grown_whole (Err error) is = tt
     grown_whole (Ok (Some pair)) is = tt
     grown_whole (Ok None) is =
-        end_is_tree a new.net new.rules (task_target task) task.budget new.assumptions growth.nodes.items growth.splits is.1
+        end_is_tree a new.net new.rules (seen_target task.target) task.budget new.assumptions growth.nodes.items growth.splits is.1
 
     pub grown_few : task.budget ≤ MOST_BUDGET → (grown : Result (Option Vectors) E) → IfOk grown (IsGrowthOf a task old new growth)
         → IfOk grown (λ test. IfNone test (length growth.nodes.items < 2 ^ 31))
     grown_few most (Err error) is = tt
     grown_few most (Ok (Some pair)) is = tt
     grown_few most (Ok None) is =
-        end_few a new.net new.rules (task_target task) task.budget new.assumptions growth.nodes.items growth.splits is.1 most
+        end_few a new.net new.rules (seen_target task.target) task.budget new.assumptions growth.nodes.items growth.splits is.1 most
 
     pub grown_found : new.net ≡ old.net → new.rules ≡ old.rules → (grown : Result (Option Vectors) E) (found : Found)
         → IfOk grown (IsGrowthOf a task old new growth) → IsAnswerOf grown growth.nodes.items found
-        → IsFound old.net old.rules (task_target task) task.budget found
+        → IsFound old.net old.rules (seen_target task.target) task.budget found
     grown_found same_net same_rules (Err error) found is answers = absurd answers
     grown_found same_net same_rules (Ok (Some pair)) found is answers =
-        let P : Found → Type 0 = λ f. IsFound old.net old.rules (task_target task) task.budget f in subst P (sym answers) is
+        let P : Found → Type 0 = λ f. IsFound old.net old.rules (seen_target task.target) task.budget f in subst P (sym answers) is
     grown_found same_net same_rules (Ok None) found is answers =
-        let Q : Circuit → Rules → Type 0 = λ n rules. IsFound n rules (task_target task) task.budget found in
+        let Q : Circuit → Rules → Type 0 = λ n rules. IsFound n rules (seen_target task.target) task.budget found in
         there_too Q new.net old.net new.rules old.rules same_net same_rules
-        (end_found a new.net new.rules (task_target task) task.budget new.assumptions growth.nodes.items growth.splits is.1 found answers)
+        (end_found a new.net new.rules (seen_target task.target) task.budget new.assumptions growth.nodes.items growth.splits is.1 found answers)
 
     pub grown_counts : (grown : Result (Option Vectors) E) (found : Found)
         → IfOk grown (IsGrowthOf a task old new growth) → IsAnswerOf grown growth.nodes.items found
@@ -163,11 +163,11 @@ module _ (a : StateAlgebra) (task : Task) (old new : Standing) (growth : Growth)
     grown_counts (Ok (Some pair)) found is answers =
         let P : Found → Type 0 = λ f. CountsConflicts task.budget f old new in subst P (sym answers) tt
     grown_counts (Ok None) found is answers =
-        end_counts a new.net new.rules (task_target task) task.budget new.assumptions growth.nodes.items growth.splits is.1 found answers old new is.0
+        end_counts a new.net new.rules (seen_target task.target) task.budget new.assumptions growth.nodes.items growth.splits is.1 found answers old new is.0
 
     pub answer_found : {F : Type 0} → new.net ≡ old.net → new.rules ≡ old.rules → (grown : Result (Option Vectors) E) (result : Result Found F)
         → IfOk grown (IsGrowthOf a task old new growth) → IfOk result (IsAnswerOf grown growth.nodes.items)
-        → IfOk result (IsFound old.net old.rules (task_target task) task.budget)
+        → IfOk result (IsFound old.net old.rules (seen_target task.target) task.budget)
     answer_found same_net same_rules grown (Err error) is answers = tt
     answer_found same_net same_rules grown (Ok found) is answers = grown_found same_net same_rules grown found is answers
 

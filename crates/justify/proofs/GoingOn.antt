@@ -24,7 +24,7 @@ use Rattle.justify.specs.Desks.{IsDesk}
 use Rattle.justify.specs.Growths.{IsEntered, IsShut, IsExtended}
 use Rattle.implication.specs.NodeScopes.{StandsAtNode}
 use Rattle.justify.specs.Searches.{IsSearching, SearchGoesOn, AddsNode, AddsClosed, IsNodeVisit, IsVisit, IsGrowthOf}
-use Rattle.justify.specs.Tasks.{task_target}
+use Rattle.pair_judging.specs.Targets.{seen_target}
 use Rattle.justify.specs.Tests.{IsFitTest}
 use Rattle.justify.specs.Trying.{HasFailed}
 use Rattle.implication.specs.Settings.{IsSameSetting}
@@ -39,7 +39,7 @@ use Rattle.justify.proofs.Visits.{extended_by_one, extended_left}
 
 -- the search goes on with another desk that serves
 pub other_desk : (a : StateAlgebra) (task : Task) (standing : Standing) (desk later : Desk) (places : List Place) (growth : Growth)
-    → IsSearching a task standing desk places growth → IsDesk a standing.net standing.rules task.path.now later
+    → IsSearching a task standing desk places growth → IsDesk a standing.net standing.rules task.target.path.now later
     → IsSearching a task standing later places growth
 other_desk a task standing desk later places growth searching serves = record {
   suits = searching.suits;
@@ -51,7 +51,7 @@ other_desk a task standing desk later places growth searching serves = record {
 module _ (a : StateAlgebra) (task : Task) (old : Standing) (desk : Desk) (growth : Growth) (place : Place)
     (searching : IsSearching a task old desk (place ∷ reverse growth.places.items) growth) where
   abbrev target : Target
-  target = task_target task
+  target = seen_target task.target
 
   next : IsNext a old.net old.rules target task.budget old.assumptions place (reverse growth.places.items) growth.nodes.items growth.splits
   next =
@@ -59,9 +59,9 @@ module _ (a : StateAlgebra) (task : Task) (old : Standing) (desk : Desk) (growth
       searching.growing
 
   -- the scope can go back to the mark of the place, and its set can be assumed there
-  pub next_late : (n : ℕ) → n ≤ length task.path.now.steps → n ≤ place.mark.at
+  pub next_late : (n : ℕ) → n ≤ length task.target.path.now.steps → n ≤ place.mark.at
   next_late n few =
-      late_enough n (length task.path.now.steps) place.mark.at (length old.assumptions) (length (take place.mark.at old.assumptions))
+      late_enough n (length task.target.path.now.steps) place.mark.at (length old.assumptions) (length (take place.mark.at old.assumptions))
       (length-take place.mark.at old.assumptions) next.here.longer few
 
   pub next_at_mark : place.mark.at ≤ length old.assumptions
@@ -96,7 +96,7 @@ module _ (a : StateAlgebra) (task : Task) (old : Standing) (desk : Desk) (growth
           shut_under_way a target task.budget old searching.suits.of_rules searching.under_way place (reverse growth.places.items) growth.nodes.items growth.splits
           next new shut;
       serves =
-          let P : Circuit → Rules → Type 0 = λ c rules. IsDesk a c rules task.path.now desk in
+          let P : Circuit → Rules → Type 0 = λ c rules. IsDesk a c rules task.target.path.now desk in
           there_too P old.net new.net old.rules new.rules (sym (ap (λ (s : Standing). s.net) shut.now))
           (sym (ap (λ (s : Standing). s.rules) shut.now)) searching.serves;
       later = later;
@@ -143,13 +143,13 @@ module _ (a : StateAlgebra) (task : Task) (old : Standing) (desk : Desk) (growth
         suits_after a target old new (record { net = same_net; rules = same_rules; ends = ap (λ (s : Standing). s.ends) entered.now })
         searching.suits
 
-    pub entered_desk : IsDesk a new.net new.rules task.path.now desk
+    pub entered_desk : IsDesk a new.net new.rules task.target.path.now desk
     entered_desk =
-        let P : Circuit → Rules → Type 0 = λ c rules. IsDesk a c rules task.path.now desk in
+        let P : Circuit → Rules → Type 0 = λ c rules. IsDesk a c rules task.target.path.now desk in
         there_too P old.net new.net old.rules new.rules (sym same_net) (sym same_rules) searching.serves
 
     module _ (last : Standing) (restored : IsRestored new last) where
-      pub entered_goes_on : (later : Desk) → IsDesk a new.net new.rules task.path.now later → SearchGoesOn a task old last later
+      pub entered_goes_on : (later : Desk) → IsDesk a new.net new.rules task.target.path.now later → SearchGoesOn a task old last later
       entered_goes_on later made = record {
         setting = record {
           net = restored.net ∙ same_net;
@@ -160,7 +160,7 @@ module _ (a : StateAlgebra) (task : Task) (old : Standing) (desk : Desk) (growth
             last_under_way a target task.budget old searching.suits.of_rules searching.under_way place (reverse growth.places.items) growth.nodes.items growth.splits
             next new entered last restored;
         serves =
-            let P : Circuit → Rules → Type 0 = λ c rules. IsDesk a c rules task.path.now later in
+            let P : Circuit → Rules → Type 0 = λ c rules. IsDesk a c rules task.target.path.now later in
             there_too P new.net last.net new.rules last.rules (sym restored.net) (sym restored.rules) made;
         later = up_from old.closings new.closings last.closings (ap (λ (s : Standing). s.closings) entered.now) restored.later;
       }
@@ -192,7 +192,7 @@ pub searching_on : (a : StateAlgebra) (task : Task) (old new : Standing) (desk l
     → IsSearching a task old desk places growth → SearchGoesOn a task old new later → AddsNode a task old new before after
     → IsSearching a task new later (reverse after.places.items) after
 searching_on a task old new desk later places growth before after searching goes adds = record {
-  suits = suits_after a (task_target task) old new goes.setting searching.suits;
+  suits = suits_after a (seen_target task.target) old new goes.setting searching.suits;
   under_way = goes.under_way;
   serves = goes.serves;
   growing = adds.growing;
@@ -210,7 +210,7 @@ pub grown_some : (a : StateAlgebra) (task : Task) (first old new : Standing) (be
     → IsGrowthOf a task first new growth (Some pair)
 grown_some a task first old new before after growth answer pair some same_net same_rules visited =
     let P : Option Vectors → Type 0 = λ found. IsVisit a task old new before after found in
-    let Q : Circuit → Rules → Type 0 = λ c rules. IsFitTest c rules (task_target task) pair in
+    let Q : Circuit → Rules → Type 0 = λ c rules. IsFitTest c rules (seen_target task.target) pair in
     there_too Q old.net first.net old.rules first.rules same_net same_rules (subst P some visited)
 
 -- where a trial has failed, some source of the support has two states

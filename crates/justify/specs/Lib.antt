@@ -1,4 +1,3 @@
-pub mod Tasks
 pub mod Tests
 pub mod Trying
 pub mod Choices

@@ -15,7 +15,7 @@ use Rattle.justify.specs.Answers.{HasCounted}
 use Rattle.justify.specs.Desks.{IsDesk}
 use Rattle.justify.specs.Scoping.{SuitsSearch}
 use Rattle.justify.specs.Growths.{IsGrowing, IsExtended}
-use Rattle.justify.specs.Tasks.{task_target}
+use Rattle.pair_judging.specs.Targets.{seen_target}
 use Rattle.justify.specs.Tests.{IsFitTest}
 use Rattle.justify.specs.Trying.{FailsAtNode}
 use Rattle.implication.specs.Settings.{IsSameSetting}
@@ -24,29 +24,29 @@ use Rattle.justify.specs.UnderWay.{IsUnderWay}
 -- The engine suits the search, what was entered stands, the desk is the path's, and the tree has grown so far, with these places left,
 -- the next one first.
 pub record IsSearching (a : StateAlgebra) (task : Task) (standing : Standing) (desk : Desk) (places : List Place) (growth : Growth) : Type 0 where
-  pub suits : SuitsSearch a (task_target task) standing
-  pub under_way : IsUnderWay (task_target task) standing
-  pub serves : IsDesk a standing.net standing.rules task.path.now desk
-  pub growing : IsGrowing a standing.net standing.rules (task_target task) task.budget standing.assumptions places growth.nodes.items growth.splits
+  pub suits : SuitsSearch a (seen_target task.target) standing
+  pub under_way : IsUnderWay (seen_target task.target) standing
+  pub serves : IsDesk a standing.net standing.rules task.target.path.now desk
+  pub growing : IsGrowing a standing.net standing.rules (seen_target task.target) task.budget standing.assumptions places growth.nodes.items growth.splits
 
 -- what was entered still stands, and no count has fallen
 pub record SearchGoesOn (a : StateAlgebra) (task : Task) (old new : Standing) (desk : Desk) : Type 0 where
   pub setting : IsSameSetting old new
-  pub under_way : IsUnderWay (task_target task) new
-  pub serves : IsDesk a new.net new.rules task.path.now desk
+  pub under_way : IsUnderWay (seen_target task.target) new
+  pub serves : IsDesk a new.net new.rules task.target.path.now desk
   pub later : old.closings ≤ new.closings
 
 -- the scope is as it was, but for conflicts that were counted, and the desk is still the path's
 pub record LeavesSearch (a : StateAlgebra) (task : Task) (old new : Standing) (desk : Desk) : Type 0 where
   pub restored : IsRestored old new
-  pub serves : IsDesk a old.net old.rules task.path.now desk
+  pub serves : IsDesk a old.net old.rules task.target.path.now desk
 
 -- the tree has one node more, a conflict was counted, and less is left to do
 pub record AddsNode (a : StateAlgebra) (task : Task) (old new : Standing) (before after : Growth) : Type 0 where
   pub counted : risen old.closings ≤ new.closings
   pub one_more : length after.nodes.items ≡ length before.nodes.items + 1
   pub left : 2 * (task.budget - after.splits) + length after.places.items ≤ 2 * (task.budget - before.splits) + length before.places.items
-  pub growing : IsGrowing a new.net new.rules (task_target task) task.budget new.assumptions (reverse after.places.items) after.nodes.items after.splits
+  pub growing : IsGrowing a new.net new.rules (seen_target task.target) task.budget new.assumptions (reverse after.places.items) after.nodes.items after.splits
 
 -- a closed leaf is one node more, and no test was found
 pub record AddsClosed (before after : Growth) (test : Option Vectors) : Type 0 where
@@ -57,21 +57,21 @@ pub record AddsClosed (before after : Growth) (test : Option Vectors) : Type 0 w
 
 -- no pair that was tried at an open node is a test, and it became a leaf that waits, or a split
 pub record ExtendsTree (a : StateAlgebra) (task : Task) (old new : Standing) (before after : Growth) : Type 0 where
-  pub fails : FailsAtNode a (task_target task) old new
-  pub extended : IsExtended a (task_target task) new task.budget before after
+  pub fails : FailsAtNode a (seen_target task.target) old new
+  pub extended : IsExtended a (seen_target task.target) new task.budget before after
 
 -- what a visit of an open node finds: a test, or none
 abbrev pub IsNodeVisit : StateAlgebra → Task → Standing → Standing → Growth → Growth → Option Vectors → Type 0
-IsNodeVisit a task old new before after (Some pair) = IsFitTest old.net old.rules (task_target task) pair
+IsNodeVisit a task old new before after (Some pair) = IsFitTest old.net old.rules (seen_target task.target) pair
 IsNodeVisit a task old new before after None = ExtendsTree a task old new before after
 
 -- what a visit finds: a test, or one node more
 abbrev pub IsVisit : StateAlgebra → Task → Standing → Standing → Growth → Growth → Option Vectors → Type 0
-IsVisit a task old new before after (Some pair) = IsFitTest old.net old.rules (task_target task) pair
+IsVisit a task old new before after (Some pair) = IsFitTest old.net old.rules (seen_target task.target) pair
 IsVisit a task old new before after None = AddsNode a task old new before after
 
 -- what comes of visiting place after place: a test, or a tree with no place left, for each node of which a conflict was counted
 abbrev pub IsGrowthOf : StateAlgebra → Task → Standing → Standing → Growth → Option Vectors → Type 0
-IsGrowthOf a task old new growth (Some pair) = IsFitTest old.net old.rules (task_target task) pair
+IsGrowthOf a task old new growth (Some pair) = IsFitTest old.net old.rules (seen_target task.target) pair
 IsGrowthOf a task old new growth None = HasCounted (length growth.nodes.items) old new
-    × IsGrowing a new.net new.rules (task_target task) task.budget new.assumptions [] growth.nodes.items growth.splits
+    × IsGrowing a new.net new.rules (seen_target task.target) task.budget new.assumptions [] growth.nodes.items growth.splits

@@ -3,7 +3,7 @@
 ghost use Rattle.std.specs.Prelude.{◌≡◌, ◌<◌, IfSome, IfNone};
 ghost use Rattle.trees.specs.Spent.{IsInSupport};
 ghost use Rattle.implication.specs.Scopes.{standing};
-ghost use Rattle.justify.specs.Tasks.{task_target};
+ghost use Rattle.pair_judging.specs.Targets.{seen_target};
 ghost use Rattle.implication.specs.NodeScopes.{StandsAtNode};
 ghost use Rattle.justify.specs.Desks.{IsDesk};
 ghost use Rattle.justify.specs.Scoping.{SuitsSearch};
@@ -11,8 +11,8 @@ ghost use Rattle.justify.specs.Choices.{IsUsefulSplit, AreSingle, SplitsAt, IsSi
 
 use crate::desk::Desk;
 use crate::halves::way_to_split;
-use crate::task::Task;
 use implication::{Scope, Setting};
+use pair_judging::Target;
 use pd_base::LineId;
 use state_sets::Algebra;
 
@@ -27,25 +27,25 @@ pub(crate) struct Split {
 // is none where each source of the support has less than two states.
 pub(crate) fn choose<A: Algebra, S: Setting>(
     scope: &Scope<A, S>,
-    task: &Task,
+    target: &Target,
     desk: &Desk,
     lead: Option<LineId>,
 ) -> Option<Split>
-    requires suits { SuitsSearch A.algebra (task_target task.now) (standing scope.now) }
-    requires node { StandsAtNode A.algebra (task_target task.now) (standing scope.now) }
-    requires desk { IsDesk A.algebra (standing scope.now).net (standing scope.now).rules task.now.path.now desk.now }
-    ensures some { IfSome result (IsUsefulSplit A.algebra (task_target task.now) (standing scope.now)) }
-    ensures none { IfNone result (AreSingle A.algebra (task_target task.now) (standing scope.now)) }
+    requires suits { SuitsSearch A.algebra (seen_target target.now) (standing scope.now) }
+    requires node { StandsAtNode A.algebra (seen_target target.now) (standing scope.now) }
+    requires desk { IsDesk A.algebra (standing scope.now).net (standing scope.now).rules target.now.path.now desk.now }
+    ensures some { IfSome result (IsUsefulSplit A.algebra (seen_target target.now) (standing scope.now)) }
+    ensures none { IfNone result (AreSingle A.algebra (seen_target target.now) (standing scope.now)) }
 {
     if let Some(source) = lead {
-        let split = split_at_lead(scope, task, desk, source);
+        let split = split_at_lead(scope, target, desk, source);
         if split.is_some() {
             return split;
         }
     }
     let sources = desk.cone.sources();
     for source in sources {
-        let split = split_at(scope, task, *source);
+        let split = split_at(scope, target, *source);
         if split.is_some() {
             return split;
         }
@@ -56,17 +56,17 @@ pub(crate) fn choose<A: Algebra, S: Setting>(
 // A split at the source that is led to, if it is one of the cone and can be split.
 fn split_at_lead<A: Algebra, S: Setting>(
     scope: &Scope<A, S>,
-    task: &Task,
+    target: &Target,
     desk: &Desk,
     source: LineId,
 ) -> Option<Split>
-    requires suits { SuitsSearch A.algebra (task_target task.now) (standing scope.now) }
-    requires node { StandsAtNode A.algebra (task_target task.now) (standing scope.now) }
-    requires desk { IsDesk A.algebra (standing scope.now).net (standing scope.now).rules task.now.path.now desk.now }
-    ensures { IfSome result (IsUsefulSplit A.algebra (task_target task.now) (standing scope.now)) }
+    requires suits { SuitsSearch A.algebra (seen_target target.now) (standing scope.now) }
+    requires node { StandsAtNode A.algebra (seen_target target.now) (standing scope.now) }
+    requires desk { IsDesk A.algebra (standing scope.now).net (standing scope.now).rules target.now.path.now desk.now }
+    ensures { IfSome result (IsUsefulSplit A.algebra (seen_target target.now) (standing scope.now)) }
 {
     if source.0 < scope.net().sources() && desk.cone.marks()[source.0 as usize] {
-        split_at(scope, task, source)
+        split_at(scope, target, source)
     } else {
         None
     }
@@ -75,12 +75,12 @@ fn split_at_lead<A: Algebra, S: Setting>(
 // A split at a source, if its label has two states.
 fn split_at<A: Algebra, S: Setting>(
     scope: &Scope<A, S>,
-    task: &Task,
+    target: &Target,
     source: LineId,
 ) -> Option<Split>
-    requires suits { SuitsSearch A.algebra (task_target task.now) (standing scope.now) }
-    requires node { StandsAtNode A.algebra (task_target task.now) (standing scope.now) }
-    requires source { IsInSupport (standing scope.now).net (standing scope.now).rules task.now.path.now source.0 }
+    requires suits { SuitsSearch A.algebra (seen_target target.now) (standing scope.now) }
+    requires node { StandsAtNode A.algebra (seen_target target.now) (standing scope.now) }
+    requires source { IsInSupport (standing scope.now).net (standing scope.now).rules target.now.path.now source.0 }
     ensures some { IfSome result (SplitsAt A.algebra (standing scope.now) source) }
     ensures none { IfNone result (IsSingleAt A.algebra (standing scope.now) source.0) }
 {

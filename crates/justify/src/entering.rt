@@ -22,9 +22,9 @@ pub(crate) fn enter<A: Algebra, S: Setting>(
     place: Place,
 ) -> bool
     requires can { CanEnter A.algebra (start_at scope.old.origin) place (standing scope.old) }
-    requires prefix { IsPrefix (standing scope.old).net task.now.path.now }
-    requires desk { IsDesk A.algebra (standing scope.old).net (standing scope.old).rules task.now.path.now desk.old }
-    ensures desk { IsDesk A.algebra (standing scope.old).net (standing scope.old).rules task.now.path.now desk.new }
+    requires prefix { IsPrefix (standing scope.old).net task.now.target.path.now }
+    requires desk { IsDesk A.algebra (standing scope.old).net (standing scope.old).rules task.now.target.path.now desk.old }
+    ensures desk { IsDesk A.algebra (standing scope.old).net (standing scope.old).rules task.now.target.path.now desk.new }
     ensures scope { IsSameScope scope.old scope.new }
     ensures entered { IsTrue result → IsEntered A.algebra place (standing scope.old) (standing scope.new) }
     ensures later { (standing scope.old).closings ≤ (standing scope.new).closings }
@@ -41,9 +41,9 @@ pub(crate) fn enter<A: Algebra, S: Setting>(
 
 // Makes the sources heavier on which the conflict rests that stands, where the tree goes by weights.
 fn weigh<A: Algebra, S: Setting>(scope: &Scope<A, S>, task: &Task, desk: &mut Desk)
-    requires prefix { IsPrefix (standing scope.now).net task.now.path.now }
-    requires desk { IsDesk A.algebra (standing scope.now).net (standing scope.now).rules task.now.path.now desk.old }
-    ensures { IsDesk A.algebra (standing scope.now).net (standing scope.now).rules task.now.path.now desk.new }
+    requires prefix { IsPrefix (standing scope.now).net task.now.target.path.now }
+    requires desk { IsDesk A.algebra (standing scope.now).net (standing scope.now).rules task.now.target.path.now desk.old }
+    ensures { IsDesk A.algebra (standing scope.now).net (standing scope.now).rules task.now.target.path.now desk.new }
 {
     if task.splitting == Splitting::ByBacktrace {
         return;
@@ -53,6 +53,11 @@ fn weigh<A: Algebra, S: Setting>(scope: &Scope<A, S>, task: &Task, desk: &mut De
         labels: scope.labels(),
         liked: desk.liked.as_slice(),
     };
-    desk.justifier
-        .weigh::<A>(&sight, scope.changes(), &desk.cone, task.path, task.kind);
+    desk.justifier.weigh::<A>(
+        &sight,
+        scope.changes(),
+        &desk.cone,
+        task.target.path,
+        task.target.kind,
+    );
 }

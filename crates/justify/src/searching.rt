@@ -13,7 +13,7 @@ ghost use Rattle.justify.specs.Desks.{IsDeskFor, IsDesk};
 ghost use Rattle.justify.specs.Ends.{is_spent};
 ghost use Rattle.justify.specs.Scoping.{IsStart, SuitsRules, SuitsSearch};
 ghost use Rattle.justify.specs.Searches.{IsSearching, SearchGoesOn, LeavesSearch, IsGrowthOf};
-ghost use Rattle.justify.specs.Tasks.{task_target};
+ghost use Rattle.pair_judging.specs.Targets.{seen_target};
 ghost use Rattle.justify.specs.Tests.{IsFitTest};
 ghost use Rattle.trees.specs.Unlinked.{IsUnlinked};
 ghost use Rattle.state_sets.specs.SixStates.{six_states};
@@ -26,7 +26,7 @@ use crate::task::{Splitting, Task};
 use crate::trying::judge_states;
 use crate::visiting::visit;
 use implication::{Scope, Setting};
-use pair_judging::{take_least, take_preferred};
+use pair_judging::{Target, take_least, take_preferred};
 use pd_base::{Direction, Kind, LineId, OutOfMemory, Pair, Path};
 use search_hints::{Effort, Sight};
 use state_sets::{Algebra, FourStates, SixStates, State};
@@ -113,15 +113,18 @@ pub fn search_at<A: Algebra, S: Setting>(
     if scope.conflict().is_some() {
         unreachable!()
     }
-    let task = Task {
+    let target = Target {
         path,
-        dir,
+        direction: dir,
         kind,
+    };
+    let task = Task {
+        target,
         budget,
         splitting: Splitting::ByBacktrace,
     };
     let ended = find(alloc, scope, &task, desk);
-    conclude(alloc, scope, &task, desk, ended)
+    conclude(alloc, scope, &target, desk, ended)
 }
 
 // The same, but for what is looked for where the budget of a nonrobust search was spent.
@@ -131,20 +134,20 @@ fn find<A: Algebra, S: Setting>(
     task: &Task,
     desk: &mut Desk,
 ) -> Result<Found, OutOfMemory>
-    requires prefix { IsPrefix (standing scope.old).net task.now.path.now }
-    requires start { IsStart (task_target task.now) (standing scope.old) }
+    requires prefix { IsPrefix (standing scope.old).net task.now.target.path.now }
+    requires start { IsStart (seen_target task.now.target) (standing scope.old) }
     requires left_open { IsOpenIn A.algebra (standing scope.old) }
     requires budget { task.now.budget ≤ MOST_BUDGET }
     requires desk { IsDeskFor A.algebra (standing scope.old).net (standing scope.old).rules desk.old }
     ensures scope { IsSameScope scope.old scope.new }
     ensures left { LeavesSearch A.algebra task.now (standing scope.old) (standing scope.new) desk.new }
-    ensures found { IfOk result (IsFound (standing scope.old).net (standing scope.old).rules (task_target task.now) task.now.budget) }
+    ensures found { IfOk result (IsFound (standing scope.old).net (standing scope.old).rules (seen_target task.now.target) task.now.budget) }
     ensures counted { IfOk result (λ found. CountsConflicts task.now.budget found (standing scope.old) (standing scope.new)) }
 {
     desk.cone.set_end(scope.net(), scope.last_line());
-    match propose(alloc, scope, task, desk)? {
+    match propose(alloc, scope, &task.target, desk)? {
         Some(pair) => {
-            desk.justifier.learn_tree(task.kind, false);
+            desk.justifier.learn_tree(task.target.kind, false);
             Ok(Found::Test(pair))
         }
         None => split_in_turns(alloc, scope, task, desk),
@@ -155,28 +158,28 @@ fn find<A: Algebra, S: Setting>(
 fn propose<A: Algebra, S: Setting>(
     alloc: Global,
     scope: &Scope<A, S>,
-    task: &Task,
+    target: &Target,
     desk: &mut Desk,
 ) -> Result<Option<Pair>, OutOfMemory>
-    requires prefix { IsPrefix (standing scope.now).net task.now.path.now }
-    requires desk { IsDesk A.algebra (standing scope.now).net (standing scope.now).rules task.now.path.now desk.old }
-    ensures desk { IsDesk A.algebra (standing scope.now).net (standing scope.now).rules task.now.path.now desk.new }
-    ensures test { IfOk result (λ found. IfSome found (IsFitTest (standing scope.now).net (standing scope.now).rules (task_target task.now))) }
+    requires prefix { IsPrefix (standing scope.now).net target.now.path.now }
+    requires desk { IsDesk A.algebra (standing scope.now).net (standing scope.now).rules target.now.path.now desk.old }
+    ensures desk { IsDesk A.algebra (standing scope.now).net (standing scope.now).rules target.now.path.now desk.new }
+    ensures test { IfOk result (λ found. IfSome found (IsFitTest (standing scope.now).net (standing scope.now).rules (seen_target target.now))) }
 {
-    take_liked(scope, task, desk);
-    match judge_proposal(alloc, scope, task, desk)? {
+    take_liked(scope, target, desk);
+    match judge_proposal(alloc, scope, target, desk)? {
         Some(pair) => Ok(Some(pair)),
-        None => justify_lines(alloc, scope, task, desk, Effort::Little),
+        None => justify_lines(alloc, scope, target, desk, Effort::Little),
     }
 }
 
 // Takes the last test's states at the sources of the cone, as far as the labels let them.
-fn take_liked<A: Algebra, S: Setting>(scope: &Scope<A, S>, task: &Task, desk: &mut Desk)
-    requires { IsDesk A.algebra (standing scope.now).net (standing scope.now).rules task.now.path.now desk.old }
-    ensures { IsDesk A.algebra (standing scope.now).net (standing scope.now).rules task.now.path.now desk.new }
+fn take_liked<A: Algebra, S: Setting>(scope: &Scope<A, S>, target: &Target, desk: &mut Desk)
+    requires { IsDesk A.algebra (standing scope.now).net (standing scope.now).rules target.now.path.now desk.old }
+    ensures { IsDesk A.algebra (standing scope.now).net (standing scope.now).rules target.now.path.now desk.new }
 {
     if !desk.cone.links().pairs().is_empty() {
-        prefer(scope, task, desk);
+        prefer(scope, target, desk);
         return;
     }
     take_preferred::<A>(
@@ -188,16 +191,16 @@ fn take_liked<A: Algebra, S: Setting>(scope: &Scope<A, S>, task: &Task, desk: &m
 }
 
 // The same under links: the last test's first vector, as far as the labels let it, with what the links make of it.
-fn prefer<A: Algebra, S: Setting>(scope: &Scope<A, S>, task: &Task, desk: &mut Desk)
-    requires { IsDesk A.algebra (standing scope.now).net (standing scope.now).rules task.now.path.now desk.old }
-    ensures { IsDesk A.algebra (standing scope.now).net (standing scope.now).rules task.now.path.now desk.new }
+fn prefer<A: Algebra, S: Setting>(scope: &Scope<A, S>, target: &Target, desk: &mut Desk)
+    requires { IsDesk A.algebra (standing scope.now).net (standing scope.now).rules target.now.path.now desk.old }
+    ensures { IsDesk A.algebra (standing scope.now).net (standing scope.now).rules target.now.path.now desk.new }
 {
     let sight = Sight {
         net: scope.net(),
         labels: scope.labels(),
         liked: desk.liked.as_slice(),
     };
-    desk.justifier.prefer::<A>(&sight, &desk.cone, task.path);
+    desk.justifier.prefer::<A>(&sight, &desk.cone, target.path);
     take_least::<A>(
         desk.cone.sources(),
         desk.justifier.labels(),
@@ -211,21 +214,21 @@ fn prefer<A: Algebra, S: Setting>(scope: &Scope<A, S>, task: &Task, desk: &mut D
 fn conclude<A: Algebra, S: Setting>(
     alloc: Global,
     scope: &Scope<A, S>,
-    task: &Task,
+    target: &Target,
     desk: &mut Desk,
     ended: Result<Found, OutOfMemory>,
 ) -> Result<Found, OutOfMemory>
-    requires prefix { IsPrefix (standing scope.now).net task.now.path.now }
-    requires desk { IsDesk A.algebra (standing scope.now).net (standing scope.now).rules task.now.path.now desk.old }
-    ensures desk { IsDesk A.algebra (standing scope.now).net (standing scope.now).rules task.now.path.now desk.new }
-    ensures found { IfOk result (IsOutcomeOf (standing scope.now).net (standing scope.now).rules (task_target task.now) ended) }
+    requires prefix { IsPrefix (standing scope.now).net target.now.path.now }
+    requires desk { IsDesk A.algebra (standing scope.now).net (standing scope.now).rules target.now.path.now desk.old }
+    ensures desk { IsDesk A.algebra (standing scope.now).net (standing scope.now).rules target.now.path.now desk.new }
+    ensures found { IfOk result (IsOutcomeOf (standing scope.now).net (standing scope.now).rules (seen_target target.now) ended) }
 {
     let found = ended?;
-    desk.justifier.learn(task.kind, found.is_refuted());
-    if task.kind == Kind::Robust || !found.is_spent() {
+    desk.justifier.learn(target.kind, found.is_refuted());
+    if target.kind == Kind::Robust || !found.is_spent() {
         return Ok(found);
     }
-    let again = justify_lines(alloc, scope, task, desk, Effort::Much);
+    let again = justify_lines(alloc, scope, target, desk, Effort::Much);
     or_test(found, again)
 }
 
@@ -233,14 +236,14 @@ fn conclude<A: Algebra, S: Setting>(
 fn justify_lines<A: Algebra, S: Setting>(
     alloc: Global,
     scope: &Scope<A, S>,
-    task: &Task,
+    target: &Target,
     desk: &mut Desk,
     effort: Effort,
 ) -> Result<Option<Pair>, OutOfMemory>
-    requires prefix { IsPrefix (standing scope.now).net task.now.path.now }
-    requires desk { IsDesk A.algebra (standing scope.now).net (standing scope.now).rules task.now.path.now desk.old }
-    ensures desk { IsDesk A.algebra (standing scope.now).net (standing scope.now).rules task.now.path.now desk.new }
-    ensures test { IfOk result (λ found. IfSome found (IsFitTest (standing scope.now).net (standing scope.now).rules (task_target task.now))) }
+    requires prefix { IsPrefix (standing scope.now).net target.now.path.now }
+    requires desk { IsDesk A.algebra (standing scope.now).net (standing scope.now).rules target.now.path.now desk.old }
+    ensures desk { IsDesk A.algebra (standing scope.now).net (standing scope.now).rules target.now.path.now desk.new }
+    ensures test { IfOk result (λ found. IfSome found (IsFitTest (standing scope.now).net (standing scope.now).rules (seen_target target.now))) }
 {
     let sight = Sight {
         net: scope.net(),
@@ -249,7 +252,7 @@ fn justify_lines<A: Algebra, S: Setting>(
     };
     let is_justified = desk
         .justifier
-        .propose::<A>(&sight, &desk.cone, task.path, task.kind, effort)?;
+        .propose::<A>(&sight, &desk.cone, target.path, target.kind, effort)?;
     if !is_justified {
         return Ok(None);
     }
@@ -258,23 +261,23 @@ fn justify_lines<A: Algebra, S: Setting>(
         desk.justifier.labels(),
         desk.states.as_mut_slice(),
     );
-    judge_proposal(alloc, scope, task, desk)
+    judge_proposal(alloc, scope, target, desk)
 }
 
 // Judges the pair that has the desk's states at the sources of the cone, if a source may be in them.
 fn judge_proposal<A: Algebra, S: Setting>(
     alloc: Global,
     scope: &Scope<A, S>,
-    task: &Task,
+    target: &Target,
     desk: &mut Desk,
 ) -> Result<Option<Pair>, OutOfMemory>
-    requires prefix { IsPrefix (standing scope.now).net task.now.path.now }
-    requires desk { IsDesk A.algebra (standing scope.now).net (standing scope.now).rules task.now.path.now desk.old }
-    ensures desk { IsDesk A.algebra (standing scope.now).net (standing scope.now).rules task.now.path.now desk.new }
-    ensures test { IfOk result (λ found. IfSome found (IsFitTest (standing scope.now).net (standing scope.now).rules (task_target task.now))) }
+    requires prefix { IsPrefix (standing scope.now).net target.now.path.now }
+    requires desk { IsDesk A.algebra (standing scope.now).net (standing scope.now).rules target.now.path.now desk.old }
+    ensures desk { IsDesk A.algebra (standing scope.now).net (standing scope.now).rules target.now.path.now desk.new }
+    ensures test { IfOk result (λ found. IfSome found (IsFitTest (standing scope.now).net (standing scope.now).rules (seen_target target.now))) }
 {
     if are_source_states::<A>(desk.cone.sources(), desk.states.as_slice()) {
-        judge_states(alloc, scope, task, desk)
+        judge_states(alloc, scope, target, desk)
     } else {
         Ok(None)
     }
@@ -303,28 +306,27 @@ fn split_in_turns<A: Algebra, S: Setting>(
     task: &Task,
     desk: &mut Desk,
 ) -> Result<Found, OutOfMemory>
-    requires suits { SuitsSearch A.algebra (task_target task.now) (standing scope.old) }
-    requires start { IsStart (task_target task.now) (standing scope.old) }
+    requires suits { SuitsSearch A.algebra (seen_target task.now.target) (standing scope.old) }
+    requires start { IsStart (seen_target task.now.target) (standing scope.old) }
     requires left_open { IsOpenIn A.algebra (standing scope.old) }
     requires budget { task.now.budget ≤ MOST_BUDGET }
-    requires desk { IsDesk A.algebra (standing scope.old).net (standing scope.old).rules task.now.path.now desk.old }
+    requires desk { IsDesk A.algebra (standing scope.old).net (standing scope.old).rules task.now.target.path.now desk.old }
     ensures scope { IsSameScope scope.old scope.new }
     ensures left { LeavesSearch A.algebra task.now (standing scope.old) (standing scope.new) desk.new }
-    ensures found { IfOk result (IsFound (standing scope.old).net (standing scope.old).rules (task_target task.now) task.now.budget) }
+    ensures found { IfOk result (IsFound (standing scope.old).net (standing scope.old).rules (seen_target task.now.target) task.now.budget) }
     ensures counted { IfOk result (λ found. CountsConflicts task.now.budget found (standing scope.old) (standing scope.new)) }
 {
     let splits = splits_by_weight(task, desk);
     let first = Task {
-        path: task.path,
-        dir: task.dir,
-        kind: task.kind,
+        target: task.target,
         budget: splits,
         splitting: Splitting::ByWeight,
     };
     desk.justifier
         .begin_tree(&desk.cone, scope.labels(), scope.changes().len());
     let found = split_cases(alloc, scope, &first, desk)?;
-    desk.justifier.learn_tree(task.kind, found.is_spent());
+    desk.justifier
+        .learn_tree(task.target.kind, found.is_spent());
     if is_dropped(&found, splits, task.budget) {
         return split_cases(alloc, scope, task, desk);
     }
@@ -335,7 +337,7 @@ fn split_in_turns<A: Algebra, S: Setting>(
 fn splits_by_weight(task: &Task, desk: &Desk) -> u32
     ensures { result ≤ task.now.budget }
 {
-    let most = desk.justifier.splits_by_weight(task.kind);
+    let most = desk.justifier.splits_by_weight(task.target.kind);
     if most < task.budget {
         most
     } else {
@@ -358,14 +360,14 @@ fn split_cases<A: Algebra, S: Setting>(
     task: &Task,
     desk: &mut Desk,
 ) -> Result<Found, OutOfMemory>
-    requires suits { SuitsSearch A.algebra (task_target task.now) (standing scope.old) }
-    requires start { IsStart (task_target task.now) (standing scope.old) }
+    requires suits { SuitsSearch A.algebra (seen_target task.now.target) (standing scope.old) }
+    requires start { IsStart (seen_target task.now.target) (standing scope.old) }
     requires left_open { IsOpenIn A.algebra (standing scope.old) }
     requires budget { task.now.budget ≤ MOST_BUDGET }
-    requires desk { IsDesk A.algebra (standing scope.old).net (standing scope.old).rules task.now.path.now desk.old }
+    requires desk { IsDesk A.algebra (standing scope.old).net (standing scope.old).rules task.now.target.path.now desk.old }
     ensures scope { IsSameScope scope.old scope.new }
     ensures left { LeavesSearch A.algebra task.now (standing scope.old) (standing scope.new) desk.new }
-    ensures found { IfOk result (IsFound (standing scope.old).net (standing scope.old).rules (task_target task.now) task.now.budget) }
+    ensures found { IfOk result (IsFound (standing scope.old).net (standing scope.old).rules (seen_target task.now.target) task.now.budget) }
     ensures counted { IfOk result (λ found. CountsConflicts task.now.budget found (standing scope.old) (standing scope.new)) }
 {
     let mark = scope.mark();
@@ -381,17 +383,17 @@ fn grow_tree<A: Algebra, S: Setting>(
     task: &Task,
     desk: &mut Desk,
 ) -> Result<Found, OutOfMemory>
-    requires suits { SuitsSearch A.algebra (task_target task.now) (standing scope.old) }
-    requires start { IsStart (task_target task.now) (standing scope.old) }
+    requires suits { SuitsSearch A.algebra (seen_target task.now.target) (standing scope.old) }
+    requires start { IsStart (seen_target task.now.target) (standing scope.old) }
     requires left_open { IsOpenIn A.algebra (standing scope.old) }
     requires budget { task.now.budget ≤ MOST_BUDGET }
-    requires desk { IsDesk A.algebra (standing scope.old).net (standing scope.old).rules task.now.path.now desk.old }
+    requires desk { IsDesk A.algebra (standing scope.old).net (standing scope.old).rules task.now.target.path.now desk.old }
     ensures scope { IsSameScope scope.old scope.new }
     ensures goes_on { SearchGoesOn A.algebra task.now (standing scope.old) (standing scope.new) desk.new }
-    ensures found { IfOk result (IsFound (standing scope.old).net (standing scope.old).rules (task_target task.now) task.now.budget) }
+    ensures found { IfOk result (IsFound (standing scope.old).net (standing scope.old).rules (seen_target task.now.target) task.now.budget) }
     ensures counted { IfOk result (λ found. CountsConflicts task.now.budget found (standing scope.old) (standing scope.new)) }
 {
-    let mut growth = Growth::new::<A>(alloc, scope.mark(), task.path.source())?;
+    let mut growth = Growth::new::<A>(alloc, scope.mark(), task.target.path.source())?;
     let grown = grow(alloc, scope, task, desk, &mut growth);
     answer(growth, grown)
 }
@@ -405,7 +407,7 @@ fn grow<A: Algebra, S: Setting>(
     growth: &mut Growth,
 ) -> Result<Option<Pair>, OutOfMemory>
     requires searching { IsSearching A.algebra task.now (standing scope.old) desk.old (reverse growth.old.places.items) growth.old }
-    requires origin { start_at scope.old.origin ≤ length task.now.path.now.steps }
+    requires origin { start_at scope.old.origin ≤ length task.now.target.path.now.steps }
     requires nodes { growth.old.nodes.items ≡ [] }
     ensures scope { IsSameScope scope.old scope.new }
     ensures goes_on { SearchGoesOn A.algebra task.now (standing scope.old) (standing scope.new) desk.new }

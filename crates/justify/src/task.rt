@@ -1,5 +1,5 @@
 // What a search is for.
-use pd_base::{Direction, Kind, Path};
+use pair_judging::Target;
 
 /// By what the cases of a tree are split: first the source on which past conflicts rest most, or always one that is led to.
 #[derive(Clone, Copy, PartialEq, Eq)]
@@ -8,12 +8,10 @@ pub(crate) enum Splitting {
     ByBacktrace,
 }
 
-/// A path, a transition at its source and a kind of test, and how many splits of the cases a tree for it may have, and by what.
+/// A target, and how many splits of the cases a tree for it may have, and by what.
 #[derive(Clone, Copy)]
 pub(crate) struct Task<'p> {
-    pub(crate) path: &'p Path,
-    pub(crate) dir: Direction,
-    pub(crate) kind: Kind,
+    pub(crate) target: Target<'p>,
     pub(crate) budget: u32,
     pub(crate) splitting: Splitting,
 }

@@ -5,12 +5,12 @@ ghost use Rattle.justify.specs.Scoping.{SuitsSearch};
 ghost use Rattle.implication.specs.Standing.{IsFree, IsOpenIn};
 ghost use Rattle.implication.specs.Scopes.{IsSameScope, standing};
 ghost use Rattle.implication.specs.Clients.{IsRestored, ExtendsStanding};
-ghost use Rattle.justify.specs.Tasks.{task_target};
+ghost use Rattle.pair_judging.specs.Targets.{seen_target};
 ghost use Rattle.implication.specs.NodeScopes.{StandsAtNode};
 ghost use Rattle.justify.specs.Trying.{CanTry, IsWithinTrial, EndsTrial, EndsAtNode};
 
-use crate::task::Task;
 use implication::{Scope, Setting};
+use pair_judging::Target;
 use pd_base::LineId;
 use state_sets::{Algebra, State, StateSet};
 
@@ -25,39 +25,43 @@ pub(crate) struct Tried {
 // Where it does not, a pair is a test that has the states tried at all sources of the support. The scope is afterwards as before.
 pub(crate) fn closes<A: Algebra, S: Setting>(
     scope: &mut Scope<A, S>,
-    task: &Task,
+    target: &Target,
     tried: &[Tried],
 ) -> bool
-    requires suits { SuitsSearch A.algebra (task_target task.now) (standing scope.old) }
-    requires node { StandsAtNode A.algebra (task_target task.now) (standing scope.old) }
-    requires tried { All (CanTry A.algebra (task_target task.now) (standing scope.old)) tried.now }
+    requires suits { SuitsSearch A.algebra (seen_target target.now) (standing scope.old) }
+    requires node { StandsAtNode A.algebra (seen_target target.now) (standing scope.old) }
+    requires tried { All (CanTry A.algebra (seen_target target.now) (standing scope.old)) tried.now }
     ensures scope { IsSameScope scope.old scope.new }
     ensures restored { IsRestored (standing scope.old) (standing scope.new) }
-    ensures ends { EndsAtNode A.algebra (task_target task.now) (standing scope.old) (standing scope.new) tried.now result }
+    ensures ends { EndsAtNode A.algebra (seen_target target.now) (standing scope.old) (standing scope.new) tried.now result }
 {
     // there are labels here, of a circuit; and where no conflict comes there are also then
-    let at_source = task.path.source().0 < scope.net().sources();
+    let at_source = target.path.source().0 < scope.net().sources();
     prove!(at_source);
-    scope.label(task.path.source());
+    scope.label(target.path.source());
     let mark = scope.mark();
-    if assume_all(scope, task, tried) {
+    if assume_all(scope, target, tried) {
         scope.back_to(mark);
         return true;
     }
-    scope.label(task.path.source());
+    scope.label(target.path.source());
     scope.back_to(mark);
     false
 }
 
 // Assumes of source after source that it is in the state tried, until a conflict comes. Whether one came.
-fn assume_all<A: Algebra, S: Setting>(scope: &mut Scope<A, S>, task: &Task, tried: &[Tried]) -> bool
-    requires suits { SuitsSearch A.algebra (task_target task.now) (standing scope.old) }
-    requires node { StandsAtNode A.algebra (task_target task.now) (standing scope.old) }
-    requires tried { All (CanTry A.algebra (task_target task.now) (standing scope.old)) tried.now }
+fn assume_all<A: Algebra, S: Setting>(
+    scope: &mut Scope<A, S>,
+    target: &Target,
+    tried: &[Tried],
+) -> bool
+    requires suits { SuitsSearch A.algebra (seen_target target.now) (standing scope.old) }
+    requires node { StandsAtNode A.algebra (seen_target target.now) (standing scope.old) }
+    requires tried { All (CanTry A.algebra (seen_target target.now) (standing scope.old)) tried.now }
     ensures scope { IsSameScope scope.old scope.new }
     ensures extends { ExtendsStanding (standing scope.old) (standing scope.new) }
-    ensures trial { IsWithinTrial A.algebra (task_target task.now) (standing scope.old) (standing scope.new) }
-    ensures ends { EndsTrial A.algebra (task_target task.now) (standing scope.old) (standing scope.new) tried.now result }
+    ensures trial { IsWithinTrial A.algebra (seen_target target.now) (standing scope.old) (standing scope.new) }
+    ensures ends { EndsTrial A.algebra (seen_target target.now) (standing scope.old) (standing scope.new) tried.now result }
 {
     for entry in tried {
         match scope.assume(entry.source, StateSet::only(entry.state)) {

@@ -10,17 +10,16 @@ ghost use Rattle.justify.specs.Scoping.{SuitsSearch};
 ghost use Rattle.implication.specs.Scopes.{IsSameScope, standing};
 ghost use Rattle.implication.specs.Clients.{IsRestored};
 ghost use Rattle.pair_judging.specs.ConeStates.{AreStates, AreSourceStates};
-ghost use Rattle.justify.specs.Tasks.{task_target};
+ghost use Rattle.pair_judging.specs.Targets.{seen_target};
 ghost use Rattle.implication.specs.NodeScopes.{StandsAtNode};
 ghost use Rattle.justify.specs.Desks.{IsDesk, HasSameStates, AreInSupport};
 ghost use Rattle.justify.specs.Tests.{IsFitTest};
 ghost use Rattle.justify.specs.Trying.{CanTry, HasLeastLabel, AreTriedIn, HasLeast, FailsAtNode, IsTrialOf};
 
 use crate::desk::Desk;
-use crate::task::Task;
 use crate::trial::{Tried, closes};
 use implication::{Scope, Setting};
-use pair_judging::{Judgement, judge, least, read_test, take_least};
+use pair_judging::{Judgement, Target, judge, least, read_test, take_least};
 use pd_base::{LineId, OutOfMemory, Pair};
 use state_sets::{Algebra, State};
 use std::alloc::Global;
@@ -31,113 +30,117 @@ use std::alloc::Global;
 pub(crate) fn try_node<A: Algebra, S: Setting>(
     alloc: Global,
     scope: &mut Scope<A, S>,
-    task: &Task,
+    target: &Target,
     desk: &mut Desk,
 ) -> Result<Option<Pair>, OutOfMemory>
-    requires suits { SuitsSearch A.algebra (task_target task.now) (standing scope.old) }
-    requires node { StandsAtNode A.algebra (task_target task.now) (standing scope.old) }
-    requires desk { IsDesk A.algebra (standing scope.old).net (standing scope.old).rules task.now.path.now desk.old }
-    ensures desk { IsDesk A.algebra (standing scope.old).net (standing scope.old).rules task.now.path.now desk.new }
+    requires suits { SuitsSearch A.algebra (seen_target target.now) (standing scope.old) }
+    requires node { StandsAtNode A.algebra (seen_target target.now) (standing scope.old) }
+    requires desk { IsDesk A.algebra (standing scope.old).net (standing scope.old).rules target.now.path.now desk.old }
+    ensures desk { IsDesk A.algebra (standing scope.old).net (standing scope.old).rules target.now.path.now desk.new }
     ensures scope { IsSameScope scope.old scope.new }
     ensures restored { IsRestored (standing scope.old) (standing scope.new) }
-    ensures answer { IfOk result (IsTrialOf A.algebra (task_target task.now) (standing scope.old) (standing scope.new)) }
+    ensures answer { IfOk result (IsTrialOf A.algebra (seen_target target.now) (standing scope.old) (standing scope.new)) }
 {
-    if closes_again(scope, task, desk) {
+    if closes_again(scope, target, desk) {
         return Ok(None);
     }
-    match judge_least(alloc, scope, task, desk)? {
+    match judge_least(alloc, scope, target, desk)? {
         Some(pair) => Ok(Some(pair)),
-        None => try_blamed(alloc, scope, task, desk),
+        None => try_blamed(alloc, scope, target, desk),
     }
 }
 
 // Whether the node's trial closes by the sources that were tried last, where they still have the same least states.
-fn closes_again<A: Algebra, S: Setting>(scope: &mut Scope<A, S>, task: &Task, desk: &Desk) -> bool
-    requires suits { SuitsSearch A.algebra (task_target task.now) (standing scope.old) }
-    requires node { StandsAtNode A.algebra (task_target task.now) (standing scope.old) }
-    requires desk { IsDesk A.algebra (standing scope.old).net (standing scope.old).rules task.now.path.now desk.now }
+fn closes_again<A: Algebra, S: Setting>(
+    scope: &mut Scope<A, S>,
+    target: &Target,
+    desk: &Desk,
+) -> bool
+    requires suits { SuitsSearch A.algebra (seen_target target.now) (standing scope.old) }
+    requires node { StandsAtNode A.algebra (seen_target target.now) (standing scope.old) }
+    requires desk { IsDesk A.algebra (standing scope.old).net (standing scope.old).rules target.now.path.now desk.now }
     ensures scope { IsSameScope scope.old scope.new }
     ensures restored { IsRestored (standing scope.old) (standing scope.new) }
-    ensures failed { IsTrue result → FailsAtNode A.algebra (task_target task.now) (standing scope.old) (standing scope.new) }
+    ensures failed { IsTrue result → FailsAtNode A.algebra (seen_target target.now) (standing scope.old) (standing scope.new) }
 {
-    if !can_try_again(scope, task, desk) {
+    if !can_try_again(scope, target, desk) {
         return false;
     }
-    closes(scope, task, desk.tried.as_slice())
+    closes(scope, target, desk.tried.as_slice())
 }
 
 // Judges the pair that has the least states of the labels at the sources of the cone, and leaves these states at the desk.
 fn judge_least<A: Algebra, S: Setting>(
     alloc: Global,
     scope: &Scope<A, S>,
-    task: &Task,
+    target: &Target,
     desk: &mut Desk,
 ) -> Result<Option<Pair>, OutOfMemory>
-    requires suits { SuitsSearch A.algebra (task_target task.now) (standing scope.now) }
-    requires node { StandsAtNode A.algebra (task_target task.now) (standing scope.now) }
-    requires desk { IsDesk A.algebra (standing scope.now).net (standing scope.now).rules task.now.path.now desk.old }
-    ensures desk { IsDesk A.algebra (standing scope.now).net (standing scope.now).rules task.now.path.now desk.new }
-    ensures least { HasLeast A.algebra (task_target task.now) (standing scope.now) desk.new.states.items }
-    ensures test { IfOk result (λ found. IfSome found (IsFitTest (standing scope.now).net (standing scope.now).rules (task_target task.now))) }
+    requires suits { SuitsSearch A.algebra (seen_target target.now) (standing scope.now) }
+    requires node { StandsAtNode A.algebra (seen_target target.now) (standing scope.now) }
+    requires desk { IsDesk A.algebra (standing scope.now).net (standing scope.now).rules target.now.path.now desk.old }
+    ensures desk { IsDesk A.algebra (standing scope.now).net (standing scope.now).rules target.now.path.now desk.new }
+    ensures least { HasLeast A.algebra (seen_target target.now) (standing scope.now) desk.new.states.items }
+    ensures test { IfOk result (λ found. IfSome found (IsFitTest (standing scope.now).net (standing scope.now).rules (seen_target target.now))) }
     ensures blamed { IfOk result (λ found. IfNone found
-        (AreInSupport (standing scope.now).net (standing scope.now).rules task.now.path.now desk.new.blame.sources)) }
+        (AreInSupport (standing scope.now).net (standing scope.now).rules target.now.path.now desk.new.blame.sources)) }
 {
     take_least::<A>(
         desk.cone.sources(),
         scope.labels(),
         desk.states.as_mut_slice(),
     );
-    judge_states(alloc, scope, task, desk)
+    judge_states(alloc, scope, target, desk)
 }
 
 // Tries the sources to blame for the failure of that pair, and then all.
 fn try_blamed<A: Algebra, S: Setting>(
     alloc: Global,
     scope: &mut Scope<A, S>,
-    task: &Task,
+    target: &Target,
     desk: &mut Desk,
 ) -> Result<Option<Pair>, OutOfMemory>
-    requires suits { SuitsSearch A.algebra (task_target task.now) (standing scope.old) }
-    requires node { StandsAtNode A.algebra (task_target task.now) (standing scope.old) }
-    requires desk { IsDesk A.algebra (standing scope.old).net (standing scope.old).rules task.now.path.now desk.old }
-    requires least { HasLeast A.algebra (task_target task.now) (standing scope.old) desk.old.states.items }
-    requires blamed { AreInSupport (standing scope.old).net (standing scope.old).rules task.now.path.now desk.old.blame.sources }
-    ensures desk { IsDesk A.algebra (standing scope.old).net (standing scope.old).rules task.now.path.now desk.new }
+    requires suits { SuitsSearch A.algebra (seen_target target.now) (standing scope.old) }
+    requires node { StandsAtNode A.algebra (seen_target target.now) (standing scope.old) }
+    requires desk { IsDesk A.algebra (standing scope.old).net (standing scope.old).rules target.now.path.now desk.old }
+    requires least { HasLeast A.algebra (seen_target target.now) (standing scope.old) desk.old.states.items }
+    requires blamed { AreInSupport (standing scope.old).net (standing scope.old).rules target.now.path.now desk.old.blame.sources }
+    ensures desk { IsDesk A.algebra (standing scope.old).net (standing scope.old).rules target.now.path.now desk.new }
     ensures scope { IsSameScope scope.old scope.new }
     ensures restored { IsRestored (standing scope.old) (standing scope.new) }
-    ensures answer { IfOk result (IsTrialOf A.algebra (task_target task.now) (standing scope.old) (standing scope.new)) }
+    ensures answer { IfOk result (IsTrialOf A.algebra (seen_target target.now) (standing scope.old) (standing scope.new)) }
 {
     collect(
         desk.blame.sources(),
         desk.states.as_slice(),
         &mut desk.tried,
     )?;
-    if closes(scope, task, desk.tried.as_slice()) {
+    if closes(scope, target, desk.tried.as_slice()) {
         return Ok(None);
     }
-    try_all(alloc, scope, task, desk)
+    try_all(alloc, scope, target, desk)
 }
 
 // Tries all sources. Where no conflict comes of that, the pair is a test.
 fn try_all<A: Algebra, S: Setting>(
     alloc: Global,
     scope: &mut Scope<A, S>,
-    task: &Task,
+    target: &Target,
     desk: &mut Desk,
 ) -> Result<Option<Pair>, OutOfMemory>
-    requires suits { SuitsSearch A.algebra (task_target task.now) (standing scope.old) }
-    requires node { StandsAtNode A.algebra (task_target task.now) (standing scope.old) }
-    requires desk { IsDesk A.algebra (standing scope.old).net (standing scope.old).rules task.now.path.now desk.old }
-    requires least { HasLeast A.algebra (task_target task.now) (standing scope.old) desk.old.states.items }
-    ensures desk { IsDesk A.algebra (standing scope.old).net (standing scope.old).rules task.now.path.now desk.new }
+    requires suits { SuitsSearch A.algebra (seen_target target.now) (standing scope.old) }
+    requires node { StandsAtNode A.algebra (seen_target target.now) (standing scope.old) }
+    requires desk { IsDesk A.algebra (standing scope.old).net (standing scope.old).rules target.now.path.now desk.old }
+    requires least { HasLeast A.algebra (seen_target target.now) (standing scope.old) desk.old.states.items }
+    ensures desk { IsDesk A.algebra (standing scope.old).net (standing scope.old).rules target.now.path.now desk.new }
     ensures scope { IsSameScope scope.old scope.new }
     ensures restored { IsRestored (standing scope.old) (standing scope.new) }
-    ensures answer { IfOk result (IsTrialOf A.algebra (task_target task.now) (standing scope.old) (standing scope.new)) }
+    ensures answer { IfOk result (IsTrialOf A.algebra (seen_target target.now) (standing scope.old) (standing scope.new)) }
 {
     // there are labels here
     scope.labels();
     collect(desk.cone.sources(), desk.states.as_slice(), &mut desk.tried)?;
-    if closes(scope, task, desk.tried.as_slice()) {
+    if closes(scope, target, desk.tried.as_slice()) {
         return Ok(None);
     }
     let pair = read_test::<A>(alloc, scope.net(), &desk.cone, desk.states.as_slice())?;
@@ -149,29 +152,27 @@ fn try_all<A: Algebra, S: Setting>(
 pub(crate) fn judge_states<A: Algebra, S: Setting>(
     alloc: Global,
     scope: &Scope<A, S>,
-    task: &Task,
+    target: &Target,
     desk: &mut Desk,
 ) -> Result<Option<Pair>, OutOfMemory>
-    requires prefix { IsPrefix (standing scope.now).net task.now.path.now }
-    requires desk { IsDesk A.algebra (standing scope.now).net (standing scope.now).rules task.now.path.now desk.old }
+    requires prefix { IsPrefix (standing scope.now).net target.now.path.now }
+    requires desk { IsDesk A.algebra (standing scope.now).net (standing scope.now).rules target.now.path.now desk.old }
     requires sources { AreSourceStates A.algebra desk.old.cone.sources desk.old.states.items }
-    ensures desk { IsDesk A.algebra (standing scope.now).net (standing scope.now).rules task.now.path.now desk.new }
+    ensures desk { IsDesk A.algebra (standing scope.now).net (standing scope.now).rules target.now.path.now desk.new }
     ensures kept { HasSameStates (standing scope.now).net desk.old desk.new }
-    ensures test { IfOk result (λ found. IfSome found (IsFitTest (standing scope.now).net (standing scope.now).rules (task_target task.now))) }
+    ensures test { IfOk result (λ found. IfSome found (IsFitTest (standing scope.now).net (standing scope.now).rules (seen_target target.now))) }
     ensures blamed { IfOk result (λ found. IfNone found
-        (AreInSupport (standing scope.now).net (standing scope.now).rules task.now.path.now desk.new.blame.sources)) }
+        (AreInSupport (standing scope.now).net (standing scope.now).rules target.now.path.now desk.new.blame.sources)) }
 {
     // the path's end is a line of a circuit, as which a netlist knows itself
     let net = scope.net();
-    let at_source = task.path.source().0 < net.sources();
+    let at_source = target.path.source().0 < net.sources();
     prove!(at_source);
     let judgement = judge::<A>(
         net,
         &desk.cone,
         scope.labels(),
-        task.path,
-        task.dir,
-        task.kind,
+        target,
         desk.states.as_mut_slice(),
     );
     match judgement {
@@ -189,15 +190,15 @@ pub(crate) fn judge_states<A: Algebra, S: Setting>(
 
 // Whether the sources that were tried last can be tried here in the same states: they are in the support, and these are their least
 // states here too.
-fn can_try_again<A: Algebra, S: Setting>(scope: &Scope<A, S>, task: &Task, desk: &Desk) -> bool
-    requires suits { SuitsSearch A.algebra (task_target task.now) (standing scope.now) }
-    requires node { StandsAtNode A.algebra (task_target task.now) (standing scope.now) }
-    requires desk { IsDesk A.algebra (standing scope.now).net (standing scope.now).rules task.now.path.now desk.now }
-    ensures { IsTrue result → All (CanTry A.algebra (task_target task.now) (standing scope.now)) desk.now.tried.items }
+fn can_try_again<A: Algebra, S: Setting>(scope: &Scope<A, S>, target: &Target, desk: &Desk) -> bool
+    requires suits { SuitsSearch A.algebra (seen_target target.now) (standing scope.now) }
+    requires node { StandsAtNode A.algebra (seen_target target.now) (standing scope.now) }
+    requires desk { IsDesk A.algebra (standing scope.now).net (standing scope.now).rules target.now.path.now desk.now }
+    ensures { IsTrue result → All (CanTry A.algebra (seen_target target.now) (standing scope.now)) desk.now.tried.items }
 {
     let tried = desk.tried.as_slice();
     for entry in tried {
-        if !has_least(scope, task, desk.cone.marks(), *entry) {
+        if !has_least(scope, target, desk.cone.marks(), *entry) {
             return false;
         }
     }
@@ -207,15 +208,15 @@ fn can_try_again<A: Algebra, S: Setting>(scope: &Scope<A, S>, task: &Task, desk:
 // Whether a marked source has this state as the least one of its label.
 fn has_least<A: Algebra, S: Setting>(
     scope: &Scope<A, S>,
-    task: &Task,
+    target: &Target,
     marks: &[bool],
     entry: Tried,
 ) -> bool
-    requires suits { SuitsSearch A.algebra (task_target task.now) (standing scope.now) }
-    requires node { StandsAtNode A.algebra (task_target task.now) (standing scope.now) }
+    requires suits { SuitsSearch A.algebra (seen_target target.now) (standing scope.now) }
+    requires node { StandsAtNode A.algebra (seen_target target.now) (standing scope.now) }
     requires marks { length marks.now ≡ line_count (standing scope.now).net }
     requires supported { (line : ℕ) → HasMark marks.now line → IsSupported (standing scope.now).net (links_of (standing scope.now).rules)
-        (end_of (standing scope.now).net task.now.path.now) line }
+        (end_of (standing scope.now).net target.now.path.now) line }
     ensures { IsTrue result → HasLeastLabel A.algebra (standing scope.now) marks.now entry }
 {
     let sources = scope.net().sources();

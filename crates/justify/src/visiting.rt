@@ -10,7 +10,7 @@ ghost use Rattle.justify.specs.Desks.{IsDesk};
 ghost use Rattle.justify.specs.Growths.{IsExtended};
 ghost use Rattle.implication.specs.NodeScopes.{StandsAtNode};
 ghost use Rattle.justify.specs.Searches.{IsSearching, SearchGoesOn, IsVisit, AddsClosed, IsNodeVisit};
-ghost use Rattle.justify.specs.Tasks.{task_target};
+ghost use Rattle.pair_judging.specs.Targets.{seen_target};
 
 use crate::choosing::choose;
 use crate::desk::Desk;
@@ -19,6 +19,7 @@ use crate::growing::{Growth, Place};
 use crate::task::{Splitting, Task};
 use crate::trying::try_node;
 use implication::{Scope, Setting};
+use pair_judging::Target;
 use pd_base::{OutOfMemory, Pair};
 use search_hints::{Frontier, Lead, Sight, follow};
 use state_sets::{Algebra, StateSet};
@@ -38,7 +39,7 @@ pub(crate) fn visit<A: Algebra, S: Setting>(
     place: Place,
 ) -> Result<Option<Pair>, OutOfMemory>
     requires searching { IsSearching A.algebra task.now (standing scope.old) desk.old (place ∷ reverse growth.old.places.items) growth.old }
-    requires origin { start_at scope.old.origin ≤ length task.now.path.now.steps }
+    requires origin { start_at scope.old.origin ≤ length task.now.target.path.now.steps }
     ensures scope { IsSameScope scope.old scope.new }
     ensures goes_on { SearchGoesOn A.algebra task.now (standing scope.old) (standing scope.new) desk.new }
     ensures answer { IfOk result (IsVisit A.algebra task.now (standing scope.old) (standing scope.new) growth.old growth.new) }
@@ -67,16 +68,16 @@ fn visit_node<A: Algebra, S: Setting>(
     growth: &mut Growth,
     frontier: Frontier,
 ) -> Result<Option<Pair>, OutOfMemory>
-    requires suits { SuitsSearch A.algebra (task_target task.now) (standing scope.old) }
-    requires node { StandsAtNode A.algebra (task_target task.now) (standing scope.old) }
-    requires desk { IsDesk A.algebra (standing scope.old).net (standing scope.old).rules task.now.path.now desk.old }
+    requires suits { SuitsSearch A.algebra (seen_target task.now.target) (standing scope.old) }
+    requires node { StandsAtNode A.algebra (seen_target task.now.target) (standing scope.old) }
+    requires desk { IsDesk A.algebra (standing scope.old).net (standing scope.old).rules task.now.target.path.now desk.old }
     requires budget { growth.old.splits ≤ task.now.budget }
-    ensures desk { IsDesk A.algebra (standing scope.old).net (standing scope.old).rules task.now.path.now desk.new }
+    ensures desk { IsDesk A.algebra (standing scope.old).net (standing scope.old).rules task.now.target.path.now desk.new }
     ensures scope { IsSameScope scope.old scope.new }
     ensures restored { IsRestored (standing scope.old) (standing scope.new) }
     ensures answer { IfOk result (IsNodeVisit A.algebra task.now (standing scope.old) (standing scope.new) growth.old growth.new) }
 {
-    let test = try_node(alloc, scope, task, desk)?;
+    let test = try_node(alloc, scope, &task.target, desk)?;
     match test {
         Some(pair) => Ok(Some(pair)),
         None => {
@@ -94,19 +95,19 @@ fn extend<A: Algebra, S: Setting>(
     growth: &mut Growth,
     frontier: Frontier,
 ) -> Result<(), OutOfMemory>
-    requires suits { SuitsSearch A.algebra (task_target task.now) (standing scope.now) }
-    requires node { StandsAtNode A.algebra (task_target task.now) (standing scope.now) }
-    requires desk { IsDesk A.algebra (standing scope.now).net (standing scope.now).rules task.now.path.now desk.now }
-    requires two { ¬ AreSingle A.algebra (task_target task.now) (standing scope.now) }
+    requires suits { SuitsSearch A.algebra (seen_target task.now.target) (standing scope.now) }
+    requires node { StandsAtNode A.algebra (seen_target task.now.target) (standing scope.now) }
+    requires desk { IsDesk A.algebra (standing scope.now).net (standing scope.now).rules task.now.target.path.now desk.now }
+    requires two { ¬ AreSingle A.algebra (seen_target task.now.target) (standing scope.now) }
     requires budget { growth.old.splits ≤ task.now.budget }
-    ensures { IfOk result (λ done. IsExtended A.algebra (task_target task.now) (standing scope.now) task.now.budget growth.old growth.new) }
+    ensures { IfOk result (λ done. IsExtended A.algebra (seen_target task.now.target) (standing scope.now) task.now.budget growth.old growth.new) }
 {
     if growth.splits == task.budget {
         growth.nodes.push(Node::Waiting)?;
         return Ok(());
     }
     let lead = lead_at(scope, task, desk, frontier);
-    let Some(split) = choose(scope, task, desk, lead.source) else {
+    let Some(split) = choose(scope, &task.target, desk, lead.source) else {
         unreachable!()
     };
     growth.split::<A>(split, scope.mark(), lead.frontier)?;
@@ -130,13 +131,13 @@ fn lead_at<A: Algebra, S: Setting>(
             return Lead { source, frontier };
         }
     }
-    lead_from(scope, task, desk.liked.as_slice(), frontier)
+    lead_from(scope, &task.target, desk.liked.as_slice(), frontier)
 }
 
 // Where to split: the source that is led to from what is still open.
 fn lead_from<A: Algebra, S: Setting>(
     scope: &Scope<A, S>,
-    task: &Task,
+    target: &Target,
     liked: &[StateSet],
     frontier: Frontier,
 ) -> Lead
@@ -151,8 +152,8 @@ fn lead_from<A: Algebra, S: Setting>(
         &sight,
         scope.begun_lines(),
         scope.changes(),
-        task.path,
-        task.kind,
+        target.path,
+        target.kind,
         frontier,
     )
 }

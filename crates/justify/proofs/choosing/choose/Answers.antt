@@ -8,7 +8,7 @@ use Rattle.std.proofs.lemmas.List.Elements.{All-more, All-contains}
 use Rattle.pd_base.specs.declared.ids.LineId.{LineId}
 use Rattle.implication.specs.Scopes.{standing}
 use Rattle.justify.specs.Choices.{IsSingleAt}
-use Rattle.justify.specs.Tasks.{task_target}
+use Rattle.pair_judging.specs.Targets.{seen_target}
 use Rattle.justify.proofs.SplitChoices.{useful_at}
 use Rattle.justify.proofs.TriedSources.{read_in_support, support_in_cone}
 use Rattle.justify.proofs.Visits.{from_none}
@@ -27,13 +27,13 @@ returns-then-is_some-2-clause-none g c = where_some _ c.split_at-split.result (s
 
 pub split_at-split-requires-clause-source : goal.split_at-split-requires-clause-source
 split_at-split-requires-clause-source g c =
-    read_in_support g.A.Algebra.algebra (standing c.args.scope.now).net (standing c.args.scope.now).rules c.args.task.now.path.now
+    read_in_support g.A.Algebra.algebra (standing c.args.scope.now).net (standing c.args.scope.now).rules c.args.target.now.path.now
     c.args.desk.now c.requires.desk c.sources-sources.result.now c.sources-sources.ensures c.loop-source.source-index _ c.loop-source-test.true
 
 pub returns-then-is_some-2-clause-some : goal.returns-then-is_some-2-clause-some
 returns-then-is_some-2-clause-some g c =
-    useful_at g.A.Algebra.algebra (task_target c.args.task.now) (standing c.args.scope.now) _
-    (read_in_support g.A.Algebra.algebra (standing c.args.scope.now).net (standing c.args.scope.now).rules c.args.task.now.path.now
+    useful_at g.A.Algebra.algebra (seen_target c.args.target.now) (standing c.args.scope.now) _
+    (read_in_support g.A.Algebra.algebra (standing c.args.scope.now).net (standing c.args.scope.now).rules c.args.target.now.path.now
     c.args.desk.now c.requires.desk c.sources-sources.result.now c.sources-sources.ensures c.loop-source.source-index _ c.loop-source-test.true)
     c.split_at-split.result c.split_at-split.ensures.some
 
@@ -51,5 +51,5 @@ returns-clause-none g c = λ source support.
     subst P (take_all c.loop-source.source-index c.sources-sources.result.now c.loop-source-test.false ∙ c.sources-sources.ensures)
     c.loop-source.invariant in
     All-contains Single c.args.desk.now.cone.sources (record { 0 = source }) all
-    (support_in_cone (standing c.args.scope.now).net (standing c.args.scope.now).rules c.args.task.now.path.now c.args.desk.now.cone
+    (support_in_cone (standing c.args.scope.now).net (standing c.args.scope.now).rules c.args.target.now.path.now c.args.desk.now.cone
     c.requires.desk.made.links c.requires.desk.cone source support)

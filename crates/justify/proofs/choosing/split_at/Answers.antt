@@ -6,7 +6,7 @@ use Rattle.trees.specs.Spent.{HasInHalf}
 use Rattle.implication.specs.Scopes.{standing}
 use Rattle.implication.specs.NodeScopes.{beginning_of}
 use Rattle.justify.specs.Choices.{IsSingleAt}
-use Rattle.justify.specs.Tasks.{task_target}
+use Rattle.pair_judging.specs.Targets.{seen_target}
 use Rattle.justify.specs.Trying.{IsSingle}
 use Rattle.justify.proofs.HalfStates.{in_both}
 use Rattle.justify.proofs.Resting.{label_is}
@@ -23,15 +23,15 @@ returns-clause-some g c = record {
   at_source = refl;
   in_half = λ labels is second.
       let P : StateSet → Type 0 = λ set. HasInHalf g.A.Algebra.algebra set c.in_ok-steadiness.steadiness second in
-      subst P (label_is g.A.Algebra.algebra (standing c.args.scope.now) (beginning_of (task_target c.args.task.now)) c.requires.node.beginning
-      c.args.source.0 c.label.result (support_told g.A.Algebra.algebra (task_target c.args.task.now) (standing c.args.scope.now)
+      subst P (label_is g.A.Algebra.algebra (standing c.args.scope.now) (beginning_of (seen_target c.args.target.now)) c.requires.node.beginning
+      c.args.source.0 c.label.result (support_told g.A.Algebra.algebra (seen_target c.args.target.now) (standing c.args.scope.now)
       c.requires.suits c.args.source.0 c.requires.source) (c.label.ensures.told c.requires.node.free) labels is)
       (in_both g.A.Algebra.algebra c.label.result c.in_ok-steadiness.steadiness c.in_ok-steadiness.ensures.some second);
 }
 
 pub way_to_split-requires-clause-sources : goal.way_to_split-requires-clause-sources
 way_to_split-requires-clause-sources g c =
-    label_of_sources g.A.Algebra.algebra (task_target c.args.task.now) (standing c.args.scope.now) c.requires.suits c.requires.node
+    label_of_sources g.A.Algebra.algebra (seen_target c.args.target.now) (standing c.args.scope.now) c.requires.suits c.requires.node
     c.args.source.0 c.requires.source c.label.result (c.label.ensures.told c.requires.node.free)
 
 pub label-requires : goal.label-requires
@@ -41,7 +41,7 @@ pub returns-in_err-steadiness-clause-none : goal.returns-in_err-steadiness-claus
 returns-in_err-steadiness-clause-none g c =
     if_none (IsSingleAt g.A.Algebra.algebra (standing c.args.scope.now) c.args.source.0) c.from_residual.result (λ labels is.
     subst (IsSingle g.A.Algebra.algebra.count)
-    (label_is g.A.Algebra.algebra (standing c.args.scope.now) (beginning_of (task_target c.args.task.now)) c.requires.node.beginning
-    c.args.source.0 c.label.result (support_told g.A.Algebra.algebra (task_target c.args.task.now) (standing c.args.scope.now)
+    (label_is g.A.Algebra.algebra (standing c.args.scope.now) (beginning_of (seen_target c.args.target.now)) c.requires.node.beginning
+    c.args.source.0 c.label.result (support_told g.A.Algebra.algebra (seen_target c.args.target.now) (standing c.args.scope.now)
     c.requires.suits c.args.source.0 c.requires.source) (c.label.ensures.told c.requires.node.free) labels is)
     c.in_err-steadiness.ensures.none)

@@ -15,13 +15,13 @@ returns-then-is_ok-clause-entered g c = grind (arith, common_steps)
 
 pub weigh-requires-clause-prefix : goal.weigh-requires-clause-prefix
 weigh-requires-clause-prefix g c =
-    let P : Circuit → Type 0 = λ n. IsPrefix n c.args.task.now.path.now in
+    let P : Circuit → Type 0 = λ n. IsPrefix n c.args.task.now.target.path.now in
     subst P (sym (c.assume.ensures.extends.net ∙ ap (λ (s : Standing). s.net) c.back_to.ensures.back)) c.requires.prefix
 
 pub weigh-requires-clause-desk : goal.weigh-requires-clause-desk
 weigh-requires-clause-desk g c =
     let first = standing c.args.scope.now in let last = standing c.assume.new.self in
-    let P : Circuit → Rules → Type 0 = λ n r. IsDesk g.A.Algebra.algebra n r c.args.task.now.path.now c.args.desk.now in
+    let P : Circuit → Rules → Type 0 = λ n r. IsDesk g.A.Algebra.algebra n r c.args.task.now.target.path.now c.args.desk.now in
     there_too P first.net last.net first.rules last.rules
     (sym (c.assume.ensures.extends.net ∙ ap (λ (s : Standing). s.net) c.back_to.ensures.back))
     (sym (c.assume.ensures.extends.rules ∙ ap (λ (s : Standing). s.rules) c.back_to.ensures.back)) c.requires.desk
@@ -29,7 +29,7 @@ weigh-requires-clause-desk g c =
 pub returns-clause-desk : goal.returns-clause-desk
 returns-clause-desk g c =
     let first = standing c.args.scope.now in let last = standing c.assume.new.self in
-    let P : Circuit → Rules → Type 0 = λ n r. IsDesk g.A.Algebra.algebra n r c.args.task.now.path.now c.weigh.new.desk in
+    let P : Circuit → Rules → Type 0 = λ n r. IsDesk g.A.Algebra.algebra n r c.args.task.now.target.path.now c.weigh.new.desk in
     there_too P last.net first.net last.rules first.rules
     (c.assume.ensures.extends.net ∙ ap (λ (s : Standing). s.net) c.back_to.ensures.back)
     (c.assume.ensures.extends.rules ∙ ap (λ (s : Standing). s.rules) c.back_to.ensures.back) c.weigh.ensures

@@ -29,14 +29,14 @@ weigh-requires-clause-cone_for g c =
 
 pub weigh-requires-clause-cone_at : goal.weigh-requires-clause-cone_at
 weigh-requires-clause-cone_at g c =
-    let P : Circuit → Type 0 = λ n. IsConeAt n (end_of n c.args.task.now.path.now) c.args.desk.now.cone in
+    let P : Circuit → Type 0 = λ n. IsConeAt n (end_of n c.args.task.now.target.path.now) c.args.desk.now.cone in
     subst P (sym c.net.ensures) c.requires.desk.cone
 
 pub weigh-requires-clause-prefix : goal.weigh-requires-clause-prefix
 weigh-requires-clause-prefix g c =
-    let P : Circuit → Type 0 = λ n. IsPrefix n c.args.task.now.path.now in subst P (sym c.net.ensures) c.requires.prefix
+    let P : Circuit → Type 0 = λ n. IsPrefix n c.args.task.now.target.path.now in subst P (sym c.net.ensures) c.requires.prefix
 
 pub returns : goal.returns
 returns g c =
     desk_asked g.A.Algebra.algebra c.net.result.now (standing c.args.scope.now).net c.net.ensures (standing c.args.scope.now).rules
-    c.args.task.now.path.now c.args.desk.now c.requires.desk c.weigh.new.self c.weigh.ensures
+    c.args.task.now.target.path.now c.args.desk.now c.requires.desk c.weigh.new.self c.weigh.ensures

@@ -5,7 +5,7 @@ use Rattle.std.proofs.lemmas.Grind.{common_steps}
 use Rattle.netlist.specs.Circuit.{Circuit, line_count}
 use Rattle.implication.specs.Scopes.{standing}
 use Rattle.cones.specs.KeptCones.{IsConeFor}
-use Rattle.justify.specs.Tasks.{task_target}
+use Rattle.pair_judging.specs.Targets.{seen_target}
 use Rattle.justify.proofs.SameNodes.{restored_itself}
 use Rattle.justify.proofs.Starting.{start_desk, start_suits}
 use Rattle.justify.proofs.TriedSources.{kept_desk}
@@ -22,13 +22,13 @@ set_end-requires-clause-end g c =
 
 pub propose-requires-clause-desk : goal.propose-requires-clause-desk
 propose-requires-clause-desk g c =
-    start_desk (task_target c.args.task.now) (standing c.args.scope.now) c.requires.start c.requires.prefix g.A.Algebra.algebra
+    start_desk (seen_target c.args.task.now.target) (standing c.args.scope.now) c.requires.start c.requires.prefix g.A.Algebra.algebra
     c.args.desk.now c.set_end.new.self c.net.result.now c.last_line.result.0 c.net.ensures c.last_line.ensures.end c.requires.desk
     c.set_end.ensures.made c.set_end.ensures.links c.set_end.ensures.cone
 
 pub split_in_turns-requires-clause-suits : goal.split_in_turns-requires-clause-suits
 split_in_turns-requires-clause-suits g c =
-    start_suits (task_target c.args.task.now) (standing c.args.scope.now) c.requires.start c.requires.prefix g.A.Algebra.algebra
+    start_suits (seen_target c.args.task.now.target) (standing c.args.scope.now) c.requires.start c.requires.prefix g.A.Algebra.algebra
     c.args.desk.now c.last_line.result.0 c.last_line.ensures.end (c.last_line.ensures.told (ap is_some c.requires.start.beginning))
     c.requires.desk
 
@@ -36,7 +36,7 @@ pub returns-in-Some-clause-left : goal.returns-in-Some-clause-left
 returns-in-Some-clause-left g c = record {
   restored = restored_itself (standing c.args.scope.now);
   serves =
-      kept_desk g.A.Algebra.algebra (standing c.args.scope.now).net (standing c.args.scope.now).rules c.args.task.now.path.now c.propose.new.desk _
+      kept_desk g.A.Algebra.algebra (standing c.args.scope.now).net (standing c.args.scope.now).rules c.args.task.now.target.path.now c.propose.new.desk _
       (record { cone = refl; states = refl; blame = refl; liked = refl; justifier = c.learn_tree.ensures }) c.propose.ensures.desk;
 }
 

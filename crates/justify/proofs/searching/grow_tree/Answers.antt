@@ -5,7 +5,7 @@ use Rattle.pd_base.specs.declared.ids.LineId.{LineId}
 use Rattle.implication.specs.Scopes.{standing}
 use Rattle.justify.specs.declared.growing.Place.{Place}
 use Rattle.justify.specs.Growths.{root_place}
-use Rattle.justify.specs.Tasks.{task_target}
+use Rattle.pair_judging.specs.Targets.{seen_target}
 use Rattle.justify.proofs.Orders.{at_least}
 use Rattle.justify.proofs.Starting.{start_under_way, start_growing}
 use Rattle.justify.proofs.Ended.{grown_whole, grown_few, answer_found, answer_counts}
@@ -14,7 +14,7 @@ use Rattle.justify.proofs.searching.grow_tree.Goals as goal
 pub returns-in_err-growth-clause-goes_on : goal.returns-in_err-growth-clause-goes_on
 returns-in_err-growth-clause-goes_on g c = record {
   setting = record { net = refl; rules = refl; ends = refl };
-  under_way = start_under_way (task_target c.args.task.now) (standing c.args.scope.now) c.requires.start;
+  under_way = start_under_way (seen_target c.args.task.now.target) (standing c.args.scope.now) c.requires.start;
   serves = c.requires.desk;
   later = at_least _ _ refl;
 }
@@ -24,9 +24,9 @@ grow-grown-requires-clause-searching g c =
     let P : LineId → List Place = λ source. root_place g.A.Algebra.algebra.count c.mark.result source ∷ [] in
     record {
       suits = c.requires.suits;
-      under_way = start_under_way (task_target c.args.task.now) (standing c.args.scope.now) c.requires.start;
+      under_way = start_under_way (seen_target c.args.task.now.target) (standing c.args.scope.now) c.requires.start;
       serves = c.requires.desk;
-      growing = start_growing (task_target c.args.task.now) (standing c.args.scope.now) c.requires.start c.requires.suits.prefix g.A.Algebra.algebra c.requires.left_open
+      growing = start_growing (seen_target c.args.task.now.target) (standing c.args.scope.now) c.requires.start c.requires.suits.prefix g.A.Algebra.algebra c.requires.left_open
           c.args.task.now.budget c.mark.result c.mark.ensures c.in_ok-growth.growth c.in_ok-growth.ensures.nodes
           (c.in_ok-growth.ensures.places ∙ ap P c.source.ensures) c.in_ok-growth.ensures.splits;
     }

@@ -9,7 +9,7 @@ use Rattle.justify.proofs.searching.judge_proposal.Goals as goal
 
 pub are_source_states-requires-clause-places : goal.are_source_states-requires-clause-places
 are_source_states-requires-clause-places g c =
-    read_within g.A.Algebra.algebra (standing c.args.scope.now).net (standing c.args.scope.now).rules c.args.task.now.path.now
+    read_within g.A.Algebra.algebra (standing c.args.scope.now).net (standing c.args.scope.now).rules c.args.target.now.path.now
     c.args.desk.now c.requires.desk c.sources.result.now c.sources.ensures
     (length c.as_slice.result.now) (ap length c.as_slice.ensures.value ∙ c.requires.desk.made.states)
 

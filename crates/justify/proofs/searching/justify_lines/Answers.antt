@@ -12,13 +12,13 @@ use Rattle.justify.proofs.searching.justify_lines.Goals as goal
 
 pub take_least-requires-clause-labels : goal.take_least-requires-clause-labels
 take_least-requires-clause-labels g c =
-    read_within g.A.Algebra.algebra (standing c.args.scope.now).net (standing c.args.scope.now).rules c.args.task.now.path.now
+    read_within g.A.Algebra.algebra (standing c.args.scope.now).net (standing c.args.scope.now).rules c.args.target.now.path.now
     c.args.desk.now c.requires.desk c.sources.result.now c.sources.ensures
     (length c.labels-2.result.now) (c.labels-2.ensures ∙ c.propose.ensures.sizes.lines ∙ ap line_count c.net.ensures)
 
 pub take_least-requires-clause-places : goal.take_least-requires-clause-places
 take_least-requires-clause-places g c =
-    read_within g.A.Algebra.algebra (standing c.args.scope.now).net (standing c.args.scope.now).rules c.args.task.now.path.now
+    read_within g.A.Algebra.algebra (standing c.args.scope.now).net (standing c.args.scope.now).rules c.args.target.now.path.now
     c.args.desk.now c.requires.desk c.sources.result.now c.sources.ensures
     (length c.as_mut_slice.result.now) (ap length c.as_mut_slice.ensures.value ∙ c.requires.desk.made.states)
 
@@ -26,7 +26,7 @@ pub judge_proposal-requires-clause-desk : goal.judge_proposal-requires-clause-de
 judge_proposal-requires-clause-desk g c =
     let long = c.take_least.ensures.places ∙ ap length c.as_mut_slice.ensures.value in
     let P : Circuit → Type 0 = λ n. IsJustifierOf n c.propose.new.self in
-    desk_again g.A.Algebra.algebra (standing c.args.scope.now).net (standing c.args.scope.now).rules c.args.task.now.path.now c.args.desk.now _ c.take_least.new.states c.requires.desk
+    desk_again g.A.Algebra.algebra (standing c.args.scope.now).net (standing c.args.scope.now).rules c.args.target.now.path.now c.args.desk.now _ c.take_least.new.states c.requires.desk
     refl refl refl
     (with_items_is c.args.desk.now.states c.take_least.new.states (long ∙ sym c.args.desk.now.states.ok.0))
     c.take_least.ensures.states long (subst P c.net.ensures c.propose.ensures)
@@ -47,21 +47,21 @@ propose-requires-clause-cone_for g c =
 
 pub propose-requires-clause-cone_at : goal.propose-requires-clause-cone_at
 propose-requires-clause-cone_at g c =
-    let P : Circuit → Type 0 = λ n. IsConeAt n (end_of n c.args.task.now.path.now) c.args.desk.now.cone in
+    let P : Circuit → Type 0 = λ n. IsConeAt n (end_of n c.args.target.now.path.now) c.args.desk.now.cone in
     subst P (sym c.net.ensures) c.requires.desk.cone
 
 pub propose-requires-clause-prefix : goal.propose-requires-clause-prefix
 propose-requires-clause-prefix g c =
-    let P : Circuit → Type 0 = λ n. IsPrefix n c.args.task.now.path.now in subst P (sym c.net.ensures) c.requires.prefix
+    let P : Circuit → Type 0 = λ n. IsPrefix n c.args.target.now.path.now in subst P (sym c.net.ensures) c.requires.prefix
 
 pub returns-in_err-is_justified-clause-desk : goal.returns-in_err-is_justified-clause-desk
 returns-in_err-is_justified-clause-desk g c =
-    desk_asked g.A.Algebra.algebra c.net.result.now (standing c.args.scope.now).net c.net.ensures (standing c.args.scope.now).rules c.args.task.now.path.now c.args.desk.now c.requires.desk
+    desk_asked g.A.Algebra.algebra c.net.result.now (standing c.args.scope.now).net c.net.ensures (standing c.args.scope.now).rules c.args.target.now.path.now c.args.desk.now c.requires.desk
     c.propose.new.self c.propose.ensures
 
 pub returns-then-not-is_justified-clause-desk : goal.returns-then-not-is_justified-clause-desk
 returns-then-not-is_justified-clause-desk g c =
-    desk_asked g.A.Algebra.algebra c.net.result.now (standing c.args.scope.now).net c.net.ensures (standing c.args.scope.now).rules c.args.task.now.path.now c.args.desk.now c.requires.desk
+    desk_asked g.A.Algebra.algebra c.net.result.now (standing c.args.scope.now).net c.net.ensures (standing c.args.scope.now).rules c.args.target.now.path.now c.args.desk.now c.requires.desk
     c.propose.new.self c.propose.ensures
 
 pub take_least-requires-clause-states : goal.take_least-requires-clause-states

@@ -12,13 +12,13 @@ use Rattle.justify.proofs.searching.prefer.Goals as goal
 
 pub take_least-requires-clause-labels : goal.take_least-requires-clause-labels
 take_least-requires-clause-labels g c =
-    read_within g.A.Algebra.algebra (standing c.args.scope.now).net (standing c.args.scope.now).rules c.args.task.now.path.now
+    read_within g.A.Algebra.algebra (standing c.args.scope.now).net (standing c.args.scope.now).rules c.args.target.now.path.now
     c.args.desk.now c.requires c.sources.result.now c.sources.ensures
     (length c.labels-2.result.now) (c.labels-2.ensures ∙ c.prefer.ensures.sizes.lines ∙ ap line_count c.net.ensures)
 
 pub take_least-requires-clause-places : goal.take_least-requires-clause-places
 take_least-requires-clause-places g c =
-    read_within g.A.Algebra.algebra (standing c.args.scope.now).net (standing c.args.scope.now).rules c.args.task.now.path.now
+    read_within g.A.Algebra.algebra (standing c.args.scope.now).net (standing c.args.scope.now).rules c.args.target.now.path.now
     c.args.desk.now c.requires c.sources.result.now c.sources.ensures
     (length c.as_mut_slice.result.now) (ap length c.as_mut_slice.ensures.value ∙ c.requires.made.states)
 
@@ -26,7 +26,7 @@ pub returns : goal.returns
 returns g c =
     let long = c.take_least.ensures.places ∙ ap length c.as_mut_slice.ensures.value in
     let P : Circuit → Type 0 = λ n. IsJustifierOf n c.prefer.new.self in
-    desk_again g.A.Algebra.algebra (standing c.args.scope.now).net (standing c.args.scope.now).rules c.args.task.now.path.now c.args.desk.now _ c.take_least.new.states c.requires
+    desk_again g.A.Algebra.algebra (standing c.args.scope.now).net (standing c.args.scope.now).rules c.args.target.now.path.now c.args.desk.now _ c.take_least.new.states c.requires
     refl refl refl
     (with_items_is c.args.desk.now.states c.take_least.new.states (long ∙ sym c.args.desk.now.states.ok.0))
     c.take_least.ensures.states long (subst P c.net.ensures c.prefer.ensures)
@@ -47,7 +47,7 @@ prefer-requires-clause-cone_for g c =
 
 pub prefer-requires-clause-cone_at : goal.prefer-requires-clause-cone_at
 prefer-requires-clause-cone_at g c =
-    let P : Circuit → Type 0 = λ n. IsConeAt n (end_of n c.args.task.now.path.now) c.args.desk.now.cone in
+    let P : Circuit → Type 0 = λ n. IsConeAt n (end_of n c.args.target.now.path.now) c.args.desk.now.cone in
     subst P (sym c.net.ensures) c.requires.cone
 
 pub take_least-requires-clause-states : goal.take_least-requires-clause-states

@@ -7,7 +7,7 @@ use Rattle.implication.specs.Scopes.{standing}
 use Rattle.implication.proofs.ScopeLabels.{there_too}
 use Rattle.justify.specs.Answers.{IsFound}
 use Rattle.justify.specs.Desks.{IsDesk}
-use Rattle.justify.specs.Tasks.{task_target}
+use Rattle.pair_judging.specs.Targets.{seen_target}
 use Rattle.justify.proofs.Ended.{counts_before, turn_found, turn_counts}
 use Rattle.justify.proofs.SameNodes.{same_restored, restored_trans, start_restored, open_stays}
 use Rattle.justify.proofs.Suiting.{suits_restored}
@@ -16,17 +16,17 @@ use Rattle.justify.proofs.searching.split_in_turns.Goals as goal
 
 pub split_cases-requires-clause-desk : goal.split_cases-requires-clause-desk
 split_cases-requires-clause-desk g c =
-    kept_desk g.A.Algebra.algebra (standing c.args.scope.now).net (standing c.args.scope.now).rules c.args.task.now.path.now c.args.desk.now _
+    kept_desk g.A.Algebra.algebra (standing c.args.scope.now).net (standing c.args.scope.now).rules c.args.task.now.target.path.now c.args.desk.now _
     (record { cone = refl; states = refl; blame = refl; liked = refl; justifier = c.begin_tree.ensures }) c.requires.desk
 
 pub split_cases-requires-then-is_dropped-clause-suits : goal.split_cases-requires-then-is_dropped-clause-suits
 split_cases-requires-then-is_dropped-clause-suits g c =
-    suits_restored g.A.Algebra.algebra (task_target c.args.task.now) (standing c.args.scope.now) (standing c.split_cases.new.scope)
+    suits_restored g.A.Algebra.algebra (seen_target c.args.task.now.target) (standing c.args.scope.now) (standing c.split_cases.new.scope)
     c.split_cases.ensures.left.restored c.requires.suits
 
 pub split_cases-requires-then-is_dropped-clause-start : goal.split_cases-requires-then-is_dropped-clause-start
 split_cases-requires-then-is_dropped-clause-start g c =
-    start_restored (task_target c.args.task.now) (standing c.args.scope.now) (standing c.split_cases.new.scope)
+    start_restored (seen_target c.args.task.now.target) (standing c.args.scope.now) (standing c.split_cases.new.scope)
     c.split_cases.ensures.left.restored c.requires.start
 
 pub split_cases-requires-then-is_dropped-clause-left_open : goal.split_cases-requires-then-is_dropped-clause-left_open
@@ -38,16 +38,16 @@ pub split_cases-requires-then-is_dropped-clause-desk : goal.split_cases-requires
 split_cases-requires-then-is_dropped-clause-desk g c =
     let first = standing c.args.scope.now in let middle = standing c.split_cases.new.scope in
     let left = c.split_cases.ensures.left in
-    kept_desk g.A.Algebra.algebra middle.net middle.rules c.args.task.now.path.now c.split_cases.new.desk _
+    kept_desk g.A.Algebra.algebra middle.net middle.rules c.args.task.now.target.path.now c.split_cases.new.desk _
     (record { cone = refl; states = refl; blame = refl; liked = refl; justifier = c.learn_tree.ensures })
-    (let P : Circuit → Rules → Type 0 = λ n r. IsDesk g.A.Algebra.algebra n r c.args.task.now.path.now c.split_cases.new.desk in
+    (let P : Circuit → Rules → Type 0 = λ n r. IsDesk g.A.Algebra.algebra n r c.args.task.now.target.path.now c.split_cases.new.desk in
     there_too P first.net middle.net first.rules middle.rules (sym left.restored.net) (sym left.restored.rules) left.serves)
 
 pub returns-then-is_dropped-clause-left : goal.returns-then-is_dropped-clause-left
 returns-then-is_dropped-clause-left g c =
     let first = standing c.args.scope.now in let middle = standing c.split_cases.new.scope in
     let left = c.split_cases.ensures.left in let later = c.split_cases-then-is_dropped.ensures.left in
-    let P : Circuit → Rules → Type 0 = λ n r. IsDesk g.A.Algebra.algebra n r c.args.task.now.path.now c.split_cases-then-is_dropped.new.desk in
+    let P : Circuit → Rules → Type 0 = λ n r. IsDesk g.A.Algebra.algebra n r c.args.task.now.target.path.now c.split_cases-then-is_dropped.new.desk in
     record {
       restored = restored_trans first middle (standing c.split_cases-then-is_dropped.new.scope) left.restored later.restored;
       serves = there_too P middle.net first.net middle.rules first.rules left.restored.net left.restored.rules later.serves;
@@ -57,7 +57,7 @@ pub returns-then-is_dropped-clause-found : goal.returns-then-is_dropped-clause-f
 returns-then-is_dropped-clause-found g c =
     let first = standing c.args.scope.now in let middle = standing c.split_cases.new.scope in
     let restored = c.split_cases.ensures.left.restored in
-    let P : Circuit → Rules → Type 0 = λ n r. IfOk c.split_cases-then-is_dropped.result (IsFound n r (task_target c.args.task.now) c.args.task.now.budget) in
+    let P : Circuit → Rules → Type 0 = λ n r. IfOk c.split_cases-then-is_dropped.result (IsFound n r (seen_target c.args.task.now.target) c.args.task.now.budget) in
     there_too P middle.net first.net middle.rules first.rules restored.net restored.rules c.split_cases-then-is_dropped.ensures.found
 
 pub returns-then-is_dropped-clause-counted : goal.returns-then-is_dropped-clause-counted
@@ -71,7 +71,7 @@ returns-clause-left g c =
     record {
       restored = left.restored;
       serves =
-          kept_desk g.A.Algebra.algebra (standing c.args.scope.now).net (standing c.args.scope.now).rules c.args.task.now.path.now
+          kept_desk g.A.Algebra.algebra (standing c.args.scope.now).net (standing c.args.scope.now).rules c.args.task.now.target.path.now
           c.split_cases.new.desk _
           (record { cone = refl; states = refl; blame = refl; liked = refl; justifier = c.learn_tree.ensures }) left.serves;
     }
@@ -79,7 +79,7 @@ returns-clause-left g c =
 pub returns-clause-found : goal.returns-clause-found
 returns-clause-found g c =
     turn_found c.splits_by_weight-splits.result c.args.task.now.budget (standing c.args.scope.now).net (standing c.args.scope.now).rules
-    (task_target c.args.task.now) c.splits_by_weight-splits.ensures c.in_ok-found.found (c.is_dropped.ensures c.if-is_dropped.false)
+    (seen_target c.args.task.now.target) c.splits_by_weight-splits.ensures c.in_ok-found.found (c.is_dropped.ensures c.if-is_dropped.false)
     c.in_ok-found.ensures.found
 
 pub returns-clause-counted : goal.returns-clause-counted

@@ -7,7 +7,7 @@ use Rattle.std.proofs.lemmas.List.Elements.{All-more}
 use Rattle.implication.specs.Scopes.{standing}
 use Rattle.implication.specs.Standing.{IsFree}
 use Rattle.implication.proofs.Restoring.{extends_itself, extends_trans, same_scope_twice}
-use Rattle.justify.specs.Tasks.{task_target}
+use Rattle.pair_judging.specs.Targets.{seen_target}
 use Rattle.implication.specs.NodeScopes.{beginning_of}
 use Rattle.justify.specs.Trying.{IsHeldIn}
 use Rattle.justify.proofs.Assumed.{grown_list, grown_conflict, closed_list, closed_count}
@@ -24,7 +24,7 @@ returns-in-Err-clause-trial g c =
       begun = ap is_some (c.loop-entry.invariant.extends.beginning ∙ c.requires.node.beginning);
       free = c.loop-entry.invariant.held.free;
     } in
-    within_more g.A.Algebra.algebra (task_target c.args.task.now) first c.requires.node now (standing c.assume.new.self) _
+    within_more g.A.Algebra.algebra (seen_target c.args.target.now) first c.requires.node now (standing c.assume.new.self) _
     (c.requires.tried c.loop-entry.entry-index _ c.loop-entry-test.true) c.only.result c.only.ensures
     (closed_list g.A.Algebra.algebra.count now (standing c.assume.new.self) _ c.only.result _ (c.in-Err.ensures.tells.err free)) c.loop-entry.invariant.trial
 
@@ -34,7 +34,7 @@ returns-in-Err-clause-ends g c =
     let before = c.loop-entry.invariant.extends in
     let free : IsFree now = record { begun = ap is_some (before.beginning ∙ c.requires.node.beginning); free = c.loop-entry.invariant.held.free } in
     record {
-      closes = closes_there g.A.Algebra.algebra first new (beginning_of (task_target c.args.task.now)) (c.assume.ensures.extends.net ∙ before.net)
+      closes = closes_there g.A.Algebra.algebra first new (beginning_of (seen_target c.args.target.now)) (c.assume.ensures.extends.net ∙ before.net)
           (c.assume.ensures.extends.rules ∙ before.rules) (c.assume.ensures.extends.beginning ∙ before.beginning ∙ c.requires.node.beginning)
           _ c.in-Err.ensures.tells.emptied;
       counted = counted_later first.closings now.closings new.closings before.later
@@ -44,7 +44,7 @@ returns-in-Err-clause-ends g c =
 pub loop-entry-preserved : goal.loop-entry-preserved
 loop-entry-preserved g c =
     let first = standing c.args.scope.now in let now = standing c.loop-entry.scope in let new = standing c.assume.new.self in
-    let target = task_target c.args.task.now in
+    let target = seen_target c.args.target.now in
     let before = c.loop-entry.invariant in
     let more = grown_list g.A.Algebra.algebra.count now new _ c.only.result c.in-Ok.ensures.tells.ok in
     let is = c.requires.tried c.loop-entry.entry-index _ c.loop-entry-test.true in
@@ -63,7 +63,7 @@ loop-entry-preserved g c =
 
 pub returns-clause-ends : goal.returns-clause-ends
 returns-clause-ends g c =
-    let P : _ → Type 0 = λ xs. All (IsHeldIn g.A.Algebra.algebra (task_target c.args.task.now) (standing c.args.scope.now) (standing c.loop-entry.scope)) xs in
+    let P : _ → Type 0 = λ xs. All (IsHeldIn g.A.Algebra.algebra (seen_target c.args.target.now) (standing c.args.scope.now) (standing c.loop-entry.scope)) xs in
     record {
       free = c.loop-entry.invariant.held.free;
       left_open = c.loop-entry.invariant.held.left_open;
@@ -76,7 +76,7 @@ loop-entry-init g c =
     record {
       scope = record { engine = refl; origin = refl };
       extends = extends_itself first;
-      trial = within_itself g.A.Algebra.algebra (task_target c.args.task.now) first;
+      trial = within_itself g.A.Algebra.algebra (seen_target c.args.target.now) first;
       held = record { free = c.requires.node.free; left_open = c.requires.node.left_open; held = λ k d inside. absurd (omega (arith, inside)) };
     }
 
@@ -89,7 +89,7 @@ assume-requires-clause-told g c =
     let first = standing c.args.scope.now in let now = standing c.loop-entry.scope in
     let extends = c.loop-entry.invariant.extends in
     told_after first now (record { net = extends.net; rules = extends.rules; ends = extends.ends }) _
-    (support_told g.A.Algebra.algebra (task_target c.args.task.now) first c.requires.suits _
+    (support_told g.A.Algebra.algebra (seen_target c.args.target.now) first c.requires.suits _
     (c.requires.tried c.loop-entry.entry-index _ c.loop-entry-test.true).in_support)
 
 pub returns-in-Err-clause-scope : goal.returns-in-Err-clause-scope

@@ -2,7 +2,7 @@
 use Rattle.std.proofs.Common.{take}
 use Rattle.implication.specs.Clients.{ExtendsStanding}
 use Rattle.implication.specs.Scopes.{IsSameScope, standing}
-use Rattle.justify.specs.Tasks.{task_target}
+use Rattle.pair_judging.specs.Targets.{seen_target}
 use Rattle.justify.specs.Trying.{IsWithinTrial, AreHeld}
 use Rattle.justify.proofs.trial.assume_all.Given as goal
 
@@ -10,6 +10,6 @@ abbrev pub invariant-loop-entry : goal.invariant-loop-entry
 invariant-loop-entry g l = record {
   scope : IsSameScope l.initial.scope l.scope;
   extends : ExtendsStanding (standing l.initial.scope) (standing l.scope);
-  trial : IsWithinTrial g.A.Algebra.algebra (task_target l.task) (standing l.initial.scope) (standing l.scope);
-  held : AreHeld g.A.Algebra.algebra (task_target l.task) (standing l.initial.scope) (standing l.scope) (take l.entry-index l.tried);
+  trial : IsWithinTrial g.A.Algebra.algebra (seen_target l.target) (standing l.initial.scope) (standing l.scope);
+  held : AreHeld g.A.Algebra.algebra (seen_target l.target) (standing l.initial.scope) (standing l.scope) (take l.entry-index l.tried);
 }

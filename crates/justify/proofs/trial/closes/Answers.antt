@@ -6,7 +6,7 @@ use Rattle.netlist.specs.Lawful.{IsCircuit}
 use Rattle.implication.specs.Moves.{risen}
 use Rattle.implication.specs.Scopes.{standing}
 use Rattle.implication.specs.Standing.{Standing}
-use Rattle.justify.specs.Tasks.{task_target}
+use Rattle.pair_judging.specs.Targets.{seen_target}
 use Rattle.justify.proofs.Trials.{ends_failed, ends_open, ends_free}
 use Rattle.justify.proofs.trial.closes.Goals as goal
 
@@ -14,7 +14,7 @@ pub returns-then-assume_all-clause-ends : goal.returns-then-assume_all-clause-en
 returns-then-assume_all-clause-ends g c =
     let first = standing c.args.scope.now in let last = standing c.assume_all.new.scope in
     let here = c.label.ensures.told c.requires.node.free in
-    let fails = ends_failed g.A.Algebra.algebra (task_target c.args.task.now) first c.requires.suits.of_rules c.requires.node here.0 here.1 last c.assume_all.ensures.trial c.args.tried.now
+    let fails = ends_failed g.A.Algebra.algebra (seen_target c.args.target.now) first c.requires.suits.of_rules c.requires.node here.0 here.1 last c.assume_all.ensures.trial c.args.tried.now
     c.assume_all.result c.if-assume_all.true c.assume_all.ensures.ends in
     let P : ℕ → Type 0 = λ n. risen first.closings ≤ n in
     record { failed = fails.0; counted = subst P (sym (ap (λ (s : Standing). s.closings) c.back_to.ensures.back)) fails.1 }
@@ -25,8 +25,8 @@ returns-clause-ends g c =
     let here = c.label.ensures.told c.requires.node.free in
     let P : Circuit → Type 0 = λ n. IsCircuit n in
     let held = c.assume_all.ensures.ends in
-    let there = c.label-2.ensures.told (ends_free g.A.Algebra.algebra (task_target c.args.task.now) first last c.args.tried.now c.assume_all.result c.if-assume_all.false held) in
-    ends_open g.A.Algebra.algebra g.met.A.Algebra.laws (task_target c.args.task.now) first c.requires.node here.0 here.1
+    let there = c.label-2.ensures.told (ends_free g.A.Algebra.algebra (seen_target c.args.target.now) first last c.args.tried.now c.assume_all.result c.if-assume_all.false held) in
+    ends_open g.A.Algebra.algebra g.met.A.Algebra.laws (seen_target c.args.target.now) first c.requires.node here.0 here.1
     (subst P c.net.ensures c.sources.ensures.circuit) c.requires.suits.fit c.requires.suits.prefix
     last c.assume_all.ensures.trial c.assume_all.ensures.extends there.0 there.1 c.args.tried.now c.assume_all.result c.if-assume_all.false held
 

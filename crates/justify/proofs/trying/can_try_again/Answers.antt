@@ -9,14 +9,14 @@ use Rattle.netlist.specs.LinkedPairs.{IsSupported}
 use Rattle.netlist.specs.Paths.{end_of}
 use Rattle.implication.specs.Scopes.{standing}
 use Rattle.justify.specs.declared.trial.Tried.{Tried}
-use Rattle.justify.specs.Tasks.{task_target}
+use Rattle.pair_judging.specs.Targets.{seen_target}
 use Rattle.justify.specs.Trying.{CanTry}
 use Rattle.justify.proofs.TriedSources.{tried_again}
 use Rattle.justify.proofs.trying.can_try_again.Goals as goal
 
 pub loop-entry-preserved : goal.loop-entry-preserved
 loop-entry-preserved g c =
-    let target = task_target c.args.task.now in let now = standing c.args.scope.now in
+    let target = seen_target c.args.target.now in let now = standing c.args.scope.now in
     All-more (CanTry g.A.Algebra.algebra target now) c.as_slice-tried.result.now c.loop-entry.entry-index _ c.loop-entry-test.true c.loop-entry.invariant
     (tried_again g.A.Algebra.algebra target now c.marks.result.now _
     (λ line marked.
@@ -26,7 +26,7 @@ loop-entry-preserved g c =
 
 pub returns : goal.returns
 returns g c = λ some.
-    let P : List Tried → Type 0 = λ xs. All (CanTry g.A.Algebra.algebra (task_target c.args.task.now) (standing c.args.scope.now)) xs in
+    let P : List Tried → Type 0 = λ xs. All (CanTry g.A.Algebra.algebra (seen_target c.args.target.now) (standing c.args.scope.now)) xs in
     subst P (take_all c.loop-entry.entry-index c.as_slice-tried.result.now c.loop-entry-test.false ∙ c.as_slice-tried.ensures.value)
     c.loop-entry.invariant
 
@@ -38,6 +38,6 @@ loop-entry-init g c = grind (arith, common_steps)
 
 pub has_least-requires-clause-supported : goal.has_least-requires-clause-supported
 has_least-requires-clause-supported g c = λ line marked.
-    let now = standing c.args.scope.now in let target = task_target c.args.task.now in
+    let now = standing c.args.scope.now in let target = seen_target c.args.target.now in
     let P : LinkList → Type 0 = λ links. IsSupported now.net links (end_of now.net target.path) line in
     subst P c.requires.desk.made.links ((c.requires.desk.cone.lines line).0 ((c.marks.ensures.exactly line).0 marked))

@@ -7,7 +7,7 @@ use Rattle.state_sets.specs.declared.state.StateSet.{StateSet}
 use Rattle.implication.specs.Scopes.{standing}
 use Rattle.pair_judging.specs.LeastStates.{IsTakenOf}
 use Rattle.implication.specs.NodeScopes.{beginning_of}
-use Rattle.justify.specs.Tasks.{task_target}
+use Rattle.pair_judging.specs.Targets.{seen_target}
 use Rattle.justify.proofs.Resting.{label_is}
 use Rattle.justify.proofs.Suiting.{support_told}
 use Rattle.justify.proofs.trying.has_least.Goals as goal
@@ -27,9 +27,9 @@ returns-then-marked g c = λ yes.
       least = λ labels labelled.
           let T : StateSet → Type 0 = λ set. IsTakenOf g.A.Algebra.algebra.count set c.args.entry.state in
           let U : State → Type 0 = λ state. IsTakenOf g.A.Algebra.algebra.count c.label.result state in
-          subst T (label_is g.A.Algebra.algebra now (beginning_of (task_target c.args.task.now))
+          subst T (label_is g.A.Algebra.algebra now (beginning_of (seen_target c.args.target.now))
           c.requires.node.beginning c.args.entry.source.0 c.label.result
-          (support_told g.A.Algebra.algebra (task_target c.args.task.now) now c.requires.suits c.args.entry.source.0
+          (support_told g.A.Algebra.algebra (seen_target c.args.target.now) now c.requires.suits c.args.entry.source.0
           (record { is_source = within; supported = c.requires.supported c.args.entry.source.0 c.if-marked.true })) (c.label.ensures.told c.requires.node.free) labels labelled)
           (subst U (sym is) c.least.ensures);
     }

@@ -5,25 +5,25 @@ use Rattle.std.proofs.lemmas.List.{with_items_is}
 use Rattle.state_sets.specs.declared.state.State.{State}
 use Rattle.implication.specs.Scopes.{standing}
 use Rattle.pair_judging.specs.ConeStates.{state_in, AreSourceStates}
-use Rattle.justify.specs.Tasks.{task_target}
+use Rattle.pair_judging.specs.Targets.{seen_target}
 use Rattle.justify.proofs.TriedSources.{read_within, taken_least, least_of_sources, kept_least}
 use Rattle.justify.proofs.trying.judge_least.Goals as goal
 
 pub take_least-requires-clause-labels : goal.take_least-requires-clause-labels
 take_least-requires-clause-labels g c =
-    read_within g.A.Algebra.algebra (standing c.args.scope.now).net (standing c.args.scope.now).rules c.args.task.now.path.now
+    read_within g.A.Algebra.algebra (standing c.args.scope.now).net (standing c.args.scope.now).rules c.args.target.now.path.now
     c.args.desk.now c.requires.desk c.sources.result.now c.sources.ensures
     (length c.labels.result.now) c.labels.ensures.one_each
 
 pub take_least-requires-clause-places : goal.take_least-requires-clause-places
 take_least-requires-clause-places g c =
-    read_within g.A.Algebra.algebra (standing c.args.scope.now).net (standing c.args.scope.now).rules c.args.task.now.path.now
+    read_within g.A.Algebra.algebra (standing c.args.scope.now).net (standing c.args.scope.now).rules c.args.target.now.path.now
     c.args.desk.now c.requires.desk c.sources.result.now c.sources.ensures
     (length c.as_mut_slice.result.now) (ap length c.as_mut_slice.ensures.value ∙ c.requires.desk.made.states)
 
 pub returns-clause-least : goal.returns-clause-least
 returns-clause-least g c =
-    let now = standing c.args.scope.now in let target = task_target c.args.task.now in
+    let now = standing c.args.scope.now in let target = seen_target c.args.target.now in
     let long = c.take_least.ensures.places ∙ ap length c.as_mut_slice.ensures.value ∙ sym c.args.desk.now.states.ok.0 in
     kept_least g.A.Algebra.algebra target now c.take_least.new.states c.judge_states.new.desk.states.items
     (λ source within. c.judge_states.ensures.kept.states source within
@@ -33,7 +33,7 @@ returns-clause-least g c =
 
 pub judge_states-requires-clause-sources : goal.judge_states-requires-clause-sources
 judge_states-requires-clause-sources g c =
-    let now = standing c.args.scope.now in let target = task_target c.args.task.now in
+    let now = standing c.args.scope.now in let target = seen_target c.args.target.now in
     let long = c.take_least.ensures.places ∙ ap length c.as_mut_slice.ensures.value ∙ sym c.args.desk.now.states.ok.0 in
     let told = c.labels.ensures.told c.requires.node.free in
     let Q : List State → Type 0 = λ xs. AreSourceStates g.A.Algebra.algebra c.args.desk.now.cone.sources xs in

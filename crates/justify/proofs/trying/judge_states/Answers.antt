@@ -10,36 +10,36 @@ use Rattle.netlist.specs.LinkedPairs.{AreLinksOf}
 use Rattle.cones.specs.KeptCones.{IsConeFor, IsConeAt}
 use Rattle.pair_judging.specs.ConeStates.{AreStates, AreSourceStates, state_in}
 use Rattle.justify.specs.Desks.{AreInSupport}
-use Rattle.justify.specs.Tasks.{task_target}
+use Rattle.pair_judging.specs.Targets.{seen_target}
 use Rattle.justify.proofs.TriedSources.{blamed_in_support, in_cone_within, side_within, desk_again, kept_desk, read_at, sources_within}
 use Rattle.justify.proofs.TriedSources.{judged_fits, kept_sources}
 use Rattle.justify.proofs.trying.judge_states.Goals as goal
 
 pub set_failure-requires-clause-line : goal.set_failure-requires-clause-line
 set_failure-requires-clause-line g c =
-    let P : Circuit → Type 0 = λ n. IsPrefix n c.args.task.now.path.now in
+    let P : Circuit → Type 0 = λ n. IsPrefix n c.args.target.now.path.now in
     in_cone_within c.net-net.result.now c.sources.ensures.circuit c.args.desk.now.cone.links
     (subst (λ (n : Circuit). AreLinksOf n c.args.desk.now.cone.links) (sym c.net-net.ensures) c.requires.desk.made.cone.fit)
-    c.args.task.now.path.now (subst P (sym c.net-net.ensures) c.requires.prefix) c.in-FailsAt.line.0 c.in-FailsAt.ensures.within.0
+    c.args.target.now.path.now (subst P (sym c.net-net.ensures) c.requires.prefix) c.in-FailsAt.line.0 c.in-FailsAt.ensures.within.0
 
 pub set_failure-requires-clause-side : goal.set_failure-requires-clause-side
 set_failure-requires-clause-side g c =
-    let P : Circuit → Type 0 = λ n. IsPrefix n c.args.task.now.path.now in
+    let P : Circuit → Type 0 = λ n. IsPrefix n c.args.target.now.path.now in
     side_within c.net-net.result.now c.sources.ensures.circuit c.args.desk.now.cone.links
     (subst (λ (n : Circuit). AreLinksOf n c.args.desk.now.cone.links) (sym c.net-net.ensures) c.requires.desk.made.cone.fit)
-    c.args.task.now.path.now (subst P (sym c.net-net.ensures) c.requires.prefix)
+    c.args.target.now.path.now (subst P (sym c.net-net.ensures) c.requires.prefix)
     c.in-FailsAt.side c.in-FailsAt.ensures.within.1
 
 pub read_test-requires-clause-sources : goal.read_test-requires-clause-sources
 read_test-requires-clause-sources g c =
     sources_within g.A.Algebra.algebra c.net-net.result.now (standing c.args.scope.now).net c.net-net.ensures
-    (standing c.args.scope.now).rules c.args.task.now.path.now c.args.desk.now c.requires.desk
+    (standing c.args.scope.now).rules c.args.target.now.path.now c.args.desk.now c.requires.desk
 
 pub returns-in_ok-pair-in-IsTest-clause-desk : goal.returns-in_ok-pair-in-IsTest-clause-desk
 returns-in_ok-pair-in-IsTest-clause-desk g c =
     let long = c.judge-judgement.ensures.kept.places ∙ ap length c.as_mut_slice.ensures.value in
-    kept_desk g.A.Algebra.algebra (standing c.args.scope.now).net (standing c.args.scope.now).rules c.args.task.now.path.now _ c.keep.new.self c.keep.ensures
-    (desk_again g.A.Algebra.algebra (standing c.args.scope.now).net (standing c.args.scope.now).rules c.args.task.now.path.now c.args.desk.now _ c.judge-judgement.new.states c.requires.desk
+    kept_desk g.A.Algebra.algebra (standing c.args.scope.now).net (standing c.args.scope.now).rules c.args.target.now.path.now _ c.keep.new.self c.keep.ensures
+    (desk_again g.A.Algebra.algebra (standing c.args.scope.now).net (standing c.args.scope.now).rules c.args.target.now.path.now c.args.desk.now _ c.judge-judgement.new.states c.requires.desk
     refl refl refl
     (with_items_is c.args.desk.now.states c.judge-judgement.new.states (long ∙ sym c.args.desk.now.states.ok.0))
     c.judge-judgement.ensures.kept.states long c.requires.desk.made.justifier)
@@ -59,7 +59,7 @@ returns-in_ok-pair-in-IsTest-clause-kept g c =
 pub returns-in_ok-pair-in-IsTest-clause-test : goal.returns-in_ok-pair-in-IsTest-clause-test
 returns-in_ok-pair-in-IsTest-clause-test g c =
     let long = c.judge-judgement.ensures.kept.places ∙ ap length c.as_mut_slice.ensures.value ∙ sym c.args.desk.now.states.ok.0 in
-    let net = (standing c.args.scope.now).net in let target = task_target c.args.task.now in
+    let net = (standing c.args.scope.now).net in let target = seen_target c.args.target.now in
     judged_fits g.A.Algebra.algebra c.net-net.result.now net c.net-net.ensures (standing c.args.scope.now).rules target c.args.desk.now
     c.requires.desk c.judge-judgement.new.states c.in_ok-pair-in-IsTest.pair
     (read_at g.A.Algebra.algebra c.net-net.result.now net c.net-net.ensures (standing c.args.scope.now).rules target.path c.args.desk.now
@@ -71,7 +71,7 @@ returns-in_ok-pair-in-IsTest-clause-test g c =
 pub returns-in_err-pair-in-IsTest-clause-desk : goal.returns-in_err-pair-in-IsTest-clause-desk
 returns-in_err-pair-in-IsTest-clause-desk g c =
     let long = c.judge-judgement.ensures.kept.places ∙ ap length c.as_mut_slice.ensures.value in
-    desk_again g.A.Algebra.algebra (standing c.args.scope.now).net (standing c.args.scope.now).rules c.args.task.now.path.now c.args.desk.now _ c.judge-judgement.new.states c.requires.desk
+    desk_again g.A.Algebra.algebra (standing c.args.scope.now).net (standing c.args.scope.now).rules c.args.target.now.path.now c.args.desk.now _ c.judge-judgement.new.states c.requires.desk
     refl refl refl
     (with_items_is c.args.desk.now.states c.judge-judgement.new.states (long ∙ sym c.args.desk.now.states.ok.0))
     c.judge-judgement.ensures.kept.states long c.requires.desk.made.justifier
@@ -90,7 +90,7 @@ returns-in_err-pair-in-IsTest-clause-kept g c =
 pub returns-in-FailsAt-clause-desk : goal.returns-in-FailsAt-clause-desk
 returns-in-FailsAt-clause-desk g c =
     let long = c.judge-judgement.ensures.kept.places ∙ ap length c.as_mut_slice.ensures.value in
-    desk_again g.A.Algebra.algebra (standing c.args.scope.now).net (standing c.args.scope.now).rules c.args.task.now.path.now c.args.desk.now _ c.judge-judgement.new.states c.requires.desk
+    desk_again g.A.Algebra.algebra (standing c.args.scope.now).net (standing c.args.scope.now).rules c.args.target.now.path.now c.args.desk.now _ c.judge-judgement.new.states c.requires.desk
     refl c.set_failure.ensures.room refl
     (with_items_is c.args.desk.now.states c.judge-judgement.new.states (long ∙ sym c.args.desk.now.states.ok.0))
     c.judge-judgement.ensures.kept.states long c.requires.desk.made.justifier
@@ -108,7 +108,7 @@ returns-in-FailsAt-clause-kept g c =
 
 pub judge-judgement-requires-clause-prefix : goal.judge-judgement-requires-clause-prefix
 judge-judgement-requires-clause-prefix g c =
-    let P : Circuit → Type 0 = λ n. IsPrefix n c.args.task.now.path.now in subst P (sym c.net-net.ensures) c.requires.prefix
+    let P : Circuit → Type 0 = λ n. IsPrefix n c.args.target.now.path.now in subst P (sym c.net-net.ensures) c.requires.prefix
 
 pub judge-judgement-requires-clause-made : goal.judge-judgement-requires-clause-made
 judge-judgement-requires-clause-made g c =
@@ -116,7 +116,7 @@ judge-judgement-requires-clause-made g c =
 
 pub judge-judgement-requires-clause-cone : goal.judge-judgement-requires-clause-cone
 judge-judgement-requires-clause-cone g c =
-    let P : Circuit → Type 0 = λ n. IsConeAt n (end_of n c.args.task.now.path.now) c.args.desk.now.cone in
+    let P : Circuit → Type 0 = λ n. IsConeAt n (end_of n c.args.target.now.path.now) c.args.desk.now.cone in
     subst P (sym c.net-net.ensures) c.requires.desk.cone
 
 pub judge-judgement-requires-clause-labels : goal.judge-judgement-requires-clause-labels
@@ -140,7 +140,7 @@ read_test-requires-clause-states g c =
     let here = with_items_is c.args.desk.now.states c.judge-judgement.new.states (long ∙ sym c.args.desk.now.states.ok.0) in
     let Q : List State → Type 0 = λ xs. AreSourceStates g.A.Algebra.algebra c.args.desk.now.cone.sources xs in
     subst Q (sym (c.as_slice.ensures.value ∙ here))
-    (kept_sources g.A.Algebra.algebra (standing c.args.scope.now).net (standing c.args.scope.now).rules c.args.task.now.path.now
+    (kept_sources g.A.Algebra.algebra (standing c.args.scope.now).net (standing c.args.scope.now).rules c.args.target.now.path.now
     c.args.desk.now c.requires.desk c.args.desk.now.states.items c.judge-judgement.new.states
     (λ source within.
     c.judge-judgement.ensures.kept.sources source (subst (λ (n : Circuit). source < source_count n) (sym c.net-net.ensures) within)
@@ -154,9 +154,9 @@ set_failure-requires-clause-labels g c = c.labels-in-FailsAt.ensures.one_each �
 
 pub returns-in-FailsAt-clause-blamed : goal.returns-in-FailsAt-clause-blamed
 returns-in-FailsAt-clause-blamed g c =
-    let P : Circuit → Type 0 = λ n. AreInSupport n (standing c.args.scope.now).rules c.args.task.now.path.now c.set_failure.new.self.sources in
+    let P : Circuit → Type 0 = λ n. AreInSupport n (standing c.args.scope.now).rules c.args.target.now.path.now c.set_failure.new.self.sources in
     subst P c.net-net.ensures
-    (blamed_in_support c.net-net.result.now (standing c.args.scope.now).rules c.args.task.now.path.now c.args.desk.now.cone.links
+    (blamed_in_support c.net-net.result.now (standing c.args.scope.now).rules c.args.target.now.path.now c.args.desk.now.cone.links
     c.requires.desk.made.links c.in-FailsAt.line c.in-FailsAt.side c.set_failure.new.self.sources
     c.set_failure.ensures.blamed c.in-FailsAt.ensures.within.0 c.in-FailsAt.ensures.within.1)
 

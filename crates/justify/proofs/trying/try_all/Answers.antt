@@ -8,27 +8,27 @@ use Rattle.implication.specs.Scopes.{standing}
 use Rattle.justify.specs.declared.trial.Tried.{Tried}
 use Rattle.pair_judging.specs.ConeStates.{AreStates, AreSourceStates}
 use Rattle.cones.specs.KeptCones.{IsConeFor}
-use Rattle.justify.specs.Tasks.{task_target}
+use Rattle.pair_judging.specs.Targets.{seen_target}
 use Rattle.justify.specs.Trying.{CanTry, HasLeast, GivesTest}
 use Rattle.justify.proofs.TriedSources.{read_in_support, read_within, all_tried, read_at, sources_within, tried_fits, least_of_sources}
 use Rattle.justify.proofs.trying.try_all.Goals as goal
 
 pub collect-requires : goal.collect-requires
 collect-requires g c =
-    read_within g.A.Algebra.algebra (standing c.args.scope.now).net (standing c.args.scope.now).rules c.args.task.now.path.now
+    read_within g.A.Algebra.algebra (standing c.args.scope.now).net (standing c.args.scope.now).rules c.args.target.now.path.now
     c.args.desk.now c.requires.desk c.sources.result.now c.sources.ensures
     (length c.as_slice.result.now) (ap length c.as_slice.ensures.value ∙ c.requires.desk.made.states)
 
 pub closes-requires-clause-tried : goal.closes-requires-clause-tried
 closes-requires-clause-tried g c =
-    let now = standing c.args.scope.now in let target = task_target c.args.task.now in
+    let now = standing c.args.scope.now in let target = seen_target c.args.target.now in
     let P : List Tried → Type 0 = λ xs. All (CanTry g.A.Algebra.algebra target now) xs in
     let Q : List State → Type 0 = λ xs. HasLeast g.A.Algebra.algebra target now xs in
     let R : List State → Type 0 = λ xs. AreStates g.A.Algebra.algebra.count xs in
     let same = sym c.as_slice.ensures.value in
     subst P (sym c.as_slice-2.ensures.value)
     (all_tried g.A.Algebra.algebra target now c.sources.result.now c.as_slice.result.now c.collect.new.tried.items c.in_ok-collect.ensures
-    (read_in_support g.A.Algebra.algebra now.net now.rules c.args.task.now.path.now c.args.desk.now c.requires.desk c.sources.result.now
+    (read_in_support g.A.Algebra.algebra now.net now.rules c.args.target.now.path.now c.args.desk.now c.requires.desk c.sources.result.now
     c.sources.ensures)
     (subst Q same c.requires.least) (subst R same c.requires.desk.made.within)
     (ap length c.as_slice.ensures.value ∙ c.requires.desk.made.states))
@@ -36,11 +36,11 @@ closes-requires-clause-tried g c =
 pub read_test-requires-clause-sources : goal.read_test-requires-clause-sources
 read_test-requires-clause-sources g c =
     sources_within g.A.Algebra.algebra c.net.result.now (standing c.args.scope.now).net (c.net.ensures ∙ c.closes.ensures.restored.net)
-    (standing c.args.scope.now).rules c.args.task.now.path.now c.args.desk.now c.requires.desk
+    (standing c.args.scope.now).rules c.args.target.now.path.now c.args.desk.now c.requires.desk
 
 pub returns-clause-answer : goal.returns-clause-answer
 returns-clause-answer g c =
-    let net = (standing c.args.scope.now).net in let target = task_target c.args.task.now in
+    let net = (standing c.args.scope.now).net in let target = seen_target c.args.target.now in
     let rules = (standing c.args.scope.now).rules in
     let Q : List Tried → Type 0 = λ xs. GivesTest g.A.Algebra.algebra net rules target xs in
     tried_fits g.A.Algebra.algebra net rules target c.args.desk.now c.requires.desk c.sources.result.now c.sources.ensures
@@ -52,7 +52,7 @@ returns-clause-answer g c =
 
 pub read_test-requires-clause-states : goal.read_test-requires-clause-states
 read_test-requires-clause-states g c =
-    let now = standing c.args.scope.now in let target = task_target c.args.task.now in
+    let now = standing c.args.scope.now in let target = seen_target c.args.target.now in
     let Q : List State → Type 0 = λ xs. AreSourceStates g.A.Algebra.algebra c.args.desk.now.cone.sources xs in
     let labels = c.labels.ensures.told c.requires.node.free in
     subst Q (sym c.as_slice-3.ensures.value)

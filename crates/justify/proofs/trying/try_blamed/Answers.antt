@@ -11,7 +11,7 @@ use Rattle.implication.proofs.Restoring.{same_scope_twice}
 use Rattle.justify.specs.declared.trial.Tried.{Tried}
 use Rattle.pair_judging.specs.ConeStates.{AreStates}
 use Rattle.justify.specs.Desks.{IsDesk, AreInSupport}
-use Rattle.justify.specs.Tasks.{task_target}
+use Rattle.pair_judging.specs.Targets.{seen_target}
 use Rattle.justify.specs.Trying.{CanTry, HasLeast, EndsAtNode}
 use Rattle.justify.proofs.SameNodes.{same_restored, restored_trans, ok_answer, least_stays, stays_at_node}
 use Rattle.justify.proofs.Suiting.{suits_restored}
@@ -21,29 +21,29 @@ use Rattle.justify.proofs.trying.try_blamed.Goals as goal
 pub collect-requires : goal.collect-requires
 collect-requires g c =
     let net = (standing c.args.scope.now).net in
-    let S : List LineId → Type 0 = λ xs. AreInSupport net (standing c.args.scope.now).rules c.args.task.now.path.now xs in
-    support_within net (standing c.args.scope.now).rules c.args.task.now.path.now c.sources.result.now (length c.as_slice.result.now)
+    let S : List LineId → Type 0 = λ xs. AreInSupport net (standing c.args.scope.now).rules c.args.target.now.path.now xs in
+    support_within net (standing c.args.scope.now).rules c.args.target.now.path.now c.sources.result.now (length c.as_slice.result.now)
     (ap length c.as_slice.ensures.value ∙ c.requires.desk.made.states) (subst S (sym c.sources.ensures) c.requires.blamed)
 
 pub returns-in_err-collect-clause-desk : goal.returns-in_err-collect-clause-desk
 returns-in_err-collect-clause-desk g c =
-    kept_desk g.A.Algebra.algebra (standing c.args.scope.now).net (standing c.args.scope.now).rules c.args.task.now.path.now c.args.desk.now _
+    kept_desk g.A.Algebra.algebra (standing c.args.scope.now).net (standing c.args.scope.now).rules c.args.target.now.path.now c.args.desk.now _
     (record { cone = refl; states = refl; blame = refl; liked = refl; justifier = refl }) c.requires.desk
 
 pub returns-then-closes-clause-desk : goal.returns-then-closes-clause-desk
 returns-then-closes-clause-desk g c =
-    kept_desk g.A.Algebra.algebra (standing c.args.scope.now).net (standing c.args.scope.now).rules c.args.task.now.path.now c.args.desk.now _
+    kept_desk g.A.Algebra.algebra (standing c.args.scope.now).net (standing c.args.scope.now).rules c.args.target.now.path.now c.args.desk.now _
     (record { cone = refl; states = refl; blame = refl; liked = refl; justifier = refl }) c.requires.desk
 
 pub returns-then-closes-clause-answer : goal.returns-then-closes-clause-answer
 returns-then-closes-clause-answer g c =
-    let P : Bool → Type 0 = λ b. EndsAtNode g.A.Algebra.algebra (task_target c.args.task.now) (standing c.args.scope.now) (standing c.closes.new.scope)
+    let P : Bool → Type 0 = λ b. EndsAtNode g.A.Algebra.algebra (seen_target c.args.target.now) (standing c.args.scope.now) (standing c.closes.new.scope)
     c.as_slice-2.result.now b in
     subst P c.if-closes.true c.closes.ensures.ends
 
 pub returns-clause-desk : goal.returns-clause-desk
 returns-clause-desk g c =
-    let P : Circuit → Rules → Type 0 = λ n r. IsDesk g.A.Algebra.algebra n r c.args.task.now.path.now c.try_all.new.desk in
+    let P : Circuit → Rules → Type 0 = λ n r. IsDesk g.A.Algebra.algebra n r c.args.target.now.path.now c.try_all.new.desk in
     there_too P (standing c.closes.new.scope).net (standing c.args.scope.now).net (standing c.closes.new.scope).rules
     (standing c.args.scope.now).rules c.closes.ensures.restored.net c.closes.ensures.restored.rules c.try_all.ensures.desk
 
@@ -57,11 +57,11 @@ returns-clause-restored g c =
 
 pub closes-requires-clause-tried : goal.closes-requires-clause-tried
 closes-requires-clause-tried g c =
-    let now = standing c.args.scope.now in let target = task_target c.args.task.now in
+    let now = standing c.args.scope.now in let target = seen_target c.args.target.now in
     let P : List Tried → Type 0 = λ xs. All (CanTry g.A.Algebra.algebra target now) xs in
     let Q : List State → Type 0 = λ xs. HasLeast g.A.Algebra.algebra target now xs in
     let R : List State → Type 0 = λ xs. AreStates g.A.Algebra.algebra.count xs in
-    let S : List LineId → Type 0 = λ xs. AreInSupport now.net now.rules c.args.task.now.path.now xs in
+    let S : List LineId → Type 0 = λ xs. AreInSupport now.net now.rules c.args.target.now.path.now xs in
     let same = sym c.as_slice.ensures.value in
     subst P (sym c.as_slice-2.ensures.value)
     (all_tried g.A.Algebra.algebra target now c.sources.result.now c.as_slice.result.now c.collect.new.tried.items c.in_ok-collect.ensures
@@ -72,31 +72,31 @@ closes-requires-clause-tried g c =
 pub try_all-requires-clause-least : goal.try_all-requires-clause-least
 try_all-requires-clause-least g c =
     let now = standing c.args.scope.now in
-    least_stays g.A.Algebra.algebra (task_target c.args.task.now) now (standing c.closes.new.scope)
+    least_stays g.A.Algebra.algebra (seen_target c.args.target.now) now (standing c.closes.new.scope)
     (same_restored now (standing c.closes.new.scope) c.closes.ensures.restored)
     c.args.desk.now.states.items c.requires.least
 
 pub returns-clause-answer : goal.returns-clause-answer
 returns-clause-answer g c =
-    ok_answer g.A.Algebra.algebra (task_target c.args.task.now) (standing c.args.scope.now) (standing c.closes.new.scope) (standing c.try_all.new.scope)
+    ok_answer g.A.Algebra.algebra (seen_target c.args.target.now) (standing c.args.scope.now) (standing c.closes.new.scope) (standing c.try_all.new.scope)
     c.closes.ensures.restored c.try_all.result c.try_all.ensures.answer
 
 pub try_all-requires-clause-suits : goal.try_all-requires-clause-suits
 try_all-requires-clause-suits g c =
-    suits_restored g.A.Algebra.algebra (task_target c.args.task.now) (standing c.args.scope.now) (standing c.closes.new.scope)
+    suits_restored g.A.Algebra.algebra (seen_target c.args.target.now) (standing c.args.scope.now) (standing c.closes.new.scope)
     c.closes.ensures.restored c.requires.suits
 
 pub try_all-requires-clause-node : goal.try_all-requires-clause-node
 try_all-requires-clause-node g c =
     let now = standing c.args.scope.now in
-    stays_at_node g.A.Algebra.algebra (task_target c.args.task.now) now (standing c.closes.new.scope)
+    stays_at_node g.A.Algebra.algebra (seen_target c.args.target.now) now (standing c.closes.new.scope)
     (same_restored now (standing c.closes.new.scope) c.closes.ensures.restored) c.requires.node
 
 pub try_all-requires-clause-desk : goal.try_all-requires-clause-desk
 try_all-requires-clause-desk g c =
     let after = record c.args.desk.now { tried = c.collect.new.tried } in
-    let P : Circuit → Rules → Type 0 = λ n r. IsDesk g.A.Algebra.algebra n r c.args.task.now.path.now after in
+    let P : Circuit → Rules → Type 0 = λ n r. IsDesk g.A.Algebra.algebra n r c.args.target.now.path.now after in
     there_too P (standing c.args.scope.now).net (standing c.closes.new.scope).net (standing c.args.scope.now).rules
     (standing c.closes.new.scope).rules (sym c.closes.ensures.restored.net) (sym c.closes.ensures.restored.rules)
-    (kept_desk g.A.Algebra.algebra (standing c.args.scope.now).net (standing c.args.scope.now).rules c.args.task.now.path.now
+    (kept_desk g.A.Algebra.algebra (standing c.args.scope.now).net (standing c.args.scope.now).rules c.args.target.now.path.now
     c.args.desk.now after (record { cone = refl; states = refl; blame = refl; liked = refl; justifier = refl }) c.requires.desk)

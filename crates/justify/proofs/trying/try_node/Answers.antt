@@ -10,7 +10,7 @@ use Rattle.implication.proofs.ScopeLabels.{there_too}
 use Rattle.justify.proofs.Suiting.{suits_restored}
 use Rattle.justify.specs.Tests.{IsFitTest}
 use Rattle.justify.specs.Desks.{IsDesk}
-use Rattle.justify.specs.Tasks.{task_target}
+use Rattle.pair_judging.specs.Targets.{seen_target}
 use Rattle.justify.proofs.SameNodes.{ok_answer, restored_trans, same_restored, stays_at_node}
 use Rattle.justify.proofs.trying.try_node.Goals as goal
 
@@ -20,54 +20,54 @@ returns-then-closes_again-clause-answer g c = c.closes_again.ensures.failed c.if
 pub judge_least-requires-clause-node : goal.judge_least-requires-clause-node
 judge_least-requires-clause-node g c =
     let first = standing c.args.scope.now in let now = standing c.closes_again.new.scope in
-    stays_at_node g.A.Algebra.algebra (task_target c.args.task.now) first now (same_restored first now c.closes_again.ensures.restored) c.requires.node
+    stays_at_node g.A.Algebra.algebra (seen_target c.args.target.now) first now (same_restored first now c.closes_again.ensures.restored) c.requires.node
 
 pub judge_least-requires-clause-suits : goal.judge_least-requires-clause-suits
 judge_least-requires-clause-suits g c =
-    suits_restored g.A.Algebra.algebra (task_target c.args.task.now) (standing c.args.scope.now) (standing c.closes_again.new.scope)
+    suits_restored g.A.Algebra.algebra (seen_target c.args.target.now) (standing c.args.scope.now) (standing c.closes_again.new.scope)
     c.closes_again.ensures.restored c.requires.suits
 
 pub judge_least-requires-clause-desk : goal.judge_least-requires-clause-desk
 judge_least-requires-clause-desk g c =
-    let P : Circuit → Rules → Type 0 = λ n r. IsDesk g.A.Algebra.algebra n r c.args.task.now.path.now c.args.desk.now in
+    let P : Circuit → Rules → Type 0 = λ n r. IsDesk g.A.Algebra.algebra n r c.args.target.now.path.now c.args.desk.now in
     there_too P (standing c.args.scope.now).net (standing c.closes_again.new.scope).net (standing c.args.scope.now).rules
     (standing c.closes_again.new.scope).rules (sym c.closes_again.ensures.restored.net) (sym c.closes_again.ensures.restored.rules)
     c.requires.desk
 
 pub returns-in_err-pair-clause-desk : goal.returns-in_err-pair-clause-desk
 returns-in_err-pair-clause-desk g c =
-    let P : Circuit → Rules → Type 0 = λ n r. IsDesk g.A.Algebra.algebra n r c.args.task.now.path.now c.judge_least.new.desk in
+    let P : Circuit → Rules → Type 0 = λ n r. IsDesk g.A.Algebra.algebra n r c.args.target.now.path.now c.judge_least.new.desk in
     there_too P (standing c.closes_again.new.scope).net (standing c.args.scope.now).net (standing c.closes_again.new.scope).rules
     (standing c.args.scope.now).rules c.closes_again.ensures.restored.net c.closes_again.ensures.restored.rules c.judge_least.ensures.desk
 
 pub try_blamed-requires-clause-suits : goal.try_blamed-requires-clause-suits
 try_blamed-requires-clause-suits g c =
-    suits_restored g.A.Algebra.algebra (task_target c.args.task.now) (standing c.args.scope.now) (standing c.closes_again.new.scope)
+    suits_restored g.A.Algebra.algebra (seen_target c.args.target.now) (standing c.args.scope.now) (standing c.closes_again.new.scope)
     c.closes_again.ensures.restored c.requires.suits
 
 pub try_blamed-requires-clause-node : goal.try_blamed-requires-clause-node
 try_blamed-requires-clause-node g c =
     let first = standing c.args.scope.now in let now = standing c.closes_again.new.scope in
-    stays_at_node g.A.Algebra.algebra (task_target c.args.task.now) first now (same_restored first now c.closes_again.ensures.restored) c.requires.node
+    stays_at_node g.A.Algebra.algebra (seen_target c.args.target.now) first now (same_restored first now c.closes_again.ensures.restored) c.requires.node
 
 pub returns-in-Some-clause-desk : goal.returns-in-Some-clause-desk
 returns-in-Some-clause-desk g c =
-    let P : Circuit → Rules → Type 0 = λ n r. IsDesk g.A.Algebra.algebra n r c.args.task.now.path.now c.judge_least.new.desk in
+    let P : Circuit → Rules → Type 0 = λ n r. IsDesk g.A.Algebra.algebra n r c.args.target.now.path.now c.judge_least.new.desk in
     there_too P (standing c.closes_again.new.scope).net (standing c.args.scope.now).net (standing c.closes_again.new.scope).rules
     (standing c.args.scope.now).rules c.closes_again.ensures.restored.net c.closes_again.ensures.restored.rules c.judge_least.ensures.desk
 
 pub returns-in-Some-clause-answer : goal.returns-in-Some-clause-answer
 returns-in-Some-clause-answer g c =
     let Q : Option Vectors → Type 0 = λ found. IfSome found
-    (IsFitTest (standing c.closes_again.new.scope).net (standing c.closes_again.new.scope).rules (task_target c.args.task.now)) in
-    let P : Circuit → Rules → Type 0 = λ n r. IsFitTest n r (task_target c.args.task.now) c.in-Some.pair in
+    (IsFitTest (standing c.closes_again.new.scope).net (standing c.closes_again.new.scope).rules (seen_target c.args.target.now)) in
+    let P : Circuit → Rules → Type 0 = λ n r. IsFitTest n r (seen_target c.args.target.now) c.in-Some.pair in
     there_too P (standing c.closes_again.new.scope).net (standing c.args.scope.now).net (standing c.closes_again.new.scope).rules
     (standing c.args.scope.now).rules c.closes_again.ensures.restored.net c.closes_again.ensures.restored.rules
     (subst Q c.in-Some.is c.in_ok-pair.ensures.test)
 
 pub returns-in-None-clause-desk : goal.returns-in-None-clause-desk
 returns-in-None-clause-desk g c =
-    let P : Circuit → Rules → Type 0 = λ n r. IsDesk g.A.Algebra.algebra n r c.args.task.now.path.now c.try_blamed.new.desk in
+    let P : Circuit → Rules → Type 0 = λ n r. IsDesk g.A.Algebra.algebra n r c.args.target.now.path.now c.try_blamed.new.desk in
     there_too P (standing c.closes_again.new.scope).net (standing c.args.scope.now).net (standing c.closes_again.new.scope).rules
     (standing c.args.scope.now).rules c.closes_again.ensures.restored.net c.closes_again.ensures.restored.rules c.try_blamed.ensures.desk
 
@@ -81,5 +81,5 @@ returns-in-None-clause-restored g c =
 
 pub returns-in-None-clause-answer : goal.returns-in-None-clause-answer
 returns-in-None-clause-answer g c =
-    ok_answer g.A.Algebra.algebra (task_target c.args.task.now) (standing c.args.scope.now) (standing c.closes_again.new.scope) (standing c.try_blamed.new.scope)
+    ok_answer g.A.Algebra.algebra (seen_target c.args.target.now) (standing c.args.scope.now) (standing c.closes_again.new.scope) (standing c.try_blamed.new.scope)
     c.closes_again.ensures.restored c.try_blamed.result c.try_blamed.ensures.answer
