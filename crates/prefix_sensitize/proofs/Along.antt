@@ -12,13 +12,14 @@ use Rattle.netlist.specs.Circuit.{Circuit}
 use Rattle.implication.specs.declared.assumption.Beginning.{Beginning}
 use Rattle.implication.specs.Standing.{Standing}
 use Rattle.prefix_sensitize.specs.declared.course.Course.{Course}
-use Rattle.prefix_sensitize.specs.declared.descent.Ended.{Ended}
-use Rattle.prefix_sensitize.specs.declared.descent.Ended.TheVariants.{Test, Spent, Refuted}
+use Rattle.justify.specs.declared.answer.Found.{Found}
+use Rattle.justify.specs.declared.answer.Found.TheVariants.{Test, Spent, Refuted}
+use Rattle.prefix_sensitize.specs.declared.descent.FoundAlong.{FoundAlong}
 use Rattle.prefix_sensitize.specs.declared.outcome.Aim.{Aim}
 use Rattle.prefix_sensitize.specs.declared.outcome.Findings.{Findings}
 use Rattle.prefix_sensitize.specs.Coming.{HasComeAlong, HasComeApart, HasComeOn}
 use Rattle.prefix_sensitize.specs.Courses.{BeginsAt, IsBegunAt, IsCourse}
-use Rattle.prefix_sensitize.specs.Entering.{CountsPins, HasGone, HasMovedOn, IsEnded, IsSameBeginning}
+use Rattle.prefix_sensitize.specs.Entering.{CountsPins, HasGone, HasMovedOn, IsFoundAlong, IsFoundUpTo, IsSameBeginning}
 use Rattle.prefix_sensitize.specs.PathOrder.{StandsInOrder}
 use Rattle.prefix_sensitize.specs.Settling.{HasItsSteps, Settles}
 use Rattle.prefix_sensitize.specs.Walking.{ComesOn}
@@ -31,11 +32,11 @@ use Rattle.prefix_sensitize.proofs.Passing.{come_apart}
 use Rattle.prefix_sensitize.proofs.PathOrder.{stands_once}
 
 -- a refutation that a search ends with is one of no more steps than the path has
-pub its_steps : (c : Circuit) (rules : Rules) (aim : Aim) (route : Route) (ended : Ended) → IsEnded c rules aim route ended
-    → HasItsSteps route ended
-its_steps c rules aim route (Test pair) is = tt
-its_steps c rules aim route (Spent tree) is = tt
-its_steps c rules aim route (Refuted steps tree) is = is.has_steps
+pub its_steps : (c : Circuit) (rules : Rules) (aim : Aim) (route : Route) (steps : ℕ) (found : Found) → IsFoundUpTo c rules aim route steps found
+    → HasItsSteps route steps found
+its_steps c rules aim route steps (Test pair) is = tt
+its_steps c rules aim route steps (Spent tree) is = tt
+its_steps c rules aim route steps (Refuted tree) is = is.has_steps
 
 -- a course stays one, as the circuit and the told ends stay
 pub same_course : (old new : Standing) → IsSameBeginning old new → (course : Course) → IsCourse old.net old.rules old.ends course
@@ -99,18 +100,18 @@ module _ (old : Standing) (course : Course) (is_course : IsCourse old.net old.ru
     gone_to = record { beginning = began; entered = come.gone.entered; free = come.gone.free }
 
     -- the path was visited
-    pub visited_along : (new : Standing) → IsSameBeginning old new → (pins' : List PinRef) (ended : Ended)
-        → IsEnded old.net old.rules course.aim route ended → HasGone new route course.aim pins'
+    pub visited_along : (new : Standing) → IsSameBeginning old new → (pins' : List PinRef) (ended : FoundAlong)
+        → IsFoundAlong old.net old.rules course.aim route ended → HasGone new route course.aim pins'
         → (steps' : ℕ) → (more : ℕ) × (steps' ≡ steps + more) × HasMovedOn pins pins' route ended more
         → (end : ℕ) (after : Findings)
-        → Settles course place row route ended end before.outcomes.items after.outcomes.items before.proofs.items after.proofs.items
+        → Settles course place row route ended.steps ended.found end before.outcomes.items after.outcomes.items before.proofs.items after.proofs.items
         → HasComeAlong new course begin end pins' after steps' × ComesOn course place end before after
-    visited_along new same pins' ended is_ended gone steps' moved end after settles =
+    visited_along new same pins' ended is_found gone steps' moved end after settles =
         let source : route.source ≡ come.source =
         same_source old.beginning route.source come.source course.aim.direction course.aim.kind began come.gone.beginning in
         let then =
         visited old.net old.rules old.ends course is_course begin place row route here before.outcomes.items before.proofs.items steps
-        come.source source pins come.come pins' ended moved.0 is_ended moved.2 end after.outcomes.items after.proofs.items settles steps' moved.1 in
+        come.source source pins come.come pins' ended moved.0 is_found moved.2 end after.outcomes.items after.proofs.items settles steps' moved.1 in
         let P : Circuit → Rules → Type 0 =
         λ c rules. HasComeOn c rules course begin end (record { source = come.source; steps = pins' }) after.outcomes.items
         after.proofs.items steps' in (

@@ -37,14 +37,15 @@ use Rattle.good_runs.specs.Shortest.{ClosesAtStart, IsShortest, target_within}
 use Rattle.good_runs.proofs.Completeness.{root_is_open}
 use Rattle.good_runs.proofs.Numbers.{all_at_number, number_of_place, number_same}
 use Rattle.prefix_sensitize.specs.declared.course.Course.{Course}
-use Rattle.prefix_sensitize.specs.declared.descent.Ended.TheVariants.{Refuted}
+use Rattle.justify.specs.declared.answer.Found.TheVariants.{Refuted}
+use Rattle.prefix_sensitize.specs.declared.descent.FoundAlong.{FoundAlong}
 use Rattle.prefix_sensitize.specs.declared.outcome.Aim.{Aim}
 use Rattle.prefix_sensitize.specs.declared.outcome.Findings.{Findings}
 use Rattle.prefix_sensitize.specs.declared.outcome.Outcome.{Outcome}
 use Rattle.prefix_sensitize.specs.declared.outcome.Outcome.TheVariants.{Unsearched, Tested, Proved}
 use Rattle.prefix_sensitize.specs.Coming.{HasCome, HasComeApart, HasComeOn}
 use Rattle.prefix_sensitize.specs.Courses.{IsCourse}
-use Rattle.prefix_sensitize.specs.Entering.{RefutesPrefix}
+use Rattle.prefix_sensitize.specs.Entering.{RefutesPrefix, refuted_at}
 use Rattle.prefix_sensitize.specs.Outcomes.{IsFoundProof, IsOutcome, outcome_at, target_for}
 use Rattle.prefix_sensitize.specs.PathOrder.{StandsInOrder}
 use Rattle.prefix_sensitize.specs.Settling.{Settles}
@@ -178,22 +179,22 @@ module _ (c : Circuit) (rules : Rules) (ends : Option (List LineId)) (course : C
         (λ (behind : place ≤ at). behind) (cases_lt at place)
 
   module _ (before after : Findings) (steps : ℕ) (come : HasComeApart c rules course begin place before steps) (end : ℕ)
-      (settles : Settles course place row route (Refuted 0 (Closed ∷ [])) end before.outcomes.items after.outcomes.items
+      (settles : Settles course place row route 0 (Refuted (Closed ∷ [])) end before.outcomes.items after.outcomes.items
       before.proofs.items after.proofs.items) where
     -- no pin is shared, tried or kept
-    nothing_reached : HasReached route (Refuted 0 (Closed ∷ [])) 0 0 (0 + 0)
+    nothing_reached : HasReached route (refuted_at 0 (Closed ∷ [])) 0 0 (0 + 0)
     nothing_reached = record {
       few = omega arith;
       within = omega arith;
-      at_refuted = λ count tree is. (let its : count ≡ 0 = cc in omega (arith, its));
+      at_refuted = λ count tree is. (let its : count ≡ 0 = sym (ap (λ (e : FoundAlong). e.steps) is) in omega (arith, its));
       left = λ fewer. absurd (omega (arith, fewer));
       last = omega arith;
       whole = λ none. absurd (none 0 (Closed ∷ []) refl);
     }
 
-    no_earlier : (count : ℕ) (tree : List Node) → Refuted 0 (Closed ∷ []) ≡ Refuted count tree → StandsNoEarlier course place (prefix_of count route)
+    no_earlier : (count : ℕ) (tree : List Node) → refuted_at 0 (Closed ∷ []) ≡ refuted_at count tree → StandsNoEarlier course place (prefix_of count route)
     no_earlier count tree is =
-        let zero : 0 ≡ count = cc in
+        let zero : 0 ≡ count = ap (λ (e : FoundAlong). e.steps) is in
         let P : ℕ → Type 0 = λ n. StandsNoEarlier course place (prefix_of n route) in
         subst P zero
         (λ at other another there begins.
@@ -204,7 +205,7 @@ module _ (c : Circuit) (rules : Rules) (ends : Option (List LineId)) (course : C
     visited_source =
         by_end c rules ends course is_course begin place row route here before.outcomes.items before.proofs.items steps route.source refl []
         (come_from c rules course is_course.order begin place before steps route.source come) 0 0 end after.outcomes.items
-        after.proofs.items (Refuted 0 (Closed ∷ [])) start_refutes 0 (let e : 0 ≤ 0 = omega arith in e)
+        after.proofs.items 0 (Refuted (Closed ∷ [])) start_refutes 0 (let e : 0 ≤ 0 = omega arith in e)
         (record { in_first = omega arith; in_second = omega arith; same = refl; most = λ more first second same. first })
         nothing_reached no_earlier settles
 

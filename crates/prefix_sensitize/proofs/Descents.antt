@@ -28,9 +28,9 @@ use Rattle.justify.specs.Answers.{IsFound}
 use Rattle.justify.specs.Scoping.{IsStart}
 use Rattle.good_runs.specs.Shortest.{ClosesAtStart}
 use Rattle.prefix_sensitize.specs.declared.outcome.Aim.{Aim}
-use Rattle.prefix_sensitize.specs.declared.descent.Ended.TheVariants.{Refuted}
+use Rattle.prefix_sensitize.specs.declared.descent.FoundAlong.{FoundAlong}
 use Rattle.prefix_sensitize.specs.AlongPaths.{ClosesFrom, IsAtPin, LeadsAlong}
-use Rattle.prefix_sensitize.specs.Entering.{CountsPins, HasGone, HasMovedOn, IsEnded, IsSameBeginning, RefutesPrefix, ended_by}
+use Rattle.prefix_sensitize.specs.Entering.{CountsPins, HasGone, HasMovedOn, IsFoundAlong, IsSameBeginning, RefutesPrefix, refuted_at}
 use Rattle.prefix_sensitize.specs.Entering.ReachesPins.{whole, closed as left_closed}
 use Rattle.prefix_sensitize.specs.Outcomes.{target_for}
 use Rattle.prefix_sensitize.specs.PathOrder.{ShareSteps}
@@ -48,10 +48,8 @@ counts_pins pins path shared is_shared before after more few = record {
 }
 
 -- a search that refutes refutes the whole path
-refuted_whole : (answer : Found) (kept steps : ℕ) (tree : List Node) → ended_by answer kept ≡ Refuted steps tree → steps ≡ kept
-refuted_whole (found.Test pair) kept steps tree is = cc
-refuted_whole (found.Spent spent) kept steps tree is = cc
-refuted_whole (found.Refuted refuting) kept steps tree is = cc
+refuted_whole : (answer : Found) (kept steps : ℕ) (tree : List Node) → record { found = answer; steps = kept } ≡ refuted_at steps tree → steps ≡ kept
+refuted_whole answer kept steps tree is = sym (ap (λ (e : FoundAlong). e.steps) is)
 
 -- the same beginning twice, and that of a scope that was restored
 pub same_twice : (first middle last : Standing) → IsSameBeginning first middle → IsSameBeginning middle last
@@ -145,7 +143,7 @@ module _ (a : StateAlgebra) (old : Standing) (of_rules : a ≡ algebra_of old.ru
 
       -- what it finds ends the search for a test of the path
       ends_with : (answer : Found) → IsFound old.net old.rules (target_for aim path) aim.budget answer
-          → IsEnded old.net old.rules aim path (ended_by answer kept)
+          → IsFoundAlong old.net old.rules aim path (record { found = answer; steps = kept })
       ends_with (found.Test pair) test =
           record { first_fits = test.first_fits; second_fits = test.second_fits; of_rules = test.of_rules; meets = test.meets }
       ends_with (found.Spent tree) spent = spent
@@ -160,7 +158,7 @@ module _ (a : StateAlgebra) (old : Standing) (of_rules : a ≡ algebra_of old.ru
       }
 
       pub search_ends : (answer : Found) → IsFound last.net last.rules (target_for aim path) aim.budget answer
-          → IsEnded old.net old.rules aim path (ended_by answer kept)
+          → IsFoundAlong old.net old.rules aim path (record { found = answer; steps = kept })
       search_ends answer found_here =
           let P : Circuit → Rules → Type 0 = λ c r. IsFound c r (target_for aim path) aim.budget answer in
           ends_with answer (subst₂ P same.net same.rules found_here)
@@ -169,7 +167,7 @@ module _ (a : StateAlgebra) (old : Standing) (of_rules : a ≡ algebra_of old.ru
         (counted : shared + after ≡ before + min (kept + 1) (length path.steps)) where
       -- the pins that were tried are counted, where a conflict came up at the last of them
       pub moved_on : (tree : List Node) → kept < length path.steps
-          → (more : ℕ) × (after ≡ before + more) × HasMovedOn pins left path (Refuted (kept + 1) tree) more
+          → (more : ℕ) × (after ≡ before + more) × HasMovedOn pins left path (refuted_at (kept + 1) tree) more
       moved_on tree within = (
         kept + 1 - shared,
         omega (arith, counted, within, farther),
@@ -185,7 +183,7 @@ module _ (a : StateAlgebra) (old : Standing) (of_rules : a ≡ algebra_of old.ru
 
       -- and where none did
       pub moved_to_end : (answer : Found) → length path.steps ≤ kept
-          → (more : ℕ) × (after ≡ before + more) × HasMovedOn pins left path (ended_by answer kept) more
+          → (more : ℕ) × (after ≡ before + more) × HasMovedOn pins left path (record { found = answer; steps = kept }) more
       moved_to_end answer all =
           let all_tried : kept ≡ length path.steps = omega (arith, all, at.within) in (
             kept - shared,

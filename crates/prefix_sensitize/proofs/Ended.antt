@@ -21,13 +21,14 @@ use Rattle.good_runs.specs.Faults.{Applies, HasProof, IsAbout, IsNumber, NoneApp
 use Rattle.good_runs.specs.Faults.HasProof.{refuted, spent}
 use Rattle.good_runs.proofs.Numbers.{number_new, number_of_push}
 use Rattle.prefix_sensitize.specs.declared.course.Course.{Course}
-use Rattle.prefix_sensitize.specs.declared.descent.Ended.{Ended}
-use Rattle.prefix_sensitize.specs.declared.descent.Ended.TheVariants.{Test, Spent, Refuted}
+use Rattle.justify.specs.declared.answer.Found.{Found}
+use Rattle.justify.specs.declared.answer.Found.TheVariants.{Test, Spent, Refuted}
+use Rattle.prefix_sensitize.specs.declared.descent.FoundAlong.{FoundAlong}
 use Rattle.prefix_sensitize.specs.declared.outcome.Outcome.{Outcome}
 use Rattle.prefix_sensitize.specs.declared.outcome.Outcome.TheVariants.{Tested, Proved}
 use Rattle.prefix_sensitize.specs.Coming.{HasCome, HasComeOn, StandsOn}
 use Rattle.prefix_sensitize.specs.Courses.{IsCourse}
-use Rattle.prefix_sensitize.specs.Entering.{HasMovedOn, IsEnded, RefutesPrefix}
+use Rattle.prefix_sensitize.specs.Entering.{HasMovedOn, IsFoundAlong, IsFoundUpTo, RefutesPrefix, refuted_at}
 use Rattle.prefix_sensitize.specs.Outcomes.{AddsProofs, AreFoundProofs, IsNeeded, IsOutcome, outcome_at, target_for}
 use Rattle.prefix_sensitize.specs.PathOrder.{IsStretch, ShareSteps, StandsInOrder}
 use Rattle.prefix_sensitize.specs.Settling.{HaveOutcome, Settles, found_proof}
@@ -50,7 +51,7 @@ StandsNoEarlier course place prefix =
 module _ (c : Circuit) (rules : Rules) (ends : Option (List LineId)) (course : Course) (is_course : IsCourse c rules ends course) (begin place row : ℕ)
     (route : Route) (here : StandsInOrder course.paths.now course.order.now place row route) (before : List Outcome) (old : List Proof)
     (steps : ℕ) (come : HasCome c rules course begin place before old steps) (source : LineId) (same : route.source ≡ source)
-    (pins : List PinRef) (on : StandsOn course place come.entered (record { source = source; steps = pins })) (ended : Ended)
+    (pins : List PinRef) (on : StandsOn course place come.entered (record { source = source; steps = pins })) (ended : FoundAlong)
     (shared kept more : ℕ) (stays : shared ≤ kept) (is_shared : ShareSteps pins route.steps shared)
     (reach : HasReached route ended shared kept (shared + more)) where
   -- what was entered has no more steps of the path than are shared
@@ -107,7 +108,7 @@ module _ (c : Circuit) (rules : Rules) (ends : Option (List LineId)) (course : C
         (cases_lt at place)
 
   -- a test or a spent budget settles this path
-  module _ (none_refuted : (count : ℕ) (tree : List Node) → ¬ (ended ≡ Refuted count tree)) (outcome : Outcome) (after : List Outcome)
+  module _ (none_refuted : (count : ℕ) (tree : List Node) → ¬ (ended ≡ refuted_at count tree)) (outcome : Outcome) (after : List Outcome)
       (new : List Proof) (rows : HaveOutcome course.order.now place (place + 1) outcome before after)
       (found : AreFoundProofs c rules course.aim.budget course.paths.now new)
       (still : (other : ℕ) (target : Target) (was : Outcome) → IsOutcome c rules course.paths.now old other target was
@@ -148,7 +149,7 @@ module _ (c : Circuit) (rules : Rules) (ends : Option (List LineId)) (course : C
         none_refuted (shared + more) left.0 left.1))
 
   -- a refutation settles all paths that have its prefix
-  module _ (count : ℕ) (tree : List Node) (is : ended ≡ Refuted count tree) (refutes : RefutesPrefix c rules course.aim route count tree)
+  module _ (count : ℕ) (tree : List Node) (is : ended ≡ refuted_at count tree) (refutes : RefutesPrefix c rules course.aim route count tree)
       (earlier_none : StandsNoEarlier course place (prefix_of count route)) (end least : ℕ)
       (stretch : IsStretch course.paths.now course.order.now (prefix_of count route) place end least)
       (after : List Outcome)
@@ -288,11 +289,12 @@ module _ (c : Circuit) (rules : Rules) (ends : Option (List LineId)) (course : C
     abbrev Then : Type 0
     Then = HasVisited c rules course begin place end (record { source = source; steps = take kept route.steps }) after old new (steps + more)
 
-    pub by_end : (ended : Ended) → IsEnded c rules course.aim route ended → (shared : ℕ) → shared ≤ kept → ShareSteps pins route.steps shared
-        → HasReached route ended shared kept (shared + more)
-        → ((count : ℕ) (tree : List Node) → ended ≡ Refuted count tree → StandsNoEarlier course place (prefix_of count route))
-        → Settles course place row route ended end before after old new → Then
-    by_end (Test pair) is_ended shared stays is_shared reach earlier settles =
+    pub by_end : (tried : ℕ) (answer : Found) → IsFoundUpTo c rules course.aim route tried answer → (shared : ℕ) → shared ≤ kept → ShareSteps pins route.steps shared
+        → HasReached route (record { found = answer; steps = tried }) shared kept (shared + more)
+        → ((count : ℕ) (tree : List Node) → record { found = answer; steps = tried } ≡ refuted_at count tree
+        → StandsNoEarlier course place (prefix_of count route))
+        → Settles course place row route tried answer end before after old new → Then
+    by_end tried (Test pair) is_found shared stays is_shared reach earlier settles =
         let C : ℕ → List Proof → Type 0 =
         λ n proofs. HasVisited c rules course begin place n (record { source = source; steps = take kept route.steps }) after old proofs
         (steps + more) in
@@ -300,14 +302,15 @@ module _ (c : Circuit) (rules : Rules) (ends : Option (List LineId)) (course : C
         subst₂ C (sym settles.0) (sym settles.1)
         (record {
           come =
-              on_one c rules ends course is_course begin place row route here before old steps come.come source same pins come.on (Test pair)
-              shared kept more stays is_shared reach (λ count tree is. (cc)) (Tested pair) after old (subst R settles.0 settles.2)
-              come.come.found (λ other target was is. is) (λ target none. none) (λ target none. none) is_ended;
+              on_one c rules ends course is_course begin place row route here before old steps come.come source same pins come.on
+              (record { found = Test pair; steps = tried })
+              shared kept more stays is_shared reach (λ count tree is. (let apart : Test pair ≡ Refuted tree = ap (λ (e : FoundAlong). e.found) is in cc)) (Tested pair) after old (subst R settles.0 settles.2)
+              come.come.found (λ other target was is. is) (λ target none. none) (λ target none. none) is_found;
           further = omega arith;
           within = inside;
           adds = record { more = []; adds = sym (append-nil old); aimed = All-nil (IsAbout course.aim.kind course.aim.direction) };
         })
-    by_end (Spent tree) is_ended shared stays is_shared reach earlier settles =
+    by_end tried (Spent tree) is_found shared stays is_shared reach earlier settles =
         let added = found_proof course.aim true row (length route.steps) tree in
         let C : ℕ → List Proof → Type 0 =
         λ n proofs. HasVisited c rules course begin place n (record { source = source; steps = take kept route.steps }) after old proofs
@@ -318,11 +321,12 @@ module _ (c : Circuit) (rules : Rules) (ends : Option (List LineId)) (course : C
         subst₂ C (sym settles.0) (sym settles.1.added)
         (record {
           come =
-              on_one c rules ends course is_course begin place row route here before old steps come.come source same pins come.on (Spent tree)
-              shared kept more stays is_shared reach (λ count other is. (cc)) (Proved (length old)) after (old ++ added ∷ [])
+              on_one c rules ends course is_course begin place row route here before old steps come.come source same pins come.on
+              (record { found = Spent tree; steps = tried })
+              shared kept more stays is_shared reach (λ count other is. (let apart : Spent tree ≡ Refuted other = ap (λ (e : FoundAlong). e.found) is in cc)) (Proved (length old)) after (old ++ added ∷ [])
               (subst R settles.0 settles.1.rows)
               (found_still course.paths.now old added (λ target listed applies. absurd (not target applies)) c rules course.aim.budget
-              (spent_found c rules course.paths.now course.aim row route here.is_listed tree is_ended) come.come.found)
+              (spent_found c rules course.paths.now course.aim row route here.is_listed tree is_found) come.come.found)
               (λ other target was is. outcome_still course.paths.now old added c rules other target was (not target) is)
               (λ target none. none_still course.paths.now old added target (not target) none)
               (λ target none. none_before course.paths.now old added target none)
@@ -340,7 +344,7 @@ module _ (c : Circuit) (rules : Rules) (ends : Option (List LineId)) (course : C
           within = inside;
           adds = adds_one added (record { of_kind = refl; of_direction = refl });
         })
-    by_end (Refuted count tree) is_ended shared stays is_shared reach earlier settles =
+    by_end count (Refuted tree) is_found shared stays is_shared reach earlier settles =
         let added = found_proof course.aim false settles.0 count tree in
         let C : List Proof → Type 0 =
         λ proofs. HasVisited c rules course begin place end (record { source = source; steps = take kept route.steps }) after old proofs
@@ -349,7 +353,7 @@ module _ (c : Circuit) (rules : Rules) (ends : Option (List LineId)) (course : C
         (record {
           come =
               on_all c rules ends course is_course begin place row route here before old steps come.come source same pins come.on
-              (Refuted count tree) shared kept more stays is_shared reach count tree refl is_ended (earlier count tree refl) end settles.0
+              (refuted_at count tree) shared kept more stays is_shared reach count tree refl is_found (earlier count tree refl) end settles.0
               settles.1 after settles.2.rows;
           further = settles.1.some;
           within = settles.1.in_order;
@@ -357,21 +361,21 @@ module _ (c : Circuit) (rules : Rules) (ends : Option (List LineId)) (course : C
         })
 
   -- a search that moved on, and what its end settles
-  pub visited : (pins' : List PinRef) (ended : Ended) (more : ℕ) → IsEnded c rules course.aim route ended
+  pub visited : (pins' : List PinRef) (ended : FoundAlong) (more : ℕ) → IsFoundAlong c rules course.aim route ended
       → HasMovedOn pins pins' route ended more → (end : ℕ) (after : List Outcome) (new : List Proof)
-      → Settles course place row route ended end before after old new → (steps' : ℕ) → steps' ≡ steps + more
+      → Settles course place row route ended.steps ended.found end before after old new → (steps' : ℕ) → steps' ≡ steps + more
       → HasVisited c rules course begin place end (record { source = source; steps = pins' }) after old new steps'
-  visited pins' ended more is_ended moved end after new settles steps' counted =
+  visited pins' ended more is_found moved end after new settles steps' counted =
       let P : List PinRef → ℕ → Type 0 =
       λ list n. HasVisited c rules course begin place end (record { source = source; steps = list }) after old new n in
-      let reach = reached c rules course.aim route ended moved.shared moved.kept (moved.shared + more) moved.stays is_ended moved.reaches in
-      let E : Ended → Type 0 = λ e. IsEnded c rules course.aim route e in
+      let reach = reached c rules course.aim route ended moved.shared moved.kept (moved.shared + more) moved.stays is_found moved.reaches in
+      let E : FoundAlong → Type 0 = λ e. IsFoundAlong c rules course.aim route e in
       let W : ℕ → Type 0 = λ n. (moved.shared < n) ⊎ (n ≡ length route.steps) in
       subst₂ P (sym moved.stand) (sym counted)
-      (by_end moved.kept more end after new ended is_ended moved.shared moved.stays moved.is_shared reach
+      (by_end moved.kept more end after new ended.steps ended.found is_found moved.shared moved.stays moved.is_shared reach
       (λ count tree is.
       none_earlier c rules ends course is_course begin place row route here before old steps come.come source pins come.on moved.shared
-      moved.is_shared count tree (subst E is is_ended)
+      moved.is_shared count tree (subst E is is_found)
       (subst W (sym (reach.at_refuted count tree is))
       (tried_on route ended moved.shared moved.kept (moved.shared + more) moved.stays moved.reaches)))
       settles)

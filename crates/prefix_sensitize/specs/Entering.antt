@@ -17,11 +17,10 @@ use Rattle.state_sets.specs.StateAlgebra.{StateAlgebra}
 use Rattle.justify.specs.declared.desk.Desk.{Desk}
 use Rattle.justify.specs.Desks.{IsDeskFor}
 use Rattle.justify.specs.declared.answer.Found.{Found}
-use Rattle.justify.specs.declared.answer.Found.TheVariants as found
+use Rattle.justify.specs.declared.answer.Found.TheVariants.{Test, Spent, Refuted}
 use Rattle.good_runs.specs.Shortest.{ClosesAtStart}
 use Rattle.prefix_sensitize.specs.declared.outcome.Aim.{Aim}
-use Rattle.prefix_sensitize.specs.declared.descent.Ended.{Ended}
-use Rattle.prefix_sensitize.specs.declared.descent.Ended.TheVariants.{Test, Spent, Refuted}
+use Rattle.prefix_sensitize.specs.declared.descent.FoundAlong.{FoundAlong}
 use Rattle.prefix_sensitize.specs.Outcomes.{IsTestPair, target_for}
 use Rattle.prefix_sensitize.specs.PathOrder.{ShareSteps}
 use Rattle.prefix_sensitize.specs.Walks.{IsBudget}
@@ -55,24 +54,25 @@ pub record RefutesPrefix (c : Circuit) (rules : Rules) (aim : Aim) (path : Route
   pub shortest : ClosesAtStart c rules (target_for aim (prefix_of steps path))
       → (tree ≡ Closed ∷ []) × ((fewer : ℕ) → fewer < steps → ¬ ClosesAtStart c rules (target_for aim (prefix_of fewer path)))
 
--- what was found on a scope that has entered a path of so many steps, as the end of the search for a test of the path
-abbrev pub ended_by : Found → ℕ → Ended
-ended_by (found.Test pair) steps = Test pair
-ended_by (found.Spent tree) steps = Spent tree
-ended_by (found.Refuted tree) steps = Refuted steps tree
+-- what a search for a test of a path found when it had tried so many of its steps
+abbrev pub IsFoundUpTo : Circuit → Rules → Aim → Route → ℕ → Found → Type 0
+IsFoundUpTo c rules aim path steps (Test pair) = IsTestPair c rules (target_for aim path) pair
+IsFoundUpTo c rules aim path steps (Spent tree) = IsSpent c rules (target_for aim path) aim.budget tree
+IsFoundUpTo c rules aim path steps (Refuted tree) = RefutesPrefix c rules aim path steps tree
 
--- what the end of a search for a test of a path tells
-abbrev pub IsEnded : Circuit → Rules → Aim → Route → Ended → Type 0
-IsEnded c rules aim path (Test pair) = IsTestPair c rules (target_for aim path) pair
-IsEnded c rules aim path (Spent tree) = IsSpent c rules (target_for aim path) aim.budget tree
-IsEnded c rules aim path (Refuted steps tree) = RefutesPrefix c rules aim path steps tree
+abbrev pub IsFoundAlong : Circuit → Rules → Aim → Route → FoundAlong → Type 0
+IsFoundAlong c rules aim path ended = IsFoundUpTo c rules aim path ended.steps ended.found
+
+-- a refutation of the prefix of so many steps
+abbrev pub refuted_at : ℕ → List Node → FoundAlong
+refuted_at steps tree = record { found = Refuted tree; steps = steps }
 
 -- how many pins of the path were tried in all: all of them, so that a refutation is one of the whole path, or up to the one at which a
 -- conflict came, which refutes the prefix up to it
-pub data ReachesPins (path : Route) (ended : Ended) (kept tried : ℕ) : Type 0 where
+pub data ReachesPins (path : Route) (ended : FoundAlong) (kept tried : ℕ) : Type 0 where
   whole : kept ≡ length path.steps → tried ≡ length path.steps
-      → ((steps : ℕ) (tree : List Node) → ended ≡ Refuted steps tree → steps ≡ length path.steps) → ReachesPins path ended kept tried
-  closed : (tree : List Node) → ended ≡ Refuted (kept + 1) tree → tried ≡ kept + 1 → ReachesPins path ended kept tried
+      → ((steps : ℕ) (tree : List Node) → ended ≡ refuted_at steps tree → steps ≡ length path.steps) → ReachesPins path ended kept tried
+  closed : (tree : List Node) → ended ≡ refuted_at (kept + 1) tree → tried ≡ kept + 1 → ReachesPins path ended kept tried
 
 -- no more steps were counted than the path has pins behind those that it shares with these
 pub record CountsPins (pins : List PinRef) (path : Route) (old new : ℕ) : Type 0 where
@@ -84,7 +84,7 @@ pub record CountsPins (pins : List PinRef) (path : Route) (old new : ℕ) : Type
 
 -- From pins that were entered on, those of the path were: what they share with it stayed, and so many more were entered, one of which may
 -- have been left again.
-pub record HasMovedOn (old new : List PinRef) (path : Route) (ended : Ended) (more : ℕ) : Type 0 where
+pub record HasMovedOn (old new : List PinRef) (path : Route) (ended : FoundAlong) (more : ℕ) : Type 0 where
   pub shared : ℕ
   pub is_shared : ShareSteps old path.steps shared
   pub kept : ℕ
@@ -103,7 +103,7 @@ pub record CanSearch (a : StateAlgebra) (standing : Standing) (path : Route) (ai
   pub room : steps + length path.steps < 2 ^ 64
 
 -- what the search ended with, and how far it went and where it stands then
-pub record HasSearched (old new : Standing) (path : Route) (aim : Aim) (before after : List PinRef) (first last : ℕ) (ended : Ended) : Type 0 where
-  pub is_ended : IsEnded old.net old.rules aim path ended
+pub record HasSearched (old new : Standing) (path : Route) (aim : Aim) (before after : List PinRef) (first last : ℕ) (ended : FoundAlong) : Type 0 where
+  pub is_found : IsFoundAlong old.net old.rules aim path ended
   pub gone : HasGone new path aim after
   pub moved : (more : ℕ) × (last ≡ first + more) × HasMovedOn before after path ended more

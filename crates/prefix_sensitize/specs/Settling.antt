@@ -4,9 +4,9 @@ use Rattle.pd_base.specs.Route.{Route}
 use Rattle.netlist.specs.Paths.{prefix_of}
 use Rattle.runs.specs.declared.run.Proof.{Proof}
 use Rattle.trees.specs.declared.tree.Node.{Node}
+use Rattle.justify.specs.declared.answer.Found.{Found}
+use Rattle.justify.specs.declared.answer.Found.TheVariants.{Test, Spent, Refuted}
 use Rattle.prefix_sensitize.specs.declared.course.Course.{Course}
-use Rattle.prefix_sensitize.specs.declared.descent.Ended.{Ended}
-use Rattle.prefix_sensitize.specs.declared.descent.Ended.TheVariants.{Test, Spent, Refuted}
 use Rattle.prefix_sensitize.specs.declared.outcome.Aim.{Aim}
 use Rattle.prefix_sensitize.specs.declared.outcome.Outcome.{Outcome}
 use Rattle.prefix_sensitize.specs.declared.outcome.Outcome.TheVariants.{Tested, Proved}
@@ -25,10 +25,10 @@ found_proof aim spent row steps tree = record {
 }
 
 -- a refutation is one of no more steps than the path has
-abbrev pub HasItsSteps : Route → Ended → Type 0
-HasItsSteps route (Test pair) = ⊤
-HasItsSteps route (Spent tree) = ⊤
-HasItsSteps route (Refuted steps tree) = steps ≤ length route.steps
+abbrev pub HasItsSteps : Route → ℕ → Found → Type 0
+HasItsSteps route steps (Test pair) = ⊤
+HasItsSteps route steps (Spent tree) = ⊤
+HasItsSteps route steps (Refuted tree) = steps ≤ length route.steps
 
 -- the rows on the places from one up to another have this outcome; each other row has what it had
 pub record HaveOutcome (order : List ℕ) (place end : ℕ) (outcome : Outcome) (old new : List Outcome) : Type 0 where
@@ -44,12 +44,12 @@ pub record AddsProof (order : List ℕ) (place end : ℕ) (proof : Proof) (befor
 
 -- What the end of a search for a path, which stands at this place, settles: a test and a spent budget settle this path alone, a refutation
 -- all paths from here on that have its prefix, of which it names the one of the least row.
-abbrev pub Settles : Course → ℕ → ℕ → Route → Ended → ℕ → List Outcome → List Outcome → List Proof → List Proof → Type 0
-Settles course place row route (Test pair) end before after old new =
+abbrev pub Settles : Course → ℕ → ℕ → Route → ℕ → Found → ℕ → List Outcome → List Outcome → List Proof → List Proof → Type 0
+Settles course place row route steps (Test pair) end before after old new =
     (end ≡ place + 1) × (new ≡ old) × HaveOutcome course.order.now place end (Tested pair) before after
-Settles course place row route (Spent tree) end before after old new =
+Settles course place row route steps (Spent tree) end before after old new =
     (end ≡ place + 1)
     × AddsProof course.order.now place end (found_proof course.aim true row (length route.steps) tree) before after old new
-Settles course place row route (Refuted steps tree) end before after old new =
+Settles course place row route steps (Refuted tree) end before after old new =
     (least : ℕ) × IsStretch course.paths.now course.order.now (prefix_of steps route) place end least
     × AddsProof course.order.now place end (found_proof course.aim false least steps tree) before after old new

@@ -9,7 +9,7 @@ ghost use Rattle.implication.specs.Scopes.{IsSameScope, standing};
 ghost use Rattle.implication.specs.Standing.{IsTold};
 ghost use Rattle.justify.specs.Desks.{IsDeskFor};
 ghost use Rattle.prefix_sensitize.specs.AlongPaths.{HasGoneOn, IsAtPin, LeadsAlong, TriesPin};
-ghost use Rattle.prefix_sensitize.specs.Entering.{CanSearch, CountsPins, HasSearched, IsSameBeginning, ended_by};
+ghost use Rattle.prefix_sensitize.specs.Entering.{CanSearch, CountsPins, HasSearched, IsSameBeginning};
 ghost use Rattle.prefix_sensitize.specs.PathOrder.{ShareSteps};
 ghost use Rattle.prefix_sensitize.specs.Walks.{IsBudget};
 
@@ -17,21 +17,20 @@ use crate::outcome::Aim;
 use crate::sharing::shared_steps;
 use implication::{Scope, ScopeMark, Setting};
 use justify::{Desk, Found, search_at};
-use pd_base::{OutOfMemory, Pair, Path, PinRef, Steps};
+use pd_base::{OutOfMemory, Path, PinRef, Steps};
 use state_sets::Algebra;
 use std::alloc::Global;
 use std::marker::Model;
 use trees::{Node, Tree};
 
-/// What a search for a test of a path ends with.
+/// What was found for a path, and how many of its steps were tried for that: all of them, or those up to the one at which a conflict
+/// came. A refutation is one of the prefix that has these steps.
 #[derive(Drop)]
-pub(crate) enum Ended {
-    /// A pair that is a test.
-    Test(Pair),
-    /// A tree that spent the budget.
-    Spent(Tree),
-    /// A refutation of the prefix of so many steps.
-    Refuted { steps: usize, tree: Tree },
+pub(crate) struct FoundAlong {
+    /// What was found.
+    pub(crate) found: Found,
+    /// How many steps were tried.
+    pub(crate) steps: usize,
 }
 
 /// The pins that a scope has entered since its beginning, each with the mark before it. Contracts see the list of pins.
@@ -78,7 +77,7 @@ impl Descent {
         path: &Path,
         aim: Aim,
         steps: &mut Steps<L>,
-    ) -> Result<Ended, OutOfMemory>
+    ) -> Result<FoundAlong, OutOfMemory>
         requires begun { scope.old.origin ≡ Begun }
         requires can { CanSearch A.algebra (standing scope.old) path.now aim self.old desk.old steps.old }
         ensures desk { IsDeskFor A.algebra (standing scope.old).net (standing scope.old).rules desk.new }
@@ -91,9 +90,9 @@ impl Descent {
         let kept = self.go_on(scope, path, shared, steps)?;
         if kept < path.steps().len() {
             let tree = closed_leaf(alloc)?;
-            return Ok(Ended::Refuted {
+            return Ok(FoundAlong {
+                found: Found::Refuted(tree),
                 steps: kept + 1,
-                tree,
             });
         }
         let found = search_at(
@@ -105,7 +104,7 @@ impl Descent {
             aim.kind,
             aim.budget,
         )?;
-        Ok(ended_by(found, kept))
+        Ok(FoundAlong { found, steps: kept })
     }
 
     // Goes back to where the entered pins are the first ones of a path, and tells how many these are.
@@ -228,16 +227,5 @@ pub(crate) fn closed_leaf(alloc: Global) -> Result<Tree, OutOfMemory>
     match Tree::from_nodes(nodes) {
         Some(tree) => Ok(tree),
         None => unreachable!(),
-    }
-}
-
-// What a search on a scope that has entered a path of so many steps found, as the end of the search for a test of the path.
-fn ended_by(found: Found, steps: usize) -> Ended
-    ensures { result ≡ ended_by found steps }
-{
-    match found {
-        Found::Test(pair) => Ended::Test(pair),
-        Found::Spent(tree) => Ended::Spent(tree),
-        Found::Refuted(tree) => Ended::Refuted { steps, tree },
     }
 }

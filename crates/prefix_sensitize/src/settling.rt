@@ -6,9 +6,10 @@ ghost use Rattle.prefix_sensitize.specs.PathOrder.{IsOrder, StandsInOrder};
 ghost use Rattle.prefix_sensitize.specs.Settling.{AddsProof, HasItsSteps, Settles, found_proof};
 
 use crate::course::Course;
-use crate::descent::{Ended, closed_leaf};
+use crate::descent::{FoundAlong, closed_leaf};
 use crate::outcome::{Aim, Findings, Outcome};
 use crate::stretch::stretch_from;
+use justify::Found;
 use pd_base::OutOfMemory;
 use runs::Proof;
 use trees::{Node, Tree};
@@ -17,7 +18,7 @@ use trees::{Node, Tree};
 pub(crate) fn settle(
     course: &Course,
     place: usize,
-    ended: Ended,
+    ended: FoundAlong,
     found: &mut Findings,
 ) -> Result<usize, OutOfMemory>
     requires order { IsOrder course.now.paths.now course.now.order.now }
@@ -25,23 +26,27 @@ pub(crate) fn settle(
     requires short { All (λ route. length route.steps ≤ MOST_LEVELS) course.now.paths.now }
     requires place { place < length course.now.order.now }
     requires one_each { length found.old.outcomes.items ≡ length course.now.paths.now }
-    requires steps { (row : ℕ) (route : Route) → StandsInOrder course.now.paths.now course.now.order.now place row route → HasItsSteps route ended }
+    requires steps { (row : ℕ) (route : Route) → StandsInOrder course.now.paths.now course.now.order.now place row route → HasItsSteps route ended.steps ended.found }
     ensures { IfOk result (λ end. (row : ℕ) (route : Route) → StandsInOrder course.now.paths.now course.now.order.now place row route
-        → Settles course.now place row route ended end found.old.outcomes.items found.new.outcomes.items
+        → Settles course.now place row route ended.steps ended.found end found.old.outcomes.items found.new.outcomes.items
         found.old.proofs.items found.new.proofs.items) }
 {
     let row = course.order[place];
-    match ended {
-        Ended::Test(pair) => {
+    let FoundAlong {
+        found: answer,
+        steps,
+    } = ended;
+    match answer {
+        Found::Test(pair) => {
             found.outcomes[row] = Outcome::Tested(pair);
             Ok(place + 1)
         }
-        Ended::Spent(tree) => {
+        Found::Spent(tree) => {
             let steps = course.paths[row].steps().len();
             let proof = found_proof(course.aim, true, row, steps, tree);
             add_proof(course.order, place, place + 1, proof, found)
         }
-        Ended::Refuted { steps, tree } => {
+        Found::Refuted(tree) => {
             let stretch = stretch_from(course.paths, course.order, place, steps);
             let proof = found_proof(course.aim, false, stretch.least, steps, tree);
             add_proof(course.order, place, stretch.end, proof, found)
@@ -62,11 +67,15 @@ pub(crate) fn settle_start(
     requires place { place < length course.now.order.now }
     requires one_each { length found.old.outcomes.items ≡ length course.now.paths.now }
     ensures { IfOk result (λ end. (row : ℕ) (route : Route) → StandsInOrder course.now.paths.now course.now.order.now place row route
-        → Settles course.now place row route (Ended.Refuted 0 (Node.Closed ∷ [])) end found.old.outcomes.items found.new.outcomes.items
+        → Settles course.now place row route 0 (Found.Refuted (Node.Closed ∷ [])) end found.old.outcomes.items found.new.outcomes.items
         found.old.proofs.items found.new.proofs.items) }
 {
     let tree = closed_leaf(course.alloc)?;
-    settle(course, place, Ended::Refuted { steps: 0, tree }, found)
+    let ended = FoundAlong {
+        found: Found::Refuted(tree),
+        steps: 0,
+    };
+    settle(course, place, ended, found)
 }
 
 // The proof by this tree, for an aim and so many steps of the path in this row.

@@ -9,8 +9,8 @@ use Rattle.pd_base.specs.Route.{Route}
 use Rattle.runs.specs.declared.run.Proof.{Proof}
 use Rattle.trees.specs.declared.tree.Node.{Node}
 use Rattle.prefix_sensitize.specs.declared.course.Course.{Course}
-use Rattle.prefix_sensitize.specs.declared.descent.Ended.{Ended}
-use Rattle.prefix_sensitize.specs.declared.descent.Ended.TheVariants.{Refuted}
+use Rattle.justify.specs.declared.answer.Found.{Found}
+use Rattle.justify.specs.declared.answer.Found.TheVariants.{Refuted}
 use Rattle.prefix_sensitize.specs.declared.outcome.Outcome.{Outcome}
 use Rattle.prefix_sensitize.specs.declared.outcome.Outcome.TheVariants.{Tested}
 use Rattle.prefix_sensitize.specs.PathOrder.{IsOrder, IsStretch, StandsInOrder}
@@ -61,13 +61,13 @@ module _ (course : Course) (place : ℕ) (is_order : IsOrder course.paths.now co
         all_at (λ (row : ℕ). row < length course.paths.now) course.order.now stretch.1.at_least least is_order.inside stretch.1.is_placed
 
   -- a refutation is of few steps
-  few_steps : (ended : Ended) (steps : ℕ) (tree : List Node) → ended ≡ Refuted steps tree
+  few_steps : (answer : Found) (steps : ℕ) (tree : List Node) → answer ≡ Refuted tree
       → All (λ (route : Route). length route.steps ≤ MOST_LEVELS) course.paths.now
-      → ((row : ℕ) (route : Route) → StandsInOrder course.paths.now course.order.now place row route → HasItsSteps route ended)
+      → ((row : ℕ) (route : Route) → StandsInOrder course.paths.now course.order.now place row route → HasItsSteps route steps answer)
       → steps ≤ MOST_LEVELS
-  few_steps ended steps tree is short has =
+  few_steps answer steps tree is short has =
       let some = some_path course.paths.now course.order.now is_order place within in
-      let P : Ended → Type 0 = λ e. HasItsSteps some.1 e in
+      let P : Found → Type 0 = λ e. HasItsSteps some.1 steps e in
       let its : steps ≤ length some.1.steps = subst P is (has some.0 some.1 some.2) in
       let few : length some.1.steps ≤ MOST_LEVELS =
       all_at (λ (route : Route). length route.steps ≤ MOST_LEVELS) course.paths.now some.0 some.1 short some.2.is_listed in
@@ -75,30 +75,30 @@ module _ (course : Course) (place : ℕ) (is_order : IsOrder course.paths.now co
 
 pub stretch_from-stretch-requires-clause-steps : goal.stretch_from-stretch-requires-clause-steps
 stretch_from-stretch-requires-clause-steps c row route stands =
-    let P : Ended → Type 0 = λ e. HasItsSteps route e in
+    let P : Found → Type 0 = λ e. HasItsSteps route c.args.ended.steps e in
     subst P c.in-Refuted.is (c.requires.steps row route stands)
 
 pub found_proof-proof-requires-in-Refuted-clause-row : goal.found_proof-proof-requires-in-Refuted-clause-row
 found_proof-proof-requires-in-Refuted-clause-row c =
-    let least = least_within c.args.course.now c.args.place c.requires.order c.requires.place c.in-Refuted.steps
+    let least = least_within c.args.course.now c.args.place c.requires.order c.requires.place c.args.ended.steps
     c.stretch_from-stretch.result.end c.stretch_from-stretch.result.least c.stretch_from-stretch.ensures in
     let few = c.requires.few in
     omega (arith, least, few)
 
 pub found_proof-proof-requires-in-Refuted-clause-steps : goal.found_proof-proof-requires-in-Refuted-clause-steps
 found_proof-proof-requires-in-Refuted-clause-steps c =
-    let few = few_steps c.args.course.now c.args.place c.requires.order c.requires.place c.args.ended c.in-Refuted.steps c.in-Refuted.tree
+    let few = few_steps c.args.course.now c.args.place c.requires.order c.requires.place c.args.ended.found c.args.ended.steps c.in-Refuted.tree
     c.in-Refuted.is c.requires.short c.requires.steps in
     omega (arith, few)
 
 pub add_proof-requires-in-Refuted-clause-end : goal.add_proof-requires-in-Refuted-clause-end
 add_proof-requires-in-Refuted-clause-end c =
-    end_within c.args.course.now c.args.place c.requires.order c.requires.place c.in-Refuted.steps c.stretch_from-stretch.result.end
+    end_within c.args.course.now c.args.place c.requires.order c.requires.place c.args.ended.steps c.stretch_from-stretch.result.end
     c.stretch_from-stretch.result.least c.stretch_from-stretch.ensures
 
 pub add_proof-requires-in-Refuted-clause-places : goal.add_proof-requires-in-Refuted-clause-places
 add_proof-requires-in-Refuted-clause-places c =
-    end_behind c.args.course.now c.args.place c.requires.order c.requires.place c.in-Refuted.steps c.stretch_from-stretch.result.end
+    end_behind c.args.course.now c.args.place c.requires.order c.requires.place c.args.ended.steps c.stretch_from-stretch.result.end
     c.stretch_from-stretch.result.least c.stretch_from-stretch.ensures
 
 pub returns-in-Test : goal.returns-in-Test
@@ -107,8 +107,8 @@ returns-in-Test c row route stands =
     let place = c.args.place in
     let old = c.args.found.now.outcomes.items in
     let new = set old (get_or course.order.now place 0) (Tested c.in-Test.pair) in
-    let P : Ended → Type 0 =
-    λ e. Settles course place row route e (place + 1) old new c.args.found.now.proofs.items c.args.found.now.proofs.items in
+    let P : Found → Type 0 =
+    λ e. Settles course place row route c.args.ended.steps e (place + 1) old new c.args.found.now.proofs.items c.args.found.now.proofs.items in
     subst P (sym c.in-Test.is)
     (refl, refl, one_written course place c.requires.order c.requires.place (Tested c.in-Test.pair) old c.requires.one_each)
 
@@ -124,14 +124,14 @@ returns-in-Spent c =
     (λ (end : ℕ). (end ≡ place + 1) × AddsProof course.order.now place (place + 1) c.found_proof-proof.result old new before after)
     (λ (end : ℕ).
     (row : ℕ) (route : Route) → StandsInOrder course.paths.now course.order.now place row route
-    → Settles course place row route c.args.ended end old new before after)
+    → Settles course place row route c.args.ended.steps c.args.ended.found end old new before after)
     (λ end is row route stands.
     let its = here course place c.requires.order c.requires.place row route c.index-course-row.result stands c.index-course-row.is in
     let steps : length c.steps-steps.result.now ≡ length route.steps =
     ap length c.steps-steps.ensures
     ∙ ap (λ (r : Route). length r.steps) (sym c.index-course-row.is)
     ∙ ap (λ (r : Route). length r.steps) its.1 in
-    let P : Ended → Type 0 = λ e. Settles course place row route e end old new before after in
+    let P : Found → Type 0 = λ e. Settles course place row route c.args.ended.steps e end old new before after in
     let Q : ℕ → Proof → Type 0 = λ n p. AddsProof course.order.now place n p old new before after in
     let proof : c.found_proof-proof.result ≡ found_proof course.aim true row (length route.steps) c.in-Spent.tree =
     c.found_proof-proof.ensures ∙ (λ i. found_proof course.aim true (its.0 i) (steps i) c.in-Spent.tree) in
@@ -152,12 +152,12 @@ returns-in-Refuted c =
     (λ (end : ℕ). (end ≡ to) × AddsProof course.order.now place to c.found_proof-proof-in-Refuted.result old new before after)
     (λ (end : ℕ).
     (row : ℕ) (route : Route) → StandsInOrder course.paths.now course.order.now place row route
-    → Settles course place row route c.args.ended end old new before after)
+    → Settles course place row route c.args.ended.steps c.args.ended.found end old new before after)
     (λ end is row route stands.
-    let P : Ended → Type 0 = λ e. Settles course place row route e end old new before after in
+    let P : Found → Type 0 = λ e. Settles course place row route c.args.ended.steps e end old new before after in
     let Q : ℕ → Proof → Type 0 = λ n p. AddsProof course.order.now place n p old new before after in
     let S : ℕ → Type 0 =
-    λ n. IsStretch course.paths.now course.order.now (prefix_of c.in-Refuted.steps route) place n least in
+    λ n. IsStretch course.paths.now course.order.now (prefix_of c.args.ended.steps route) place n least in
     subst P (sym c.in-Refuted.is) (
       least,
       subst S (sym is.0) (c.stretch_from-stretch.ensures row route stands),

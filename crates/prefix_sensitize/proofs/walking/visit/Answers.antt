@@ -70,9 +70,10 @@ settle-requires-clause-steps g c row route stands =
     let within = slice_get_within course.order.now place at.row at.stands.is_placed in
     let path = get_or course.paths.now (get_or course.order.now place 0) c.index-course-row.result in
     let here = stands_there course.paths.now course.order.now c.requires.1.1.1.1.0.is_course.order.inside place 0 c.index-course-row.result within in
-    let P : Route → Type 0 = λ r. HasItsSteps r c.in_ok-ended.ended in
+    let P : Route → Type 0 = λ r. HasItsSteps r c.in_ok-ended.ended.steps c.in_ok-ended.ended.found in
     subst P (stands_once course.paths.now course.order.now place (get_or course.order.now place 0) row path route here stands).1
-    (its_steps old.net old.rules course.aim path c.in_ok-ended.ended c.in_ok-ended.ensures.searched.is_ended)
+    (its_steps old.net old.rules course.aim path c.in_ok-ended.ended.steps c.in_ok-ended.ended.found
+    c.in_ok-ended.ensures.searched.is_found)
 
 -- once the end of the search is settled, the walk has come on
 module _ (g : Over) (c : After-settle g) where
@@ -94,13 +95,13 @@ module _ (g : Over) (c : After-settle g) where
       let searched = c.in_ok-ended.ensures.searched in
       IfOk-weaker c.settle.result
       (λ (end : ℕ). (row : ℕ) (route : Route) → StandsInOrder course.paths.now course.order.now place row route
-      → Settles course place row route c.in_ok-ended.ended end c.args.found.now.outcomes.items c.settle.new.found.outcomes.items
+      → Settles course place row route c.in_ok-ended.ended.steps c.in_ok-ended.ended.found end c.args.found.now.outcomes.items c.settle.new.found.outcomes.items
       c.args.found.now.proofs.items c.settle.new.found.proofs.items)
       Comes
       (λ end settles.
       visited_along (standing c.args.scope.now) course is_course g.begin place row path here c.args.descent.now c.args.found.now
       c.args.steps.now c.requires.1.1.1.1.1.0 at (standing c.search.new.scope) c.in_ok-ended.ensures.same c.search.new.self
-      c.in_ok-ended.ended searched.is_ended searched.gone c.search.new.steps searched.moved end c.settle.new.found (settles row path here))
+      c.in_ok-ended.ended searched.is_found searched.gone c.search.new.steps searched.moved end c.settle.new.found (settles row path here))
       c.settle.ensures
 
 pub returns-clause-come : goal.returns-clause-come

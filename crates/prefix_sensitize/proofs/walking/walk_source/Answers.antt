@@ -17,7 +17,7 @@ use Rattle.implication.specs.Scopes.{standing}
 use Rattle.justify.specs.Desks.{IsDeskFor}
 use Rattle.prefix_sensitize.specs.Coming.{HasComeApart}
 use Rattle.prefix_sensitize.specs.Courses.{IsCourse}
-use Rattle.prefix_sensitize.specs.declared.descent.Ended.TheVariants.{Refuted}
+use Rattle.justify.specs.declared.answer.Found.TheVariants.{Refuted}
 use Rattle.prefix_sensitize.specs.Outcomes.{target_for}
 use Rattle.prefix_sensitize.specs.PathOrder.{StandsInOrder}
 use Rattle.prefix_sensitize.specs.Settling.{Settles}
@@ -150,7 +150,7 @@ module _ (g : Over) (c : After-settle_start g) where
       (sym c.is_some.ensures ∙ c.if-is_some.true) c.conflict.ensures.emptied) in
       IfOk-weaker c.settle_start.result
       (λ (end : ℕ). (row : ℕ) (route : Route) → StandsInOrder course.paths.now course.order.now place row route
-      → Settles course place row route (Refuted 0 (Closed ∷ [])) end c.args.found.now.outcomes.items c.settle_start.new.found.outcomes.items
+      → Settles course place row route 0 (Refuted (Closed ∷ [])) end c.args.found.now.outcomes.items c.settle_start.new.found.outcomes.items
       c.args.found.now.proofs.items c.settle_start.new.found.proofs.items)
       Comes
       (λ end settles.

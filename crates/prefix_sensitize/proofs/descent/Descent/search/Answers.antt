@@ -6,8 +6,7 @@ use Rattle.netlist.specs.Paths.{IsPrefix, prefix_of}
 use Rattle.implication.specs.Scopes.{IsSameScope, standing}
 use Rattle.implication.proofs.Restoring.{same_scope_twice}
 use Rattle.justify.specs.Desks.{IsDeskFor}
-use Rattle.prefix_sensitize.specs.declared.descent.Ended.{Ended}
-use Rattle.prefix_sensitize.specs.Entering.{CountsPins, HasMovedOn, IsEnded, IsSameBeginning}
+use Rattle.prefix_sensitize.specs.Entering.{CountsPins, IsSameBeginning}
 use Rattle.prefix_sensitize.proofs.Descents.{closed_ends, counts_pins, has_gone, leads_along, moved_on, moved_to_end, same_restored, same_twice, search_ends, starts_search, still_along, still_closes}
 use Rattle.prefix_sensitize.proofs.descent.Descent.search.Given.{Over}
 use Rattle.prefix_sensitize.proofs.descent.Descent.search.Goals.{After-go_on}
@@ -143,7 +142,7 @@ returns-clause-scope g c = same_scope_twice (scope_on g (goal.at.returns-clause-
 
 pub returns-then-kept-steps-clause-searched : goal.returns-then-kept-steps-clause-searched
 returns-then-kept-steps-clause-searched g c = record {
-  is_ended =
+  is_found =
       (let path = c.args.path.now in
       let old = standing c.args.scope.now in
       let kept = c.in_ok-kept.kept in
@@ -172,17 +171,15 @@ returns-then-kept-steps-clause-searched g c = record {
 
 pub returns-clause-searched : goal.returns-clause-searched
 returns-clause-searched g c = record {
-  is_ended =
+  is_found =
       (let path = c.args.path.now in
       let old = standing c.args.scope.now in
       let kept = c.in_ok-kept.kept in
       let long = ap length c.steps.ensures in
       let all : length path.steps ≤ kept = omega (arith, long, c.if-kept-steps.false) in
-      let P : Ended → Type 0 = λ e. IsEnded old.net old.rules c.args.aim path e in
-      subst P (sym c.ended_by.ensures)
-      (search_ends g.A.Algebra.algebra old c.requires.can.is_desk.of_rules path c.args.aim c.args.self.now c.requires.can.gone (standing c.go_on.new.scope)
+      search_ends g.A.Algebra.algebra old c.requires.can.is_desk.of_rules path c.args.aim c.args.self.now c.requires.can.gone (standing c.go_on.new.scope)
       (same_on g (goal.at.returns-clause-searched g c).After-go_on) c.go_on.new.self kept c.in_ok-kept.ensures.on.at
-      all c.in_ok-found.found c.in_ok-found.ensures.found));
+      all c.in_ok-found.found c.in_ok-found.ensures.found);
   gone =
       (let restored = c.search_at.ensures.restored in
       let gone =
@@ -198,11 +195,8 @@ returns-clause-searched g c = record {
       let kept = c.in_ok-kept.kept in
       let long = ap length c.steps.ensures in
       let all : length path.steps ≤ kept = omega (arith, long, c.if-kept-steps.false) in
-      let P : Ended → Type 0 =
-      λ e. (more : ℕ) × (c.go_on.new.steps ≡ c.args.steps.now + more) × HasMovedOn c.args.self.now c.go_on.new.self path e more in
-      subst P (sym c.ended_by.ensures)
-      (moved_to_end g.A.Algebra.algebra (standing c.args.scope.now) c.requires.can.is_desk.of_rules path c.args.aim c.args.self.now c.requires.can.gone (standing c.go_on.new.scope)
+      moved_to_end g.A.Algebra.algebra (standing c.args.scope.now) c.requires.can.is_desk.of_rules path c.args.aim c.args.self.now c.requires.can.gone (standing c.go_on.new.scope)
       (same_on g (goal.at.returns-clause-searched g c).After-go_on) c.go_on.new.self kept c.in_ok-kept.ensures.on.at
       c.go_back-shared.result c.args.steps.now c.go_on.new.steps c.go_back-shared.ensures.shared c.in_ok-kept.ensures.on.farther
-      c.in_ok-kept.ensures.on.counted c.in_ok-found.found all));
+      c.in_ok-kept.ensures.on.counted c.in_ok-found.found all);
 }
