@@ -101,8 +101,8 @@ fn add_states(set: StateSet, answer: &mut Text) {
     answer.add("\n");
 }
 
-// The halves of a row.
-fn halves_of(alloc: Global, net: &Netlist, row: &str) -> Result<Vec<Half>, Trouble>
+/// The halves of a row: for each a split, as in a tree, and behind a dot 1 or 2.
+pub fn halves_of(alloc: Global, net: &Netlist, row: &str) -> Result<Vec<Half>, Trouble>
     ensures { IfOk result (λ halves. All (λ half. half.source < source_count net.now) halves.items) }
 {
     let mut halves = Vec::new(alloc);

@@ -24,6 +24,8 @@ pub fn asked(
         "alike" => search_answers::ends_alike(alloc, net, path, answer),
         // the labels when a transition is launched, and what comes of the path's first pin: transition, kind
         "launch" => search_answers::launched(alloc, net, path, row, answer),
+        // how a scope stands as it begins, enters the path, assumes halves and goes back: the rules, transition, kind, and the halves
+        "scope" => search_answers::staged(alloc, net, path, row, answer),
         // how many prefixes the first paths have, so many
         "walk" => search_answers::walked(alloc, net, delays, row, answer),
         // what writes to a list are undone to: values, writes, and writes that are undone, bars between them

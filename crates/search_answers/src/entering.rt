@@ -11,13 +11,13 @@ ghost use Rattle.search_answers.specs.Told.{AreMarkedTold};
 use implication::{Scope, Setting};
 use netlist::Netlist;
 use pd_base::{LineId, PinRef, Steps};
-use state_sets::FourStates;
+use state_sets::Algebra;
 
 /// Enters these pins. It stops where one is not on the line that was reached, where its gate's line is not marked, or where a conflict
 /// comes up. The marked lines are told.
 #[tactic(auto, using(crate::proofs::Told::still_told))]
-pub(crate) fn enter_all<S: Setting>(
-    scope: &mut Scope<FourStates, S>,
+pub(crate) fn enter_all<A: Algebra, S: Setting>(
+    scope: &mut Scope<A, S>,
     pins: &[PinRef],
     marks: &[bool],
 ) -> bool
@@ -37,7 +37,7 @@ pub(crate) fn enter_all<S: Setting>(
 }
 
 // Enters a pin.
-fn enter<S: Setting>(scope: &mut Scope<FourStates, S>, pin: PinRef, marks: &[bool]) -> bool
+fn enter<A: Algebra, S: Setting>(scope: &mut Scope<A, S>, pin: PinRef, marks: &[bool]) -> bool
     requires begun { IsSome (standing scope.old).beginning }
     requires told { AreMarkedTold (standing scope.old) marks.now }
     ensures scope { IsSameScope scope.old scope.new }
@@ -54,7 +54,7 @@ fn enter<S: Setting>(scope: &mut Scope<FourStates, S>, pin: PinRef, marks: &[boo
 }
 
 // Whether the line of the pin's gate is marked.
-fn leads_to_marked<S: Setting>(scope: &Scope<FourStates, S>, pin: PinRef, marks: &[bool]) -> bool
+fn leads_to_marked<A: Algebra, S: Setting>(scope: &Scope<A, S>, pin: PinRef, marks: &[bool]) -> bool
     requires pin { IsPinOn (standing scope.now).net pin (end_of_scope (standing scope.now)) }
     requires told { AreMarkedTold (standing scope.now) marks.now }
     ensures { IsTrue result → IsTold (standing scope.now) (gate_line (standing scope.now).net pin.gate.0) }

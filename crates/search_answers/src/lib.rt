@@ -1,5 +1,5 @@
 //! Answers to rows of tests on searches, as texts: searches for tests of single paths, with what the judge says of their trees; labels by
-//! sweeps over all gates beside those that the worklist ends with; what a scope tells at its beginning; how many prefixes a walk enters;
+//! sweeps over all gates beside those that the worklist ends with; what a scope tells at its beginning, and stage by stage under any rules; how many prefixes a walk enters;
 //! and writes undone by a trail. Then callers that the product has not, each proved from contracts alone: of `meets` and `steady`, whose
 //! contracts say in a reader's words what an answer tells of waves; and of scopes, nested by recursion, left by marks in a loop, and
 //! left by `?`. Stands on row_answers, prefix_sensitize and what they stand on, and is no part of the product. The program rows prints
@@ -18,6 +18,7 @@ mod marking;
 mod nesting;
 mod scopes;
 mod searching;
+mod stages;
 mod steady_lines;
 mod sweeping;
 mod trails;
@@ -31,6 +32,7 @@ pub use leaving::assume_both;
 pub use marking::keep_agreeing;
 pub use nesting::walk;
 pub use searching::searched;
+pub use stages::staged;
 pub use steady_lines::{is_steady_at_one, steady_bit};
 pub use trails::{has_room, undone};
 pub use walks::walked;
