@@ -216,7 +216,7 @@ grown_some a task first old new before after growth answer pair some same_net sa
 -- where a trial has failed, some source of the support has two states
 pub two_where_failed : (a : StateAlgebra) (target : Target) (standing : Standing) → HasFailed a target standing
     → ¬ AreSingle a target standing
-two_where_failed a target standing failed single =
+two_where_failed a _ standing failed single =
     failed.two (λ source support. single source support failed.hull failed.labels)
 
 -- what goes on from where the setting was the same, and no count has fallen, goes on from there

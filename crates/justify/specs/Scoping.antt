@@ -1,6 +1,7 @@
 -- How an engine has to be set for a search for a path, and how a scope stands at its start (this project's own).
-use Rattle.std.specs.Prelude.{◌≡◌, Some, None}
+use Rattle.std.specs.Prelude.{◌≡◌, ℕ, ◌≤◌, Some, None}
 use Rattle.pd_base.specs.Target.{Target}
+use Rattle.pd_base.specs.declared.limits.TheConstants.{MOST_BUDGET}
 use Rattle.netlist.specs.LinkedPairs.{FitRules}
 use Rattle.netlist.specs.Paths.{IsPrefix, end_of}
 use Rattle.state_sets.specs.StateAlgebra.{StateAlgebra}
@@ -14,6 +15,14 @@ pub record IsStart (target : Target) (standing : Standing) : Type 0 where
   pub beginning : standing.beginning ≡ Some (beginning_of target)
   pub entered : standing.assumptions ≡ entered_steps target.path
   pub free : standing.conflict ≡ None
+
+-- A search for a test for the target can begin on the scope: the path is one of the circuit, its pins and nothing else are entered, and the
+-- budget has some splits, and no more than the program takes.
+pub record CanBegin (target : Target) (budget : ℕ) (standing : Standing) : Type 0 where
+  pub prefix : IsPrefix standing.net target.path
+  pub start : IsStart target standing
+  pub positive : 1 ≤ budget
+  pub within : budget ≤ MOST_BUDGET
 
 -- the rules fit the circuit, and this kind of states is theirs
 pub record SuitsRules (a : StateAlgebra) (standing : Standing) : Type 0 where

@@ -2,24 +2,34 @@
 -- inside this crate alone (this project's own).
 use Rattle.std.specs.Prelude.{◌≡◌, ◌+◌, ◌*◌, ◌-◌, ◌≤◌, List, [], ◌∷◌, ◌++◌, length, reverse, Option, Some, None}
 use Rattle.pd_base.specs.Pair.{Vectors}
+use Rattle.pd_base.specs.declared.limits.TheConstants.{MOST_BUDGET}
 use Rattle.state_sets.specs.StateAlgebra.{StateAlgebra}
 use Rattle.trees.specs.declared.tree.Node.TheVariants.{Closed}
 use Rattle.implication.specs.Clients.{IsRestored}
 use Rattle.implication.specs.Moves.{risen}
-use Rattle.implication.specs.Standing.{Standing}
+use Rattle.implication.specs.Standing.{Standing, IsOpenIn}
 use Rattle.justify.specs.declared.desk.Desk.{Desk}
 use Rattle.justify.specs.declared.growing.Growth.{Growth}
 use Rattle.justify.specs.declared.growing.Place.{Place}
 use Rattle.justify.specs.declared.task.Task.{Task}
 use Rattle.justify.specs.Answers.{HasCounted}
 use Rattle.justify.specs.Desks.{IsDesk}
-use Rattle.justify.specs.Scoping.{SuitsSearch}
+use Rattle.justify.specs.Scoping.{IsStart, SuitsSearch}
 use Rattle.justify.specs.Growths.{IsGrowing, IsExtended}
 use Rattle.pair_judging.specs.Targets.{seen_target}
 use Rattle.justify.specs.Tests.{IsFitTest}
 use Rattle.justify.specs.Trying.{FailsAtNode}
 use Rattle.implication.specs.Settings.{IsSameSetting}
 use Rattle.justify.specs.UnderWay.{IsUnderWay}
+
+-- A tree can grow from its root: the engine suits the search, the path's pins and nothing else are entered and leave each line some state, the
+-- budget is no more than the program takes, and the desk is the path's.
+pub record IsAtRoot (a : StateAlgebra) (task : Task) (standing : Standing) (desk : Desk) : Type 0 where
+  pub suits : SuitsSearch a (seen_target task.target) standing
+  pub start : IsStart (seen_target task.target) standing
+  pub left_open : IsOpenIn a standing
+  pub budget : task.budget ≤ MOST_BUDGET
+  pub serves : IsDesk a standing.net standing.rules task.target.path.now desk
 
 -- The engine suits the search, what was entered stands, the desk is the path's, and the tree has grown so far, with these places left,
 -- the next one first.

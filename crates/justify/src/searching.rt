@@ -11,8 +11,8 @@ ghost use Rattle.implication.specs.Clients.{IsRestored};
 ghost use Rattle.justify.specs.Answers.{IsFound, CountsConflicts, IsOutcomeOf};
 ghost use Rattle.justify.specs.Desks.{IsDeskFor, IsDesk};
 ghost use Rattle.justify.specs.Ends.{is_spent};
-ghost use Rattle.justify.specs.Scoping.{IsStart, SuitsRules, SuitsSearch};
-ghost use Rattle.justify.specs.Searches.{IsSearching, SearchGoesOn, LeavesSearch, IsGrowthOf};
+ghost use Rattle.justify.specs.Scoping.{CanBegin, IsStart, SuitsRules};
+ghost use Rattle.justify.specs.Searches.{IsAtRoot, IsSearching, SearchGoesOn, LeavesSearch, IsGrowthOf};
 ghost use Rattle.pair_judging.specs.Targets.{seen_target};
 ghost use Rattle.justify.specs.Tests.{IsFitTest};
 ghost use Rattle.trees.specs.Unlinked.{IsUnlinked};
@@ -59,7 +59,12 @@ pub fn search<S: Setting>(
     ensures restored { IsRestored (standing scope.old) (standing scope.new) }
 {
     let mut desk = Desk::new::<FourStates>(alloc, scope.net(), scope.rules())?;
-    search_at(alloc, scope, &mut desk, path, dir, kind, budget)
+    let target = Target {
+        path,
+        direction: dir,
+        kind,
+    };
+    search_at(alloc, scope, &mut desk, &target, budget)
 }
 
 /// The same under linked rules, which fit the engine's netlist, with six states: a test is a pair of the rules, and a refutation excludes
@@ -83,7 +88,12 @@ pub fn search_linked<S: Setting>(
     ensures restored { IsRestored (standing scope.old) (standing scope.new) }
 {
     let mut desk = Desk::new::<SixStates>(alloc, scope.net(), scope.rules())?;
-    search_at(alloc, scope, &mut desk, path, dir, kind, budget)
+    let target = Target {
+        path,
+        direction: dir,
+        kind,
+    };
+    search_at(alloc, scope, &mut desk, &target, budget)
 }
 
 /// The same under any rules, at a desk that was made for the scope's netlist and rules, with the kind of states that is theirs: but for
@@ -93,18 +103,13 @@ pub fn search_at<A: Algebra, S: Setting>(
     alloc: Global,
     scope: &mut Scope<A, S>,
     desk: &mut Desk,
-    path: &Path,
-    dir: Direction,
-    kind: Kind,
+    target: &Target,
     budget: u32,
 ) -> Result<Found, OutOfMemory>
-    requires prefix { IsPrefix (standing scope.old).net path.now }
-    requires start { IsStart (target_of path.now dir kind) (standing scope.old) }
-    requires some_budget { 1 ≤ budget }
-    requires budget { budget ≤ MOST_BUDGET }
+    requires can { CanBegin (seen_target target.now) budget (standing scope.old) }
     requires desk { IsDeskFor A.algebra (standing scope.old).net (standing scope.old).rules desk.old }
     ensures desk { IsDeskFor A.algebra (standing scope.old).net (standing scope.old).rules desk.new }
-    ensures found { IfOk result (IsFound (standing scope.old).net (standing scope.old).rules (target_of path.now dir kind) budget) }
+    ensures found { IfOk result (IsFound (standing scope.old).net (standing scope.old).rules (seen_target target.now) budget) }
     ensures counted { IfOk result (λ found. CountsConflicts budget found (standing scope.old) (standing scope.new)) }
     ensures scope { IsSameScope scope.old scope.new }
     ensures restored { IsRestored (standing scope.old) (standing scope.new) }
@@ -113,18 +118,13 @@ pub fn search_at<A: Algebra, S: Setting>(
     if scope.conflict().is_some() {
         unreachable!()
     }
-    let target = Target {
-        path,
-        direction: dir,
-        kind,
-    };
     let task = Task {
-        target,
+        target: *target,
         budget,
         splitting: Splitting::ByBacktrace,
     };
     let ended = find(alloc, scope, &task, desk);
-    conclude(alloc, scope, &target, desk, ended)
+    conclude(alloc, scope, target, desk, ended)
 }
 
 // The same, but for what is looked for where the budget of a nonrobust search was spent.
@@ -306,11 +306,7 @@ fn split_in_turns<A: Algebra, S: Setting>(
     task: &Task,
     desk: &mut Desk,
 ) -> Result<Found, OutOfMemory>
-    requires suits { SuitsSearch A.algebra (seen_target task.now.target) (standing scope.old) }
-    requires start { IsStart (seen_target task.now.target) (standing scope.old) }
-    requires left_open { IsOpenIn A.algebra (standing scope.old) }
-    requires budget { task.now.budget ≤ MOST_BUDGET }
-    requires desk { IsDesk A.algebra (standing scope.old).net (standing scope.old).rules task.now.target.path.now desk.old }
+    requires root { IsAtRoot A.algebra task.now (standing scope.old) desk.old }
     ensures scope { IsSameScope scope.old scope.new }
     ensures left { LeavesSearch A.algebra task.now (standing scope.old) (standing scope.new) desk.new }
     ensures found { IfOk result (IsFound (standing scope.old).net (standing scope.old).rules (seen_target task.now.target) task.now.budget) }
@@ -360,11 +356,7 @@ fn split_cases<A: Algebra, S: Setting>(
     task: &Task,
     desk: &mut Desk,
 ) -> Result<Found, OutOfMemory>
-    requires suits { SuitsSearch A.algebra (seen_target task.now.target) (standing scope.old) }
-    requires start { IsStart (seen_target task.now.target) (standing scope.old) }
-    requires left_open { IsOpenIn A.algebra (standing scope.old) }
-    requires budget { task.now.budget ≤ MOST_BUDGET }
-    requires desk { IsDesk A.algebra (standing scope.old).net (standing scope.old).rules task.now.target.path.now desk.old }
+    requires root { IsAtRoot A.algebra task.now (standing scope.old) desk.old }
     ensures scope { IsSameScope scope.old scope.new }
     ensures left { LeavesSearch A.algebra task.now (standing scope.old) (standing scope.new) desk.new }
     ensures found { IfOk result (IsFound (standing scope.old).net (standing scope.old).rules (seen_target task.now.target) task.now.budget) }
@@ -383,11 +375,7 @@ fn grow_tree<A: Algebra, S: Setting>(
     task: &Task,
     desk: &mut Desk,
 ) -> Result<Found, OutOfMemory>
-    requires suits { SuitsSearch A.algebra (seen_target task.now.target) (standing scope.old) }
-    requires start { IsStart (seen_target task.now.target) (standing scope.old) }
-    requires left_open { IsOpenIn A.algebra (standing scope.old) }
-    requires budget { task.now.budget ≤ MOST_BUDGET }
-    requires desk { IsDesk A.algebra (standing scope.old).net (standing scope.old).rules task.now.target.path.now desk.old }
+    requires root { IsAtRoot A.algebra task.now (standing scope.old) desk.old }
     ensures scope { IsSameScope scope.old scope.new }
     ensures goes_on { SearchGoesOn A.algebra task.now (standing scope.old) (standing scope.new) desk.new }
     ensures found { IfOk result (IsFound (standing scope.old).net (standing scope.old).rules (seen_target task.now.target) task.now.budget) }

@@ -17,6 +17,7 @@ use crate::outcome::Aim;
 use crate::sharing::shared_steps;
 use implication::{Scope, ScopeMark, Setting};
 use justify::{Desk, Found, search_at};
+use pair_judging::Target;
 use pd_base::{OutOfMemory, Path, PinRef, Steps};
 use state_sets::Algebra;
 use std::alloc::Global;
@@ -95,15 +96,12 @@ impl Descent {
                 steps: kept + 1,
             });
         }
-        let found = search_at(
-            alloc,
-            scope,
-            desk,
+        let target = Target {
             path,
-            aim.direction,
-            aim.kind,
-            aim.budget,
-        )?;
+            direction: aim.direction,
+            kind: aim.kind,
+        };
+        let found = search_at(alloc, scope, desk, &target, aim.budget)?;
         Ok(FoundAlong { found, steps: kept })
     }
 

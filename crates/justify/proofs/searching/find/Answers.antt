@@ -26,11 +26,19 @@ propose-requires-clause-desk g c =
     c.args.desk.now c.set_end.new.self c.net.result.now c.last_line.result.0 c.net.ensures c.last_line.ensures.end c.requires.desk
     c.set_end.ensures.made c.set_end.ensures.links c.set_end.ensures.cone
 
-pub split_in_turns-requires-clause-suits : goal.split_in_turns-requires-clause-suits
-split_in_turns-requires-clause-suits g c =
-    start_suits (seen_target c.args.task.now.target) (standing c.args.scope.now) c.requires.start c.requires.prefix g.A.Algebra.algebra
-    c.args.desk.now c.last_line.result.0 c.last_line.ensures.end (c.last_line.ensures.told (ap is_some c.requires.start.beginning))
-    c.requires.desk
+pub split_in_turns-requires : goal.split_in_turns-requires
+split_in_turns-requires g c = record {
+  root = record {
+    suits =
+        start_suits (seen_target c.args.task.now.target) (standing c.args.scope.now) c.requires.start c.requires.prefix g.A.Algebra.algebra
+        c.args.desk.now c.last_line.result.0 c.last_line.ensures.end (c.last_line.ensures.told (ap is_some c.requires.start.beginning))
+        c.requires.desk;
+    start = c.requires.start;
+    left_open = c.requires.left_open;
+    budget = c.requires.budget;
+    serves = c.propose.ensures.desk;
+  };
+}
 
 pub returns-in-Some-clause-left : goal.returns-in-Some-clause-left
 returns-in-Some-clause-left g c = record {

@@ -14,8 +14,8 @@ use Rattle.justify.proofs.searching.grow_tree.Goals as goal
 pub returns-in_err-growth-clause-goes_on : goal.returns-in_err-growth-clause-goes_on
 returns-in_err-growth-clause-goes_on g c = record {
   setting = record { net = refl; rules = refl; ends = refl };
-  under_way = start_under_way (seen_target c.args.task.now.target) (standing c.args.scope.now) c.requires.start;
-  serves = c.requires.desk;
+  under_way = start_under_way (seen_target c.args.task.now.target) (standing c.args.scope.now) c.requires.root.start;
+  serves = c.requires.root.serves;
   later = at_least _ _ refl;
 }
 
@@ -23,16 +23,16 @@ pub grow-grown-requires-clause-searching : goal.grow-grown-requires-clause-searc
 grow-grown-requires-clause-searching g c =
     let P : LineId → List Place = λ source. root_place g.A.Algebra.algebra.count c.mark.result source ∷ [] in
     record {
-      suits = c.requires.suits;
-      under_way = start_under_way (seen_target c.args.task.now.target) (standing c.args.scope.now) c.requires.start;
-      serves = c.requires.desk;
-      growing = start_growing (seen_target c.args.task.now.target) (standing c.args.scope.now) c.requires.start c.requires.suits.prefix g.A.Algebra.algebra c.requires.left_open
+      suits = c.requires.root.suits;
+      under_way = start_under_way (seen_target c.args.task.now.target) (standing c.args.scope.now) c.requires.root.start;
+      serves = c.requires.root.serves;
+      growing = start_growing (seen_target c.args.task.now.target) (standing c.args.scope.now) c.requires.root.start c.requires.root.suits.prefix g.A.Algebra.algebra c.requires.root.left_open
           c.args.task.now.budget c.mark.result c.mark.ensures c.in_ok-growth.growth c.in_ok-growth.ensures.nodes
           (c.in_ok-growth.ensures.places ∙ ap P c.source.ensures) c.in_ok-growth.ensures.splits;
     }
 
 pub grow-grown-requires-clause-origin : goal.grow-grown-requires-clause-origin
-grow-grown-requires-clause-origin g c = grind (arith, common_steps)
+grow-grown-requires-clause-origin g c = let entered = c.requires.root.start.entered in grind (arith, common_steps)
 
 pub answer-requires-clause-whole : goal.answer-requires-clause-whole
 answer-requires-clause-whole g c =
@@ -41,7 +41,7 @@ answer-requires-clause-whole g c =
 
 pub answer-requires-clause-few : goal.answer-requires-clause-few
 answer-requires-clause-few g c =
-    grown_few g.A.Algebra.algebra c.args.task.now (standing c.args.scope.now) (standing c.grow-grown.new.scope) c.grow-grown.new.growth c.requires.budget
+    grown_few g.A.Algebra.algebra c.args.task.now (standing c.args.scope.now) (standing c.grow-grown.new.scope) c.grow-grown.new.growth c.requires.root.budget
     c.grow-grown.result c.grow-grown.ensures.answer
 
 pub returns-clause-goes_on : goal.returns-clause-goes_on

@@ -19,3 +19,11 @@ pub search_at-requires-clause-desk : goal.search_at-requires-clause-desk
 search_at-requires-clause-desk g c =
     let P : Circuit → Rules → Type 0 = λ n r. IsDeskFor six_states n r c.in_ok-desk.desk in
     there_too P _ _ _ _ c.net.ensures c.rules.ensures c.in_ok-desk.ensures
+
+pub search_at-requires-clause-can : goal.search_at-requires-clause-can
+search_at-requires-clause-can g c = record {
+  prefix = c.requires.prefix;
+  start = c.requires.start;
+  positive = c.requires.some_budget;
+  within = c.requires.budget;
+}

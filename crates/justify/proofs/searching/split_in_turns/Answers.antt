@@ -14,34 +14,37 @@ use Rattle.justify.proofs.Suiting.{suits_restored}
 use Rattle.justify.proofs.TriedSources.{kept_desk}
 use Rattle.justify.proofs.searching.split_in_turns.Goals as goal
 
-pub split_cases-requires-clause-desk : goal.split_cases-requires-clause-desk
-split_cases-requires-clause-desk g c =
-    kept_desk g.A.Algebra.algebra (standing c.args.scope.now).net (standing c.args.scope.now).rules c.args.task.now.target.path.now c.args.desk.now _
-    (record { cone = refl; states = refl; blame = refl; liked = refl; justifier = c.begin_tree.ensures }) c.requires.desk
+pub split_cases-requires : goal.split_cases-requires
+split_cases-requires g c = record {
+  root = record {
+    suits = c.requires.root.suits;
+    start = c.requires.root.start;
+    left_open = c.requires.root.left_open;
+    budget = (let few = c.splits_by_weight-splits.ensures in let most = c.requires.root.budget in omega (arith, few, most));
+    serves =
+        kept_desk g.A.Algebra.algebra (standing c.args.scope.now).net (standing c.args.scope.now).rules c.args.task.now.target.path.now
+        c.args.desk.now _ (record { cone = refl; states = refl; blame = refl; liked = refl; justifier = c.begin_tree.ensures })
+        c.requires.root.serves;
+  };
+}
 
-pub split_cases-requires-then-is_dropped-clause-suits : goal.split_cases-requires-then-is_dropped-clause-suits
-split_cases-requires-then-is_dropped-clause-suits g c =
-    suits_restored g.A.Algebra.algebra (seen_target c.args.task.now.target) (standing c.args.scope.now) (standing c.split_cases.new.scope)
-    c.split_cases.ensures.left.restored c.requires.suits
-
-pub split_cases-requires-then-is_dropped-clause-start : goal.split_cases-requires-then-is_dropped-clause-start
-split_cases-requires-then-is_dropped-clause-start g c =
-    start_restored (seen_target c.args.task.now.target) (standing c.args.scope.now) (standing c.split_cases.new.scope)
-    c.split_cases.ensures.left.restored c.requires.start
-
-pub split_cases-requires-then-is_dropped-clause-left_open : goal.split_cases-requires-then-is_dropped-clause-left_open
-split_cases-requires-then-is_dropped-clause-left_open g c =
+pub split_cases-requires-then-is_dropped : goal.split_cases-requires-then-is_dropped
+split_cases-requires-then-is_dropped g c =
     let first = standing c.args.scope.now in let middle = standing c.split_cases.new.scope in
-    open_stays g.A.Algebra.algebra first middle (same_restored first middle c.split_cases.ensures.left.restored) c.requires.left_open
-
-pub split_cases-requires-then-is_dropped-clause-desk : goal.split_cases-requires-then-is_dropped-clause-desk
-split_cases-requires-then-is_dropped-clause-desk g c =
-    let first = standing c.args.scope.now in let middle = standing c.split_cases.new.scope in
-    let left = c.split_cases.ensures.left in
-    kept_desk g.A.Algebra.algebra middle.net middle.rules c.args.task.now.target.path.now c.split_cases.new.desk _
-    (record { cone = refl; states = refl; blame = refl; liked = refl; justifier = c.learn_tree.ensures })
-    (let P : Circuit → Rules → Type 0 = λ n r. IsDesk g.A.Algebra.algebra n r c.args.task.now.target.path.now c.split_cases.new.desk in
-    there_too P first.net middle.net first.rules middle.rules (sym left.restored.net) (sym left.restored.rules) left.serves)
+    let left = c.split_cases.ensures.left in let target = seen_target c.args.task.now.target in
+    let P : Circuit → Rules → Type 0 = λ n r. IsDesk g.A.Algebra.algebra n r c.args.task.now.target.path.now c.split_cases.new.desk in
+    record {
+      root = record {
+        suits = suits_restored g.A.Algebra.algebra target first middle left.restored c.requires.root.suits;
+        start = start_restored target first middle left.restored c.requires.root.start;
+        left_open = open_stays g.A.Algebra.algebra first middle (same_restored first middle left.restored) c.requires.root.left_open;
+        budget = c.requires.root.budget;
+        serves =
+            kept_desk g.A.Algebra.algebra middle.net middle.rules c.args.task.now.target.path.now c.split_cases.new.desk _
+            (record { cone = refl; states = refl; blame = refl; liked = refl; justifier = c.learn_tree.ensures })
+            (there_too P first.net middle.net first.rules middle.rules (sym left.restored.net) (sym left.restored.rules) left.serves);
+      };
+    }
 
 pub returns-then-is_dropped-clause-left : goal.returns-then-is_dropped-clause-left
 returns-then-is_dropped-clause-left g c =

@@ -38,20 +38,22 @@ go_on-requires-clause-along g c =
 pub go_on-requires-clause-at : goal.go_on-requires-clause-at
 go_on-requires-clause-at g c = c.go_back-shared.ensures.at
 
-pub search_at-requires-clause-prefix : goal.search_at-requires-clause-prefix
-search_at-requires-clause-prefix g c =
-    let same = same_on g (goal.at.search_at-requires-clause-prefix g c).After-go_on in
-    let P : Circuit → Type 0 = λ net. IsPrefix net c.args.path.now in
-    subst P (sym same.net) c.requires.can.is_path.prefix
-
-pub search_at-requires-clause-start : goal.search_at-requires-clause-start
-search_at-requires-clause-start g c =
-    let path = c.args.path.now in
-    let kept = c.in_ok-kept.kept in
-    let long = ap length c.steps.ensures in
-    let all : length path.steps ≤ kept = omega (arith, long, c.if-kept-steps.false) in
-    starts_search g.A.Algebra.algebra (standing c.args.scope.now) c.requires.can.is_desk.of_rules path c.args.aim c.args.self.now c.requires.can.gone (standing c.go_on.new.scope)
-    (same_on g (goal.at.search_at-requires-clause-start g c).After-go_on) c.go_on.new.self kept c.in_ok-kept.ensures.on.at all
+pub search_at-requires-clause-can : goal.search_at-requires-clause-can
+search_at-requires-clause-can g c = record {
+  prefix =
+      (let same = same_on g (goal.at.search_at-requires-clause-can g c).After-go_on in
+      let P : Circuit → Type 0 = λ net. IsPrefix net c.args.path.now in
+      subst P (sym same.net) c.requires.can.is_path.prefix);
+  start =
+      (let path = c.args.path.now in
+      let kept = c.in_ok-kept.kept in
+      let long = ap length c.steps.ensures in
+      let all : length path.steps ≤ kept = omega (arith, long, c.if-kept-steps.false) in
+      starts_search g.A.Algebra.algebra (standing c.args.scope.now) c.requires.can.is_desk.of_rules path c.args.aim c.args.self.now c.requires.can.gone (standing c.go_on.new.scope)
+      (same_on g (goal.at.search_at-requires-clause-can g c).After-go_on) c.go_on.new.self kept c.in_ok-kept.ensures.on.at all);
+  positive = c.requires.can.is_budget.positive;
+  within = c.requires.can.is_budget.within;
+}
 
 pub search_at-requires-clause-desk : goal.search_at-requires-clause-desk
 search_at-requires-clause-desk g c =
@@ -117,12 +119,6 @@ go_back-shared-requires-clause-free g c = c.requires.can.gone.free
 
 pub overflow_add-result : goal.overflow_add-result
 overflow_add-result g c = let room = c.requires.can.room in omega (arith, c.if-kept-steps.true, room, ap length c.steps.ensures)
-
-pub search_at-requires-clause-some_budget : goal.search_at-requires-clause-some_budget
-search_at-requires-clause-some_budget g c = c.requires.can.is_budget.positive
-
-pub search_at-requires-clause-budget : goal.search_at-requires-clause-budget
-search_at-requires-clause-budget g c = c.requires.can.is_budget.within
 
 pub returns-in_err-kept-clause-scope : goal.returns-in_err-kept-clause-scope
 returns-in_err-kept-clause-scope g c = scope_on g (goal.at.returns-in_err-kept-clause-scope g c).After-go_on
