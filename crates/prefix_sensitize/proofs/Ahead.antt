@@ -16,7 +16,7 @@ use Rattle.trees.proofs.Refuting.{refutation_excludes_path}
 use Rattle.good_runs.specs.Faults.{NoneApplies}
 use Rattle.good_runs.specs.Truth.{HasSomeTest}
 use Rattle.prefix_sensitize.specs.declared.course.Course.{Course}
-use Rattle.prefix_sensitize.specs.declared.outcome.Outcome.{Outcome}
+use Rattle.prefix_sensitize.specs.declared.outcome.RowOutcome.{RowOutcome}
 use Rattle.prefix_sensitize.specs.Coming.{HasCome, StandsOn}
 use Rattle.prefix_sensitize.specs.Courses.{IsCourse}
 use Rattle.prefix_sensitize.specs.Entering.{RefutesPrefix}
@@ -41,7 +41,7 @@ none_above course proofs prefix route of none number proof is applies =
     })
 
 module _ (c : Circuit) (rules : Rules) (ends : Option (List LineId)) (course : Course) (is_course : IsCourse c rules ends course) (begin place row : ℕ) (route : Route)
-    (here : StandsInOrder course.paths.now course.order.now place row route) (outcomes : List Outcome) (proofs : List Proof) (steps : ℕ)
+    (here : StandsInOrder course.paths.now course.order.now place row route) (outcomes : List RowOutcome) (proofs : List Proof) (steps : ℕ)
     (come : HasCome c rules course begin place outcomes proofs steps) (source : LineId) (pins : List PinRef)
     (on : StandsOn course place come.entered (record { source = source; steps = pins })) (shared : ℕ)
     (is_shared : ShareSteps pins route.steps shared) where

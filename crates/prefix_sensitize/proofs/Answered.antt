@@ -26,8 +26,8 @@ use Rattle.good_runs.specs.GoodRun.{HasTest}
 use Rattle.good_runs.proofs.Applying.{applying_excludes}
 use Rattle.good_runs.proofs.Numbers.{all_at_number, number_kept, number_new, number_of_place, number_same, number_within}
 use Rattle.prefix_sensitize.specs.Answers.{AddsTest, AreWritten, HasCited, IsAnswered, IsNumberedTest, Written}
-use Rattle.prefix_sensitize.specs.declared.outcome.Outcome.{Outcome}
-use Rattle.prefix_sensitize.specs.declared.outcome.Outcome.TheVariants.{Proved}
+use Rattle.prefix_sensitize.specs.declared.outcome.RowOutcome.{RowOutcome}
+use Rattle.prefix_sensitize.specs.declared.outcome.RowOutcome.TheVariants.{Proved}
 use Rattle.prefix_sensitize.specs.Numbering.{Cites}
 use Rattle.prefix_sensitize.specs.Outcomes.{IsFoundProof, IsOutcome, IsTestPair}
 use Rattle.prefix_sensitize.specs.Searches.{AreSearches, Searches}
@@ -90,7 +90,7 @@ module _ (c : Circuit) (searches : Searches) (are : AreSearches c searches) (pat
   listed_path = all_at_number (IsPath c) searches.routes path_number path are.are_paths listed
 
   -- the proof that an outcome of its row names is one of the fault
-  pub outcome_proof : (kind : Kind) (outcome : Outcome) (index : ℕ) → outcome ≡ Proved index
+  pub outcome_proof : (kind : Kind) (outcome : RowOutcome) (index : ℕ) → outcome ≡ Proved index
       → IsOutcome c searches.rules searches.routes searches.proofs (path_number - 1) (target_of path direction kind) outcome
       → HasProof searches.routes searches.proofs path_number (target_of path direction kind) (index + 1)
   outcome_proof kind outcome index proves is =

@@ -20,8 +20,8 @@ use Rattle.good_runs.specs.Truth.{HasSomeTest}
 use Rattle.good_runs.proofs.Growing.{proof_kept}
 use Rattle.good_runs.proofs.Numbers.{all_at_number}
 use Rattle.prefix_sensitize.specs.declared.outcome.Aim.{Aim}
-use Rattle.prefix_sensitize.specs.declared.outcome.Outcome.{Outcome}
-use Rattle.prefix_sensitize.specs.declared.outcome.Outcome.TheVariants.{Unsearched, Tested, Proved}
+use Rattle.prefix_sensitize.specs.declared.outcome.RowOutcome.{RowOutcome}
+use Rattle.prefix_sensitize.specs.declared.outcome.RowOutcome.TheVariants.{Unsearched, Tested, Proved}
 use Rattle.prefix_sensitize.specs.declared.all_outcomes.BothOutcomes.{BothOutcomes}
 use Rattle.prefix_sensitize.specs.Outcomes.{AddsProofs, AreFoundProofs, AreOutcomes, IsFoundProof, IsNeeded, IsOutcome, NoneIsAbout, outcome_at}
 use Rattle.prefix_sensitize.specs.Readiness.{AddsProofsFor, NoneIsFor}
@@ -30,7 +30,7 @@ use Rattle.prefix_sensitize.specs.Walks.{AreExcused}
 
 -- an outcome stays as it is promised while proofs are added that do not apply
 outcome_kept : (c : Circuit) (rules : Rules) (routes : List Route) (old more new : List Proof) → new ≡ old ++ more → (row : ℕ) (target : Target)
-    → NoneApplies routes more target → (outcome : Outcome) → IsOutcome c rules routes old row target outcome
+    → NoneApplies routes more target → (outcome : RowOutcome) → IsOutcome c rules routes old row target outcome
     → IsOutcome c rules routes new row target outcome
 outcome_kept c rules routes old more new grown row target none Unsearched is = is
 outcome_kept c rules routes old more new grown row target none (Tested pair) is = is
@@ -80,20 +80,20 @@ module _ (c : Circuit) (rules : Rules) (routes : List Route) (direction : Direct
     all_excused kind row route there not_needed = absurd (not_needed (is_needed row (slice_get_within routes row route there)))
 
     -- and each is told
-    pub each_outcome : (kind : Kind) (proofs : List Proof) (outcomes : List Outcome)
+    pub each_outcome : (kind : Kind) (proofs : List Proof) (outcomes : List RowOutcome)
         → AreOutcomes c rules routes proofs needed (aim_for kind) outcomes → (row : ℕ) (route : Route) → slice_get routes row ≡ Some route
         → IsOutcome c rules routes proofs row (target_of route direction kind) (outcome_at outcomes row)
     each_outcome kind proofs outcomes are row route there =
         are.each row route there (is_needed row (slice_get_within routes row route there))
 
-    module _ (middle : List Proof) (robust : List Outcome) (are : AreOutcomes c rules routes middle needed (aim_for Robust) robust)
+    module _ (middle : List Proof) (robust : List RowOutcome) (are : AreOutcomes c rules routes middle needed (aim_for Robust) robust)
         (some : List Bool) (untested : some ≡ map (λ outcome. not (is_test outcome)) robust) where
       -- whether the nonrobust outcome is needed
       need_of : (row : ℕ) → row < length routes → slice_index_or some row false ≡ not (is_test (outcome_at robust row))
       need_of row within =
           let same = are.one_each in
           ap (λ (list : List Bool). slice_index_or list row false) untested
-          ∙ get_or-map (λ (outcome : Outcome). not (is_test outcome)) robust row Unsearched false (omega arith)
+          ∙ get_or-map (λ (outcome : RowOutcome). not (is_test outcome)) robust row Unsearched false (omega arith)
 
       -- a path that has a robust test has a nonrobust one
       pub untested_excused : AreExcused c rules (aim_for Nonrobust) routes some
@@ -101,7 +101,7 @@ module _ (c : Circuit) (rules : Rules) (routes : List Route) (direction : Direct
           by (outcome_at robust row) (each_outcome Robust middle robust are row route there)
           (λ clear. not_needed (need_of row (slice_get_within routes row route there) ∙ ap not clear))
         where
-          by : (outcome : Outcome) → IsOutcome c rules routes middle row (target_of route direction Robust) outcome
+          by : (outcome : RowOutcome) → IsOutcome c rules routes middle row (target_of route direction Robust) outcome
               → (is_test outcome ≡ false → ⊥) → HasSomeTest c rules (target_of route direction Nonrobust)
           by Unsearched is tested = absurd is
           by (Tested pair) is tested = record {
@@ -115,10 +115,10 @@ module _ (c : Circuit) (rules : Rules) (routes : List Route) (direction : Direct
 
       pub some_each : length some ≡ length routes
       some_each =
-          ap length untested ∙ length-map robust (λ (outcome : Outcome). not (is_test outcome)) ∙ are.one_each
+          ap length untested ∙ length-map robust (λ (outcome : RowOutcome). not (is_test outcome)) ∙ are.one_each
 
       -- the outcomes of both searches are those of the faults
-      pub both_are : (new : List Proof) (nonrobust : List Outcome) → AddsProofs (aim_for Nonrobust) middle new
+      pub both_are : (new : List Proof) (nonrobust : List RowOutcome) → AddsProofs (aim_for Nonrobust) middle new
           → AreOutcomes c rules routes new some (aim_for Nonrobust) nonrobust → (both : BothOutcomes) → both.robust.items ≡ robust
           → both.nonrobust.items ≡ nonrobust → AreBothOutcomesFrom c rules routes new direction 0 both
       both_are new nonrobust adds are_too both is_robust is_nonrobust = record {
@@ -126,8 +126,8 @@ module _ (c : Circuit) (rules : Rules) (routes : List Route) (direction : Direct
         nonrobust = ap length is_nonrobust ∙ are_too.one_each;
         each = λ row route from there.
             (let within = slice_get_within routes row route there in
-            let R : List Outcome → Type 0 = λ list. IsOutcome c rules routes new row (target_of route direction Robust) (outcome_at list row) in
-            let N : List Outcome → Type 0 =
+            let R : List RowOutcome → Type 0 = λ list. IsOutcome c rules routes new row (target_of route direction Robust) (outcome_at list row) in
+            let N : List RowOutcome → Type 0 =
             λ list. IsOutcome c rules routes new row (target_of route direction Nonrobust) (outcome_at list row) in
             record {
               robust = subst R (sym is_robust)
@@ -136,7 +136,7 @@ module _ (c : Circuit) (rules : Rules) (routes : List Route) (direction : Direct
               nonrobust = λ clear. subst N (sym is_nonrobust)
                   (are_too.each row route there
                   (need_of row within
-                  ∙ ap not (sym (ap (λ (list : List Outcome). is_test (outcome_at list row)) is_robust) ∙ clear)));
+                  ∙ ap not (sym (ap (λ (list : List RowOutcome). is_test (outcome_at list row)) is_robust) ∙ clear)));
             });
       }
         where

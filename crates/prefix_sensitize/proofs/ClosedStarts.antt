@@ -41,8 +41,8 @@ use Rattle.justify.specs.declared.answer.Found.TheVariants.{Refuted}
 use Rattle.prefix_sensitize.specs.declared.descent.FoundAlong.{FoundAlong}
 use Rattle.prefix_sensitize.specs.declared.outcome.Aim.{Aim}
 use Rattle.prefix_sensitize.specs.declared.outcome.Findings.{Findings}
-use Rattle.prefix_sensitize.specs.declared.outcome.Outcome.{Outcome}
-use Rattle.prefix_sensitize.specs.declared.outcome.Outcome.TheVariants.{Unsearched, Tested, Proved}
+use Rattle.prefix_sensitize.specs.declared.outcome.RowOutcome.{RowOutcome}
+use Rattle.prefix_sensitize.specs.declared.outcome.RowOutcome.TheVariants.{Unsearched, Tested, Proved}
 use Rattle.prefix_sensitize.specs.Coming.{HasCome, HasComeApart, HasComeOn}
 use Rattle.prefix_sensitize.specs.Courses.{IsCourse}
 use Rattle.prefix_sensitize.specs.Entering.{RefutesPrefix, refuted_at}
@@ -98,7 +98,7 @@ module _ (c : Circuit) (rules : Rules) (ends : Option (List LineId)) (course : C
   closes_on_prefix other same count =
       closes_on (prefix_of count other) (record { source = same; rest = take count other.steps; steps = refl })
 
-  module _ (outcomes : List Outcome) (proofs : List Proof) (steps : ℕ) (come : HasCome c rules course begin place outcomes proofs steps)
+  module _ (outcomes : List RowOutcome) (proofs : List Proof) (steps : ℕ) (come : HasCome c rules course begin place outcomes proofs steps)
       (at other : ℕ) (another : Route) (there : StandsInOrder course.paths.now course.order.now at other another)
       (begins : IsPrefixOf (prefix_of 0 route) another) where
     no_test : (pair : Vectors) → IsOfRules c rules pair → ¬ Meets c (target_for course.aim another) pair
@@ -158,7 +158,7 @@ module _ (c : Circuit) (rules : Rules) (ends : Option (List LineId)) (course : C
         not_closing (algebra_of rules) c (IsNarrowingOf c (links_of rules) target.kind target.path.steps)
         (MayBe (algebra_of rules) c rules target []) root.0 root.1.is_hull root.1.none_empty closing
 
-    not_settled : (outcome : Outcome) → ¬ IsOutcome c rules course.paths.now proofs other (target_for course.aim another) outcome
+    not_settled : (outcome : RowOutcome) → ¬ IsOutcome c rules course.paths.now proofs other (target_for course.aim another) outcome
     not_settled Unsearched is = is
     not_settled (Tested pair) is = no_test pair is.of_rules is.meets
     not_settled (Proved index) (refuted cites) = not_refuted (index + 1) cites

@@ -24,8 +24,8 @@ use Rattle.prefix_sensitize.specs.declared.course.Course.{Course}
 use Rattle.justify.specs.declared.answer.Found.{Found}
 use Rattle.justify.specs.declared.answer.Found.TheVariants.{Test, Spent, Refuted}
 use Rattle.prefix_sensitize.specs.declared.descent.FoundAlong.{FoundAlong}
-use Rattle.prefix_sensitize.specs.declared.outcome.Outcome.{Outcome}
-use Rattle.prefix_sensitize.specs.declared.outcome.Outcome.TheVariants.{Tested, Proved}
+use Rattle.prefix_sensitize.specs.declared.outcome.RowOutcome.{RowOutcome}
+use Rattle.prefix_sensitize.specs.declared.outcome.RowOutcome.TheVariants.{Tested, Proved}
 use Rattle.prefix_sensitize.specs.Coming.{HasCome, HasComeOn, StandsOn}
 use Rattle.prefix_sensitize.specs.Courses.{IsCourse}
 use Rattle.prefix_sensitize.specs.Entering.{HasMovedOn, IsFoundAlong, IsFoundUpTo, RefutesPrefix, refuted_at}
@@ -49,7 +49,7 @@ StandsNoEarlier course place prefix =
     → place ≤ at
 
 module _ (c : Circuit) (rules : Rules) (ends : Option (List LineId)) (course : Course) (is_course : IsCourse c rules ends course) (begin place row : ℕ)
-    (route : Route) (here : StandsInOrder course.paths.now course.order.now place row route) (before : List Outcome) (old : List Proof)
+    (route : Route) (here : StandsInOrder course.paths.now course.order.now place row route) (before : List RowOutcome) (old : List Proof)
     (steps : ℕ) (come : HasCome c rules course begin place before old steps) (source : LineId) (same : route.source ≡ source)
     (pins : List PinRef) (on : StandsOn course place come.entered (record { source = source; steps = pins })) (ended : FoundAlong)
     (shared kept more : ℕ) (stays : shared ≤ kept) (is_shared : ShareSteps pins route.steps shared)
@@ -78,7 +78,7 @@ module _ (c : Circuit) (rules : Rules) (ends : Option (List LineId)) (course : C
       (place + 1) (omega arith) source same pins on is_shared its_low reach.within
 
   -- a row before this place has what it had
-  row_before : (end : ℕ) (outcome : Outcome) (after : List Outcome) → HaveOutcome course.order.now place end outcome before after
+  row_before : (end : ℕ) (outcome : RowOutcome) (after : List RowOutcome) → HaveOutcome course.order.now place end outcome before after
       → (at other : ℕ) (another : Route) → StandsInOrder course.paths.now course.order.now at other another → at < place
       → outcome_at after other ≡ outcome_at before other
   row_before end outcome after rows at other another there less =
@@ -88,8 +88,8 @@ module _ (c : Circuit) (rules : Rules) (ends : Option (List LineId)) (course : C
       one_place course.order.now at at' other other is_course.order.once there.is_placed placed refl in
       omega (arith, equal, less, behind))
 
-  module _ (end : ℕ) (outcome : Outcome) (after : List Outcome) (new : List Proof) (rows : HaveOutcome course.order.now place end outcome before after)
-      (still : (at other : ℕ) (another : Route) (was : Outcome) → StandsInOrder course.paths.now course.order.now at other another → at < place
+  module _ (end : ℕ) (outcome : RowOutcome) (after : List RowOutcome) (new : List Proof) (rows : HaveOutcome course.order.now place end outcome before after)
+      (still : (at other : ℕ) (another : Route) (was : RowOutcome) → StandsInOrder course.paths.now course.order.now at other another → at < place
       → IsOutcome c rules course.paths.now old other (target_for course.aim another) was
       → IsOutcome c rules course.paths.now new other (target_for course.aim another) was)
       (now : (at other : ℕ) (another : Route) → StandsInOrder course.paths.now course.order.now at other another → place ≤ at → at < end
@@ -98,7 +98,7 @@ module _ (c : Circuit) (rules : Rules) (ends : Option (List LineId)) (course : C
         → IsNeeded course.needed.now other
         → IsOutcome c rules course.paths.now new other (target_for course.aim another) (outcome_at after other)
     settled_then at other another there less need =
-        let P : Outcome → Type 0 = λ o. IsOutcome c rules course.paths.now new other (target_for course.aim another) o in
+        let P : RowOutcome → Type 0 = λ o. IsOutcome c rules course.paths.now new other (target_for course.aim another) o in
         ⊎_elim
         (λ (first : at < place).
         subst P (sym (row_before end outcome after rows at other another there first))
@@ -108,10 +108,10 @@ module _ (c : Circuit) (rules : Rules) (ends : Option (List LineId)) (course : C
         (cases_lt at place)
 
   -- a test or a spent budget settles this path
-  module _ (none_refuted : (count : ℕ) (tree : List Node) → ¬ (ended ≡ refuted_at count tree)) (outcome : Outcome) (after : List Outcome)
+  module _ (none_refuted : (count : ℕ) (tree : List Node) → ¬ (ended ≡ refuted_at count tree)) (outcome : RowOutcome) (after : List RowOutcome)
       (new : List Proof) (rows : HaveOutcome course.order.now place (place + 1) outcome before after)
       (found : AreFoundProofs c rules course.aim.budget course.paths.now new)
-      (still : (other : ℕ) (target : Target) (was : Outcome) → IsOutcome c rules course.paths.now old other target was
+      (still : (other : ℕ) (target : Target) (was : RowOutcome) → IsOutcome c rules course.paths.now old other target was
       → IsOutcome c rules course.paths.now new other target was)
       (none : (target : Target) → NoneApplies course.paths.now old target → NoneApplies course.paths.now new target)
       (fewer : (target : Target) → NoneApplies course.paths.now new target → NoneApplies course.paths.now old target)
@@ -152,7 +152,7 @@ module _ (c : Circuit) (rules : Rules) (ends : Option (List LineId)) (course : C
   module _ (count : ℕ) (tree : List Node) (is : ended ≡ refuted_at count tree) (refutes : RefutesPrefix c rules course.aim route count tree)
       (earlier_none : StandsNoEarlier course place (prefix_of count route)) (end least : ℕ)
       (stretch : IsStretch course.paths.now course.order.now (prefix_of count route) place end least)
-      (after : List Outcome)
+      (after : List RowOutcome)
       (rows : HaveOutcome course.order.now place end (Proved (length old)) before after) where
     abbrev prefix : Route
     prefix = prefix_of count route
@@ -263,7 +263,7 @@ module _ (c : Circuit) (rules : Rules) (ends : Option (List LineId)) (course : C
         stretch.behind at other another there behind (subst P equal begins)))
 
 -- what a visit does: the walk has come further, and what it found is about its aim
-pub record HasVisited (c : Circuit) (rules : Rules) (course : Course) (begin place end : ℕ) (along : Route) (after : List Outcome)
+pub record HasVisited (c : Circuit) (rules : Rules) (course : Course) (begin place end : ℕ) (along : Route) (after : List RowOutcome)
     (old new : List Proof) (steps : ℕ) : Type 0 where
   pub come : HasComeOn c rules course begin end along after new steps
   pub further : place < end
@@ -271,7 +271,7 @@ pub record HasVisited (c : Circuit) (rules : Rules) (course : Course) (begin pla
   pub adds : AddsProofs course.aim old new
 
 module _ (c : Circuit) (rules : Rules) (ends : Option (List LineId)) (course : Course) (is_course : IsCourse c rules ends course) (begin place row : ℕ)
-    (route : Route) (here : StandsInOrder course.paths.now course.order.now place row route) (before : List Outcome) (old : List Proof)
+    (route : Route) (here : StandsInOrder course.paths.now course.order.now place row route) (before : List RowOutcome) (old : List Proof)
     (steps : ℕ) (source : LineId) (same : route.source ≡ source) (pins : List PinRef)
     (come : HasComeOn c rules course begin place (record { source = source; steps = pins }) before old steps) where
   inside : place + 1 ≤ length course.order.now
@@ -284,7 +284,7 @@ module _ (c : Circuit) (rules : Rules) (ends : Option (List LineId)) (course : C
     aimed = All-cons (IsAbout course.aim.kind course.aim.direction) proof [] about (All-nil (IsAbout course.aim.kind course.aim.direction));
   }
 
-  module _ (kept more : ℕ) (end : ℕ) (after : List Outcome) (new : List Proof) where
+  module _ (kept more : ℕ) (end : ℕ) (after : List RowOutcome) (new : List Proof) where
     -- where the walk stands then
     abbrev Then : Type 0
     Then = HasVisited c rules course begin place end (record { source = source; steps = take kept route.steps }) after old new (steps + more)
@@ -362,7 +362,7 @@ module _ (c : Circuit) (rules : Rules) (ends : Option (List LineId)) (course : C
 
   -- a search that moved on, and what its end settles
   pub visited : (pins' : List PinRef) (ended : FoundAlong) (more : ℕ) → IsFoundAlong c rules course.aim route ended
-      → HasMovedOn pins pins' route ended more → (end : ℕ) (after : List Outcome) (new : List Proof)
+      → HasMovedOn pins pins' route ended more → (end : ℕ) (after : List RowOutcome) (new : List Proof)
       → Settles course place row route ended.steps ended.found end before after old new → (steps' : ℕ) → steps' ≡ steps + more
       → HasVisited c rules course begin place end (record { source = source; steps = pins' }) after old new steps'
   visited pins' ended more is_found moved end after new settles steps' counted =

@@ -10,8 +10,8 @@ use Rattle.runs.specs.declared.run.Proof.{Proof}
 use Rattle.good_runs.specs.Faults.{Applies, IsNumber, NoneApplies}
 use Rattle.good_runs.proofs.Growing.{none_applies_kept, proof_kept}
 use Rattle.good_runs.proofs.Numbers.{number_kept, number_of_push, number_within}
-use Rattle.prefix_sensitize.specs.declared.outcome.Outcome.{Outcome}
-use Rattle.prefix_sensitize.specs.declared.outcome.Outcome.TheVariants.{Unsearched, Tested, Proved}
+use Rattle.prefix_sensitize.specs.declared.outcome.RowOutcome.{RowOutcome}
+use Rattle.prefix_sensitize.specs.declared.outcome.RowOutcome.TheVariants.{Unsearched, Tested, Proved}
 use Rattle.prefix_sensitize.specs.Outcomes.{AreApart, AreFoundProofs, IsFoundProof, IsOutcome}
 
 module _ (routes : List Route) (old : List Proof) (added : Proof) where
@@ -40,7 +40,7 @@ module _ (routes : List Route) (old : List Proof) (added : Proof) where
   none_before target none number proof is applies = none number proof (number_kept old (added ∷ []) number proof is) applies
 
   -- an outcome is still what is promised
-  pub outcome_still : (c : Circuit) (rules : Rules) (row : ℕ) (target : Target) (outcome : Outcome) → ¬ Applies routes target added
+  pub outcome_still : (c : Circuit) (rules : Rules) (row : ℕ) (target : Target) (outcome : RowOutcome) → ¬ Applies routes target added
       → IsOutcome c rules routes old row target outcome → IsOutcome c rules routes all row target outcome
   outcome_still c rules row target Unsearched apart is = is
   outcome_still c rules row target (Tested pair) apart is = is

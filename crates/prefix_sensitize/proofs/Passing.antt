@@ -16,7 +16,7 @@ use Rattle.good_runs.proofs.Numbers.{all_at_number}
 use Rattle.prefix_sensitize.specs.declared.course.Course.{Course}
 use Rattle.prefix_sensitize.specs.declared.outcome.Aim.{Aim}
 use Rattle.prefix_sensitize.specs.declared.outcome.Findings.{Findings}
-use Rattle.prefix_sensitize.specs.declared.outcome.Outcome.TheVariants.{Unsearched}
+use Rattle.prefix_sensitize.specs.declared.outcome.RowOutcome.TheVariants.{Unsearched}
 use Rattle.prefix_sensitize.specs.Coming.{HasCome, HasComeApart, HasComeOn}
 use Rattle.prefix_sensitize.specs.Courses.{BeginsAt}
 use Rattle.prefix_sensitize.specs.Outcomes.{AddsProofs, AreFoundProofs, AreOutcomes, IsNeeded, NoneIsAbout}

@@ -8,8 +8,8 @@ use Rattle.pd_base.specs.declared.fault.Direction.{Direction}
 use Rattle.netlist.specs.Circuit.{Circuit}
 use Rattle.runs.specs.declared.run.Proof.{Proof}
 use Rattle.good_runs.specs.Faults.{IsNumber}
-use Rattle.prefix_sensitize.specs.declared.outcome.Outcome.{Outcome}
-use Rattle.prefix_sensitize.specs.declared.outcome.Outcome.TheVariants.{Unsearched}
+use Rattle.prefix_sensitize.specs.declared.outcome.RowOutcome.{RowOutcome}
+use Rattle.prefix_sensitize.specs.declared.outcome.RowOutcome.TheVariants.{Unsearched}
 use Rattle.prefix_sensitize.specs.declared.all_outcomes.BothOutcomes.{BothOutcomes}
 use Rattle.prefix_sensitize.specs.declared.all_outcomes.FaultOutcomes.{FaultOutcomes}
 use Rattle.prefix_sensitize.specs.Outcomes.{outcome_at}
@@ -37,13 +37,13 @@ module _ (c : Circuit) (rules : Rules) (routes : List Route) (proofs : List Proo
   -- and the others are left
   module _ (new : BothOutcomes) (robust : new.robust.items ≡ set old.robust.items row Unsearched)
       (nonrobust : new.nonrobust.items ≡ set old.nonrobust.items row Unsearched) where
-    other_outcome : (list : List Outcome) (other : ℕ) → other ≢ row → outcome_at (set list row Unsearched) other ≡ outcome_at list other
+    other_outcome : (list : List RowOutcome) (other : ℕ) → other ≢ row → outcome_at (set list row Unsearched) other ≡ outcome_at list other
     other_outcome list other differs = get_or-set_other list row other Unsearched Unsearched differs
 
     same_outcomes : (other : ℕ) → other ≢ row → fault_outcomes old other ≡ fault_outcomes new other
     same_outcomes other differs = λ i. record {
-      robust = sym (ap (λ (list : List Outcome). outcome_at list other) robust ∙ other_outcome old.robust.items other differs) i;
-      nonrobust = sym (ap (λ (list : List Outcome). outcome_at list other) nonrobust ∙ other_outcome old.nonrobust.items other differs) i;
+      robust = sym (ap (λ (list : List RowOutcome). outcome_at list other) robust ∙ other_outcome old.robust.items other differs) i;
+      nonrobust = sym (ap (λ (list : List RowOutcome). outcome_at list other) nonrobust ∙ other_outcome old.nonrobust.items other differs) i;
     }
 
     pub others_left : (next : ℕ) → next ≡ row + 1 → AreBothOutcomesFrom c rules routes proofs direction next new

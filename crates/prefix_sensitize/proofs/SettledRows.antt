@@ -3,21 +3,21 @@ use Rattle.std.proofs.Common.{◌≡◌, ◌≢◌, ⊎_elim, ℕ, ◌+◌, ◌<
 use Rattle.std.specs.Prelude.{slice_get}
 use Rattle.std.proofs.lemmas.Bool.{cases_eq, cases_lt}
 use Rattle.std.proofs.lemmas.List.{length-set}
-use Rattle.prefix_sensitize.specs.declared.outcome.Outcome.{Outcome}
-use Rattle.prefix_sensitize.specs.declared.outcome.Outcome.TheVariants.{Unsearched}
+use Rattle.prefix_sensitize.specs.declared.outcome.RowOutcome.{RowOutcome}
+use Rattle.prefix_sensitize.specs.declared.outcome.RowOutcome.TheVariants.{Unsearched}
 use Rattle.prefix_sensitize.specs.Outcomes.{outcome_at}
 use Rattle.prefix_sensitize.specs.Settling.{HaveOutcome}
 use Rattle.prefix_sensitize.proofs.OrderPlaces.{same_item}
 
 -- none is written
-pub settled_none : (order : List ℕ) (place : ℕ) (outcome : Outcome) (old : List Outcome) → HaveOutcome order place place outcome old old
+pub settled_none : (order : List ℕ) (place : ℕ) (outcome : RowOutcome) (old : List RowOutcome) → HaveOutcome order place place outcome old old
 settled_none order place outcome old = record {
   one_each = refl;
   inside = λ at row placed behind before. absurd (omega arith);
   outside = λ row apart. refl;
 }
 
-module _ (order : List ℕ) (place at row : ℕ) (outcome : Outcome) (old new : List Outcome) (so_far : HaveOutcome order place at outcome old new)
+module _ (order : List ℕ) (place at row : ℕ) (outcome : RowOutcome) (old new : List RowOutcome) (so_far : HaveOutcome order place at outcome old new)
     (behind : place ≤ at) (here : slice_get order at ≡ Some row) (within : row < length new) where
   written : outcome_at (set new row outcome) row ≡ outcome
   written = get_or-set_same new row outcome Unsearched within

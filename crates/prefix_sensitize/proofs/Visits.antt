@@ -14,7 +14,7 @@ use Rattle.path_laws.proofs.Prefixes.{is_prefix_of, prefix_of-is_prefix}
 use Rattle.runs.specs.declared.run.Proof.{Proof}
 use Rattle.good_runs.specs.Faults.{NoneApplies}
 use Rattle.prefix_sensitize.specs.declared.course.Course.{Course}
-use Rattle.prefix_sensitize.specs.declared.outcome.Outcome.{Outcome}
+use Rattle.prefix_sensitize.specs.declared.outcome.RowOutcome.{RowOutcome}
 use Rattle.prefix_sensitize.specs.Coming.{HasCome, HasComeOn, HasEarlier, StandsOn}
 use Rattle.prefix_sensitize.specs.Outcomes.{AreFoundProofs, IsNeeded, IsOutcome, outcome_at, target_for}
 use Rattle.prefix_sensitize.specs.PathOrder.{IsOrder, ShareSteps, StandsInOrder}
@@ -38,7 +38,7 @@ shared_prefix source pins path prefix shared same is of few =
 
 -- the path in hand was visited: so many of its prefixes were entered behind those that were shared
 module _ (c : Circuit) (rules : Rules) (course : Course) (is_order : IsOrder course.paths.now course.order.now) (begin place row : ℕ) (route : Route)
-    (here : StandsInOrder course.paths.now course.order.now place row route) (before : List Outcome) (old : List Proof) (steps : ℕ)
+    (here : StandsInOrder course.paths.now course.order.now place row route) (before : List RowOutcome) (old : List Proof) (steps : ℕ)
     (come : HasCome c rules course begin place before old steps) (shared more : ℕ) (entered : List Route)
     (enters : Enters course.paths.now route shared more come.entered entered) (end : ℕ) (further : place < end) where
   of_earlier_then : (prefix : Route) → Contains entered prefix → HasEarlier course end prefix
@@ -68,7 +68,7 @@ module _ (c : Circuit) (rules : Rules) (course : Course) (is_order : IsOrder cou
       (enters.only prefix inside)
 
   -- the walk has come to the end of what was settled
-  pub come_on : (after : List Outcome) (new : List Proof) → more ≤ MOST_LEVELS → length after ≡ length before
+  pub come_on : (after : List RowOutcome) (new : List Proof) → more ≤ MOST_LEVELS → length after ≡ length before
       → AreFoundProofs c rules course.aim.budget course.paths.now new
       → ((at other : ℕ) (another : Route) → StandsInOrder course.paths.now course.order.now at other another → at < end
       → IsNeeded course.needed.now other

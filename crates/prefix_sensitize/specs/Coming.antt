@@ -12,7 +12,7 @@ use Rattle.implication.specs.Standing.{Standing}
 use Rattle.good_runs.specs.Faults.{NoneApplies}
 use Rattle.prefix_sensitize.specs.declared.course.Course.{Course}
 use Rattle.prefix_sensitize.specs.declared.outcome.Findings.{Findings}
-use Rattle.prefix_sensitize.specs.declared.outcome.Outcome.{Outcome}
+use Rattle.prefix_sensitize.specs.declared.outcome.RowOutcome.{RowOutcome}
 use Rattle.prefix_sensitize.specs.Entering.{HasGone}
 use Rattle.prefix_sensitize.specs.Outcomes.{AreFoundProofs, IsNeeded, IsOutcome, outcome_at, target_for}
 use Rattle.prefix_sensitize.specs.PathOrder.{StandsInOrder}
@@ -30,7 +30,7 @@ pub record HasEarlier (course : Course) (place : ℕ) (prefix : Route) : Type 0 
 -- The walk has come to this place. Each path before it has its outcome, if one is needed, and no refutation applies to a path from here on.
 -- What was entered since the count of steps stood at `begin` are prefixes of paths before this place, none twice; and each prefix of a
 -- path before it that needed an outcome was entered, or a refutation applies to it.
-pub record HasCome (c : Circuit) (rules : Rules) (course : Course) (begin place : ℕ) (outcomes : List Outcome) (proofs : List Proof)
+pub record HasCome (c : Circuit) (rules : Rules) (course : Course) (begin place : ℕ) (outcomes : List RowOutcome) (proofs : List Proof)
     (steps : ℕ) : Type 0 where
   pub one_each : length outcomes ≡ length course.paths.now
   pub found : AreFoundProofs c rules course.aim.budget course.paths.now proofs
@@ -55,7 +55,7 @@ pub record StandsOn (course : Course) (place : ℕ) (entered : List Route) (alon
       → StandsInOrder course.paths.now course.order.now at row route → place ≤ at → IsPrefixOf prefix route → IsPrefixOf prefix along
 
 -- the walk has come to this place, and what was entered stands on a route
-pub record HasComeOn (c : Circuit) (rules : Rules) (course : Course) (begin place : ℕ) (along : Route) (outcomes : List Outcome)
+pub record HasComeOn (c : Circuit) (rules : Rules) (course : Course) (begin place : ℕ) (along : Route) (outcomes : List RowOutcome)
     (proofs : List Proof) (steps : ℕ) : Type 0 where
   pub come : HasCome c rules course begin place outcomes proofs steps
   pub on : StandsOn course place come.entered along

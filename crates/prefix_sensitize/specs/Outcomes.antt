@@ -13,8 +13,8 @@ use Rattle.good_runs.specs.Faults.{Applies, HasProof, IsAbout, IsNumber}
 use Rattle.good_runs.specs.GoodRun.{IsGoodRefutation, IsGoodSpent}
 use Rattle.good_runs.specs.Shortest.{IsShortest}
 use Rattle.prefix_sensitize.specs.declared.outcome.Aim.{Aim}
-use Rattle.prefix_sensitize.specs.declared.outcome.Outcome.{Outcome}
-use Rattle.prefix_sensitize.specs.declared.outcome.Outcome.TheVariants.{Unsearched, Tested, Proved}
+use Rattle.prefix_sensitize.specs.declared.outcome.RowOutcome.{RowOutcome}
+use Rattle.prefix_sensitize.specs.declared.outcome.RowOutcome.TheVariants.{Unsearched, Tested, Proved}
 
 -- what is searched for on a path
 abbrev pub target_for : Aim → Route → Target
@@ -44,13 +44,13 @@ pub record IsTestPair (c : Circuit) (rules : Rules) (target : Target) (pair : Ve
   pub meets : Meets c target pair
 
 -- what the outcome of a search for a target tells, whose path stands in this row of the list
-abbrev pub IsOutcome : Circuit → Rules → List Route → List Proof → ℕ → Target → Outcome → Type 0
+abbrev pub IsOutcome : Circuit → Rules → List Route → List Proof → ℕ → Target → RowOutcome → Type 0
 IsOutcome c rules routes proofs row target Unsearched = ⊥
 IsOutcome c rules routes proofs row target (Tested pair) = IsTestPair c rules target pair
 IsOutcome c rules routes proofs row target (Proved index) = HasProof routes proofs (row + 1) target (index + 1)
 
 -- the outcome of this row
-abbrev pub outcome_at : List Outcome → ℕ → Outcome
+abbrev pub outcome_at : List RowOutcome → ℕ → RowOutcome
 outcome_at outcomes row = slice_index_or outcomes row Unsearched
 
 -- an outcome is asked for in this row
@@ -58,7 +58,7 @@ abbrev pub IsNeeded : List Bool → ℕ → Type 0
 IsNeeded needed row = slice_index_or needed row false ≡ true
 
 -- for each path its outcome, as far as one is needed
-pub record AreOutcomes (c : Circuit) (rules : Rules) (routes : List Route) (proofs : List Proof) (needed : List Bool) (aim : Aim) (outcomes : List Outcome) : Type 0 where
+pub record AreOutcomes (c : Circuit) (rules : Rules) (routes : List Route) (proofs : List Proof) (needed : List Bool) (aim : Aim) (outcomes : List RowOutcome) : Type 0 where
   pub one_each : length outcomes ≡ length routes
   pub each : (row : ℕ) (route : Route) → slice_get routes row ≡ Some route → IsNeeded needed row
       → IsOutcome c rules routes proofs row (target_for aim route) (outcome_at outcomes row)

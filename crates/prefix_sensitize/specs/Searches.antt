@@ -10,8 +10,8 @@ use Rattle.pd_base.specs.declared.rules.Rules.{Rules}
 use Rattle.netlist.specs.Circuit.{Circuit}
 use Rattle.netlist.specs.Paths.{IsPath}
 use Rattle.runs.specs.declared.run.Proof.{Proof}
-use Rattle.prefix_sensitize.specs.declared.outcome.Outcome.{Outcome}
-use Rattle.prefix_sensitize.specs.declared.outcome.Outcome.TheVariants.{Unsearched, Tested, Proved}
+use Rattle.prefix_sensitize.specs.declared.outcome.RowOutcome.{RowOutcome}
+use Rattle.prefix_sensitize.specs.declared.outcome.RowOutcome.TheVariants.{Unsearched, Tested, Proved}
 use Rattle.prefix_sensitize.specs.declared.all_outcomes.BothOutcomes.{BothOutcomes}
 use Rattle.prefix_sensitize.specs.declared.all_outcomes.DirectionFindings.{DirectionFindings}
 use Rattle.prefix_sensitize.specs.declared.all_outcomes.FaultOutcomes.{FaultOutcomes}
@@ -39,7 +39,7 @@ pub record AreSearches (c : Circuit) (searches : Searches) : Type 0 where
   pub found : AreFoundProofs c searches.rules searches.budget searches.routes searches.proofs
 
 -- whether the outcome is a test
-abbrev pub is_test : Outcome → Bool
+abbrev pub is_test : RowOutcome → Bool
 is_test Unsearched = false
 is_test (Tested pair) = true
 is_test (Proved index) = false

@@ -8,8 +8,8 @@ use Rattle.justify.specs.declared.answer.Found.{Found}
 use Rattle.justify.specs.declared.answer.Found.TheVariants.{Test, Spent, Refuted}
 use Rattle.prefix_sensitize.specs.declared.course.Course.{Course}
 use Rattle.prefix_sensitize.specs.declared.outcome.Aim.{Aim}
-use Rattle.prefix_sensitize.specs.declared.outcome.Outcome.{Outcome}
-use Rattle.prefix_sensitize.specs.declared.outcome.Outcome.TheVariants.{Tested, Proved}
+use Rattle.prefix_sensitize.specs.declared.outcome.RowOutcome.{RowOutcome}
+use Rattle.prefix_sensitize.specs.declared.outcome.RowOutcome.TheVariants.{Tested, Proved}
 use Rattle.prefix_sensitize.specs.Outcomes.{outcome_at}
 use Rattle.prefix_sensitize.specs.PathOrder.{IsStretch}
 
@@ -31,20 +31,20 @@ HasItsSteps route steps (Spent tree) = ⊤
 HasItsSteps route steps (Refuted tree) = steps ≤ length route.steps
 
 -- the rows on the places from one up to another have this outcome; each other row has what it had
-pub record HaveOutcome (order : List ℕ) (place end : ℕ) (outcome : Outcome) (old new : List Outcome) : Type 0 where
+pub record HaveOutcome (order : List ℕ) (place end : ℕ) (outcome : RowOutcome) (old new : List RowOutcome) : Type 0 where
   pub one_each : length new ≡ length old
   pub inside : (at row : ℕ) → slice_get order at ≡ Some row → place ≤ at → at < end → outcome_at new row ≡ outcome
   pub outside : (row : ℕ) → ((at : ℕ) → slice_get order at ≡ Some row → place ≤ at → at < end → ⊥)
       → outcome_at new row ≡ outcome_at old row
 
 -- there is this proof more, and it is the outcome of the rows on these places
-pub record AddsProof (order : List ℕ) (place end : ℕ) (proof : Proof) (before after : List Outcome) (old new : List Proof) : Type 0 where
+pub record AddsProof (order : List ℕ) (place end : ℕ) (proof : Proof) (before after : List RowOutcome) (old new : List Proof) : Type 0 where
   pub added : new ≡ old ++ proof ∷ []
   pub rows : HaveOutcome order place end (Proved (length old)) before after
 
 -- What the end of a search for a path, which stands at this place, settles: a test and a spent budget settle this path alone, a refutation
 -- all paths from here on that have its prefix, of which it names the one of the least row.
-abbrev pub Settles : Course → ℕ → ℕ → Route → ℕ → Found → ℕ → List Outcome → List Outcome → List Proof → List Proof → Type 0
+abbrev pub Settles : Course → ℕ → ℕ → Route → ℕ → Found → ℕ → List RowOutcome → List RowOutcome → List Proof → List Proof → Type 0
 Settles course place row route steps (Test pair) end before after old new =
     (end ≡ place + 1) × (new ≡ old) × HaveOutcome course.order.now place end (Tested pair) before after
 Settles course place row route steps (Spent tree) end before after old new =

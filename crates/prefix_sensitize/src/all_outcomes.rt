@@ -3,7 +3,7 @@ ghost use Rattle.std.specs.Prelude.{◌≡◌, ◌<◌, length, slice_set};
 ghost use Rattle.prefix_sensitize.specs.Outcomes.{outcome_at};
 ghost use Rattle.prefix_sensitize.specs.Searches.{fault_outcomes};
 
-use crate::outcome::Outcome;
+use crate::outcome::RowOutcome;
 use runs::Proof;
 use std::mem;
 
@@ -11,18 +11,18 @@ use std::mem;
 #[derive(Drop)]
 pub(crate) struct FaultOutcomes {
     /// That of the robust search.
-    pub(crate) robust: Outcome,
+    pub(crate) robust: RowOutcome,
     /// That of the nonrobust search, which need not be run where the robust one gave a test.
-    pub(crate) nonrobust: Outcome,
+    pub(crate) nonrobust: RowOutcome,
 }
 
 /// The outcomes for one transition, by the rows of the paths.
 #[derive(Drop)]
 pub(crate) struct BothOutcomes {
     /// Those of the robust searches.
-    pub(crate) robust: Vec<Outcome>,
+    pub(crate) robust: Vec<RowOutcome>,
     /// Those of the nonrobust searches.
-    pub(crate) nonrobust: Vec<Outcome>,
+    pub(crate) nonrobust: Vec<RowOutcome>,
 }
 
 /// What the searches for one transition found.
@@ -53,8 +53,8 @@ impl BothOutcomes {
         requires robust { row < length self.old.robust.items }
         requires nonrobust { row < length self.old.nonrobust.items }
         ensures taken { result ≡ fault_outcomes self.old row }
-        ensures robust { self.new.robust.items ≡ slice_set self.old.robust.items row Outcome.Unsearched }
-        ensures nonrobust { self.new.nonrobust.items ≡ slice_set self.old.nonrobust.items row Outcome.Unsearched }
+        ensures robust { self.new.robust.items ≡ slice_set self.old.robust.items row RowOutcome.Unsearched }
+        ensures nonrobust { self.new.nonrobust.items ≡ slice_set self.old.nonrobust.items row RowOutcome.Unsearched }
     {
         FaultOutcomes {
             robust: take(self.robust.as_mut_slice(), row),
@@ -64,10 +64,10 @@ impl BothOutcomes {
 }
 
 // Takes the outcome out of a row.
-fn take(outcomes: &mut [Outcome], row: usize) -> Outcome
+fn take(outcomes: &mut [RowOutcome], row: usize) -> RowOutcome
     requires { row < length outcomes.old }
     ensures taken { result ≡ outcome_at outcomes.old row }
-    ensures others { outcomes.new ≡ slice_set outcomes.old row Outcome.Unsearched }
+    ensures others { outcomes.new ≡ slice_set outcomes.old row RowOutcome.Unsearched }
 {
-    mem::replace(&mut outcomes[row], Outcome::Unsearched)
+    mem::replace(&mut outcomes[row], RowOutcome::Unsearched)
 }

@@ -13,9 +13,9 @@ pub(crate) struct Aim {
     pub(crate) budget: u32,
 }
 
-/// What is known of a path for an aim.
+/// What is known of the path in a row for an aim: a test, or which of the proofs that were found is its own, since one may serve many rows.
 #[derive(Drop)]
-pub(crate) enum Outcome {
+pub(crate) enum RowOutcome {
     /// It was not searched.
     Unsearched,
     /// A pair that is a test.
@@ -29,7 +29,7 @@ pub(crate) enum Outcome {
 #[derive(Drop)]
 pub(crate) struct Findings {
     /// The outcomes, by row.
-    pub(crate) outcomes: Vec<Outcome>,
+    pub(crate) outcomes: Vec<RowOutcome>,
     /// The proofs.
     pub(crate) proofs: Vec<Proof>,
 }

@@ -16,7 +16,7 @@ ghost use Rattle.prefix_sensitize.specs.Walks.{AreSearchablePaths, AreToldPaths,
 use crate::all_outcomes::{AllOutcomes, BothOutcomes, DirectionFindings};
 use crate::course::PathsInOrder;
 use crate::listing::run_of;
-use crate::outcome::{Aim, Outcome};
+use crate::outcome::{Aim, RowOutcome};
 use crate::path_tree::PathTree;
 use crate::walking::walk;
 use delay_annotation::Delays;
@@ -237,7 +237,7 @@ fn search_direction<A: Algebra, S: Setting, L>(
 }
 
 // For which paths no test was found.
-fn untested(alloc: Global, outcomes: &[Outcome]) -> Result<Vec<bool>, OutOfMemory>
+fn untested(alloc: Global, outcomes: &[RowOutcome]) -> Result<Vec<bool>, OutOfMemory>
     ensures { IfOk result (λ untested. untested.items ≡ map (λ outcome. not (is_test outcome)) outcomes.now) }
 {
     let mut untested = Vec::with_capacity(alloc, outcomes.len())?;
@@ -248,8 +248,8 @@ fn untested(alloc: Global, outcomes: &[Outcome]) -> Result<Vec<bool>, OutOfMemor
 }
 
 // Whether a test was found.
-fn is_test(outcome: &Outcome) -> bool
+fn is_test(outcome: &RowOutcome) -> bool
     ensures { result ≡ is_test outcome.now }
 {
-    matches!(outcome, Outcome::Tested(_))
+    matches!(outcome, RowOutcome::Tested(_))
 }

@@ -7,7 +7,7 @@ ghost use Rattle.prefix_sensitize.specs.Settling.{AddsProof, HasItsSteps, Settle
 
 use crate::course::Course;
 use crate::descent::{FoundAlong, closed_leaf};
-use crate::outcome::{Aim, Findings, Outcome};
+use crate::outcome::{Aim, Findings, RowOutcome};
 use crate::stretch::stretch_from;
 use justify::Found;
 use pd_base::OutOfMemory;
@@ -38,7 +38,7 @@ pub(crate) fn settle(
     } = ended;
     match answer {
         Found::Test(pair) => {
-            found.outcomes[row] = Outcome::Tested(pair);
+            found.outcomes[row] = RowOutcome::Tested(pair);
             Ok(place + 1)
         }
         Found::Spent(tree) => {
@@ -111,7 +111,7 @@ fn add_proof(
     let index = found.proofs.len();
     found.proofs.push(proof)?;
     for at in place..end {
-        found.outcomes[order[at]] = Outcome::Proved(index);
+        found.outcomes[order[at]] = RowOutcome::Proved(index);
     }
     Ok(end)
 }

@@ -14,7 +14,7 @@ ghost use Rattle.prefix_sensitize.specs.Answers.{AddsTest, IsAnswered, IsAsked, 
 
 use crate::all_outcomes::FaultOutcomes;
 use crate::numbering::{Numbering, cited_proofs};
-use crate::outcome::Outcome;
+use crate::outcome::RowOutcome;
 use netlist::Netlist;
 use pair_judging::{ConeJudge, Target};
 use pd_base::{Direction, Items, Kind, OutOfMemory, Pair, Path, Test};
@@ -79,8 +79,8 @@ impl Writer {
     {
         let FaultOutcomes { robust, nonrobust } = outcomes;
         match robust {
-            Outcome::Unsearched => unreachable!(),
-            Outcome::Tested(pair) => {
+            RowOutcome::Unsearched => unreachable!(),
+            RowOutcome::Tested(pair) => {
                 let test = add_test(
                     self.alloc,
                     &mut self.tests,
@@ -91,7 +91,7 @@ impl Writer {
                 )?;
                 Ok(Verdict::Robust { test })
             }
-            Outcome::Proved(proof) => {
+            RowOutcome::Proved(proof) => {
                 self.not_robust(net, number, path, direction, proof, nonrobust)
             }
         }
@@ -105,7 +105,7 @@ impl Writer {
         path: &Path,
         direction: Direction,
         proof: usize,
-        nonrobust: Outcome,
+        nonrobust: RowOutcome,
     ) -> Result<Verdict, OutOfMemory>
         ghost searches: { Searches }
         requires asked { IsAsked net.now searches number path.now self.old }
@@ -115,9 +115,9 @@ impl Writer {
         ensures writer { IfOk result (λ _. IsWriterFor net.now searches self.new) }
     {
         match nonrobust {
-            Outcome::Unsearched => unreachable!(),
-            Outcome::Tested(pair) => self.by_pair(net, number, path, direction, proof, pair),
-            Outcome::Proved(index) => {
+            RowOutcome::Unsearched => unreachable!(),
+            RowOutcome::Tested(pair) => self.by_pair(net, number, path, direction, proof, pair),
+            RowOutcome::Proved(index) => {
                 if self.found[index].spent {
                     let robust = self.numbering.cite(proof)?;
                     let nonrobust = self.numbering.cite(index)?;

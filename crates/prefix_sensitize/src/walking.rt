@@ -14,7 +14,7 @@ ghost use Rattle.prefix_sensitize.specs.Walks.{CountsPrefixes};
 
 use crate::course::{Course, PathsInOrder, begins_at};
 use crate::descent::Descent;
-use crate::outcome::{Aim, Findings, Outcome};
+use crate::outcome::{Aim, Findings, RowOutcome};
 use crate::settling::{settle, settle_start};
 use implication::{Engine, Scope, Setting};
 use justify::Desk;
@@ -65,12 +65,12 @@ pub(crate) fn walk<A: Algebra, S: Setting, L>(
 }
 
 // No outcome yet for each of so many paths.
-fn unsearched(alloc: Global, count: usize) -> Result<Vec<Outcome>, OutOfMemory>
-    ensures { IfOk result (λ outcomes. outcomes.items ≡ replicate count Outcome.Unsearched) }
+fn unsearched(alloc: Global, count: usize) -> Result<Vec<RowOutcome>, OutOfMemory>
+    ensures { IfOk result (λ outcomes. outcomes.items ≡ replicate count RowOutcome.Unsearched) }
 {
     let mut outcomes = Vec::with_capacity(alloc, count)?;
     for _ in 0..count {
-        outcomes.push(Outcome::Unsearched)?;
+        outcomes.push(RowOutcome::Unsearched)?;
     }
     Ok(outcomes)
 }

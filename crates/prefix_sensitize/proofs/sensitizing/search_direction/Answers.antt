@@ -4,7 +4,7 @@ use Rattle.std.proofs.lemmas.List.{length-replicate}
 use Rattle.pd_base.specs.declared.fault.Kind.TheVariants.{Robust, Nonrobust}
 use Rattle.pd_base.specs.declared.rules.Rules.{Rules}
 use Rattle.netlist.specs.Circuit.{Circuit}
-use Rattle.prefix_sensitize.specs.declared.outcome.Outcome.{Outcome}
+use Rattle.prefix_sensitize.specs.declared.outcome.RowOutcome.{RowOutcome}
 use Rattle.prefix_sensitize.specs.Outcomes.{AreFoundProofs, AreOutcomes}
 use Rattle.prefix_sensitize.specs.Searches.{is_test}
 use Rattle.prefix_sensitize.specs.Walks.{AreExcused}
@@ -48,13 +48,13 @@ walk-requires-2-clause-asked g c =
           some_each c.args.engine.now.net c.args.engine.now.rules c.args.listed.now.paths.now c.args.direction c.args.budget c.in_ok-all.all.items
           (c.in_ok-all.ensures.items_if_clones_equal (λ y same. same)) c.in_ok-robust.robust.proofs.items c.in_ok-robust.robust.outcomes.items
           c.in_ok-robust.ensures.found.outcomes c.in_ok-untested.untested.items
-          (c.in_ok-untested.ensures ∙ ap (map (λ (outcome : Outcome). not (is_test outcome))) c.as_slice.ensures.value);
+          (c.in_ok-untested.ensures ∙ ap (map (λ (outcome : RowOutcome). not (is_test outcome))) c.as_slice.ensures.value);
       excused =
           subst₂ P (sym rest.net) (sym rest.rules)
           (untested_excused c.args.engine.now.net c.args.engine.now.rules c.args.listed.now.paths.now c.args.direction c.args.budget c.in_ok-all.all.items
           (c.in_ok-all.ensures.items_if_clones_equal (λ y same. same)) c.in_ok-robust.robust.proofs.items c.in_ok-robust.robust.outcomes.items
           c.in_ok-robust.ensures.found.outcomes c.in_ok-untested.untested.items
-          (c.in_ok-untested.ensures ∙ ap (map (λ (outcome : Outcome). not (is_test outcome))) c.as_slice.ensures.value));
+          (c.in_ok-untested.ensures ∙ ap (map (λ (outcome : RowOutcome). not (is_test outcome))) c.as_slice.ensures.value));
     }
 
 pub walk-requires-2-clause-before : goal.walk-requires-2-clause-before
@@ -103,7 +103,7 @@ returns-clause-found g c =
           both_are c.args.engine.now.net c.args.engine.now.rules c.args.listed.now.paths.now c.args.direction c.args.budget c.in_ok-all.all.items
           (c.in_ok-all.ensures.items_if_clones_equal (λ y same. same)) c.in_ok-robust.robust.proofs.items c.in_ok-robust.robust.outcomes.items
           c.in_ok-robust.ensures.found.outcomes c.in_ok-untested.untested.items
-          (c.in_ok-untested.ensures ∙ ap (map (λ (outcome : Outcome). not (is_test outcome))) c.as_slice.ensures.value)
+          (c.in_ok-untested.ensures ∙ ap (map (λ (outcome : RowOutcome). not (is_test outcome))) c.as_slice.ensures.value)
           nonrobust.proofs.items nonrobust.outcomes.items c.in_ok-nonrobust.ensures.found.adds
           (subst₂ P rest.net rest.rules c.in_ok-nonrobust.ensures.found.outcomes) _ refl refl;
       proofs = subst₂ Found rest.net rest.rules c.in_ok-nonrobust.ensures.found.proofs;

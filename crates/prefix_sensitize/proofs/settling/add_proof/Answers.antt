@@ -2,7 +2,7 @@
 use Rattle.std.proofs.Common.{◌≡◌, ℕ, ◌<◌, length, get_or, Some, refl, subst, ◌∙◌, arith}
 use Rattle.std.specs.Prelude.{slice_get}
 use Rattle.std.proofs.lemmas.Option.{slice_get-get_or}
-use Rattle.prefix_sensitize.specs.declared.outcome.Outcome.TheVariants.{Proved}
+use Rattle.prefix_sensitize.specs.declared.outcome.RowOutcome.TheVariants.{Proved}
 use Rattle.prefix_sensitize.specs.Settling.{HaveOutcome}
 use Rattle.prefix_sensitize.proofs.SettledRows.{settled_more}
 use Rattle.prefix_sensitize.proofs.settling.add_proof.Goals as goal

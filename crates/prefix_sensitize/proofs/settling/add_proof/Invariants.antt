@@ -1,5 +1,5 @@
 use Rattle.std.proofs.Common.{◌≡◌}
-use Rattle.prefix_sensitize.specs.declared.outcome.Outcome.TheVariants.{Proved}
+use Rattle.prefix_sensitize.specs.declared.outcome.RowOutcome.TheVariants.{Proved}
 use Rattle.prefix_sensitize.specs.Settling.{HaveOutcome}
 use Rattle.prefix_sensitize.proofs.settling.add_proof.Given as goal
 

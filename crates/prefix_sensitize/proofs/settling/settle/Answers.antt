@@ -11,8 +11,8 @@ use Rattle.trees.specs.declared.tree.Node.{Node}
 use Rattle.prefix_sensitize.specs.declared.course.Course.{Course}
 use Rattle.justify.specs.declared.answer.Found.{Found}
 use Rattle.justify.specs.declared.answer.Found.TheVariants.{Refuted}
-use Rattle.prefix_sensitize.specs.declared.outcome.Outcome.{Outcome}
-use Rattle.prefix_sensitize.specs.declared.outcome.Outcome.TheVariants.{Tested}
+use Rattle.prefix_sensitize.specs.declared.outcome.RowOutcome.{RowOutcome}
+use Rattle.prefix_sensitize.specs.declared.outcome.RowOutcome.TheVariants.{Tested}
 use Rattle.prefix_sensitize.specs.PathOrder.{IsOrder, IsStretch, StandsInOrder}
 use Rattle.prefix_sensitize.specs.Settling.{AddsProof, HaveOutcome, HasItsSteps, Settles, found_proof}
 use Rattle.prefix_sensitize.proofs.OrderPlaces.{all_at, at_index, same_item, some_path}
@@ -33,7 +33,7 @@ module _ (course : Course) (place : ℕ) (is_order : IsOrder course.paths.now co
       )
 
   -- the row at this place is written
-  one_written : (outcome : Outcome) (old : List Outcome) → length old ≡ length course.paths.now
+  one_written : (outcome : RowOutcome) (old : List RowOutcome) → length old ≡ length course.paths.now
       → HaveOutcome course.order.now place (place + 1) outcome old (set old (get_or course.order.now place 0) outcome)
   one_written outcome old one_each =
       let inside : get_or course.order.now place 0 < length course.paths.now = is_order.inside place 0 within in

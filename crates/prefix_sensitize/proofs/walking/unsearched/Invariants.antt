@@ -1,5 +1,5 @@
 use Rattle.std.proofs.Common.{◌≡◌, replicate}
-use Rattle.prefix_sensitize.specs.declared.outcome.Outcome.TheVariants.{Unsearched}
+use Rattle.prefix_sensitize.specs.declared.outcome.RowOutcome.TheVariants.{Unsearched}
 use Rattle.prefix_sensitize.proofs.walking.unsearched.Given as goal
 
 abbrev pub invariant-loop : goal.invariant-loop

@@ -2,7 +2,7 @@
 use Rattle.std.proofs.Common.{◌-◌, ap, subst}
 use Rattle.pd_base.specs.Target.{target_of}
 use Rattle.pd_base.specs.declared.fault.Kind.TheVariants.{Robust}
-use Rattle.prefix_sensitize.specs.declared.outcome.Outcome.{Outcome}
+use Rattle.prefix_sensitize.specs.declared.outcome.RowOutcome.{RowOutcome}
 use Rattle.prefix_sensitize.specs.Answers.{written_by}
 use Rattle.prefix_sensitize.specs.Outcomes.{IsOutcome}
 use Rattle.prefix_sensitize.specs.Searches.{is_test}
@@ -25,7 +25,7 @@ pub returns-in_ok-test-in-Tested-clause-answered : goal.returns-in_ok-test-in-Te
 returns-in_ok-test-in-Tested-clause-answered g c =
     let asked = c.requires.0 in
     let target = target_of c.args.path.now c.args.direction Robust in
-    let P : Outcome → Type 0 = λ outcome. IsOutcome c.args.net.now g.searches.rules g.searches.routes g.searches.proofs (c.args.number - 1) target outcome in
+    let P : RowOutcome → Type 0 = λ outcome. IsOutcome c.args.net.now g.searches.rules g.searches.routes g.searches.proofs (c.args.number - 1) target outcome in
     robust_answers c.args.net.now g.searches asked.are_searches c.args.number c.args.path.now asked.is_listed c.args.direction
     (written_by c.args.self.now) asked.are_written c.add_test.new.tests.items c.in-Tested.pair c.in_ok-test-in-Tested.test
     (subst P c.in-Tested.is c.requires.1.robust) c.in_ok-test-in-Tested.ensures

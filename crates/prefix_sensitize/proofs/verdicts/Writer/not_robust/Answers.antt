@@ -3,7 +3,7 @@ use Rattle.std.proofs.Common.{◌+◌, ◌-◌, ◌<◌, length, ap, subst, ◌�
 use Rattle.pd_base.specs.Target.{Target, target_of}
 use Rattle.pd_base.specs.declared.fault.Kind.TheVariants.{Robust, Nonrobust}
 use Rattle.good_runs.specs.Faults.{HasProof}
-use Rattle.prefix_sensitize.specs.declared.outcome.Outcome.{Outcome}
+use Rattle.prefix_sensitize.specs.declared.outcome.RowOutcome.{RowOutcome}
 use Rattle.prefix_sensitize.specs.Answers.{written_by}
 use Rattle.prefix_sensitize.specs.Outcomes.{IsOutcome}
 use Rattle.prefix_sensitize.proofs.Answered.{aborted_answers, outcome_proof, proof_within, read_proof, untestable_answers}
@@ -30,7 +30,7 @@ module _ (g : Over) (c : In-Proved g) where
 pub by_pair-requires : goal.by_pair-requires
 by_pair-requires g c =
     let nonrobust = target_of c.args.path.now c.args.direction Nonrobust in
-    let P : Outcome → Type 0 = IsOutcome c.args.net.now g.searches.rules g.searches.routes g.searches.proofs (c.args.number - 1) nonrobust in
+    let P : RowOutcome → Type 0 = IsOutcome c.args.net.now g.searches.rules g.searches.routes g.searches.proofs (c.args.number - 1) nonrobust in
     (c.requires.0, (c.requires.1.0, subst P c.in-Tested.is c.requires.1.1))
 
 pub cite-requires-clause-found : goal.cite-requires-clause-found
