@@ -2,7 +2,7 @@
 use Rattle.std.proofs.Common.{◌≡◌, ◌≢◌, ℕ, ◌+◌, ◌<◌, ◌≤◌, ⊎_elim, Bool, false, List, [], ◌∷◌, ◌++◌, take, take_all, length, get_or, set, replicate, get_or-set_same, get_or-set_other, refl, sym, ap, subst, ◌∙◌, arith}
 use Rattle.std.specs.Int.{bit_at}
 use Rattle.std.specs.List.{Contains}
-use Rattle.std.proofs.lemmas.Bool.{cases_eq, cases_lt}
+use Rattle.std.proofs.lemmas.Bool.{cases_eq, cases_lt, false≢true}
 use Rattle.std.proofs.lemmas.List.{take_more, length-set, length-replicate, get_or-replicate}
 use Rattle.std.proofs.lemmas.List.Elements.{Contains-append_left, Contains-push, Contains-push_cases}
 use Rattle.pd_base.specs.Pair.{Vectors}
@@ -15,9 +15,10 @@ use Rattle.state_sets.specs.States.{Has}
 use Rattle.state_sets.specs.StateAlgebra.{StateAlgebra, HasLaws}
 use Rattle.state_sets.specs.Starts.{IsLeast}
 use Rattle.state_laws.proofs.SourceStates.{state_read_off}
-use Rattle.pair_judging.specs.ConeStates.{state_in, IsReadFrom}
+use Rattle.pair_judging.specs.ConeStates.{state_in, IsReadFrom, IsLinkedFrom}
 use Rattle.pair_judging.specs.LeastStates.{IsTakenOf}
 use Rattle.pair_judging.specs.SourceBits.{first_bit, HasBitsAt, AreLinkBits}
+use Rattle.cones.specs.FoundLines.{HasMark}
 use Rattle.cones.specs.KeptCones.{KeptCone, IsConeAt}
 use Rattle.cones.proofs.Spreading.{no_line}
 
@@ -126,6 +127,24 @@ read_is a laws c states cone pair bits below first second fits linked end is = r
   first_zero = λ source within outside.
       first.elsewhere source (λ there. outside ((is.sources.exactly source).0 there).1) ∙ get_or-replicate (source_count c) source false false within;
   second_linked = λ source line within outside link. linked.linked source line (λ there. outside ((is.lines source).0 there)) link;
+  second_zero = λ source within outside none.
+      linked.free source none ∙ second.elsewhere source (λ there. outside ((is.sources.exactly source).0 there).1)
+      ∙ get_or-replicate (source_count c) source false false within;
+}
+
+-- a pair whose bits stand at the sources of a cone, and at others none but those of links, keeps the links and is 0 elsewhere
+pub linked_is : (c : Circuit) (cone : KeptCone) (before after : ℕ → Bool) (pair : Vectors) (bits : List Bool)
+    → HasBitsAt before cone.sources (replicate (source_count c) false) pair.first
+    → HasBitsAt after cone.sources (replicate (source_count c) false) bits
+    → length pair.second ≡ length bits
+    → AreLinkBits (value c pair.first) cone.links (HasMark []) bits pair.second
+    → (end : ℕ) → IsConeAt c end cone → IsLinkedFrom c cone.links end pair
+linked_is c cone before after pair bits first second fits linked end is = record {
+  first_fits = first.places ∙ length-replicate (source_count c) false;
+  second_fits = fits ∙ second.places ∙ length-replicate (source_count c) false;
+  keeps = λ source line link. linked.linked source line (λ marked. false≢true marked) link;
+  first_zero = λ source within outside.
+      first.elsewhere source (λ there. outside ((is.sources.exactly source).0 there).1) ∙ get_or-replicate (source_count c) source false false within;
   second_zero = λ source within outside none.
       linked.free source none ∙ second.elsewhere source (λ there. outside ((is.sources.exactly source).0 there).1)
       ∙ get_or-replicate (source_count c) source false false within;

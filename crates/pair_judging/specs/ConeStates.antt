@@ -6,7 +6,7 @@ use Rattle.pd_base.specs.Links.{LinkList, IsLink}
 use Rattle.pd_base.specs.declared.ids.LineId.{LineId}
 use Rattle.netlist.specs.Circuit.{Circuit, source_count, line_count}
 use Rattle.netlist.specs.Pins.{IsInFanIn}
-use Rattle.netlist.specs.LinkedPairs.{IsSupported}
+use Rattle.netlist.specs.LinkedPairs.{KeepsLinks, IsSupported}
 use Rattle.netlist.specs.Values.{bit_of, value}
 use Rattle.state_sets.specs.declared.state.State.{State}
 use Rattle.state_sets.specs.States.{Has}
@@ -66,5 +66,15 @@ pub record IsReadFrom (a : StateAlgebra) (c : Circuit) (links : LinkList) (end :
   pub first_zero : (source : ℕ) → source < source_count c → ¬ IsSupported c links end source → bit_of pair.first source ≡ false
   pub second_linked : (source line : ℕ) → source < source_count c → ¬ IsSupported c links end source → IsLink links source line
       → bit_of pair.second source ≡ value c pair.first line
+  pub second_zero : (source : ℕ) → source < source_count c → ¬ IsSupported c links end source → ((line : ℕ) → ¬ IsLink links source line)
+      → bit_of pair.second source ≡ false
+
+-- A pair that keeps the links: at the sources outside the support of the end its first vector is 0, and so is the second where no link tells
+-- its bit.
+pub record IsLinkedFrom (c : Circuit) (links : LinkList) (end : ℕ) (pair : Vectors) : Type 0 where
+  pub first_fits : length pair.first ≡ source_count c
+  pub second_fits : length pair.second ≡ source_count c
+  pub keeps : KeepsLinks c links pair
+  pub first_zero : (source : ℕ) → source < source_count c → ¬ IsSupported c links end source → bit_of pair.first source ≡ false
   pub second_zero : (source : ℕ) → source < source_count c → ¬ IsSupported c links end source → ((line : ℕ) → ¬ IsLink links source line)
       → bit_of pair.second source ≡ false

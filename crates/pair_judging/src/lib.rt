@@ -1,6 +1,6 @@
 //! Pairs of vectors that are judged within the cone of a path's end: the states of the lines in the cone, and whether these meet the
 //! conditions of a test for the path. Stands on netlist, logic_values, state_laws and cones.
-//! The layers above use, of states at the sources of a cone, `take_least`, `take_preferred`, `judge` and `read_test`; `gate_state`,
+//! The layers above use, of states at the sources of a cone, `take_least`, `take_preferred`, `judge`, `read_test` and `read_linked`; `gate_state`,
 //! `failing_link` and `judge_steps`, its parts; of finished pairs `ConeJudge`.
 #![tactic(auto)]
 
@@ -21,5 +21,5 @@ pub use least_states::least;
 pub use path_ends::{end_of, ends_of};
 pub use path_states::judge_steps;
 pub use read_states::{take_least, take_preferred};
-pub use source_bits::read_test;
+pub use source_bits::{read_linked, read_test};
 pub use target::Target;

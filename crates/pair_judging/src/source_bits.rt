@@ -1,15 +1,17 @@
 // The bits of the vectors at a source and its state, both ways: a pair of vectors that is read off states, and states of sources that are
 // read off a pair.
-ghost use Rattle.std.specs.Prelude.{◌≡◌, ◌≢◌, ◌<◌, ℕ, false, length, slice_index_or, All, AllPairs, IfOk, Contains};
+ghost use Rattle.std.specs.Prelude.{◌≡◌, ◌≢◌, ◌<◌, ℕ, false, length, slice_index_or, All, AllPairs, IfOk, IsTrue, Contains};
 ghost use Rattle.netlist.specs.Circuit.{source_count, line_count};
 ghost use Rattle.netlist.specs.Values.{value};
 ghost use Rattle.state_sets.specs.StateAlgebra.{same_bit};
-ghost use Rattle.pair_judging.specs.ConeStates.{state_in, AreStates, AreSourceStates, IsReadFrom};
+ghost use Rattle.pair_judging.specs.ConeStates.{state_in, AreStates, AreSourceStates, IsReadFrom, IsLinkedFrom};
 ghost use Rattle.pair_judging.specs.SourceBits.{first_bit, HasBitsAt, AreLinkBits, AreTakenOf};
+ghost use Rattle.netlist.specs.LinkedPairs.{AreLinksOf};
 ghost use Rattle.cones.specs.FoundLines.{HasMark};
+ghost use Rattle.cones.specs.Marks.{is_marked};
 ghost use Rattle.cones.specs.KeptCones.{IsConeFor, IsConeAt};
 
-use cones::Cone;
+use cones::{Cone, SourceLinks};
 use logic_values::evaluate;
 use netlist::Netlist;
 use pd_base::{LineId, OutOfMemory, Pair};
@@ -43,6 +45,41 @@ pub fn read_test<A: Algebra>(
     Ok(Pair::new(first, second))
 }
 
+/// The pair that has the first values of these states at the sources of a cone, and keeps the links; a source of the cone without a link
+/// has the last value of its state too. At the other sources its first vector is 0, and the second where no link tells its bit. The one
+/// error is that memory ran out.
+pub fn read_linked<A: Algebra>(
+    alloc: Global,
+    net: &Netlist,
+    cone: &Cone,
+    states: &[State],
+) -> Result<Pair, OutOfMemory>
+    requires made { IsConeFor net.now cone.now }
+    requires sources { All (λ source. source.0 < source_count net.now) cone.now.sources }
+    requires places { length states.now ≡ line_count net.now }
+    requires states { AreSourceStates A.algebra cone.now.sources states.now }
+    ensures { IfOk result (λ pair. (end : ℕ) → IsConeAt net.now end cone.now → IsLinkedFrom net.now cone.now.links end pair) }
+{
+    let places = net.sources() as usize;
+    let mut first = vec![in alloc; false; places]?;
+    let mut second = vec![in alloc; false; places]?;
+    write_bits::<A>(
+        cone.sources(),
+        states,
+        first.as_mut_slice(),
+        second.as_mut_slice(),
+    );
+    give_bits(
+        alloc,
+        net,
+        cone.links(),
+        &[],
+        first.as_slice(),
+        second.as_mut_slice(),
+    )?;
+    Ok(Pair::new(first, second))
+}
+
 // Gives each linked source outside the cone the first value of its line as its second bit.
 fn link_bits(
     alloc: Global,
@@ -57,23 +94,85 @@ fn link_bits(
     ensures places { length second.new ≡ length second.old }
     ensures linked { IfOk result (λ done. AreLinkBits (value net.now first.now) cone.now.links (λ source. Contains cone.now.found.lines (record { 0 = source })) second.old second.new) }
 {
-    if cone.links().pairs().is_empty() {
+    give_bits(alloc, net, cone.links(), cone.marks(), first, second)?;
+    Ok(())
+}
+
+// Gives each linked source without a mark the first value of its line as its second bit.
+fn give_bits(
+    alloc: Global,
+    net: &Netlist,
+    links: &SourceLinks,
+    marks: &[bool],
+    first: &[bool],
+    second: &mut [bool],
+) -> Result<(), OutOfMemory>
+    requires links { AreLinksOf net.now links.now }
+    requires first { length first.now ≡ source_count net.now }
+    requires second { length second.old ≡ source_count net.now }
+    ensures places { length second.new ≡ length second.old }
+    ensures linked { IfOk result (λ done. AreLinkBits (value net.now first.now) links.now (HasMark marks.now) second.old second.new) }
+{
+    if are_sources(links.pairs(), net.sources()) {
+        copy_bits(net, links, marks, first, second);
         return Ok(());
     }
+    compute_bits(alloc, net, links, marks, first, second)
+}
+
+// Whether each source is linked to a source.
+fn are_sources(links: &[(LineId, LineId)], sources: u32) -> bool
+    ensures { IsTrue result → All (λ link. link.1.0 < sources) links.now }
+{
+    for link in links {
+        if link.1.0 >= sources {
+            return false;
+        }
+    }
+    true
+}
+
+// The same where each source is linked to a source, whose first value stands in the first vector.
+fn copy_bits(
+    net: &Netlist,
+    links: &SourceLinks,
+    marks: &[bool],
+    first: &[bool],
+    second: &mut [bool],
+)
+    requires links { AreLinksOf net.now links.now }
+    requires lines { All (λ link. link.1.0 < source_count net.now) links.now }
+    requires first { length first.now ≡ source_count net.now }
+    requires second { length second.old ≡ source_count net.now }
+    ensures places { length second.new ≡ length second.old }
+    ensures linked { AreLinkBits (value net.now first.now) links.now (HasMark marks.now) second.old second.new }
+{
+    write_links(links.pairs(), marks, first, second);
+}
+
+// The same where lines have to be computed.
+fn compute_bits(
+    alloc: Global,
+    net: &Netlist,
+    links: &SourceLinks,
+    marks: &[bool],
+    first: &[bool],
+    second: &mut [bool],
+) -> Result<(), OutOfMemory>
+    requires links { AreLinksOf net.now links.now }
+    requires first { length first.now ≡ source_count net.now }
+    requires second { length second.old ≡ source_count net.now }
+    ensures places { length second.new ≡ length second.old }
+    ensures linked { IfOk result (λ done. AreLinkBits (value net.now first.now) links.now (HasMark marks.now) second.old second.new) }
+{
     let mut values = vec![in alloc; false; net.lines() as usize]?;
     evaluate(net, first, values.as_mut_slice());
-    write_links(
-        cone.links().pairs(),
-        cone.marks(),
-        values.as_slice(),
-        second,
-    );
+    write_links(links.pairs(), marks, values.as_slice(), second);
     Ok(())
 }
 
 // Gives each linked source without a mark the value of its line.
 fn write_links(links: &[(LineId, LineId)], marks: &[bool], values: &[bool], second: &mut [bool])
-    requires marks { All (λ link. link.0.0 < length marks.now) links.now }
     requires values { All (λ link. link.1.0 < length values.now) links.now }
     requires second { All (λ link. link.0.0 < length second.old) links.now }
     requires once { AllPairs (λ a b. a.0 ≢ b.0) links.now }
@@ -82,9 +181,21 @@ fn write_links(links: &[(LineId, LineId)], marks: &[bool], values: &[bool], seco
 {
     for link in links {
         let source = link.0.0 as usize;
-        if !marks[source] {
+        let kept = is_marked(marks, source);
+        if !kept {
             second[source] = values[link.1.0 as usize];
         }
+    }
+}
+
+// Whether there is a mark at a place, past which there are none.
+fn is_marked(marks: &[bool], place: usize) -> bool
+    ensures { result ≡ is_marked marks.now place }
+{
+    if place < marks.len() {
+        marks[place]
+    } else {
+        false
     }
 }
 

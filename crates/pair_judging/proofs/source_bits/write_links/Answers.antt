@@ -6,7 +6,7 @@ use Rattle.cones.specs.FoundLines.{HasMark}
 use Rattle.pair_judging.specs.SourceBits.{AreLinkBits}
 use Rattle.cones.proofs.SourceHeads.{no_link}
 use Rattle.pair_judging.proofs.LinkBits.{link_bits_none, link_bits_kept, link_bits_more, link_bits_all}
-use Rattle.pair_judging.proofs.source_bits.write_links.Goals.{then-not-marks-source, else-not-marks-source}
+use Rattle.pair_judging.proofs.source_bits.write_links.Goals.{then-not-kept, else-not-kept}
 use Rattle.pair_judging.proofs.source_bits.write_links.Goals as goal
 
 pub loop-link-init : goal.loop-link-init
@@ -26,17 +26,17 @@ loop-link-preserved c =
     let due : ℕ → Bool = λ line. get_or values line false in
     let inside = c.loop-link-test.true in
     let long : source < length second = omega (arith, c.requires.second place no_link inside, c.loop-link.invariant.places) in
-    elim c.if-not-marks-source.branch [
-      | then-not-marks-source w ↦ record {
+    elim c.if-not-kept.branch [
+      | then-not-kept w ↦ record {
         places = ap length w.second-is ∙ length-set second source (due (get_or links place no_link).1.0) ∙ c.loop-link.invariant.places;
         linked = subst (AreLinkBits due (take (place + 1) links) (HasMark marks) c.args.second.now) (sym w.second-is)
             (link_bits_more due (HasMark marks) c.args.second.now links place inside second c.loop-link.invariant.linked c.requires.once long
-            (λ marked. false≢true (sym w.if-not-marks-source.true ∙ marked)));
+            (λ marked. false≢true (sym w.if-not-kept.true ∙ c.is_marked-kept.ensures ∙ marked)));
       }
-      | else-not-marks-source w ↦ record {
+      | else-not-kept w ↦ record {
         places = ap length w.second-is ∙ c.loop-link.invariant.places;
         linked = subst (AreLinkBits due (take (place + 1) links) (HasMark marks) c.args.second.now) (sym w.second-is)
-            (link_bits_kept due (HasMark marks) c.args.second.now links place inside second c.loop-link.invariant.linked w.if-not-marks-source.false);
+            (link_bits_kept due (HasMark marks) c.args.second.now links place inside second c.loop-link.invariant.linked (sym c.is_marked-kept.ensures ∙ w.if-not-kept.false));
       }
     ]
 
