@@ -2,7 +2,7 @@
 import random
 import re
 
-FLIP_FLOP = re.compile(r"^\s*([^\s=#]+)\s*=\s*DFF\s*\(", re.IGNORECASE | re.MULTILINE)
+FLIP_FLOP = re.compile(r"^[^\S\n]*([^\s=#]+)\s*=\s*DFF\s*\(", re.IGNORECASE | re.MULTILINE)
 USUAL_LENGTH = 100
 
 
