@@ -1,6 +1,6 @@
 -- A start that closes at a source, before a pin is entered: one closed leaf refutes all paths from there. The walk has passed none of
 -- them, since no test, no spent tree and no refutation of a longer prefix can stand on such a path.
-use Rattle.std.proofs.Common.{◌≡◌, ⊎_elim, ℕ, ◌+◌, ◌<◌, ◌≤◌, true, false, true≢false, List, [], ◌∷◌, take, Option, Some, None, refl, sym, subst, subst₂, ◌∙◌, arith}
+use Rattle.std.proofs.Common.{◌≡◌, ⊎_elim, ℕ, ◌+◌, ◌<◌, ◌≤◌, true, false, true≢false, List, [], ◌∷◌, take, Option, Some, None, refl, sym, ap, subst, subst₂, ◌∙◌, arith}
 use Rattle.std.specs.Prelude.{is_some, IfNone, IfSome, slice_index_or}
 use Rattle.std.proofs.lemmas.Bool.{cases_Bool, cases_lt}
 use Rattle.pd_base.specs.declared.fault.Direction.{Direction}
