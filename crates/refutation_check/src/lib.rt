@@ -8,6 +8,7 @@ mod answer;
 mod asked;
 mod dropping;
 mod due;
+mod early;
 mod entering;
 mod halves;
 mod judge;
