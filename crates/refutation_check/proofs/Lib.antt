@@ -1,11 +1,12 @@
 mod Checking
 mod Closing
 mod Judging
+mod LowLines
 mod NodeLabels
 mod Roots
 mod SameSettings
-mod SplitEnds
 mod Spending
+mod SplitEnds
 mod SupportDeciding
 mod Telling
 mod TrialStates

@@ -7,6 +7,7 @@
 mod answer;
 mod dropping;
 mod due;
+mod early;
 mod entering;
 mod halves;
 mod judge;

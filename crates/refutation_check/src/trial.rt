@@ -1,6 +1,7 @@
 // The trial of a node: the pair of vectors that has at each source of the path's support the least state that the labels leave there is
 // judged within the cone of the path's end. The trial closes exactly where this pair is no pair of the rules or does not meet the
-// conditions, so nothing has to be narrowed for it; and no line is evaluated that has the state that it had under the pair judged last.
+// conditions, so nothing has to be narrowed for it; and no line is evaluated that has the state that it had under the pair judged last, nor
+// one of a high level where the pair fails at lines of lower ones.
 ghost use Rattle.std.specs.Prelude.{◌≡◌, ◌<◌, ◌↔◌, false, List, None, length, All, IfOk, IsTrue};
 ghost use Rattle.netlist.specs.Circuit.{line_count};
 ghost use Rattle.netlist.specs.LinkedPairs.{FitRules};
@@ -17,6 +18,7 @@ ghost use Rattle.pair_judging.specs.Targets.{seen_target};
 ghost use Rattle.refutation_check.specs.TrialStates.{AreTrialStates};
 ghost use Rattle.refutation_check.specs.Trials.{IsTrialRoomFor, IsTrialRoomAt, AreLeastOf, EachIsTest, EachFails, IsScopeInSupport};
 
+use crate::early::fails_early;
 use crate::trial_states::TrialStates;
 use cones::Cone;
 use implication::{Scope, Setting};
@@ -132,7 +134,11 @@ fn are_tests<A: Algebra>(
     // a netlist knows itself as a circuit
     let _ = net.lines();
     kept.take_least::<A>(net, cone.sources(), labels);
-    kept.refresh::<A>(net, cone.gates());
+    if fails_early::<A>(net, target, cone, kept) {
+        return false;
+    }
+    let gates = cone.gates();
+    kept.refresh::<A>(net, gates, gates.len());
     let states = kept.states.as_slice();
     if let Some(_link) = failing_link::<A>(cone.links(), cone.sources(), states) {
         return false;

@@ -1,6 +1,6 @@
 // States of all lines that are kept from trial to trial: where the states of some sources change, only the gates behind these are
 // evaluated anew, each once, in rank order. What the states tell of a node stands in trial.rt.
-ghost use Rattle.std.specs.Prelude.{◌≡◌, ◌≢◌, ◌<◌, ℕ, true, false, length, All, IfOk};
+ghost use Rattle.std.specs.Prelude.{◌≡◌, ◌≢◌, ◌<◌, ◌≤◌, ℕ, true, false, length, take, All, IfOk};
 ghost use Rattle.pd_base.specs.Links.{LinkList};
 ghost use Rattle.pd_base.specs.declared.ids.PinRef.{PinRef};
 ghost use Rattle.netlist.specs.Circuit.{source_count, gate_count, line_count, gate_line, pins_at};
@@ -53,18 +53,19 @@ impl TrialStates {
         }
     }
 
-    // Evaluates the gates of a cone, in rank order, whose lines are stale.
-    pub(crate) fn refresh<A: Algebra>(&mut self, net: &Netlist, gates: &[GateId])
+    // Evaluates of the first gates of a cone, so many in rank order, those whose lines are stale.
+    pub(crate) fn refresh<A: Algebra>(&mut self, net: &Netlist, gates: &[GateId], count: usize)
         requires kept { AreTrialStates A.algebra net.now self.old }
         requires gates { (links : LinkList) × (end : ℕ) × AreConeGates net.now links end gates.now }
+        requires count { count ≤ length gates.now }
         ensures kept { AreTrialStates A.algebra net.now self.new }
-        ensures fresh { All (λ gate. is_stale self.new gate.0 ≡ false) gates.now }
+        ensures fresh { All (λ gate. is_stale self.new gate.0 ≡ false) (take count gates.now) }
         ensures sources { KeepsSources net.now self.old self.new }
     {
         // a netlist knows itself as a circuit
         let _ = net.lines();
-        for gate in gates {
-            self.refresh_gate::<A>(net, *gate);
+        for place in 0..count {
+            self.refresh_gate::<A>(net, gates[place]);
         }
     }
 

@@ -1,5 +1,5 @@
 -- The states that are kept are those of the lines of the cone under each pair that has the least states at its sources.
-use Rattle.std.proofs.Common.{◌≡◌, false, List, length, ◌∙◌, ap, sym, subst}
+use Rattle.std.proofs.Common.{◌≡◌, false, List, length, take_all, ◌∙◌, ap, sym, subst, arith}
 use Rattle.std.specs.List.{All}
 use Rattle.pd_base.specs.Links.{LinkList}
 use Rattle.pd_base.specs.declared.ids.GateId.{GateId}
@@ -23,7 +23,7 @@ take_least-requires-clause-sources g c =
 pub refresh-requires-clause-gates : goal.refresh-requires-clause-gates
 refresh-requires-clause-gates g c =
     let net = c.args.net.now in let links = c.args.cone.now.links in let end = end_of net c.args.target.now.path.now in
-    (links, end, subst (AreConeGates net links end) (sym c.gates.ensures) c.requires.cone.gates)
+    (links, end, subst (AreConeGates net links end) (sym c.gates-gates.ensures) c.requires.cone.gates)
 
 pub failing_link-requires-clause-sources : goal.failing_link-requires-clause-sources
 failing_link-requires-clause-sources g c =
@@ -34,7 +34,8 @@ failing_link-requires-clause-sources g c =
 pub returns-in-Some-clause-fails : goal.returns-in-Some-clause-fails
 returns-in-Some-clause-fails g c = λ told.
     let net = c.args.net.now in let cone = c.args.cone.now in let kept = c.refresh.new.self in
-    let fresh = subst (λ (gates : List GateId). All (λ (gate : GateId). is_stale kept gate.0 ≡ false) gates) c.gates.ensures c.refresh.ensures.fresh in
+    let fresh = subst (λ (gates : List GateId). All (λ (gate : GateId). is_stale kept gate.0 ≡ false) gates)
+    (take_all (length c.gates-gates.result.now) c.gates-gates.result.now (omega arith) ∙ c.gates-gates.ensures) c.refresh.ensures.fresh in
     let P : LinkList → List LineId → List State → Type 0 =
     λ links sources states. IsFailingLink g.A.Algebra.algebra links sources states c.in-Some._link.0 c.in-Some._link.1 in
     each_breaks_link g.A.Algebra.algebra g.met.A.Algebra.laws net c.lines.ensures.circuit cone.links c.requires.made.fit
@@ -46,7 +47,8 @@ returns-in-Some-clause-fails g c = λ told.
 pub returns-in-IsTest-clause-each : goal.returns-in-IsTest-clause-each
 returns-in-IsTest-clause-each g c = λ told.
     let net = c.args.net.now in let cone = c.args.cone.now in let kept = c.refresh.new.self in let target = seen_target c.args.target.now in
-    let fresh = subst (λ (gates : List GateId). All (λ (gate : GateId). is_stale kept gate.0 ≡ false) gates) c.gates.ensures c.refresh.ensures.fresh in
+    let fresh = subst (λ (gates : List GateId). All (λ (gate : GateId). is_stale kept gate.0 ≡ false) gates)
+    (take_all (length c.gates-gates.result.now) c.gates-gates.result.now (omega arith) ∙ c.gates-gates.ensures) c.refresh.ensures.fresh in
     each_is_test g.A.Algebra.algebra g.met.A.Algebra.laws net c.lines.ensures.circuit cone.links c.requires.made.fit target c.requires.prefix
     cone.gates c.requires.cone.gates cone.sources c.requires.cone.sources kept c.refresh.ensures.kept fresh
     (told_of_same (LinksPass g.A.Algebra.algebra) c.links.result.now cone.links c.sources-2.result.now cone.sources c.as_slice-states.result.now
@@ -57,7 +59,8 @@ returns-in-IsTest-clause-each g c = λ told.
 pub returns-in-FailsAt-clause-fails : goal.returns-in-FailsAt-clause-fails
 returns-in-FailsAt-clause-fails g c = λ told.
     let net = c.args.net.now in let cone = c.args.cone.now in let kept = c.refresh.new.self in let target = seen_target c.args.target.now in
-    let fresh = subst (λ (gates : List GateId). All (λ (gate : GateId). is_stale kept gate.0 ≡ false) gates) c.gates.ensures c.refresh.ensures.fresh in
+    let fresh = subst (λ (gates : List GateId). All (λ (gate : GateId). is_stale kept gate.0 ≡ false) gates)
+    (take_all (length c.gates-gates.result.now) c.gates-gates.result.now (omega arith) ∙ c.gates-gates.ensures) c.refresh.ensures.fresh in
     each_fails g.A.Algebra.algebra g.met.A.Algebra.laws net c.lines.ensures.circuit cone.links c.requires.made.fit target c.requires.prefix
     cone.gates c.requires.cone.gates cone.sources c.requires.cone.sources kept c.refresh.ensures.kept fresh
     (told_of_same (LinksPass g.A.Algebra.algebra) c.links.result.now cone.links c.sources-2.result.now cone.sources c.as_slice-states.result.now
@@ -65,3 +68,6 @@ returns-in-FailsAt-clause-fails g c = λ told.
     c.in-FailsAt.field-0 c.in-FailsAt.field-1
     (subst (λ (states : List State). IsJudgedBy g.A.Algebra.algebra net target states (FailsAt c.in-FailsAt.field-0 c.in-FailsAt.field-1))
     c.as_slice-states.ensures.value c.in-FailsAt.ensures.judged)
+
+pub returns-then-fails_early-clause-fails : goal.returns-then-fails_early-clause-fails
+returns-then-fails_early-clause-fails g c = λ told. c.fails_early.ensures.fails c.if-fails_early.true

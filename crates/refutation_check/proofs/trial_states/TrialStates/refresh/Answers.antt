@@ -1,5 +1,5 @@
 -- One gate more is not stale, and none before it becomes so.
-use Rattle.std.proofs.Common.{◌≡◌, ◌≢◌, ◌<◌, false, List, get_or, get_or-take, take, take_all, sym, subst, ◌∙◌, arith}
+use Rattle.std.proofs.Common.{◌≡◌, ◌≢◌, ◌<◌, false, get_or, get_or-take, take, length, sym, subst, ◌∙◌, arith}
 use Rattle.std.specs.List.{All}
 use Rattle.std.proofs.lemmas.List.{get_or_default, length-take-le}
 use Rattle.std.proofs.lemmas.List.Elements.{All-more, Contains-get_or}
@@ -12,18 +12,21 @@ use Rattle.refutation_check.proofs.trial_states.TrialStates.refresh.Goals as goa
 
 pub refresh_gate-requires-clause-gate : goal.refresh_gate-requires-clause-gate
 refresh_gate-requires-clause-gate g c =
-    let gates = c.args.gates.now in let place = c.loop-gate.gate-index in
-    ((c.requires.gates.2.exactly (get_or gates place no_gate).0).0 (Contains-get_or gates place no_gate c.loop-gate-test.true)).0
+    let gates = c.args.gates.now in let place = c.loop-place.place in
+    let inside : place < length gates = omega (arith, c.loop-place-test.true, c.requires.count) in
+    ((c.requires.gates.2.exactly (get_or gates place no_gate).0).0 (Contains-get_or gates place no_gate inside)).0
 
 pub refresh_gate-requires-clause-others : goal.refresh_gate-requires-clause-others
 refresh_gate-requires-clause-others g c =
-    let gates = c.args.gates.now in let place = c.loop-gate.gate-index in
-    reads_no_later c.args.net.now c.lines.ensures.circuit c.requires.gates.0 c.requires.gates.1 gates c.requires.gates.2 place place (omega arith) c.loop-gate-test.true
+    let gates = c.args.gates.now in let place = c.loop-place.place in
+    let inside : place < length gates = omega (arith, c.loop-place-test.true, c.requires.count) in
+    reads_no_later c.args.net.now c.lines.ensures.circuit c.requires.gates.0 c.requires.gates.1 gates c.requires.gates.2 place place (omega arith) inside
 
-pub loop-gate-preserved : goal.loop-gate-preserved
-loop-gate-preserved g c =
-    let net = c.args.net.now in let gates = c.args.gates.now in let place = c.loop-gate.gate-index in
-    let inside = c.loop-gate-test.true in let inv = c.loop-gate.invariant in let new = c.refresh_gate.new.self in
+pub loop-place-preserved : goal.loop-place-preserved
+loop-place-preserved g c =
+    let net = c.args.net.now in let gates = c.args.gates.now in let place = c.loop-place.place in
+    let inside : place < length gates = omega (arith, c.loop-place-test.true, c.requires.count) in
+    let inv = c.loop-place.invariant in let new = c.refresh_gate.new.self in
     let line = gate_line net (get_or gates place no_gate).0 in
     record {
       kept = c.refresh_gate.ensures.kept;
@@ -41,6 +44,6 @@ loop-gate-preserved g c =
 
 pub returns-clause-fresh : goal.returns-clause-fresh
 returns-clause-fresh g c =
-    let inv = c.loop-gate.invariant in
-    subst (λ (gates : List GateId). All (λ (gate : GateId). is_stale c.loop-gate.self gate.0 ≡ false) gates)
-    (take_all c.loop-gate.gate-index c.args.gates.now c.loop-gate-test.false) inv.fresh
+    let inv = c.loop-place.invariant in
+    let done : c.loop-place.place ≡ c.args.count = omega arith in
+    subst (λ n. All (λ (gate : GateId). is_stale c.loop-place.self gate.0 ≡ false) (take n c.args.gates.now)) done inv.fresh
