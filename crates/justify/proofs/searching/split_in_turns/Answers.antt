@@ -14,65 +14,60 @@ use Rattle.justify.proofs.Suiting.{suits_restored}
 use Rattle.justify.proofs.TriedSources.{kept_desk}
 use Rattle.justify.proofs.searching.split_in_turns.Goals as goal
 
-pub split_cases-requires-clause-desk : goal.split_cases-requires-clause-desk
-split_cases-requires-clause-desk g c =
-    kept_desk g.A.Algebra.algebra (standing c.args.scope.now).net (standing c.args.scope.now).rules c.args.task.now.path.now c.args.desk.now _
-    (record { cone = refl; states = refl; blame = refl; liked = refl; justifier = c.begin_tree.ensures }) c.requires.desk
+pub split_with_budget-requires-clause-suits : goal.split_with_budget-requires-clause-suits
+split_with_budget-requires-clause-suits g c =
+    suits_restored g.A.Algebra.algebra (task_target c.args.task.now) (standing c.args.scope.now) (standing c.split_by_weight.new.scope)
+    c.split_by_weight.ensures.left.restored c.requires.suits
 
-pub split_cases-requires-then-is_dropped-clause-suits : goal.split_cases-requires-then-is_dropped-clause-suits
-split_cases-requires-then-is_dropped-clause-suits g c =
-    suits_restored g.A.Algebra.algebra (task_target c.args.task.now) (standing c.args.scope.now) (standing c.split_cases.new.scope)
-    c.split_cases.ensures.left.restored c.requires.suits
+pub split_with_budget-requires-clause-start : goal.split_with_budget-requires-clause-start
+split_with_budget-requires-clause-start g c =
+    start_restored (task_target c.args.task.now) (standing c.args.scope.now) (standing c.split_by_weight.new.scope)
+    c.split_by_weight.ensures.left.restored c.requires.start
 
-pub split_cases-requires-then-is_dropped-clause-start : goal.split_cases-requires-then-is_dropped-clause-start
-split_cases-requires-then-is_dropped-clause-start g c =
-    start_restored (task_target c.args.task.now) (standing c.args.scope.now) (standing c.split_cases.new.scope)
-    c.split_cases.ensures.left.restored c.requires.start
+pub split_with_budget-requires-clause-left_open : goal.split_with_budget-requires-clause-left_open
+split_with_budget-requires-clause-left_open g c =
+    let first = standing c.args.scope.now in let middle = standing c.split_by_weight.new.scope in
+    open_stays g.A.Algebra.algebra first middle (same_restored first middle c.split_by_weight.ensures.left.restored) c.requires.left_open
 
-pub split_cases-requires-then-is_dropped-clause-left_open : goal.split_cases-requires-then-is_dropped-clause-left_open
-split_cases-requires-then-is_dropped-clause-left_open g c =
-    let first = standing c.args.scope.now in let middle = standing c.split_cases.new.scope in
-    open_stays g.A.Algebra.algebra first middle (same_restored first middle c.split_cases.ensures.left.restored) c.requires.left_open
-
-pub split_cases-requires-then-is_dropped-clause-desk : goal.split_cases-requires-then-is_dropped-clause-desk
-split_cases-requires-then-is_dropped-clause-desk g c =
-    let first = standing c.args.scope.now in let middle = standing c.split_cases.new.scope in
-    let left = c.split_cases.ensures.left in
-    kept_desk g.A.Algebra.algebra middle.net middle.rules c.args.task.now.path.now c.split_cases.new.desk _
+pub split_with_budget-requires-clause-desk : goal.split_with_budget-requires-clause-desk
+split_with_budget-requires-clause-desk g c =
+    let first = standing c.args.scope.now in let middle = standing c.split_by_weight.new.scope in
+    let left = c.split_by_weight.ensures.left in
+    kept_desk g.A.Algebra.algebra middle.net middle.rules c.args.task.now.path.now c.split_by_weight.new.desk _
     (record { cone = refl; states = refl; blame = refl; liked = refl; justifier = c.learn_tree.ensures })
-    (let P : Circuit → Rules → Type 0 = λ n r. IsDesk g.A.Algebra.algebra n r c.args.task.now.path.now c.split_cases.new.desk in
+    (let P : Circuit → Rules → Type 0 = λ n r. IsDesk g.A.Algebra.algebra n r c.args.task.now.path.now c.split_by_weight.new.desk in
     there_too P first.net middle.net first.rules middle.rules (sym left.restored.net) (sym left.restored.rules) left.serves)
 
 pub returns-then-is_dropped-clause-left : goal.returns-then-is_dropped-clause-left
 returns-then-is_dropped-clause-left g c =
-    let first = standing c.args.scope.now in let middle = standing c.split_cases.new.scope in
-    let left = c.split_cases.ensures.left in let later = c.split_cases-then-is_dropped.ensures.left in
-    let P : Circuit → Rules → Type 0 = λ n r. IsDesk g.A.Algebra.algebra n r c.args.task.now.path.now c.split_cases-then-is_dropped.new.desk in
+    let first = standing c.args.scope.now in let middle = standing c.split_by_weight.new.scope in
+    let left = c.split_by_weight.ensures.left in let later = c.split_with_budget.ensures.left in
+    let P : Circuit → Rules → Type 0 = λ n r. IsDesk g.A.Algebra.algebra n r c.args.task.now.path.now c.split_with_budget.new.desk in
     record {
-      restored = restored_trans first middle (standing c.split_cases-then-is_dropped.new.scope) left.restored later.restored;
+      restored = restored_trans first middle (standing c.split_with_budget.new.scope) left.restored later.restored;
       serves = there_too P middle.net first.net middle.rules first.rules left.restored.net left.restored.rules later.serves;
     }
 
 pub returns-then-is_dropped-clause-found : goal.returns-then-is_dropped-clause-found
 returns-then-is_dropped-clause-found g c =
-    let first = standing c.args.scope.now in let middle = standing c.split_cases.new.scope in
-    let restored = c.split_cases.ensures.left.restored in
-    let P : Circuit → Rules → Type 0 = λ n r. IfOk c.split_cases-then-is_dropped.result (IsFound n r (task_target c.args.task.now) c.args.task.now.budget) in
-    there_too P middle.net first.net middle.rules first.rules restored.net restored.rules c.split_cases-then-is_dropped.ensures.found
+    let first = standing c.args.scope.now in let middle = standing c.split_by_weight.new.scope in
+    let restored = c.split_by_weight.ensures.left.restored in
+    let P : Circuit → Rules → Type 0 = λ n r. IfOk c.split_with_budget.result (IsFound n r (task_target c.args.task.now) c.args.task.now.budget) in
+    there_too P middle.net first.net middle.rules first.rules restored.net restored.rules c.split_with_budget.ensures.found
 
 pub returns-then-is_dropped-clause-counted : goal.returns-then-is_dropped-clause-counted
 returns-then-is_dropped-clause-counted g c =
-    counts_before c.args.task.now.budget (standing c.args.scope.now) (standing c.split_cases.new.scope) (standing c.split_cases-then-is_dropped.new.scope)
-    c.split_cases.ensures.left.restored.later c.split_cases-then-is_dropped.result c.split_cases-then-is_dropped.ensures.counted
+    counts_before c.args.task.now.budget (standing c.args.scope.now) (standing c.split_by_weight.new.scope) (standing c.split_with_budget.new.scope)
+    c.split_by_weight.ensures.left.restored.later c.split_with_budget.result c.split_with_budget.ensures.counted
 
 pub returns-clause-left : goal.returns-clause-left
 returns-clause-left g c =
-    let left = c.split_cases.ensures.left in
+    let left = c.split_by_weight.ensures.left in
     record {
       restored = left.restored;
       serves =
           kept_desk g.A.Algebra.algebra (standing c.args.scope.now).net (standing c.args.scope.now).rules c.args.task.now.path.now
-          c.split_cases.new.desk _
+          c.split_by_weight.new.desk _
           (record { cone = refl; states = refl; blame = refl; liked = refl; justifier = c.learn_tree.ensures }) left.serves;
     }
 
@@ -85,4 +80,4 @@ returns-clause-found g c =
 pub returns-clause-counted : goal.returns-clause-counted
 returns-clause-counted g c =
     turn_counts c.splits_by_weight-splits.result c.args.task.now.budget c.in_ok-found.found (c.is_dropped.ensures c.if-is_dropped.false)
-    (standing c.args.scope.now) (standing c.split_cases.new.scope) c.in_ok-found.ensures.counted
+    (standing c.args.scope.now) (standing c.split_by_weight.new.scope) c.in_ok-found.ensures.counted
