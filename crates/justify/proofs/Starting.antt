@@ -89,6 +89,7 @@ module _ (target : Target) (standing : Standing) (start : IsStart target standin
             blame = made.blame;
             liked = made.liked;
             justifier = made.justifier;
+            judge = made.judge;
           };
           cone = subst R (same_line ∙ start_end) (subst Q same_net at);
         }

@@ -39,7 +39,8 @@ use Rattle.implication.proofs.ScopeLabels.{labels_under, open_under}
 use Rattle.implication.specs.Standing.{Standing, IsLabels, TellsLabels}
 use Rattle.justify.specs.declared.trial.Tried.{Tried}
 use Rattle.search_hints.specs.Blamed.{AreBlamed}
-use Rattle.pair_judging.specs.ConeStates.{state_in, AreStates, AreSourceStates, HasSourceStates, HasSupportStates, HasLinkedStates, IsReadFrom}
+use Rattle.pair_judging.specs.ConeStates.{state_in, AreStates, AreSourceStates, HasSourceStates, HasSupportStates, HasLinkedStates, IsReadFrom, IsLinkedFrom}
+use Rattle.pair_judging.specs.Judges.{KeptJudge, IsJudgeOf}
 use Rattle.justify.specs.declared.desk.Desk.{Desk}
 use Rattle.justify.specs.Desks.{IsDesk, IsSameDesk, AreInSupport}
 use Rattle.search_hints.specs.Drafts.{Prepared, IsJustifierOf}
@@ -256,10 +257,10 @@ judged_fits a n c same rules target desk is states pair read judged =
 
 -- a desk with other states
 pub desk_again : (a : StateAlgebra) (c : Circuit) (rules : Rules) (path : Route) (desk after : Desk) (states : List State)
-    → IsDesk a c rules path desk → after.cone ≡ desk.cone
+    → IsDesk a c rules path desk → after.cone ≡ desk.cone → after.judge ≡ desk.judge
     → after.blame.room ≡ desk.blame.room → length after.liked.items ≡ length desk.liked.items → after.states.items ≡ states
     → AreStates a.count states → length states ≡ length desk.states.items → IsJustifierOf c after.justifier → IsDesk a c rules path after
-desk_again a c rules path desk after states is cone room liked same within long justifier =
+desk_again a c rules path desk after states is cone judge room liked same within long justifier =
     let P : KeptCone → Type 0 = λ k. IsConeFor c k in
     let Q : KeptCone → Type 0 = λ k. IsConeAt c (end_of c path) k in
     let R : List State → Type 0 = λ xs. AreStates a.count xs in
@@ -274,16 +275,17 @@ desk_again a c rules path desk after states is cone room liked same within long 
         blame = room ∙ is.made.blame;
         liked = liked ∙ is.made.liked;
         justifier = justifier;
+        judge = subst (IsJudgeOf 4 c) (sym judge) is.made.judge;
       };
       cone = subst Q (sym cone) is.cone;
     }
 
 -- a desk whose justifier was asked for a proposal
 pub desk_asked : (a : StateAlgebra) (n c : Circuit) → n ≡ c → (rules : Rules) (path : Route) (desk : Desk) → IsDesk a c rules path desk
-    → (justifier : Prepared) → IsJustifierOf n justifier → IsDesk a c rules path (record desk { justifier = justifier })
+    → (justifier : Prepared) → IsJustifierOf n justifier → IsDesk a c rules path (record desk { justifier = justifier; judge = refl })
 desk_asked a n c same rules path desk is justifier asked =
     let P : Circuit → Type 0 = λ m. IsJustifierOf m justifier in
-    desk_again a c rules path desk (record desk { justifier = justifier }) desk.states.items is refl refl refl refl is.made.within refl
+    desk_again a c rules path desk (record desk { justifier = justifier; judge = refl }) desk.states.items is refl refl refl refl refl is.made.within refl
     (subst P same asked)
 
 -- what was taken of the labels are the least states
@@ -360,10 +362,52 @@ kept_sources a c rules path desk is first later kept are source among =
     let T : State → Type 0 = λ state. Has a.count a.sources state in
     subst T (sym (kept source within)) (are source among)
 
+-- a desk whose judge kept other states
+pub desk_judged : (a : StateAlgebra) (n c : Circuit) → n ≡ c → (rules : Rules) (path : Route) (desk : Desk) → IsDesk a c rules path desk
+    → (judge : KeptJudge) → IsJudgeOf 4 n judge → IsDesk a c rules path (record desk { judge = judge })
+desk_judged a n c same rules path desk is judge judged =
+    let P : Circuit → Type 0 = λ m. IsJudgeOf 4 m judge in
+    record {
+      made = record {
+        of_rules = is.made.of_rules;
+        fit = is.made.fit;
+        cone = is.made.cone;
+        links = is.made.links;
+        states = is.made.states;
+        within = is.made.within;
+        blame = is.made.blame;
+        liked = is.made.liked;
+        justifier = is.made.justifier;
+        judge = subst P same judged;
+      };
+      cone = is.cone;
+    }
+
+-- a pair that keeps the links of the desk's cone and meets the conditions is a test
+pub linked_fits : (a : StateAlgebra) (n c : Circuit) → n ≡ c → (rules : Rules) (target : Target) (desk : Desk)
+    → IsDesk a c rules target.path desk → (pair : Vectors)
+    → ((end : ℕ) → IsConeAt n end desk.cone → IsLinkedFrom n desk.cone.links end pair) → Meets n target pair → IsFitTest c rules target pair
+linked_fits a n c same rules target desk is pair reads meets =
+    let P : Circuit → Type 0 = λ m. (end : ℕ) → IsConeAt m end desk.cone → IsLinkedFrom m desk.cone.links end pair in
+    let Q : Circuit → Type 0 = λ m. Meets m target pair in
+    let R : LinkList → Type 0 = λ links. IsLinkedFrom c links (end_of c target.path) pair in
+    let linked : IsLinkedFrom c (links_of rules) (end_of c target.path) pair =
+    subst R is.made.links (subst P same reads (end_of c target.path) is.cone) in
+    record {
+      first_fits = linked.first_fits;
+      second_fits = linked.second_fits;
+      of_rules = linked.keeps;
+      meets = subst Q same meets;
+      zero_outside = λ source within outside. record {
+        first = linked.first_zero source within (λ supported. outside (record { is_source = within; supported = supported }));
+        second = linked.second_zero source within (λ supported. outside (record { is_source = within; supported = supported }));
+      };
+    }
+
 -- a desk that is the same but for what is liked
 pub kept_desk : (a : StateAlgebra) (c : Circuit) (rules : Rules) (path : Route) (old new : Desk) → IsSameDesk old new
     → IsDesk a c rules path old → IsDesk a c rules path new
 kept_desk a c rules path old new same is =
     let P : Prepared → Type 0 = λ j. IsJustifierOf c j in
-    desk_again a c rules path old new old.states.items is same.cone same.blame same.liked same.states is.made.within refl
+    desk_again a c rules path old new old.states.items is same.cone same.judge same.blame same.liked same.states is.made.within refl
     (subst P (sym same.justifier) is.made.justifier)

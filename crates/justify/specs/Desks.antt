@@ -12,6 +12,7 @@ use Rattle.trees.specs.Algebras.{algebra_of}
 use Rattle.trees.specs.Spent.{IsInSupport}
 use Rattle.justify.specs.declared.desk.Desk.{Desk}
 use Rattle.pair_judging.specs.ConeStates.{state_in, AreStates}
+use Rattle.pair_judging.specs.Judges.{IsJudgeOf}
 use Rattle.cones.specs.KeptCones.{IsConeFor, IsConeAt}
 use Rattle.search_hints.specs.Drafts.{IsJustifierOf}
 
@@ -26,6 +27,7 @@ pub record IsDeskFor (a : StateAlgebra) (c : Circuit) (rules : Rules) (desk : De
   pub blame : desk.blame.room ≡ line_count c
   pub liked : length desk.liked.items ≡ line_count c
   pub justifier : IsJustifierOf c desk.justifier
+  pub judge : IsJudgeOf 4 c desk.judge
 
 -- and its cone is that of this path's end
 pub record IsDesk (a : StateAlgebra) (c : Circuit) (rules : Rules) (path : Route) (desk : Desk) : Type 0 where
@@ -48,3 +50,4 @@ pub record IsSameDesk (old new : Desk) : Type 0 where
   pub blame : new.blame.room ≡ old.blame.room
   pub liked : length new.liked.items ≡ length old.liked.items
   pub justifier : new.justifier ≡ old.justifier
+  pub judge : new.judge ≡ old.judge

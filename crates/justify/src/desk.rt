@@ -11,6 +11,7 @@ ghost use Rattle.justify.specs.Desks.{IsDeskFor, IsSameDesk};
 use crate::trial::Tried;
 use cones::Cone;
 use netlist::Netlist;
+use pair_judging::ConeJudge;
 use pd_base::{OutOfMemory, Rules};
 use search_hints::{Blame, Justifier};
 use state_sets::{Algebra, State, StateSet, every_state};
@@ -28,6 +29,8 @@ pub struct Desk {
     // by line; what it is liked to be in: the states with the last value that the last test gave it, or all
     pub(crate) liked: Vec<StateSet>,
     pub(crate) justifier: Justifier,
+    // judges proposals under links
+    pub(crate) judge: ConeJudge,
 }
 
 impl Desk {
@@ -44,6 +47,7 @@ impl Desk {
         let liked = vec![in alloc; every_state::<A>(); lines]?;
         let blame = Blame::new(alloc, net)?;
         let cone = Cone::new(alloc, net, rules.links())?;
+        let judge = ConeJudge::new(alloc, net)?;
         let justifier = Justifier::new::<A>(alloc, net, rules.links())?;
         Ok(Desk {
             cone,
@@ -52,7 +56,15 @@ impl Desk {
             tried: Vec::new(alloc),
             liked,
             justifier,
+            judge,
         })
+    }
+
+    // From now on the lines of the two frames are liked to be as the proposal has them that was made last.
+    pub(crate) fn like<A: Algebra>(&mut self)
+        ensures { IsSameDesk self.old self.new }
+    {
+        self.justifier.like::<A>(self.liked.as_mut_slice());
     }
 
     // From now on each line of the cone is liked to have the last value that it has now, and under links the first one too.

@@ -26,7 +26,7 @@ use crate::task::{Splitting, Task};
 use crate::trying::judge_states;
 use crate::visiting::visit;
 use implication::{Scope, Setting};
-use pair_judging::{Target, take_least, take_preferred};
+use pair_judging::{Target, read_linked, take_least, take_preferred};
 use pd_base::{Direction, Kind, LineId, OutOfMemory, Pair, Path};
 use search_hints::{Effort, Sight};
 use state_sets::{Algebra, FourStates, SixStates, State};
@@ -166,21 +166,43 @@ fn propose<A: Algebra, S: Setting>(
     ensures desk { IsDesk A.algebra (standing scope.now).net (standing scope.now).rules target.now.path.now desk.new }
     ensures test { IfOk result (λ found. IfSome found (IsFitTest (standing scope.now).net (standing scope.now).rules (seen_target target.now))) }
 {
-    take_liked(scope, target, desk);
-    match judge_proposal(alloc, scope, target, desk)? {
+    match judge_liked(alloc, scope, target, desk)? {
         Some(pair) => Ok(Some(pair)),
         None => justify_lines(alloc, scope, target, desk, Effort::Little),
     }
 }
 
-// Takes the last test's states at the sources of the cone, as far as the labels let them.
-fn take_liked<A: Algebra, S: Setting>(scope: &Scope<A, S>, target: &Target, desk: &mut Desk)
+// Judges the last test's states, as far as the labels let them.
+fn judge_liked<A: Algebra, S: Setting>(
+    alloc: Global,
+    scope: &Scope<A, S>,
+    target: &Target,
+    desk: &mut Desk,
+) -> Result<Option<Pair>, OutOfMemory>
+    requires prefix { IsPrefix (standing scope.now).net target.now.path.now }
+    requires desk { IsDesk A.algebra (standing scope.now).net (standing scope.now).rules target.now.path.now desk.old }
+    ensures desk { IsDesk A.algebra (standing scope.now).net (standing scope.now).rules target.now.path.now desk.new }
+    ensures test { IfOk result (λ found. IfSome found (IsFitTest (standing scope.now).net (standing scope.now).rules (seen_target target.now))) }
+{
+    if take_liked(alloc, scope, target, desk)? {
+        judge_proposal(alloc, scope, target, desk)
+    } else {
+        Ok(None)
+    }
+}
+
+// Takes the last test's states at the sources of the cone, as far as the labels let them. Whether these may be a test.
+fn take_liked<A: Algebra, S: Setting>(
+    alloc: Global,
+    scope: &Scope<A, S>,
+    target: &Target,
+    desk: &mut Desk,
+) -> Result<bool, OutOfMemory>
     requires { IsDesk A.algebra (standing scope.now).net (standing scope.now).rules target.now.path.now desk.old }
     ensures { IsDesk A.algebra (standing scope.now).net (standing scope.now).rules target.now.path.now desk.new }
 {
     if !desk.cone.links().pairs().is_empty() {
-        prefer(scope, target, desk);
-        return;
+        return prefer(alloc, scope, target, desk);
     }
     take_preferred::<A>(
         desk.cone.sources(),
@@ -188,10 +210,16 @@ fn take_liked<A: Algebra, S: Setting>(scope: &Scope<A, S>, target: &Target, desk
         desk.liked.as_slice(),
         desk.states.as_mut_slice(),
     );
+    Ok(true)
 }
 
 // The same under links: the last test's first vector, as far as the labels let it, with what the links make of it.
-fn prefer<A: Algebra, S: Setting>(scope: &Scope<A, S>, target: &Target, desk: &mut Desk)
+fn prefer<A: Algebra, S: Setting>(
+    alloc: Global,
+    scope: &Scope<A, S>,
+    target: &Target,
+    desk: &mut Desk,
+) -> Result<bool, OutOfMemory>
     requires { IsDesk A.algebra (standing scope.now).net (standing scope.now).rules target.now.path.now desk.old }
     ensures { IsDesk A.algebra (standing scope.now).net (standing scope.now).rules target.now.path.now desk.new }
 {
@@ -200,12 +228,15 @@ fn prefer<A: Algebra, S: Setting>(scope: &Scope<A, S>, target: &Target, desk: &m
         labels: scope.labels(),
         liked: desk.liked.as_slice(),
     };
-    desk.justifier.prefer::<A>(&sight, &desk.cone, target.path);
+    let is_likely = desk
+        .justifier
+        .prefer::<A>(alloc, &sight, &desk.cone, target.path)?;
     take_least::<A>(
         desk.cone.sources(),
         desk.justifier.labels(),
         desk.states.as_mut_slice(),
     );
+    Ok(is_likely)
 }
 
 // What comes of a search in the end: what it found, from which later ones learn, or a test that is found by more decisions where the
@@ -252,7 +283,7 @@ fn justify_lines<A: Algebra, S: Setting>(
     };
     let is_justified = desk
         .justifier
-        .propose::<A>(&sight, &desk.cone, target.path, target.kind, effort)?;
+        .propose::<A>(alloc, &sight, &desk.cone, target.path, target.kind, effort)?;
     if !is_justified {
         return Ok(None);
     }
@@ -276,11 +307,40 @@ fn judge_proposal<A: Algebra, S: Setting>(
     ensures desk { IsDesk A.algebra (standing scope.now).net (standing scope.now).rules target.now.path.now desk.new }
     ensures test { IfOk result (λ found. IfSome found (IsFitTest (standing scope.now).net (standing scope.now).rules (seen_target target.now))) }
 {
-    if are_source_states::<A>(desk.cone.sources(), desk.states.as_slice()) {
+    if !are_source_states::<A>(desk.cone.sources(), desk.states.as_slice()) {
+        return Ok(None);
+    }
+    if desk.cone.links().pairs().is_empty() {
         judge_states(alloc, scope, target, desk)
     } else {
-        Ok(None)
+        judge_pair(alloc, scope, target, desk)
     }
+}
+
+// Judges the pair that has the desk's first values at the sources of the cone, and the second vector that the links make of them: only
+// the fan-in of the path's end tells whether it is a test.
+fn judge_pair<A: Algebra, S: Setting>(
+    alloc: Global,
+    scope: &Scope<A, S>,
+    target: &Target,
+    desk: &mut Desk,
+) -> Result<Option<Pair>, OutOfMemory>
+    requires prefix { IsPrefix (standing scope.now).net target.now.path.now }
+    requires desk { IsDesk A.algebra (standing scope.now).net (standing scope.now).rules target.now.path.now desk.old }
+    requires sources { AreSourceStates A.algebra desk.old.cone.sources desk.old.states.items }
+    ensures desk { IsDesk A.algebra (standing scope.now).net (standing scope.now).rules target.now.path.now desk.new }
+    ensures test { IfOk result (λ found. IfSome found (IsFitTest (standing scope.now).net (standing scope.now).rules (seen_target target.now))) }
+{
+    let net = scope.net();
+    let pair = read_linked::<A>(alloc, net, &desk.cone, desk.states.as_slice())?;
+    if !desk
+        .judge
+        .meets(net, target, &pair)
+    {
+        return Ok(None);
+    }
+    desk.like::<A>();
+    Ok(Some(pair))
 }
 
 // Whether each of these sources is in a state that a source may have.

@@ -1,4 +1,5 @@
 mod Behind
 mod Cones
+mod FramesAlike
 mod Kept
 mod Noted

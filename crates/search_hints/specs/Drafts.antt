@@ -28,11 +28,16 @@ pub record AreKept (sizes : Sizes) (decisions : List Decision) (marks : ℕ) (ga
   pub one_each : marks ≡ sizes.lines
   pub open_gates : All (λ gate. gate.0 < sizes.gates) gates
 
--- there is room for as many lines in each of two frames, no links stand in them, and these sources are among the lines
-pub record AreFrames (lines first : ℕ) (links : LinkList) (sources : List LineId) : Type 0 where
+-- there is room for as many lines in each of two frames, whose sources are among the lines
+pub record AreFrames (lines first : ℕ) (sources first_sources : List LineId) : Type 0 where
   pub of_first : first ≡ lines
-  pub unlinked : links ≡ []
   pub on_lines : All (λ source. source.0 < lines) sources
+  pub first_on_lines : All (λ source. source.0 < lines) first_sources
+
+-- frames of other ends are of as many lines, and no links stand in any
+pub record AreFramesAlike (lines : ℕ) (others : List ℕ) (links : LinkList) : Type 0 where
+  pub each : All (λ other. other ≡ lines) others
+  pub unlinked : links ≡ []
 
 -- what is kept beside the decisions is of as many lines
 pub record AreBeside (lines grounds frames firsts : ℕ) : Type 0 where

@@ -1,40 +1,113 @@
 // A pair of linked rules from states of sources: the first value of each is that of its state, and so is the last one of a source without
 // a link; a linked source ends at the value that its line has under the first vector.
-ghost use Rattle.std.specs.Prelude.{◌≡◌, ◌<◌, length, All, IfSome};
-ghost use Rattle.netlist.specs.Circuit.{gate_count, line_count, HasGates};
+ghost use Rattle.std.specs.Prelude.{◌≡◌, ◌<◌, length, All, IfOk, IfSome};
+ghost use Rattle.netlist.specs.Circuit.{gate_count, line_count, HasLines};
+ghost use Rattle.search_hints.specs.Drafts.{IsSizedFor};
 
-use crate::first_values::FirstValues;
+use crate::decisions::Decisions;
+use crate::first_values::{FirstValues, lasts_of};
 use crate::link_ends::LinkEnds;
+use crate::open_lines::join_all;
+use crate::picking::{Sight, uninverted};
 use netlist::{Netlist, Op};
-use pd_base::{GateId, LineId};
+use pd_base::{GateId, LineId, OutOfMemory};
 use state_sets::{Algebra, State, StateSet, count_states};
+use std::alloc::Global;
+use std::marker::Model;
 
-// Puts each of these sources to the first value of the least state of its label.
-pub(crate) fn take_firsts(
-    sources: &[LineId],
-    labels: &[StateSet],
-    values: FirstValues,
-    firsts: &mut [bool],
-)
-    ensures { length firsts.new ≡ length firsts.old }
-{
-    for source in sources {
-        let at = source.0 as usize;
-        if at < labels.len() && at < firsts.len() {
-            firsts[at] = values.is_least_at_one(labels[at]);
+// The values of the lines under a first vector, of which as much is computed anew as comes of other values at sources. Contracts see for
+// how many lines there is room.
+#[derive(Drop)]
+pub(crate) struct Firsts {
+    // by line
+    values: Vec<bool>,
+    // by gate, whether a line that it reads has changed since its own value was computed
+    is_due: Vec<bool>,
+}
+
+impl Model for Firsts {
+    ghost use Rattle.std.specs.Prelude.{ℕ, length};
+
+    ghost Value = { ℕ };
+
+    ghost view = { λ f. length f.values.items };
+}
+
+impl Firsts {
+    // Nothing is computed yet.
+    pub(crate) fn new(alloc: Global, net: &Netlist) -> Result<Firsts, OutOfMemory>
+        ensures { IfOk result (λ firsts. firsts ≡ line_count net.now) }
+    {
+        let is_due = vec![in alloc; true; net.gates() as usize]?;
+        let values = vec![in alloc; false; net.lines() as usize]?;
+        Ok(Firsts { values, is_due })
+    }
+
+    // The values, by line number.
+    pub(crate) fn values(&self) -> &[bool]
+        ensures { length result.now ≡ self.now }
+    {
+        self.values.as_slice()
+    }
+
+    // Puts each of these sources to the first value of the least state of its label.
+    pub(crate) fn take(
+        &mut self,
+        net: &Netlist,
+        sources: &[LineId],
+        labels: &[StateSet],
+        first_values: FirstValues,
+    )
+        requires of { self.old ≡ line_count net.now }
+        requires sources { HasLines net.now sources.now }
+        requires labels { length labels.now ≡ line_count net.now }
+        ensures { self.new ≡ self.old }
+    {
+        for source in sources {
+            let value = first_values.is_least_at_one(labels[source.0 as usize]);
+            self.put(net, *source, value);
+        }
+    }
+
+    // Gives a line a value, and lets the gates that read it be computed anew if that is another one.
+    fn put(&mut self, net: &Netlist, line: LineId, value: bool)
+        requires of { self.old ≡ line_count net.now }
+        requires line { line.0 < line_count net.now }
+        ensures { self.new ≡ self.old }
+    {
+        let at = line.0 as usize;
+        if self.values[at] != value {
+            self.values[at] = value;
+            let due = self.is_due.as_mut_slice();
+            for reader in net.fanout(line) {
+                ask(due, reader.gate);
+            }
+        }
+    }
+
+    // Computes the values of the lines of these gates, one after another, as far as they are due.
+    pub(crate) fn compute(&mut self, net: &Netlist, gates: &[GateId])
+        requires { self.old ≡ line_count net.now }
+        ensures { self.new ≡ self.old }
+    {
+        for gate in gates {
+            let at = gate.0 as usize;
+            if gate.0 < net.gates() && at < self.is_due.len() && self.is_due[at] {
+                self.is_due[at] = false;
+                let value = value_at(net, *gate, self.values.as_slice());
+                self.put(net, net.line_of(*gate), value);
+            }
         }
     }
 }
 
-// Computes the values of the lines of these gates, one after another.
-pub(crate) fn evaluate_gates(net: &Netlist, gates: &[GateId], values: &mut [bool])
-    requires gates { HasGates net.now gates.now }
-    requires values { length values.old ≡ line_count net.now }
-    ensures { length values.new ≡ length values.old }
+// Lets a gate be computed anew.
+fn ask(is_due: &mut [bool], gate: GateId)
+    ensures { length is_due.new ≡ length is_due.old }
 {
-    for gate in gates {
-        let value = value_at(net, *gate, values);
-        values[net.line_of(*gate).0 as usize] = value;
+    let at = gate.0 as usize;
+    if at < is_due.len() {
+        is_due[at] = true;
     }
 }
 
@@ -52,6 +125,15 @@ fn value_at(net: &Netlist, gate: GateId, values: &[bool]) -> bool
 fn join_values(op: Op, lines: &[LineId], values: &[bool]) -> bool
     requires { All (λ line. line.0 < length values.now) lines.now }
 {
+    if let [first, second] = lines {
+        let first = values[first.0 as usize];
+        let second = values[second.0 as usize];
+        return match op {
+            Op::And => first && second,
+            Op::Or => first || second,
+            Op::Xor => first != second,
+        };
+    }
     match op {
         Op::And => lines.iter().all(|line| values[line.0 as usize]),
         Op::Or => lines.iter().any(|line| values[line.0 as usize]),
@@ -70,8 +152,99 @@ fn is_odd(lines: &[LineId], values: &[bool]) -> bool
     odd
 }
 
+// Writes at each of these sources the state that it has in the pair: of a linked one that which begins at its value and ends at that of
+// its line, of another one the least of its label. Whether each of them is in the label that it is seen with.
+pub(crate) fn complete_sources<A: Algebra>(
+    decisions: &mut Decisions,
+    links: &LinkEnds,
+    firsts: &[bool],
+    sight: &Sight,
+    sources: &[LineId],
+) -> bool
+    requires sizes { IsSizedFor sight.now.net.now decisions.old }
+    requires sources { HasLines sight.now.net.now sources.now }
+    ensures { decisions.new ≡ decisions.old }
+{
+    for source in sources {
+        let at = source.0 as usize;
+        let state = match linked_state::<A>(links, firsts, *source) {
+            Some(state) => StateSet::only(state),
+            None => least_of(decisions.labels()[at]),
+        };
+        decisions.write(*source, state);
+        if state.intersect(sight.labels[at]) == StateSet::EMPTY {
+            return false;
+        }
+    }
+    true
+}
+
+// The least state of a set, as a set.
+fn least_of(set: StateSet) -> StateSet {
+    StateSet(set.0 & set.0.wrapping_neg())
+}
+
+// Writes at the lines of these gates, one after another, what the gates make of what stands at their pins. Whether each of them has
+// something of the label that it is seen with.
+pub(crate) fn complete_gates<A: Algebra>(
+    decisions: &mut Decisions,
+    sight: &Sight,
+    gates: &[GateId],
+) -> bool
+    requires sizes { IsSizedFor sight.now.net.now decisions.old }
+    ensures { decisions.new ≡ decisions.old }
+{
+    for gate in gates {
+        if gate.0 < sight.net.gates() {
+            let line = sight.net.line_of(*gate);
+            let kind = sight.net.kind(*gate);
+            let joined = join_all::<A>(decisions.labels(), kind.operation(), sight.net.pins(*gate));
+            let made = uninverted::<A>(kind, joined);
+            decisions.write(line, made);
+            if made.intersect(sight.labels[line.0 as usize]) == StateSet::EMPTY {
+                return false;
+            }
+        }
+    }
+    true
+}
+
+// From now on these lines are liked to begin at these values.
+pub(crate) fn like_firsts(
+    lines: &[LineId],
+    firsts: &[bool],
+    values: FirstValues,
+    liked: &mut [StateSet],
+)
+    ensures { length liked.new ≡ length liked.old }
+{
+    for line in lines {
+        let at = line.0 as usize;
+        if at < firsts.len() && at < liked.len() {
+            liked[at] = values.at(firsts[at]);
+        }
+    }
+}
+
+// From now on these lines are liked to have the first and the last value of their labels, each of which has one state.
+pub(crate) fn like_states<A: Algebra>(
+    lines: &[LineId],
+    labels: &[StateSet],
+    values: FirstValues,
+    liked: &mut [StateSet],
+)
+    ensures { length liked.new ≡ length liked.old }
+{
+    for line in lines {
+        let at = line.0 as usize;
+        if at < labels.len() && at < liked.len() {
+            liked[at] = lasts_of::<A>(labels[at]).intersect(values.spread(labels[at]));
+        }
+    }
+}
+
 // The state of a linked source that begins at its value and ends at that of its line.
-pub(crate) fn linked_state<A: Algebra>(
+fn linked_state<A: Algebra>(
     links: &LinkEnds,
     firsts: &[bool],
     source: LineId,

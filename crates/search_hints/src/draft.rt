@@ -6,6 +6,8 @@ ghost use Rattle.netlist.specs.Lawful.{IsCircuit};
 ghost use Rattle.search_hints.specs.Drafts.{IsSizedFor};
 
 use crate::changes::{Cause, Change};
+use crate::open_lines::join_all;
+use crate::picking::{uninverted, without};
 use crate::region::{Region, condition_of, is_first_alone, is_inside, linked_line};
 use hulls::{NarrowScratch, Turn, Waiting, kept_at};
 use netlist::Netlist;
@@ -276,8 +278,26 @@ impl Draft {
         Some(GateId(turn.0))
     }
 
-    // Narrows at a gate. Whether each of its lines has a state left.
+    // Narrows at a gate. Whether each of its lines has a state left. Where no condition stands there, and all that the gate makes of its
+    // pins is in the label of its line, the pins keep what they have.
     fn narrow_at<A: Algebra>(&mut self, region: &Region, gate: GateId) -> Result<bool, OutOfMemory>
+        requires sized { IsSizedFor region.now.net.now self.old }
+        requires gate { gate.0 < gate_count region.now.net.now }
+        ensures { self.new ≡ self.old }
+    {
+        let own = LineId(region.net.sources() + gate.0);
+        let made = made_at::<A>(region, self.labels.as_slice(), gate);
+        if without(made, self.labels[own.0 as usize]) == StateSet::EMPTY
+            && condition_of(region, gate).is_none()
+        {
+            let left = self.cut(region, own, made, Cause::Gate(gate))?;
+            return Ok(left != StateSet::EMPTY);
+        }
+        self.narrow_all::<A>(region, gate)
+    }
+
+    // The same at any gate.
+    fn narrow_all<A: Algebra>(&mut self, region: &Region, gate: GateId) -> Result<bool, OutOfMemory>
         requires sized { IsSizedFor region.now.net.now self.old }
         requires gate { gate.0 < gate_count region.now.net.now }
         ensures { self.new ≡ self.old }
@@ -317,5 +337,20 @@ impl Draft {
             }
         }
         Ok(true)
+    }
+}
+
+// What a gate makes of the labels of its pins, as far as it counts.
+fn made_at<A: Algebra>(region: &Region, labels: &[StateSet], gate: GateId) -> StateSet
+    requires labels { length labels.now ≡ line_count region.now.net.now }
+    requires gate { gate.0 < gate_count region.now.net.now }
+{
+    let kind = region.net.kind(gate);
+    let joined = join_all::<A>(labels, kind.operation(), region.net.pins(gate));
+    let made = uninverted::<A>(kind, joined);
+    if is_first_alone(region, region.net.line_of(gate)) {
+        region.values.spread(made)
+    } else {
+        made
     }
 }

@@ -2,7 +2,7 @@
 // first one is that of the lines to which its sources are linked: of those of its lines that are not in the second one too, the first
 // values count alone, since they count as far as they give last values. What stands behind the first frame gives no value that counts.
 // Without links there is the second frame alone, which is the cone, and nothing is kept.
-ghost use Rattle.std.specs.Prelude.{◌≡◌, ◌<◌, [], length, All, IfOk};
+ghost use Rattle.std.specs.Prelude.{◌≡◌, ◌<◌, [], length, All, IfOk, IfSome};
 ghost use Rattle.netlist.specs.Circuit.{line_count, HasLines};
 ghost use Rattle.search_hints.specs.Drafts.{IsConeIn};
 
@@ -11,24 +11,29 @@ use cones::{Cone, FoundLines, SourceLinks, find_back};
 use netlist::Netlist;
 use pd_base::{GateId, LineId, OutOfMemory};
 use std::alloc::Global;
+use std::mem;
 use std::marker::Model;
 
-// The frames of one end at a time. Contracts see for how many lines there is room.
+// The most ends whose frames are kept beside those at hand, and the most lines of these together.
+const MOST_OTHERS: usize = 64;
+const MOST_ROOM: usize = 4_194_304;
+
+// The frames of one end. Contracts see for how many lines there is room.
 #[derive(Drop)]
-pub(crate) struct Frames {
+struct Frame {
     end: Option<LineId>,
     second: FoundLines,
     first: FoundLines,
-    no_links: SourceLinks,
-    // the sources of the second frame
+    // the sources of the second frame, and those of the first one
     sources: Vec<LineId>,
-    // the lines to which they are linked
-    linked: Vec<LineId>,
-    // the gates of the first frame that are not in the second one, then those of the second one, each in rank order
-    gates: Vec<GateId>,
+    first_sources: Vec<LineId>,
+    // the gates of the first frame that are not in the second one, those of the second one, and all of the first one, in rank order
+    first_alone: Vec<GateId>,
+    second_gates: Vec<GateId>,
+    first_gates: Vec<GateId>,
 }
 
-impl Model for Frames {
+impl Model for Frame {
     ghost use Rattle.std.specs.Prelude.{ℕ};
     ghost use Rattle.search_hints.specs.Drafts.{AreFrames};
 
@@ -36,7 +41,106 @@ impl Model for Frames {
 
     ghost view = { λ f. f.second.room };
 
-    ghost invariant = { λ f. AreFrames f.second.room f.first.room f.no_links f.sources.items };
+    ghost invariant = { λ f. AreFrames f.second.room f.first.room f.sources.items f.first_sources.items };
+}
+
+impl Frame {
+    // Those of no end yet.
+    fn new(alloc: Global, lines: usize) -> Result<Frame, OutOfMemory>
+        ensures { IfOk result (λ frame. frame ≡ lines) }
+    {
+        let first = FoundLines::new(alloc, lines)?;
+        let second = FoundLines::new(alloc, lines)?;
+        Ok(Frame {
+            end: None,
+            second,
+            first,
+            sources: Vec::new(alloc),
+            first_sources: Vec::new(alloc),
+            first_alone: Vec::new(alloc),
+            second_gates: Vec::new(alloc),
+            first_gates: Vec::new(alloc),
+        })
+    }
+
+    // For how many lines there is room.
+    fn room(&self) -> usize
+        ensures { result ≡ self.now }
+    {
+        self.second.marks().len()
+    }
+
+    // Whether these are the frames of this end.
+    fn is_of(&self, end: LineId) -> bool {
+        match self.end {
+            Some(own) => own.0 == end.0,
+            None => false,
+        }
+    }
+
+    // Finds the frames of an end, whose cone is at hand. The list is room for the lines to which sources are linked.
+    fn find(
+        &mut self,
+        net: &Netlist,
+        links: &LinkEnds,
+        no_links: &SourceLinks,
+        cone: &Cone,
+        end: LineId,
+        linked: &mut Vec<LineId>,
+    ) -> Result<(), OutOfMemory>
+        requires room { self.old ≡ line_count net.now }
+        requires unlinked { no_links.now ≡ [] }
+        requires cone { IsConeIn net.now cone.now }
+        requires end { end.0 < line_count net.now }
+        ensures { self.new ≡ self.old }
+    {
+        self.end = None;
+        find_back(net, no_links, &[end], &mut self.second);
+        list_sources(cone.sources(), self.second.marks(), &mut self.sources)?;
+        list_linked(net, links, self.sources.as_slice(), linked)?;
+        find_back(net, no_links, linked.as_slice(), &mut self.first);
+        list_sources(cone.sources(), self.first.marks(), &mut self.first_sources)?;
+        self.list_gates(net, cone)?;
+        self.end = Some(end);
+        Ok(())
+    }
+
+    // Lists the gates of the frames that were found.
+    fn list_gates(&mut self, net: &Netlist, cone: &Cone) -> Result<(), OutOfMemory>
+        requires room { self.old ≡ line_count net.now }
+        requires cone { IsConeIn net.now cone.now }
+        ensures { self.new ≡ self.old }
+    {
+        let first = self.first.marks();
+        let second = self.second.marks();
+        list_gates(net, cone.gates(), first, second, &mut self.first_alone)?;
+        list_gates(net, cone.gates(), second, &[], &mut self.second_gates)?;
+        list_gates(net, cone.gates(), first, &[], &mut self.first_gates)
+    }
+}
+
+// The frames of one end at a time, with those of some ends before it, since searches come back to an end. Contracts see for how many
+// lines there is room.
+#[derive(Drop)]
+pub(crate) struct Frames {
+    current: Frame,
+    others: Vec<Frame>,
+    // how many others there may be, and which of them leaves next
+    most: usize,
+    next: usize,
+    no_links: SourceLinks,
+    linked: Vec<LineId>,
+}
+
+impl Model for Frames {
+    ghost use Rattle.std.specs.Prelude.{ℕ};
+    ghost use Rattle.search_hints.specs.Drafts.{AreFramesAlike};
+
+    ghost Value = { ℕ };
+
+    ghost view = { λ f. f.current };
+
+    ghost invariant = { λ f. AreFramesAlike f.current f.others.items f.no_links };
 }
 
 impl Frames {
@@ -45,22 +149,22 @@ impl Frames {
         ensures { IfOk result (λ frames. frames ≡ line_count net.now) }
     {
         let no_links = SourceLinks::new(alloc, net.sources() as usize, &[])?;
-        let first = FoundLines::new(alloc, net.lines() as usize)?;
-        let second = FoundLines::new(alloc, net.lines() as usize)?;
+        let lines = net.lines() as usize;
+        let current = Frame::new(alloc, lines)?;
         Ok(Frames {
-            end: None,
-            second,
-            first,
+            current,
+            others: Vec::new(alloc),
+            most: most_others(lines),
+            next: 0,
             no_links,
-            sources: Vec::new(alloc),
             linked: Vec::new(alloc),
-            gates: Vec::new(alloc),
         })
     }
 
     // Keeps the frames of an end, whose cone is at hand. This takes no time where they are kept already.
     pub(crate) fn set_end(
         &mut self,
+        alloc: Global,
         net: &Netlist,
         links: &LinkEnds,
         cone: &Cone,
@@ -71,61 +175,136 @@ impl Frames {
         requires end { end.0 < line_count net.now }
         ensures { self.new ≡ self.old }
     {
-        if self.keeps(end) {
+        if self.current.is_of(end) {
             return Ok(());
         }
-        self.end = None;
-        find_back(net, &self.no_links, &[end], &mut self.second);
-        list_sources(cone.sources(), self.second.marks(), &mut self.sources)?;
-        list_linked(net, links, self.sources.as_slice(), &mut self.linked)?;
-        find_back(net, &self.no_links, self.linked.as_slice(), &mut self.first);
-        let gates = &mut self.gates;
-        gates.clear();
-        add_gates(
-            net,
-            cone.gates(),
-            self.first.marks(),
-            self.second.marks(),
-            gates,
-        )?;
-        add_gates(net, cone.gates(), self.second.marks(), &[], gates)?;
-        self.end = Some(end);
+        if let Some(place) = place_of(self.others.as_slice(), end) {
+            self.exchange(place);
+            return Ok(());
+        }
+        self.put_aside(alloc)?;
+        let Frames {
+            current,
+            no_links,
+            linked,
+            ..
+        } = self;
+        current.find(net, links, no_links, cone, end, linked)
+    }
+
+    // Takes the frames of another end, if some stand at this place, and puts those at hand in their place.
+    #[tactic(auto, using(crate::proofs::FramesAlike::alike_exchanged))]
+    fn exchange(&mut self, place: usize)
+        ensures { self.new ≡ self.old }
+    {
+        if place >= self.others.len() {
+            return;
+        }
+        mem::swap(&mut self.current, &mut self.others[place]);
+    }
+
+    // Puts the frames that are at hand aside, and takes others in their place that are to be found anew.
+    fn put_aside(&mut self, alloc: Global) -> Result<(), OutOfMemory>
+        ensures { self.new ≡ self.old }
+    {
+        let count = self.others.len();
+        if count < self.most {
+            self.add(alloc)?;
+            self.exchange(count);
+            return Ok(());
+        }
+        let place = self.next;
+        self.exchange(place);
+        self.next = if place < count && count - place > 1 { place + 1 } else { 0 };
         Ok(())
     }
 
-    // Whether the frames that are kept are those of this end.
-    fn keeps(&self, end: LineId) -> bool {
-        match self.end {
-            Some(kept) => kept.0 == end.0,
-            None => false,
-        }
+    // Adds frames that are to be found.
+    fn add(&mut self, alloc: Global) -> Result<(), OutOfMemory>
+        ensures { self.new ≡ self.old }
+    {
+        let fresh = Frame::new(alloc, self.current.room())?;
+        self.others.push(fresh)?;
+        Ok(())
     }
 
     // A mark for each line, true at those of the second frame.
     pub(crate) fn second_marks(&self) -> &[bool]
         ensures { length result.now ≡ self.now }
     {
-        self.second.marks()
+        self.current.second.marks()
     }
 
     // A mark for each line, true at those of the first frame.
     pub(crate) fn first_marks(&self) -> &[bool]
         ensures { length result.now ≡ self.now }
     {
-        self.first.marks()
+        self.current.first.marks()
+    }
+
+    // The lines of the second frame.
+    pub(crate) fn second_lines(&self) -> &[LineId]
+        ensures { All (λ line. line.0 < self.now) result.now }
+    {
+        self.current.second.lines()
+    }
+
+    // The lines of the first frame.
+    pub(crate) fn first_lines(&self) -> &[LineId]
+        ensures { All (λ line. line.0 < self.now) result.now }
+    {
+        self.current.first.lines()
     }
 
     // The sources of the second frame.
     pub(crate) fn sources(&self) -> &[LineId]
         ensures { All (λ source. source.0 < self.now) result.now }
     {
-        self.sources.as_slice()
+        self.current.sources.as_slice()
     }
 
-    // The gates of the first frame that are not in the second one, then those of the second one, each in rank order.
-    pub(crate) fn gates(&self) -> &[GateId] {
-        self.gates.as_slice()
+    // The sources of the first frame.
+    pub(crate) fn first_sources(&self) -> &[LineId]
+        ensures { All (λ source. source.0 < self.now) result.now }
+    {
+        self.current.first_sources.as_slice()
     }
+
+    // The gates of the first frame that are not in the second one, in rank order.
+    pub(crate) fn first_alone(&self) -> &[GateId] {
+        self.current.first_alone.as_slice()
+    }
+
+    // The gates of the second frame, in rank order.
+    pub(crate) fn second_gates(&self) -> &[GateId] {
+        self.current.second_gates.as_slice()
+    }
+
+    // The gates of the first frame, in rank order.
+    pub(crate) fn first_gates(&self) -> &[GateId] {
+        self.current.first_gates.as_slice()
+    }
+}
+
+// Where the frames of an end stand among others, if they do.
+fn place_of(frames: &[Frame], end: LineId) -> Option<usize>
+    ensures { IfSome result (λ place. place < length frames.now) }
+{
+    for place in 0..frames.len() {
+        if frames[place].is_of(end) {
+            return Some(place);
+        }
+    }
+    None
+}
+
+// Of how many ends frames are kept beside, in a netlist of so many lines: of fewer where they take more room.
+fn most_others(lines: usize) -> usize {
+    if lines == 0 {
+        return 0;
+    }
+    let few = MOST_ROOM / lines;
+    if few < MOST_OTHERS { few } else { MOST_OTHERS }
 }
 
 // Lists those of these sources that have marks.
@@ -146,14 +325,15 @@ fn list_sources(
     Ok(())
 }
 
-// Adds to a list those of these gates whose lines have marks, but no marks of the others.
-fn add_gates(
+// Lists those of these gates whose lines have marks, but no marks of the others.
+fn list_gates(
     net: &Netlist,
     gates: &[GateId],
     marks: &[bool],
     others: &[bool],
     list: &mut Vec<GateId>,
 ) -> Result<(), OutOfMemory> {
+    list.clear();
     for gate in gates {
         if gate.0 < net.gates() {
             let at = net.line_of(*gate).0 as usize;

@@ -12,7 +12,9 @@ ghost use Rattle.hulls.specs.Conditions.{IsEnteredOn};
 ghost use Rattle.cones.specs.KeptCones.{IsConeFor, IsConeAt};
 ghost use Rattle.search_hints.specs.Drafts.{IsJustifierOf, IsSizedFor, IsConeIn};
 
-use crate::completing::{evaluate_gates, linked_state, take_firsts};
+use crate::completing::{
+    Firsts, complete_gates, complete_sources, like_firsts, like_states,
+};
 use crate::decisions::{Decisions, Ended, Order};
 use crate::first_values::FirstValues;
 use crate::frames::Frames;
@@ -73,19 +75,18 @@ pub struct Justifier {
     links: LinkEnds,
     values: FirstValues,
     frames: Frames,
-    // by line, its value under the first vector of the pair that is completed
-    firsts: Vec<bool>,
+    // the values under the first vector of the pair that is completed
+    firsts: Firsts,
 }
 
 impl Model for Justifier {
-    ghost use Rattle.std.specs.Prelude.{length};
     ghost use Rattle.search_hints.specs.Drafts.{Prepared, AreBeside};
 
     ghost Value = { Prepared };
 
     ghost view = { λ j. record { entered = j.conditions; sizes = j.decisions } };
 
-    ghost invariant = { λ j. AreBeside j.decisions.lines j.grounds j.frames (length j.firsts.items) };
+    ghost invariant = { λ j. AreBeside j.decisions.lines j.grounds j.frames j.firsts };
 }
 
 impl Justifier {
@@ -109,7 +110,7 @@ impl Justifier {
         let links = LinkEnds::new(alloc, net, links)?;
         let decisions = Decisions::new::<A>(alloc, net, links.room())?;
         let frames = Frames::new(alloc, net)?;
-        let firsts = vec![in alloc; false; net.lines() as usize]?;
+        let firsts = Firsts::new(alloc, net)?;
         Ok(Justifier {
             conditions,
             decisions,
@@ -226,6 +227,7 @@ impl Justifier {
     /// then.
     pub fn propose<A: Algebra>(
         &mut self,
+        alloc: Global,
         sight: &Sight,
         cone: &Cone,
         path: &Path,
@@ -238,7 +240,7 @@ impl Justifier {
         requires prefix { IsPrefix sight.now.net.now path.now }
         ensures { IsJustifierOf sight.now.net.now self.new }
     {
-        self.set_frames(sight.net, cone, path)?;
+        self.set_frames(alloc, sight.net, cone, path)?;
         self.conditions.set_kind(kind);
         enter_all(&mut self.conditions, sight.net, path);
         let limits = self.limits(kind, effort);
@@ -247,7 +249,7 @@ impl Justifier {
         if let Ok(true) = found
             && !self.links.is_empty()
         {
-            self.complete::<A>(sight.net, cone);
+            return Ok(self.complete::<A>(sight));
         }
         found
     }
@@ -273,7 +275,13 @@ impl Justifier {
     }
 
     // Keeps the frames of a path's end, where there are links.
-    fn set_frames(&mut self, net: &Netlist, cone: &Cone, path: &Path) -> Result<(), OutOfMemory>
+    fn set_frames(
+        &mut self,
+        alloc: Global,
+        net: &Netlist,
+        cone: &Cone,
+        path: &Path,
+    ) -> Result<(), OutOfMemory>
         requires of { IsJustifierOf net.now self.old }
         requires cone { IsConeIn net.now cone.now }
         ensures { self.new ≡ self.old }
@@ -282,7 +290,7 @@ impl Justifier {
         if self.links.is_empty() || end.0 >= net.lines() {
             return Ok(());
         }
-        self.frames.set_end(net, &self.links, cone, end)
+        self.frames.set_end(alloc, net, &self.links, cone, end)
     }
 
     // The same where the conditions are entered.
@@ -316,6 +324,7 @@ impl Justifier {
             sight.labels,
             cone.sources(),
             cone.gates(),
+            &[],
         )?;
         search::<A>(&mut self.decisions, &region, limits)
     }
@@ -347,44 +356,70 @@ impl Justifier {
             &region,
             sight.labels,
             cone.sources(),
-            self.frames.gates(),
+            self.frames.first_alone(),
+            self.frames.second_gates(),
         )?;
         search::<A>(&mut self.decisions, &region, limits)
     }
 
-    /// Makes a pair that keeps the links of the labels of the cone's sources, of what is liked of them as far as they let it: `labels`
-    /// then has its states there. The cone is that of the path's end. This costs the cone, and takes no memory.
-    pub fn prefer<A: Algebra>(&mut self, sight: &Sight, cone: &Cone, path: &Path)
+    /// Makes a pair that keeps the links of the labels of the cone's sources, of what is liked of them as far as they let it. Whether it
+    /// may be a test by the labels of all lines of the two frames: `labels` then has its states at the sources. The cone is that of the
+    /// path's end. This costs the sources of the cone and the two frames. It fails only where memory runs out, and still serves then.
+    pub fn prefer<A: Algebra>(
+        &mut self,
+        alloc: Global,
+        sight: &Sight,
+        cone: &Cone,
+        path: &Path,
+    ) -> Result<bool, OutOfMemory>
         requires of { IsJustifierOf sight.now.net.now self.old }
         requires cone_for { IsConeFor sight.now.net.now cone.now }
         requires cone_at { IsConeAt sight.now.net.now (end_of sight.now.net.now path.now) cone.now }
         ensures { IsJustifierOf sight.now.net.now self.new }
     {
+        self.set_frames(alloc, sight.net, cone, path)?;
         write_liked(&mut self.decisions, self.values, sight, cone);
-        self.complete::<A>(sight.net, cone);
+        Ok(self.complete::<A>(sight))
     }
 
-    // Writes at each linked source of the cone the state with which the least states of the sources make a pair that keeps the links.
-    fn complete<A: Algebra>(&mut self, net: &Netlist, cone: &Cone)
-        requires of { IsJustifierOf net.now self.old }
-        requires cone { IsConeIn net.now cone.now }
+    // Completes what the labels of the sources tell, to a pair that keeps the links: the values under the first vector in the first frame,
+    // with them the states of linked sources, and with these the states in the second frame. Whether each line's state is in the label
+    // that it is seen with; it ends with the first one that is not.
+    fn complete<A: Algebra>(&mut self, sight: &Sight) -> bool
+        requires of { IsSizedFor sight.now.net.now self.old.sizes }
         ensures { self.new ≡ self.old }
     {
         let Justifier {
             decisions,
             links,
             values,
+            frames,
             firsts,
             ..
         } = self;
-        let firsts = firsts.as_mut_slice();
-        take_firsts(cone.sources(), decisions.labels(), *values, firsts);
-        evaluate_gates(net, cone.gates(), firsts);
-        for source in cone.sources() {
-            if let Some(state) = linked_state::<A>(links, firsts, *source) {
-                decisions.write(*source, StateSet::only(state));
-            }
-        }
+        firsts.take(sight.net, frames.sources(), decisions.labels(), *values);
+        firsts.take(sight.net, frames.first_sources(), decisions.labels(), *values);
+        firsts.compute(sight.net, frames.first_gates());
+        complete_sources::<A>(decisions, links, firsts.values(), sight, frames.sources())
+            && complete_gates::<A>(decisions, sight, frames.second_gates())
+    }
+
+    /// From now on the lines of the two frames are liked to be as the pair has them that was completed last.
+    pub fn like<A: Algebra>(&self, liked: &mut [StateSet])
+        ensures { length liked.new ≡ length liked.old }
+    {
+        like_firsts(
+            self.frames.first_lines(),
+            self.firsts.values(),
+            self.values,
+            liked,
+        );
+        like_states::<A>(
+            self.frames.second_lines(),
+            self.decisions.labels(),
+            self.values,
+            liked,
+        );
     }
 
     /// What a line is liked to be in that is in this state under a test: the states with its last value, and with links the first one
@@ -438,13 +473,14 @@ fn end_of(net: &Netlist, path: &Path) -> LineId {
     }
 }
 
-// Copies the labels of the lines of these sources and gates, and notes which of the gates are open.
+// Copies the labels of the lines of these sources and gates, and notes which of the gates are open, the later ones behind the others.
 fn begin<A: Algebra>(
     decisions: &mut Decisions,
     region: &Region,
     labels: &[StateSet],
     sources: &[LineId],
     gates: &[GateId],
+    later: &[GateId],
 ) -> Result<(), OutOfMemory>
     requires sizes { IsSizedFor region.now.net.now decisions.old }
     requires labels { length labels.now ≡ line_count region.now.net.now }
@@ -455,6 +491,21 @@ fn begin<A: Algebra>(
     for source in sources {
         decisions.write(*source, seen(region, labels, *source));
     }
+    begin_gates::<A>(decisions, region, labels, gates)?;
+    begin_gates::<A>(decisions, region, labels, later)
+}
+
+// The same of gates.
+fn begin_gates<A: Algebra>(
+    decisions: &mut Decisions,
+    region: &Region,
+    labels: &[StateSet],
+    gates: &[GateId],
+) -> Result<(), OutOfMemory>
+    requires sizes { IsSizedFor region.now.net.now decisions.old }
+    requires labels { length labels.now ≡ line_count region.now.net.now }
+    ensures { decisions.new ≡ decisions.old }
+{
     for gate in gates {
         if gate.0 < region.net.gates() {
             let line = region.net.line_of(*gate);

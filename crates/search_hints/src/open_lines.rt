@@ -26,6 +26,11 @@ pub(crate) fn is_justified<A: Algebra>(net: &Netlist, labels: &[StateSet], gate:
 pub(crate) fn join_all<A: Algebra>(labels: &[StateSet], op: Op, lines: &[LineId]) -> StateSet
     requires { All (λ line. line.0 < length labels.now) lines.now }
 {
+    if let [first, second] = lines {
+        let first = labels[first.0 as usize].intersect(every_state::<A>());
+        let second = labels[second.0 as usize].intersect(every_state::<A>());
+        return A::join_sets(op, first, second);
+    }
     let mut joined = StateSet::only(A::unit(op)).intersect(every_state::<A>());
     for line in lines {
         let label = labels[line.0 as usize].intersect(every_state::<A>());

@@ -10,7 +10,7 @@ use Rattle.justify.proofs.searching.conclude.Goals as goal
 pub returns-then-eq-clause-desk : goal.returns-then-eq-clause-desk
 returns-then-eq-clause-desk g c =
     kept_desk g.A.Algebra.algebra (standing c.args.scope.now).net (standing c.args.scope.now).rules c.args.target.now.path.now c.args.desk.now _
-    (record { cone = refl; states = refl; blame = refl; liked = refl; justifier = c.learn.ensures }) c.requires.desk
+    (record { cone = refl; states = refl; blame = refl; liked = refl; justifier = c.learn.ensures; judge = refl }) c.requires.desk
 
 pub returns-then-eq-clause-found : goal.returns-then-eq-clause-found
 returns-then-eq-clause-found g c = inl (c.branch-found.ensures ∙ ap result_from_control_flow c.in_ok-found.is)
@@ -18,7 +18,7 @@ returns-then-eq-clause-found g c = inl (c.branch-found.ensures ∙ ap result_fro
 pub justify_lines-again-requires-clause-desk : goal.justify_lines-again-requires-clause-desk
 justify_lines-again-requires-clause-desk g c =
     kept_desk g.A.Algebra.algebra (standing c.args.scope.now).net (standing c.args.scope.now).rules c.args.target.now.path.now c.args.desk.now _
-    (record { cone = refl; states = refl; blame = refl; liked = refl; justifier = c.learn.ensures }) c.requires.desk
+    (record { cone = refl; states = refl; blame = refl; liked = refl; justifier = c.learn.ensures; judge = refl }) c.requires.desk
 
 pub returns-clause-found : goal.returns-clause-found
 returns-clause-found g c =

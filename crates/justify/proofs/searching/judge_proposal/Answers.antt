@@ -21,4 +21,10 @@ pub judge_states-requires-clause-sources : goal.judge_states-requires-clause-sou
 judge_states-requires-clause-sources g c =
     let P : List LineId → Type 0 = λ xs. AreSourceStates g.A.Algebra.algebra xs c.args.desk.now.states.items in
     let Q : List State → Type 0 = λ xs. AreSourceStates g.A.Algebra.algebra c.sources.result.now xs in
-    subst P c.sources.ensures (subst Q c.as_slice.ensures.value (c.are_source_states.ensures c.if-are_source_states.true))
+    subst P c.sources.ensures (subst Q c.as_slice.ensures.value (c.are_source_states.ensures c.if-not-are_source_states.false))
+
+pub judge_pair-requires-clause-sources : goal.judge_pair-requires-clause-sources
+judge_pair-requires-clause-sources g c =
+    let P : List LineId → Type 0 = λ xs. AreSourceStates g.A.Algebra.algebra xs c.args.desk.now.states.items in
+    let Q : List State → Type 0 = λ xs. AreSourceStates g.A.Algebra.algebra c.sources.result.now xs in
+    subst P c.sources.ensures (subst Q c.as_slice.ensures.value (c.are_source_states.ensures c.if-not-are_source_states.false))

@@ -27,7 +27,7 @@ judge_proposal-requires-clause-desk g c =
     let long = c.take_least.ensures.places ∙ ap length c.as_mut_slice.ensures.value in
     let P : Circuit → Type 0 = λ n. IsJustifierOf n c.propose.new.self in
     desk_again g.A.Algebra.algebra (standing c.args.scope.now).net (standing c.args.scope.now).rules c.args.target.now.path.now c.args.desk.now _ c.take_least.new.states c.requires.desk
-    refl refl refl
+    refl refl refl refl
     (with_items_is c.args.desk.now.states c.take_least.new.states (long ∙ sym c.args.desk.now.states.ok.0))
     c.take_least.ensures.states long (subst P c.net.ensures c.propose.ensures)
 

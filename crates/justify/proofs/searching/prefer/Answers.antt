@@ -7,7 +7,7 @@ use Rattle.implication.specs.Scopes.{standing}
 use Rattle.pair_judging.specs.ConeStates.{AreStates}
 use Rattle.cones.specs.KeptCones.{IsConeAt, IsConeFor}
 use Rattle.search_hints.specs.Drafts.{IsJustifierOf}
-use Rattle.justify.proofs.TriedSources.{read_within, desk_again}
+use Rattle.justify.proofs.TriedSources.{read_within, desk_again, desk_asked}
 use Rattle.justify.proofs.searching.prefer.Goals as goal
 
 pub take_least-requires-clause-labels : goal.take_least-requires-clause-labels
@@ -27,9 +27,14 @@ returns g c =
     let long = c.take_least.ensures.places ∙ ap length c.as_mut_slice.ensures.value in
     let P : Circuit → Type 0 = λ n. IsJustifierOf n c.prefer.new.self in
     desk_again g.A.Algebra.algebra (standing c.args.scope.now).net (standing c.args.scope.now).rules c.args.target.now.path.now c.args.desk.now _ c.take_least.new.states c.requires
-    refl refl refl
+    refl refl refl refl
     (with_items_is c.args.desk.now.states c.take_least.new.states (long ∙ sym c.args.desk.now.states.ok.0))
     c.take_least.ensures.states long (subst P c.net.ensures c.prefer.ensures)
+
+pub returns-in_err-is_likely : goal.returns-in_err-is_likely
+returns-in_err-is_likely g c =
+    desk_asked g.A.Algebra.algebra c.net.result.now (standing c.args.scope.now).net c.net.ensures (standing c.args.scope.now).rules c.args.target.now.path.now c.args.desk.now c.requires
+    c.prefer.new.self c.prefer.ensures
 
 pub invariant_of-sight : goal.invariant_of-sight
 invariant_of-sight g c = record {

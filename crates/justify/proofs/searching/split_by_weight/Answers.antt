@@ -13,7 +13,7 @@ split_cases-requires g c = record {
     budget = (let few = c.requires.splits in let most = c.requires.root.budget in omega (arith, few, most));
     serves =
         kept_desk g.A.Algebra.algebra (standing c.args.scope.now).net (standing c.args.scope.now).rules c.args.task.now.target.path.now
-        c.args.desk.now _ (record { cone = refl; states = refl; blame = refl; liked = refl; justifier = c.begin_tree.ensures })
+        c.args.desk.now _ (record { cone = refl; states = refl; blame = refl; liked = refl; justifier = c.begin_tree.ensures; judge = refl })
         c.requires.root.serves;
   };
 }

@@ -27,7 +27,7 @@ split_with_budget-requires g c =
         budget = c.requires.root.budget;
         serves =
             kept_desk g.A.Algebra.algebra middle.net middle.rules c.args.task.now.target.path.now c.split_by_weight.new.desk _
-            (record { cone = refl; states = refl; blame = refl; liked = refl; justifier = c.learn_tree.ensures })
+            (record { cone = refl; states = refl; blame = refl; liked = refl; justifier = c.learn_tree.ensures; judge = refl })
             (there_too P first.net middle.net first.rules middle.rules (sym left.restored.net) (sym left.restored.rules) left.serves);
       };
     }
@@ -62,7 +62,7 @@ returns-clause-left g c =
       serves =
           kept_desk g.A.Algebra.algebra (standing c.args.scope.now).net (standing c.args.scope.now).rules c.args.task.now.target.path.now
           c.split_by_weight.new.desk _
-          (record { cone = refl; states = refl; blame = refl; liked = refl; justifier = c.learn_tree.ensures }) left.serves;
+          (record { cone = refl; states = refl; blame = refl; liked = refl; justifier = c.learn_tree.ensures; judge = refl }) left.serves;
     }
 
 pub returns-clause-found : goal.returns-clause-found

@@ -40,7 +40,7 @@ returns-in_ok-pair-in-IsTest-clause-desk g c =
     let long = c.judge-judgement.ensures.kept.places ∙ ap length c.as_mut_slice.ensures.value in
     kept_desk g.A.Algebra.algebra (standing c.args.scope.now).net (standing c.args.scope.now).rules c.args.target.now.path.now _ c.keep.new.self c.keep.ensures
     (desk_again g.A.Algebra.algebra (standing c.args.scope.now).net (standing c.args.scope.now).rules c.args.target.now.path.now c.args.desk.now _ c.judge-judgement.new.states c.requires.desk
-    refl refl refl
+    refl refl refl refl
     (with_items_is c.args.desk.now.states c.judge-judgement.new.states (long ∙ sym c.args.desk.now.states.ok.0))
     c.judge-judgement.ensures.kept.states long c.requires.desk.made.justifier)
 
@@ -72,7 +72,7 @@ pub returns-in_err-pair-in-IsTest-clause-desk : goal.returns-in_err-pair-in-IsTe
 returns-in_err-pair-in-IsTest-clause-desk g c =
     let long = c.judge-judgement.ensures.kept.places ∙ ap length c.as_mut_slice.ensures.value in
     desk_again g.A.Algebra.algebra (standing c.args.scope.now).net (standing c.args.scope.now).rules c.args.target.now.path.now c.args.desk.now _ c.judge-judgement.new.states c.requires.desk
-    refl refl refl
+    refl refl refl refl
     (with_items_is c.args.desk.now.states c.judge-judgement.new.states (long ∙ sym c.args.desk.now.states.ok.0))
     c.judge-judgement.ensures.kept.states long c.requires.desk.made.justifier
 
@@ -91,7 +91,7 @@ pub returns-in-FailsAt-clause-desk : goal.returns-in-FailsAt-clause-desk
 returns-in-FailsAt-clause-desk g c =
     let long = c.judge-judgement.ensures.kept.places ∙ ap length c.as_mut_slice.ensures.value in
     desk_again g.A.Algebra.algebra (standing c.args.scope.now).net (standing c.args.scope.now).rules c.args.target.now.path.now c.args.desk.now _ c.judge-judgement.new.states c.requires.desk
-    refl c.set_failure.ensures.room refl
+    refl refl c.set_failure.ensures.room refl
     (with_items_is c.args.desk.now.states c.judge-judgement.new.states (long ∙ sym c.args.desk.now.states.ok.0))
     c.judge-judgement.ensures.kept.states long c.requires.desk.made.justifier
 

@@ -28,12 +28,12 @@ collect-requires g c =
 pub returns-in_err-collect-clause-desk : goal.returns-in_err-collect-clause-desk
 returns-in_err-collect-clause-desk g c =
     kept_desk g.A.Algebra.algebra (standing c.args.scope.now).net (standing c.args.scope.now).rules c.args.target.now.path.now c.args.desk.now _
-    (record { cone = refl; states = refl; blame = refl; liked = refl; justifier = refl }) c.requires.desk
+    (record { cone = refl; states = refl; blame = refl; liked = refl; justifier = refl; judge = refl }) c.requires.desk
 
 pub returns-then-closes-clause-desk : goal.returns-then-closes-clause-desk
 returns-then-closes-clause-desk g c =
     kept_desk g.A.Algebra.algebra (standing c.args.scope.now).net (standing c.args.scope.now).rules c.args.target.now.path.now c.args.desk.now _
-    (record { cone = refl; states = refl; blame = refl; liked = refl; justifier = refl }) c.requires.desk
+    (record { cone = refl; states = refl; blame = refl; liked = refl; justifier = refl; judge = refl }) c.requires.desk
 
 pub returns-then-closes-clause-answer : goal.returns-then-closes-clause-answer
 returns-then-closes-clause-answer g c =
@@ -99,4 +99,4 @@ try_all-requires-clause-desk g c =
     there_too P (standing c.args.scope.now).net (standing c.closes.new.scope).net (standing c.args.scope.now).rules
     (standing c.closes.new.scope).rules (sym c.closes.ensures.restored.net) (sym c.closes.ensures.restored.rules)
     (kept_desk g.A.Algebra.algebra (standing c.args.scope.now).net (standing c.args.scope.now).rules c.args.target.now.path.now
-    c.args.desk.now after (record { cone = refl; states = refl; blame = refl; liked = refl; justifier = refl }) c.requires.desk)
+    c.args.desk.now after (record { cone = refl; states = refl; blame = refl; liked = refl; justifier = refl; judge = refl }) c.requires.desk)

@@ -3,6 +3,3 @@ use Rattle.search_hints.proofs.justifier.begin.Given as goal
 
 abbrev pub invariant-loop-source : goal.invariant-loop-source
 invariant-loop-source g l = l.decisions ≡ l.initial.decisions
-
-abbrev pub invariant-loop-gate : goal.invariant-loop-gate
-invariant-loop-gate g l = l.decisions ≡ l.initial.decisions

@@ -29,4 +29,5 @@ returns g c =
       blame = ap (λ b. b.room) c.in_ok-blame.ensures;
       liked = ap length liked ∙ length-replicate lines c.every_state.result ∙ c.lines-lines.ensures.count;
       justifier = c.in_ok-justifier.ensures;
+      judge = c.in_ok-judge.ensures;
     }

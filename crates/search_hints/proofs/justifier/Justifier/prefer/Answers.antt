@@ -7,8 +7,3 @@ pub write_liked-requires-clause-cone : goal.write_liked-requires-clause-cone
 write_liked-requires-clause-cone g c =
     let net = c.args.sight.now.net.now in
     cone_in net (end_of net c.args.path.now) c.args.cone.now c.requires.cone_for c.requires.cone_at
-
-pub complete-requires-clause-cone : goal.complete-requires-clause-cone
-complete-requires-clause-cone g c =
-    let net = c.args.sight.now.net.now in
-    cone_in net (end_of net c.args.path.now) c.args.cone.now c.requires.cone_for c.requires.cone_at

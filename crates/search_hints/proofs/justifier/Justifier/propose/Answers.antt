@@ -12,8 +12,3 @@ pub decide-found-requires-clause-cone : goal.decide-found-requires-clause-cone
 decide-found-requires-clause-cone g c =
     let net = c.args.sight.now.net.now in
     cone_in net (end_of net c.args.path.now) c.args.cone.now c.requires.cone_for c.requires.cone_at
-
-pub complete-requires-clause-cone : goal.complete-requires-clause-cone
-complete-requires-clause-cone g c =
-    let net = c.args.sight.now.net.now in
-    cone_in net (end_of net c.args.path.now) c.args.cone.now c.requires.cone_for c.requires.cone_at

@@ -1,7 +1,7 @@
 -- Narrowing and cutting leave the sizes, so that there is room for the circuit's lines and gates at each call.
 use Rattle.std.proofs.Common.{length, sym, ap, subst, ◌∙◌}
 use Rattle.search_hints.specs.Drafts.{Sizes, IsSizedFor}
-use Rattle.search_hints.proofs.draft.Draft.narrow_at.Goals as goal
+use Rattle.search_hints.proofs.draft.Draft.narrow_all.Goals as goal
 
 pub kept_at-given-requires-clause-lines : goal.kept_at-given-requires-clause-lines
 kept_at-given-requires-clause-lines g c =
