@@ -5,4 +5,4 @@ use Rattle.netlist.specs.Circuit.{line_count}
 use Rattle.search_hints.proofs.heavy_lines.heaviest_pin.Given as goal
 
 abbrev pub invariant-loop-pin : goal.invariant-loop-pin
-invariant-loop-pin l = IfSome l.heaviest (λ line. line.0 < line_count l.sight.net.now)
+invariant-loop-pin g l = IfSome l.heaviest (λ line. line.0 < line_count l.sight.net.now)
