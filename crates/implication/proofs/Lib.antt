@@ -8,6 +8,7 @@ pub mod Wholes
 pub mod History
 pub mod Inside
 pub mod Spreading
+mod RankedReach
 pub mod Joining
 pub mod ByLevel
 pub mod Launching
