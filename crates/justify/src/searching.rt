@@ -281,9 +281,14 @@ fn justify_lines<A: Algebra, S: Setting>(
         labels: scope.labels(),
         liked: desk.liked.as_slice(),
     };
-    let is_justified = desk
-        .justifier
-        .propose::<A>(alloc, &sight, &desk.cone, target.path, target.kind, effort)?;
+    let is_justified = desk.justifier.propose::<A>(
+        alloc,
+        &sight,
+        &desk.cone,
+        target.path,
+        target.kind,
+        effort,
+    )?;
     if !is_justified {
         return Ok(None);
     }
@@ -333,10 +338,7 @@ fn judge_pair<A: Algebra, S: Setting>(
 {
     let net = scope.net();
     let pair = read_linked::<A>(alloc, net, &desk.cone, desk.states.as_slice())?;
-    if !desk
-        .judge
-        .meets(net, target, &pair)
-    {
+    if !desk.judge.meets(net, target, &pair) {
         return Ok(None);
     }
     desk.like::<A>();

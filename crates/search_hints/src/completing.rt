@@ -244,11 +244,7 @@ pub(crate) fn like_states<A: Algebra>(
 }
 
 // The state of a linked source that begins at its value and ends at that of its line.
-fn linked_state<A: Algebra>(
-    links: &LinkEnds,
-    firsts: &[bool],
-    source: LineId,
-) -> Option<State>
+fn linked_state<A: Algebra>(links: &LinkEnds, firsts: &[bool], source: LineId) -> Option<State>
     ensures { IfSome result (λ state. state.0 < 8) }
 {
     let line = links.line_of(source)?;

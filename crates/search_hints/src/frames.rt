@@ -11,11 +11,12 @@ use cones::{Cone, FoundLines, SourceLinks, find_back};
 use netlist::Netlist;
 use pd_base::{GateId, LineId, OutOfMemory};
 use std::alloc::Global;
-use std::mem;
 use std::marker::Model;
+use std::mem;
 
 // The most ends whose frames are kept beside those at hand, and the most lines of these together.
 const MOST_OTHERS: usize = 64;
+
 const MOST_ROOM: usize = 4_194_304;
 
 // The frames of one end. Contracts see for how many lines there is room.
@@ -215,7 +216,11 @@ impl Frames {
         }
         let place = self.next;
         self.exchange(place);
-        self.next = if place < count && count - place > 1 { place + 1 } else { 0 };
+        self.next = if place < count && count - place > 1 {
+            place + 1
+        } else {
+            0
+        };
         Ok(())
     }
 

@@ -12,9 +12,7 @@ ghost use Rattle.hulls.specs.Conditions.{IsEnteredOn};
 ghost use Rattle.cones.specs.KeptCones.{IsConeFor, IsConeAt};
 ghost use Rattle.search_hints.specs.Drafts.{IsJustifierOf, IsSizedFor, IsConeIn};
 
-use crate::completing::{
-    Firsts, complete_gates, complete_sources, like_firsts, like_states,
-};
+use crate::completing::{Firsts, complete_gates, complete_sources, like_firsts, like_states};
 use crate::decisions::{Decisions, Ended, Order};
 use crate::first_values::FirstValues;
 use crate::frames::Frames;
@@ -398,7 +396,12 @@ impl Justifier {
             ..
         } = self;
         firsts.take(sight.net, frames.sources(), decisions.labels(), *values);
-        firsts.take(sight.net, frames.first_sources(), decisions.labels(), *values);
+        firsts.take(
+            sight.net,
+            frames.first_sources(),
+            decisions.labels(),
+            *values,
+        );
         firsts.compute(sight.net, frames.first_gates());
         complete_sources::<A>(decisions, links, firsts.values(), sight, frames.sources())
             && complete_gates::<A>(decisions, sight, frames.second_gates())

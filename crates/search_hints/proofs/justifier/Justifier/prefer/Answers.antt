@@ -7,3 +7,8 @@ pub write_liked-requires-clause-cone : goal.write_liked-requires-clause-cone
 write_liked-requires-clause-cone g c =
     let net = c.args.sight.now.net.now in
     cone_in net (end_of net c.args.path.now) c.args.cone.now c.requires.cone_for c.requires.cone_at
+
+pub set_frames-requires-clause-cone : goal.set_frames-requires-clause-cone
+set_frames-requires-clause-cone g c =
+    let net = c.args.sight.now.net.now in
+    cone_in net (end_of net c.args.path.now) c.args.cone.now c.requires.cone_for c.requires.cone_at
