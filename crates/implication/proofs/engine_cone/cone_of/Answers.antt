@@ -2,6 +2,7 @@
 use Rattle.std.proofs.Common.{◌≡◌, ◌↔◌, List, Bool, ℕ, length, drop, take_all, ◌-◌, Some, sym, ap, ◌∙◌, subst, arith}
 use Rattle.std.specs.List.{Contains}
 use Rattle.std.proofs.lemmas.List.{length-drop}
+use Rattle.pd_base.specs.declared.ids.LineId.{LineId}
 use Rattle.pd_base.specs.Links.{LinkList}
 use Rattle.netlist.specs.Circuit.{source_count}
 use Rattle.netlist.specs.LinkedPairs.{AreLinksOf}
