@@ -282,10 +282,10 @@ desk_again a c rules path desk after states is cone judge room liked same within
 
 -- a desk whose justifier was asked for a proposal
 pub desk_asked : (a : StateAlgebra) (n c : Circuit) → n ≡ c → (rules : Rules) (path : Route) (desk : Desk) → IsDesk a c rules path desk
-    → (justifier : Prepared) → IsJustifierOf n justifier → IsDesk a c rules path (record desk { justifier = justifier; judge = refl })
+    → (justifier : Prepared) → IsJustifierOf n justifier → IsDesk a c rules path (record desk { justifier = justifier })
 desk_asked a n c same rules path desk is justifier asked =
     let P : Circuit → Type 0 = λ m. IsJustifierOf m justifier in
-    desk_again a c rules path desk (record desk { justifier = justifier; judge = refl }) desk.states.items is refl refl refl refl refl is.made.within refl
+    desk_again a c rules path desk (record desk { justifier = justifier }) desk.states.items is refl refl refl refl refl is.made.within refl
     (subst P same asked)
 
 -- what was taken of the labels are the least states

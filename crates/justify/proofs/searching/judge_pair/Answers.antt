@@ -1,5 +1,5 @@
 -- The pair keeps the links and is judged on the fan-in of the path's end, and the desk is the path's with another judge.
-use Rattle.std.proofs.Common.{sym, ap, ◌∙◌, subst, length}
+use Rattle.std.proofs.Common.{List, sym, ap, ◌∙◌, subst, length}
 use Rattle.netlist.specs.Circuit.{Circuit, line_count}
 use Rattle.netlist.specs.Paths.{IsPrefix, end_of}
 use Rattle.implication.specs.Scopes.{standing}
