@@ -109,7 +109,7 @@ fn keep<A: Algebra>(
     match gate.pins.len() {
         1 => keep_at_one::<A>(gate, condition, &mut scratch.kept),
         2 => keep_at_two::<A>(gate, condition, &mut scratch.kept),
-        3 => keep_at_three::<A>(gate, condition, &mut scratch.kept),
+        3 if condition.is_none() => keep_at_three::<A>(gate, &mut scratch.kept),
         _ => keep_at_all::<A>(
             gate,
             condition,

@@ -1,6 +1,6 @@
-// Which states the choices at a gate with three pins keep, as most of the other gates have: what a pin is joined with is what the other
-// two join to.
-ghost use Rattle.std.specs.Prelude.{◌≡◌, ◌<◌, length, All, IfSome};
+// Which states the choices at a gate with three pins keep, as most of the other gates have, where no step goes through it: what a pin is
+// joined with is what the other two join to.
+ghost use Rattle.std.specs.Prelude.{◌≡◌, ◌<◌, length, All};
 ghost use Rattle.netlist.specs.Gates.{op_of};
 ghost use Rattle.state_sets.specs.States.{IsWithin};
 ghost use Rattle.hulls.specs.Sets.{Means};
@@ -8,9 +8,9 @@ ghost use Rattle.hulls.specs.Passes.{PassFolds, PassSupports};
 ghost use Rattle.hulls.specs.GateViews.{pin_sets, AreKeptAtPins, IsGivenAtGate};
 
 use crate::inverting::uninverted;
-use crate::limits::{Limits, limits_of, no_limits};
+use crate::limits::{Limits, no_limits};
 use crate::view::GateView;
-use state_sets::{Algebra, Condition, StateSet};
+use state_sets::{Algebra, StateSet};
 
 // The states that the choices of a pass have at three pins, and those to which they join.
 #[derive(Clone, Copy)]
@@ -21,27 +21,8 @@ struct PassOfThree {
     joined: StateSet,
 }
 
-// Leaves in `kept` the states that allowed choices have at the three pins, and gives those that they give at the gate's line.
-pub(crate) fn keep_at_three<A: Algebra>(
-    gate: &GateView,
-    condition: Option<Condition>,
-    kept: &mut [StateSet],
-) -> StateSet
-    requires lines { All (λ line. line.0 < length gate.now.labels.now) gate.now.pins.now }
-    requires three { length gate.now.pins.now ≡ 3 }
-    requires kept { 2 < length kept.old }
-    requires pin { IfSome condition (λ c. c.pin < length gate.now.pins.now) }
-    ensures at_pins { AreKeptAtPins A.algebra gate.now condition kept.new }
-    ensures at_gate { IsGivenAtGate A.algebra gate.now condition result }
-{
-    match condition {
-        None => three_freely::<A>(gate, kept),
-        Some(step) => three_at_step::<A>(gate, step, kept),
-    }
-}
-
-// The same without a condition.
-fn three_freely<A: Algebra>(gate: &GateView, kept: &mut [StateSet]) -> StateSet
+// Leaves in `kept` the states that choices have at the three pins, without a condition, and gives those that they give at the gate's line.
+pub(crate) fn keep_at_three<A: Algebra>(gate: &GateView, kept: &mut [StateSet]) -> StateSet
     requires lines { All (λ line. line.0 < length gate.now.labels.now) gate.now.pins.now }
     requires three { length gate.now.pins.now ≡ 3 }
     requires kept { 2 < length kept.old }
@@ -54,26 +35,6 @@ fn three_freely<A: Algebra>(gate: &GateView, kept: &mut [StateSet]) -> StateSet
     kept[1] = pass.second;
     kept[2] = pass.third;
     uninverted::<A>(gate.kind, pass.joined)
-}
-
-// The same with the condition of a step: a pass for each final value of the on-path pin.
-fn three_at_step<A: Algebra>(gate: &GateView, step: Condition, kept: &mut [StateSet]) -> StateSet
-    requires lines { All (λ line. line.0 < length gate.now.labels.now) gate.now.pins.now }
-    requires three { length gate.now.pins.now ≡ 3 }
-    requires kept { 2 < length kept.old }
-    requires pin { step.pin < length gate.now.pins.now }
-    ensures at_pins { AreKeptAtPins A.algebra gate.now (Some step) kept.new }
-    ensures at_gate { IsGivenAtGate A.algebra gate.now (Some step) result }
-{
-    let target = uninverted::<A>(gate.kind, gate.own);
-    let at_zero = limits_of::<A>(gate.kind, step, false);
-    let zero = pass_three::<A>(gate, at_zero, target);
-    let at_one = limits_of::<A>(gate.kind, step, true);
-    let one = pass_three::<A>(gate, at_one, target);
-    kept[0] = zero.first.unite(one.first);
-    kept[1] = zero.second.unite(one.second);
-    kept[2] = zero.third.unite(one.third);
-    uninverted::<A>(gate.kind, zero.joined.unite(one.joined))
 }
 
 // What choices within the limits that join into the target have at the three pins, and join to.
