@@ -100,12 +100,12 @@ module _ (test : ℕ → Bool) where
 
 module _ (a : StateAlgebra) (laws : HasLaws a) where
   -- what a choice out of sets joins to is below the count, and so is the state of a gate
-  joined_below : (op : Op) {sets : List StateSet} {choice : List State} → IsChoice a.count sets choice → (joined a op choice).0 < a.count
+  pub joined_below : (op : Op) {sets : List StateSet} {choice : List State} → IsChoice a.count sets choice → (joined a op choice).0 < a.count
   joined_below op none = laws.unit_within op
   joined_below op (one {state = state} {states = states} has rest) =
       laws.join_within op state (joined a op states) has.in_range (joined_below op rest)
 
-  inverted_below : (inverts : Bool) (state : State) → state.0 < a.count → (inverted_if a inverts state).0 < a.count
+  pub inverted_below : (inverts : Bool) (state : State) → state.0 < a.count → (inverted_if a inverts state).0 < a.count
   inverted_below true state below = laws.invert_within state below
   inverted_below false state below = below
 

@@ -19,8 +19,12 @@ pub mod Steadied
 pub mod Images
 pub mod Solutions
 pub mod LinkedSets
+pub mod OuterLinks
 pub mod Cones
 pub mod LinkedCones
+pub mod SixFirstLaws
+pub mod FirstSets
+pub mod FirstValues
 pub mod Idempotent
 pub mod Forward
 pub mod LinkedStarts

@@ -1,5 +1,5 @@
 -- A circuit has few links: no source has two, so there are no more than sources.
-use Rattle.std.proofs.Common.{◌≡◌, ℕ, ◌+◌, ◌<◌, ◌≤◌, ◌^◌, length, ap, arith}
+use Rattle.std.proofs.Common.{ℕ, ◌+◌, ◌<◌, ◌≤◌, ◌^◌, length, ap, arith}
 use Rattle.pd_base.specs.declared.ids.LineId.{LineId}
 use Rattle.pd_base.specs.Links.{LinkList}
 use Rattle.netlist.specs.Circuit.{Circuit, source_count, gate_count}

@@ -1,7 +1,7 @@
 -- The law of cones under links: gates and links outside a set of lines, that is closed under fan-in and links, close nothing and change no
 -- label inside. Labels at rest inside are extended by what the gates outside make of their pins' sets, and by what links outside leave
 -- sources of the states of a source. Since there may be cycles through links and gates, the extension is the greatest solution.
-use Rattle.std.proofs.Common.{◌≡◌, ◌≢◌, ℕ, ◌-◌, ◌<◌, ◌≤◌, ◌^◌, ◌⊎◌, inl, inr, ⊎_elim, Bool, true, false, cond, nat_lt, List, map, length, get_or, Option, Some, None, refl, sym, ap, ◌∙◌, subst, arith}
+use Rattle.std.proofs.Common.{◌≡◌, ◌≢◌, ℕ, ◌-◌, ◌<◌, ◌≤◌, ◌^◌, inl, inr, ⊎_elim, Bool, true, false, cond, nat_lt, List, map, length, get_or, Option, Some, None, refl, sym, ap, ◌∙◌, subst, arith}
 use Rattle.std.specs.List.{All, range_with_len}
 use Rattle.std.proofs.lemmas.Bool.{cases_Bool, cases_lt, cond-true, cond-false, lt-ltb, le-ltb}
 use Rattle.std.proofs.lemmas.List.Elements.{All-push, All-from_get_or}
@@ -28,14 +28,10 @@ use Rattle.state_laws.proofs.Cones.{same_rests, none_at}
 use Rattle.state_laws.proofs.Images.{image, image_has, has_image, image_within, has_some}
 use Rattle.state_laws.proofs.Hulls.{emptied_if_wider}
 use Rattle.state_laws.proofs.Linked.{linked_source, linked_line}
-use Rattle.state_laws.proofs.LinkedSets.{linked_set, linked_has, has_linked, linked_within, some_linked, line_of, found_is_link, none_found, linked_once}
+use Rattle.state_laws.proofs.LinkedSets.{linked_set, linked_has, has_linked, linked_within, some_linked, linked_once}
+use Rattle.state_laws.proofs.OuterLinks.{option_cases, outer_line, outer_is, inner_of, not_outer}
 use Rattle.state_laws.proofs.Sets.{none_has, all_have, has_in_circuit, label_within}
 use Rattle.state_laws.proofs.Solutions.{SetOf, LiesBelow, IsSolved, solved}
-
--- an option is none, or some value
-option_cases : (option : Option ℕ) → (option ≡ None) ⊎ ((value : ℕ) × (option ≡ Some value))
-option_cases None = inl refl
-option_cases (Some value) = inr (value, refl)
 
 -- where the two lines of a link have the same sets, it rests at both labellings or at none
 pub same_link_rests : (a : StateAlgebra) (source line : ℕ) (old new : List StateSet) → label_at new source ≡ label_at old source
@@ -76,11 +72,6 @@ module _ (a : StateAlgebra) (c : Circuit) (inside : ℕ → Bool) (links inner :
   emptied_within line emptied =
       emptied_if_wider a c (IsNarrowingOf c links kind steps) (IsNarrowingIn c inside inner kind steps) May May rest_within line emptied
 
--- the line to which a source is linked, if its link is outside
-abbrev outer_or : Option ℕ → Option ℕ → Option ℕ
-outer_or None outer = outer
-outer_or (Some line) outer = None
-
 module _ (a : StateAlgebra) (c : Circuit) (laws : HasLaws a) (reads : ReadsLines c) (inside : ℕ → Bool) (links inner : LinkList)
     (linked : AreLinksOf c links) (closed : IsClosedUnder c inside links inner) (kind : Kind) (steps : List PinRef)
     (through : All (λ step. inside step.gate.0 ≡ true) steps) (May : ℕ → State → Type 0)
@@ -92,35 +83,7 @@ module _ (a : StateAlgebra) (c : Circuit) (laws : HasLaws a) (reads : ReadsLines
   IsWithin = IsLineWithin c inside links inner
 
   abbrev outer : ℕ → Option ℕ
-  outer source = outer_or (line_of inner source) (line_of links source)
-
-  outer_is : (source line : ℕ) → outer source ≡ Some line → IsLink links source line × (¬ IsLink inner source line)
-  outer_is source line e = ⊎_elim
-      (λ (none : line_of inner source ≡ None). (
-        found_is_link links source line (subst (λ o. outer_or o (line_of links source) ≡ Some line) none e),
-        none_found inner source none line,
-      ))
-      (λ (found : (l : ℕ) × (line_of inner source ≡ Some l)).
-      absurd (let none : None ≡ Some line = subst (λ o. outer_or o (line_of links source) ≡ Some line) found.1 e in cc))
-      (option_cases (line_of inner source))
-
-  -- a source without a link outside has its links inside
-  inner_of : (source : ℕ) → outer source ≡ None → (line : ℕ) → IsLink links source line → IsLink inner source line
-  inner_of source e line link = ⊎_elim
-      (λ (none : line_of inner source ≡ None).
-      absurd (none_found links source (subst (λ o. outer_or o (line_of links source) ≡ None) none e) line link))
-      (λ (found : (l : ℕ) × (line_of inner source ≡ Some l)).
-      let at = found_is_link inner source found.0 found.1 in
-      subst (λ (l : ℕ). IsLink inner source l)
-      (linked_once c links linked source found.0 line (closed.among source found.0 at) link) at)
-      (option_cases (line_of inner source))
-
-  -- and one with its links inside has none outside
-  not_outer : (source : ℕ) → ((line : ℕ) → IsLink links source line → IsLink inner source line) → outer source ≡ None
-  not_outer source all = ⊎_elim (λ (none : outer source ≡ None). none)
-      (λ (found : (l : ℕ) × (outer source ≡ Some l)).
-      let link = outer_is source found.0 found.1 in absurd (link.1 (all found.0 link.0)))
-      (option_cases (outer source))
+  outer = outer_line links inner
 
   abbrev source_set : SetOf → ℕ → Option ℕ → StateSet
   source_set sets source None = label_at labels source
@@ -173,7 +136,7 @@ module _ (a : StateAlgebra) (c : Circuit) (laws : HasLaws a) (reads : ReadsLines
       (cases_lt line (source_count c))
 
   loose_line : (line other : ℕ) → outer line ≡ Some other → other < line_count c
-  loose_line line other e = linked_line c links linked line other (outer_is line other e).0
+  loose_line line other e = linked_line c links linked line other (outer_is c links inner linked closed.among line other e).0
 
   abbrev Lies : SetOf → SetOf → Type 0
   Lies = LiesBelow a.count (line_count c)
@@ -258,7 +221,7 @@ module _ (a : StateAlgebra) (c : Circuit) (laws : HasLaws a) (reads : ReadsLines
       by_parts P
       (λ line source e state has. subst (λ set. Has a.count set state) (sym (at_source sets line source e)) (lies line state has))
       (λ line behind source e state has.
-      let link = outer_is line behind e in
+      let link = outer_is c links inner linked closed.among line behind e in
       let kept = ((rest.rest (along_link line behind) link.0).exactly line state).0 has in
       let by = kept.at_source refl in
       subst (λ set. Has a.count set state) (sym (at_loose sets line behind source e))
@@ -325,7 +288,7 @@ module _ (a : StateAlgebra) (c : Circuit) (laws : HasLaws a) (reads : ReadsLines
   whole_same : (line : ℕ) → IsWithin line → label_at whole line ≡ label_at labels line
   whole_same line of = ⊎_elim
       (λ (source : (line < source_count c) × ((other : ℕ) → IsLink links line other → IsLink inner line other)).
-      whole_step line (omega (arith, source.0)) ∙ at_source found line source.0 (not_outer line source.1))
+      whole_step line (omega (arith, source.0)) ∙ at_source found line source.0 (not_outer c links inner linked closed.among line source.1))
       (λ (gate : (g : ℕ) × (g < gate_count c) × (inside g ≡ true) × (line ≡ gate_line c g)).
       ap (label_at whole) gate.3 ∙ whole_step (gate_line c gate.0) (omega (arith, gate.1)) ∙ at_inside found gate.0 gate.2
       ∙ ap (label_at labels) (sym gate.3)) of
@@ -390,7 +353,7 @@ module _ (a : StateAlgebra) (c : Circuit) (laws : HasLaws a) (reads : ReadsLines
   -- the set of a source with a link outside
   loose_is : (source line : ℕ) → outer source ≡ Some line → label_at whole source ≡ linked_set a (label_at whole line)
   loose_is source line e =
-      let in_sources : source < source_count c = linked_source c links linked source line (outer_is source line e).0 in
+      let in_sources : source < source_count c = linked_source c links linked source line (outer_is c links inner linked closed.among source line e).0 in
       whole_step source (omega (arith, in_sources)) ∙ at_loose found source line in_sources e
       ∙ ap (linked_set a) (sym (label_whole line (loose_line source line e)))
 
@@ -416,14 +379,14 @@ module _ (a : StateAlgebra) (c : Circuit) (laws : HasLaws a) (reads : ReadsLines
   link_rests : (source line : ℕ) → IsLink links source line → IsLinkNarrowing a source line whole whole
   link_rests source line link = ⊎_elim
       (λ (none : outer source ≡ None).
-      let within = inner_of source none line link in
+      let within = inner_of c links inner linked closed.among source none line link in
       same_link_rests a source line labels whole
-      (whole_same source (inl (linked_source c links linked source line link, inner_of source none)))
+      (whole_same source (inl (linked_source c links linked source line link, inner_of c links inner linked closed.among source none)))
       (whole_same line (closed.lines source line within))
       (is.rest.rest (along_link source line) within))
       (λ (found : (l : ℕ) × (outer source ≡ Some l)).
       subst (λ (l : ℕ). IsLinkNarrowing a source l whole whole)
-      (linked_once c links linked source found.0 line (outer_is source found.0 found.1).0 link)
+      (linked_once c links linked source found.0 line (outer_is c links inner linked closed.among source found.0 found.1).0 link)
       (loose_rests source found.0 found.1))
       (option_cases (outer source))
 
@@ -441,9 +404,9 @@ module _ (a : StateAlgebra) (c : Circuit) (laws : HasLaws a) (reads : ReadsLines
   may_in =
       by_parts (λ line. (state : State) → Has a.count (label_at whole line) state → May line state)
       (λ line source e state has. is.rest.among line state
-      (subst (λ set. Has a.count set state) (whole_same line (inl (source, inner_of line e))) has))
+      (subst (λ set. Has a.count set state) (whole_same line (inl (source, inner_of c links inner linked closed.among line e))) has))
       (λ line other source e state has.
-      let link = outer_is line other e in
+      let link = outer_is c links inner linked closed.among line other e in
       (loose line other link.0 link.1 state).1
       (linked_has a (label_at whole other) state (subst (λ set. Has a.count set state) (loose_is line other e) has)).source)
       (λ gate within e state has. is.rest.among (gate_line c gate) state

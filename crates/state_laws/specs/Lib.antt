@@ -5,3 +5,4 @@ pub mod Steadied
 pub mod Cones
 pub mod Forward
 pub mod FailedTrials
+pub mod FirstValues
