@@ -98,7 +98,8 @@ fn link_bits(
     Ok(())
 }
 
-// Gives each linked source without a mark the first value of its line as its second bit.
+// Gives each linked source without a mark the first value of its line as its second bit. Where each source is linked to a source, that
+// value stands in the first vector; else lines are computed.
 fn give_bits(
     alloc: Global,
     net: &Netlist,
@@ -114,10 +115,13 @@ fn give_bits(
     ensures linked { IfOk result (λ done. AreLinkBits (value net.now first.now) links.now (HasMark marks.now) second.old second.new) }
 {
     if are_sources(links.pairs(), net.sources()) {
-        copy_bits(net, links, marks, first, second);
+        write_links(links.pairs(), marks, first, second);
         return Ok(());
     }
-    compute_bits(alloc, net, links, marks, first, second)
+    let mut values = vec![in alloc; false; net.lines() as usize]?;
+    evaluate(net, first, values.as_mut_slice());
+    write_links(links.pairs(), marks, values.as_slice(), second);
+    Ok(())
 }
 
 // Whether each source is linked to a source.
@@ -130,45 +134,6 @@ fn are_sources(links: &[(LineId, LineId)], sources: u32) -> bool
         }
     }
     true
-}
-
-// The same where each source is linked to a source, whose first value stands in the first vector.
-fn copy_bits(
-    net: &Netlist,
-    links: &SourceLinks,
-    marks: &[bool],
-    first: &[bool],
-    second: &mut [bool],
-)
-    requires links { AreLinksOf net.now links.now }
-    requires lines { All (λ link. link.1.0 < source_count net.now) links.now }
-    requires first { length first.now ≡ source_count net.now }
-    requires second { length second.old ≡ source_count net.now }
-    ensures places { length second.new ≡ length second.old }
-    ensures linked { AreLinkBits (value net.now first.now) links.now (HasMark marks.now) second.old second.new }
-{
-    write_links(links.pairs(), marks, first, second);
-}
-
-// The same where lines have to be computed.
-fn compute_bits(
-    alloc: Global,
-    net: &Netlist,
-    links: &SourceLinks,
-    marks: &[bool],
-    first: &[bool],
-    second: &mut [bool],
-) -> Result<(), OutOfMemory>
-    requires links { AreLinksOf net.now links.now }
-    requires first { length first.now ≡ source_count net.now }
-    requires second { length second.old ≡ source_count net.now }
-    ensures places { length second.new ≡ length second.old }
-    ensures linked { IfOk result (λ done. AreLinkBits (value net.now first.now) links.now (HasMark marks.now) second.old second.new) }
-{
-    let mut values = vec![in alloc; false; net.lines() as usize]?;
-    evaluate(net, first, values.as_mut_slice());
-    write_links(links.pairs(), marks, values.as_slice(), second);
-    Ok(())
 }
 
 // Gives each linked source without a mark the value of its line.
