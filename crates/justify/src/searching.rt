@@ -360,8 +360,8 @@ fn are_source_states<A: Algebra>(sources: &[LineId], states: &[State]) -> bool
     true
 }
 
-// Grows two trees in turn: one by weights that has few splits, and where it spent them and more are left of the budget, one by backtrace
-// that may have the whole budget. What the first one came to is dropped then.
+// Grows trees in turn: one by weights that has few splits, and where it spent them and more are left of the budget, others that may have
+// the whole budget. What the earlier ones came to is dropped then.
 fn split_in_turns<A: Algebra, S: Setting>(
     alloc: Global,
     scope: &mut Scope<A, S>,
@@ -375,20 +375,64 @@ fn split_in_turns<A: Algebra, S: Setting>(
     ensures counted { IfOk result (λ found. CountsConflicts task.now.budget found (standing scope.old) (standing scope.new)) }
 {
     let splits = splits_by_weight(task, desk);
-    let first = Task {
+    let found = split_by_weight(alloc, scope, task, desk, splits)?;
+    desk.justifier
+        .learn_tree(task.target.kind, found.is_spent());
+    if is_dropped(&found, splits, task.budget) {
+        return split_with_budget(alloc, scope, task, desk);
+    }
+    Ok(found)
+}
+
+// Grows a tree by backtrace that may have the whole budget, and where that pays when it is spent, one by weights.
+fn split_with_budget<A: Algebra, S: Setting>(
+    alloc: Global,
+    scope: &mut Scope<A, S>,
+    task: &Task,
+    desk: &mut Desk,
+) -> Result<Found, OutOfMemory>
+    requires root { IsAtRoot A.algebra task.now (standing scope.old) desk.old }
+    ensures scope { IsSameScope scope.old scope.new }
+    ensures left { LeavesSearch A.algebra task.now (standing scope.old) (standing scope.new) desk.new }
+    ensures found { IfOk result (IsFound (standing scope.old).net (standing scope.old).rules (seen_target task.now.target) task.now.budget) }
+    ensures counted { IfOk result (λ found. CountsConflicts task.now.budget found (standing scope.old) (standing scope.new)) }
+{
+    let found = split_cases(alloc, scope, task, desk)?;
+    if !is_tried_again(&found, &task.target, desk) {
+        return Ok(found);
+    }
+    split_by_weight(alloc, scope, task, desk, task.budget)
+}
+
+// Whether another tree pays after a search: where a nonrobust one spent its budget, since else the fault is aborted; but not under links,
+// where weights seldom lead to a whole tree that backtrace does not lead to.
+fn is_tried_again(found: &Found, target: &Target, desk: &Desk) -> bool {
+    found.is_spent() && target.kind == Kind::Nonrobust && desk.cone.links().pairs().is_empty()
+}
+
+// Grows a tree by weights that may have so many splits.
+fn split_by_weight<A: Algebra, S: Setting>(
+    alloc: Global,
+    scope: &mut Scope<A, S>,
+    task: &Task,
+    desk: &mut Desk,
+    splits: u32,
+) -> Result<Found, OutOfMemory>
+    requires root { IsAtRoot A.algebra task.now (standing scope.old) desk.old }
+    requires splits { splits ≤ task.now.budget }
+    ensures scope { IsSameScope scope.old scope.new }
+    ensures left { LeavesSearch A.algebra task.now (standing scope.old) (standing scope.new) desk.new }
+    ensures found { IfOk result (IsFound (standing scope.old).net (standing scope.old).rules (seen_target task.now.target) splits) }
+    ensures counted { IfOk result (λ found. CountsConflicts splits found (standing scope.old) (standing scope.new)) }
+{
+    let by_weight = Task {
         target: task.target,
         budget: splits,
         splitting: Splitting::ByWeight,
     };
     desk.justifier
         .begin_tree(&desk.cone, scope.labels(), scope.changes().len());
-    let found = split_cases(alloc, scope, &first, desk)?;
-    desk.justifier
-        .learn_tree(task.target.kind, found.is_spent());
-    if is_dropped(&found, splits, task.budget) {
-        return split_cases(alloc, scope, task, desk);
-    }
-    Ok(found)
+    split_cases(alloc, scope, &by_weight, desk)
 }
 
 // How many splits the tree by weights may have: so many as pay, as far as the budget goes.

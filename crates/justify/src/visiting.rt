@@ -20,7 +20,7 @@ use crate::task::{Splitting, Task};
 use crate::trying::try_node;
 use implication::{Scope, Setting};
 use pair_judging::Target;
-use pd_base::{OutOfMemory, Pair};
+use pd_base::{LineId, OutOfMemory, Pair};
 use search_hints::{Frontier, Lead, Sight, follow};
 use state_sets::{Algebra, StateSet};
 use std::alloc::Global;
@@ -124,14 +124,25 @@ fn lead_at<A: Algebra, S: Setting>(
     requires { length desk.now.liked.items ≡ line_count (standing scope.now).net }
 {
     if task.splitting == Splitting::ByWeight {
-        let source = desk
-            .justifier
-            .heaviest::<A>(desk.cone.sources(), scope.labels());
+        let source = heavy_lead(scope, desk);
         if source.is_some() {
             return Lead { source, frontier };
         }
     }
     lead_from(scope, &task.target, desk.liked.as_slice(), frontier)
+}
+
+// The source to split first by what late conflicts rest on.
+fn heavy_lead<A: Algebra, S: Setting>(scope: &Scope<A, S>, desk: &Desk) -> Option<LineId>
+    requires { length desk.now.liked.items ≡ line_count (standing scope.now).net }
+{
+    let sight = Sight {
+        net: scope.net(),
+        labels: scope.labels(),
+        liked: desk.liked.as_slice(),
+    };
+    desk.justifier
+        .lead::<A>(&sight, scope.changes(), &desk.cone)
 }
 
 // Where to split: the source that is led to from what is still open.

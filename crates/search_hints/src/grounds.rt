@@ -77,13 +77,15 @@ impl Grounds {
         }
     }
 
-    // Makes the sources heavier on which the conflict rests to which these changes led. These are the labels that they left.
+    // Makes the sources heavier on which the conflict rests to which these changes led, and the lines that matter for it. These are the
+    // labels that the changes left.
     pub(crate) fn trace<A: Algebra>(
         &mut self,
         region: &Region,
         labels: &[StateSet],
         changes: &[Note<StateSet>],
         weights: &mut Weights,
+        line_weights: &mut Weights,
     )
         requires lines { self.old ≡ line_count region.now.net.now }
         requires changes { All (λ change. change.index < line_count region.now.net.now) changes.now }
@@ -93,6 +95,7 @@ impl Grounds {
         for place in (self.begun..changes.len()).rev() {
             self.follow::<A>(region, changes[place], weights);
         }
+        line_weights.raise_all(self.matters.lines());
         self.matters.clear();
     }
 

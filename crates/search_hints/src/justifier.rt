@@ -17,6 +17,7 @@ use crate::decisions::{Decisions, Ended, Order};
 use crate::first_values::FirstValues;
 use crate::frames::Frames;
 use crate::grounds::Grounds;
+use crate::heavy_lines::lead_by_weight;
 use crate::link_ends::LinkEnds;
 use crate::patience::Patience;
 use crate::picking::Sight;
@@ -41,8 +42,10 @@ const FIRST_LINKED_CONFLICTS: u32 = 30;
 const FIRST_ACTIVE_CONFLICTS: u32 = 100;
 // By how much more a conflict counts for the split of a tree than the one before it, as a part.
 const GROWTH_PART: u64 = 33;
-// The most splits of a tree by weights, and where that is halved the least.
-const MOST_SPLITS: u32 = 100;
+// The most splits of a tree by weights, and with links, where it goes by sources alone; and where that is halved the least.
+const MOST_SPLITS: u32 = 400;
+
+const MOST_LINKED_SPLITS: u32 = 100;
 
 const LEAST_SPLITS: u32 = 6;
 
@@ -62,7 +65,9 @@ pub struct Justifier {
     conditions: Conditions,
     decisions: Decisions,
     grounds: Grounds,
+    // of sources that were assumed, and of all lines that mattered
     weights: Weights,
+    line_weights: Weights,
     for_proposals: Patience,
     for_trees: Patience,
     links: LinkEnds,
@@ -91,8 +96,14 @@ impl Justifier {
     ) -> Result<Justifier, OutOfMemory>
         ensures { IfOk result (IsJustifierOf net.now) }
     {
+        let most_splits = if links.is_empty() {
+            MOST_SPLITS
+        } else {
+            MOST_LINKED_SPLITS
+        };
         let conditions = Conditions::new(alloc, net, Kind::Robust)?;
         let weights = Weights::new(alloc, net.sources() as usize, GROWTH_PART)?;
+        let line_weights = Weights::new(alloc, net.lines() as usize, GROWTH_PART)?;
         let grounds = Grounds::new(alloc, net)?;
         let links = LinkEnds::new(alloc, net, links)?;
         let decisions = Decisions::new::<A>(alloc, net, links.room())?;
@@ -103,8 +114,9 @@ impl Justifier {
             decisions,
             grounds,
             weights,
+            line_weights,
             for_proposals: Patience::new(FIRST_CONFLICTS, 0),
-            for_trees: Patience::new(MOST_SPLITS, LEAST_SPLITS),
+            for_trees: Patience::new(most_splits, LEAST_SPLITS),
             links,
             values: FirstValues::new::<A>(),
             frames,
@@ -161,6 +173,7 @@ impl Justifier {
         self.trace::<A>(sight, changes, cone);
         leave_all(&mut self.conditions);
         self.weights.grow();
+        self.line_weights.grow();
     }
 
     // The same where the conditions are entered.
@@ -181,13 +194,29 @@ impl Justifier {
             links: &self.links,
             values: self.values,
         };
-        self.grounds
-            .trace::<A>(&region, sight.labels, changes, &mut self.weights);
+        self.grounds.trace::<A>(
+            &region,
+            sight.labels,
+            changes,
+            &mut self.weights,
+            &mut self.line_weights,
+        );
     }
 
-    /// The heaviest of these sources that by these labels can still end at either value, if any of them has a weight.
-    pub fn heaviest<A: Algebra>(&self, sources: &[LineId], labels: &[StateSet]) -> Option<LineId> {
-        self.weights.heaviest::<A>(sources, labels)
+    /// A source on which late conflicts rest, at which to split after these changes, if there is one. The cone is that of the path's end.
+    pub fn lead<A: Algebra>(
+        &self,
+        sight: &Sight,
+        changes: &[Note<StateSet>],
+        cone: &Cone,
+    ) -> Option<LineId>
+        requires { All (λ change. change.index < line_count sight.now.net.now) changes.now }
+    {
+        if self.links.is_empty() {
+            lead_by_weight::<A>(sight, cone, changes, &self.line_weights)
+        } else {
+            self.weights.heaviest::<A>(cone.sources(), sight.labels)
+        }
     }
 
     /// Looks for states of the cone's sources that justify the labels that all of its lines are seen with, under the conditions of a

@@ -16,6 +16,7 @@ mod framed_picking;
 mod frames;
 mod frontier;
 mod grounds;
+mod heavy_lines;
 mod justifier;
 mod link_ends;
 mod open_lines;

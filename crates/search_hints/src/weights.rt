@@ -50,6 +50,18 @@ impl Weights {
         }
     }
 
+    // The conflict rests on these lines.
+    pub(crate) fn raise_all(&mut self, lines: &[LineId]) {
+        for line in lines {
+            self.raise(*line);
+        }
+    }
+
+    // Whether late conflicts rest on this line: it is as heavy as what the next one adds.
+    pub(crate) fn is_heavy(&self, line: LineId) -> bool {
+        self.of(line) >= self.step
+    }
+
     // A conflict is over: the next one adds more.
     pub(crate) fn grow(&mut self) {
         if self.step >= GREATEST_STEP {

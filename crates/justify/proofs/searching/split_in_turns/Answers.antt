@@ -14,25 +14,11 @@ use Rattle.justify.proofs.Suiting.{suits_restored}
 use Rattle.justify.proofs.TriedSources.{kept_desk}
 use Rattle.justify.proofs.searching.split_in_turns.Goals as goal
 
-pub split_cases-requires : goal.split_cases-requires
-split_cases-requires g c = record {
-  root = record {
-    suits = c.requires.root.suits;
-    start = c.requires.root.start;
-    left_open = c.requires.root.left_open;
-    budget = (let few = c.splits_by_weight-splits.ensures in let most = c.requires.root.budget in omega (arith, few, most));
-    serves =
-        kept_desk g.A.Algebra.algebra (standing c.args.scope.now).net (standing c.args.scope.now).rules c.args.task.now.target.path.now
-        c.args.desk.now _ (record { cone = refl; states = refl; blame = refl; liked = refl; justifier = c.begin_tree.ensures; judge = refl })
-        c.requires.root.serves;
-  };
-}
-
-pub split_cases-requires-then-is_dropped : goal.split_cases-requires-then-is_dropped
-split_cases-requires-then-is_dropped g c =
-    let first = standing c.args.scope.now in let middle = standing c.split_cases.new.scope in
-    let left = c.split_cases.ensures.left in let target = seen_target c.args.task.now.target in
-    let P : Circuit → Rules → Type 0 = λ n r. IsDesk g.A.Algebra.algebra n r c.args.task.now.target.path.now c.split_cases.new.desk in
+pub split_with_budget-requires : goal.split_with_budget-requires
+split_with_budget-requires g c =
+    let first = standing c.args.scope.now in let middle = standing c.split_by_weight.new.scope in
+    let left = c.split_by_weight.ensures.left in let target = seen_target c.args.task.now.target in
+    let P : Circuit → Rules → Type 0 = λ n r. IsDesk g.A.Algebra.algebra n r c.args.task.now.target.path.now c.split_by_weight.new.desk in
     record {
       root = record {
         suits = suits_restored g.A.Algebra.algebra target first middle left.restored c.requires.root.suits;
@@ -40,7 +26,7 @@ split_cases-requires-then-is_dropped g c =
         left_open = open_stays g.A.Algebra.algebra first middle (same_restored first middle left.restored) c.requires.root.left_open;
         budget = c.requires.root.budget;
         serves =
-            kept_desk g.A.Algebra.algebra middle.net middle.rules c.args.task.now.target.path.now c.split_cases.new.desk _
+            kept_desk g.A.Algebra.algebra middle.net middle.rules c.args.task.now.target.path.now c.split_by_weight.new.desk _
             (record { cone = refl; states = refl; blame = refl; liked = refl; justifier = c.learn_tree.ensures; judge = refl })
             (there_too P first.net middle.net first.rules middle.rules (sym left.restored.net) (sym left.restored.rules) left.serves);
       };
@@ -48,34 +34,34 @@ split_cases-requires-then-is_dropped g c =
 
 pub returns-then-is_dropped-clause-left : goal.returns-then-is_dropped-clause-left
 returns-then-is_dropped-clause-left g c =
-    let first = standing c.args.scope.now in let middle = standing c.split_cases.new.scope in
-    let left = c.split_cases.ensures.left in let later = c.split_cases-then-is_dropped.ensures.left in
-    let P : Circuit → Rules → Type 0 = λ n r. IsDesk g.A.Algebra.algebra n r c.args.task.now.target.path.now c.split_cases-then-is_dropped.new.desk in
+    let first = standing c.args.scope.now in let middle = standing c.split_by_weight.new.scope in
+    let left = c.split_by_weight.ensures.left in let later = c.split_with_budget.ensures.left in
+    let P : Circuit → Rules → Type 0 = λ n r. IsDesk g.A.Algebra.algebra n r c.args.task.now.target.path.now c.split_with_budget.new.desk in
     record {
-      restored = restored_trans first middle (standing c.split_cases-then-is_dropped.new.scope) left.restored later.restored;
+      restored = restored_trans first middle (standing c.split_with_budget.new.scope) left.restored later.restored;
       serves = there_too P middle.net first.net middle.rules first.rules left.restored.net left.restored.rules later.serves;
     }
 
 pub returns-then-is_dropped-clause-found : goal.returns-then-is_dropped-clause-found
 returns-then-is_dropped-clause-found g c =
-    let first = standing c.args.scope.now in let middle = standing c.split_cases.new.scope in
-    let restored = c.split_cases.ensures.left.restored in
-    let P : Circuit → Rules → Type 0 = λ n r. IfOk c.split_cases-then-is_dropped.result (IsFound n r (seen_target c.args.task.now.target) c.args.task.now.budget) in
-    there_too P middle.net first.net middle.rules first.rules restored.net restored.rules c.split_cases-then-is_dropped.ensures.found
+    let first = standing c.args.scope.now in let middle = standing c.split_by_weight.new.scope in
+    let restored = c.split_by_weight.ensures.left.restored in
+    let P : Circuit → Rules → Type 0 = λ n r. IfOk c.split_with_budget.result (IsFound n r (seen_target c.args.task.now.target) c.args.task.now.budget) in
+    there_too P middle.net first.net middle.rules first.rules restored.net restored.rules c.split_with_budget.ensures.found
 
 pub returns-then-is_dropped-clause-counted : goal.returns-then-is_dropped-clause-counted
 returns-then-is_dropped-clause-counted g c =
-    counts_before c.args.task.now.budget (standing c.args.scope.now) (standing c.split_cases.new.scope) (standing c.split_cases-then-is_dropped.new.scope)
-    c.split_cases.ensures.left.restored.later c.split_cases-then-is_dropped.result c.split_cases-then-is_dropped.ensures.counted
+    counts_before c.args.task.now.budget (standing c.args.scope.now) (standing c.split_by_weight.new.scope) (standing c.split_with_budget.new.scope)
+    c.split_by_weight.ensures.left.restored.later c.split_with_budget.result c.split_with_budget.ensures.counted
 
 pub returns-clause-left : goal.returns-clause-left
 returns-clause-left g c =
-    let left = c.split_cases.ensures.left in
+    let left = c.split_by_weight.ensures.left in
     record {
       restored = left.restored;
       serves =
           kept_desk g.A.Algebra.algebra (standing c.args.scope.now).net (standing c.args.scope.now).rules c.args.task.now.target.path.now
-          c.split_cases.new.desk _
+          c.split_by_weight.new.desk _
           (record { cone = refl; states = refl; blame = refl; liked = refl; justifier = c.learn_tree.ensures; judge = refl }) left.serves;
     }
 
@@ -88,4 +74,4 @@ returns-clause-found g c =
 pub returns-clause-counted : goal.returns-clause-counted
 returns-clause-counted g c =
     turn_counts c.splits_by_weight-splits.result c.args.task.now.budget c.in_ok-found.found (c.is_dropped.ensures c.if-is_dropped.false)
-    (standing c.args.scope.now) (standing c.split_cases.new.scope) c.in_ok-found.ensures.counted
+    (standing c.args.scope.now) (standing c.split_by_weight.new.scope) c.in_ok-found.ensures.counted
