@@ -42,10 +42,8 @@ const FIRST_LINKED_CONFLICTS: u32 = 30;
 const FIRST_ACTIVE_CONFLICTS: u32 = 100;
 // By how much more a conflict counts for the split of a tree than the one before it, as a part.
 const GROWTH_PART: u64 = 33;
-// The most splits of a tree by weights, and with links, where it goes by sources alone; and where that is halved the least.
-const MOST_SPLITS: u32 = 400;
-
-const MOST_LINKED_SPLITS: u32 = 100;
+// The most splits of a first tree by weights, and where that is halved the least.
+const MOST_SPLITS: u32 = 100;
 
 const LEAST_SPLITS: u32 = 6;
 
@@ -96,11 +94,6 @@ impl Justifier {
     ) -> Result<Justifier, OutOfMemory>
         ensures { IfOk result (IsJustifierOf net.now) }
     {
-        let most_splits = if links.is_empty() {
-            MOST_SPLITS
-        } else {
-            MOST_LINKED_SPLITS
-        };
         let conditions = Conditions::new(alloc, net, Kind::Robust)?;
         let weights = Weights::new(alloc, net.sources() as usize, GROWTH_PART)?;
         let line_weights = Weights::new(alloc, net.lines() as usize, GROWTH_PART)?;
@@ -116,7 +109,7 @@ impl Justifier {
             weights,
             line_weights,
             for_proposals: Patience::new(FIRST_CONFLICTS, 0),
-            for_trees: Patience::new(most_splits, LEAST_SPLITS),
+            for_trees: Patience::new(MOST_SPLITS, LEAST_SPLITS),
             links,
             values: FirstValues::new::<A>(),
             frames,
