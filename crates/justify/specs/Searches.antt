@@ -1,7 +1,8 @@
 -- A search that is under way on a scope, and what a visit of a place makes of it, in words that are spoken
 -- inside this crate alone (this project's own).
-use Rattle.std.specs.Prelude.{◌≡◌, ◌+◌, ◌*◌, ◌-◌, ◌≤◌, List, [], ◌∷◌, ◌++◌, length, reverse, Option, Some, None}
+use Rattle.std.specs.Prelude.{◌≡◌, ◌+◌, ◌*◌, ◌-◌, ◌≤◌, ℕ, List, [], ◌∷◌, ◌++◌, length, reverse, Option, Some, None, Result, IfOk}
 use Rattle.pd_base.specs.Pair.{Vectors}
+use Rattle.pd_base.specs.declared.memory.OutOfMemory.{OutOfMemory}
 use Rattle.pd_base.specs.declared.limits.TheConstants.{MOST_BUDGET}
 use Rattle.state_sets.specs.StateAlgebra.{StateAlgebra}
 use Rattle.trees.specs.declared.tree.Node.TheVariants.{Closed}
@@ -12,7 +13,8 @@ use Rattle.justify.specs.declared.desk.Desk.{Desk}
 use Rattle.justify.specs.declared.growing.Growth.{Growth}
 use Rattle.justify.specs.declared.growing.Place.{Place}
 use Rattle.justify.specs.declared.task.Task.{Task}
-use Rattle.justify.specs.Answers.{HasCounted}
+use Rattle.justify.specs.declared.answer.Found.{Found}
+use Rattle.justify.specs.Answers.{IsFound, CountsConflicts, HasCounted}
 use Rattle.justify.specs.Desks.{IsDesk}
 use Rattle.justify.specs.Scoping.{IsStart, SuitsSearch}
 use Rattle.justify.specs.Growths.{IsGrowing, IsExtended}
@@ -50,6 +52,12 @@ pub record SearchGoesOn (a : StateAlgebra) (task : Task) (old new : Standing) (d
 pub record LeavesSearch (a : StateAlgebra) (task : Task) (old new : Standing) (desk : Desk) : Type 0 where
   pub restored : IsRestored old new
   pub serves : IsDesk a old.net old.rules task.target.path.now desk
+
+-- A search for trees has ended: the scope is left so, and what was found, with so many splits as its budget, has its conflicts counted.
+pub record EndsSearch (a : StateAlgebra) (task : Task) (splits : ℕ) (old new : Standing) (desk : Desk) (ended : Result Found OutOfMemory) : Type 0 where
+  pub left : LeavesSearch a task old new desk
+  pub found : IfOk ended (IsFound old.net old.rules (seen_target task.target) splits)
+  pub counted : IfOk ended (λ found. CountsConflicts splits found old new)
 
 -- the tree has one node more, a conflict was counted, and less is left to do
 pub record AddsNode (a : StateAlgebra) (task : Task) (old new : Standing) (before after : Growth) : Type 0 where

@@ -12,7 +12,7 @@ ghost use Rattle.justify.specs.Answers.{IsFound, CountsConflicts, IsOutcomeOf};
 ghost use Rattle.justify.specs.Desks.{IsDeskFor, IsDesk};
 ghost use Rattle.justify.specs.Ends.{is_spent};
 ghost use Rattle.justify.specs.Scoping.{CanBegin, IsStart, SuitsRules};
-ghost use Rattle.justify.specs.Searches.{IsAtRoot, IsSearching, SearchGoesOn, LeavesSearch, IsGrowthOf};
+ghost use Rattle.justify.specs.Searches.{IsAtRoot, IsSearching, SearchGoesOn, LeavesSearch, EndsSearch, IsGrowthOf};
 ghost use Rattle.pair_judging.specs.Targets.{seen_target};
 ghost use Rattle.justify.specs.Tests.{IsFitTest};
 ghost use Rattle.trees.specs.Unlinked.{IsUnlinked};
@@ -370,9 +370,7 @@ fn split_in_turns<A: Algebra, S: Setting>(
 ) -> Result<Found, OutOfMemory>
     requires root { IsAtRoot A.algebra task.now (standing scope.old) desk.old }
     ensures scope { IsSameScope scope.old scope.new }
-    ensures left { LeavesSearch A.algebra task.now (standing scope.old) (standing scope.new) desk.new }
-    ensures found { IfOk result (IsFound (standing scope.old).net (standing scope.old).rules (seen_target task.now.target) task.now.budget) }
-    ensures counted { IfOk result (λ found. CountsConflicts task.now.budget found (standing scope.old) (standing scope.new)) }
+    ensures ends { EndsSearch A.algebra task.now task.now.budget (standing scope.old) (standing scope.new) desk.new result }
 {
     let splits = splits_by_weight(task, desk);
     let found = split_by_weight(alloc, scope, task, desk, splits)?;
@@ -393,9 +391,7 @@ fn split_with_budget<A: Algebra, S: Setting>(
 ) -> Result<Found, OutOfMemory>
     requires root { IsAtRoot A.algebra task.now (standing scope.old) desk.old }
     ensures scope { IsSameScope scope.old scope.new }
-    ensures left { LeavesSearch A.algebra task.now (standing scope.old) (standing scope.new) desk.new }
-    ensures found { IfOk result (IsFound (standing scope.old).net (standing scope.old).rules (seen_target task.now.target) task.now.budget) }
-    ensures counted { IfOk result (λ found. CountsConflicts task.now.budget found (standing scope.old) (standing scope.new)) }
+    ensures ends { EndsSearch A.algebra task.now task.now.budget (standing scope.old) (standing scope.new) desk.new result }
 {
     let found = split_cases(alloc, scope, task, desk)?;
     if !is_tried_again(&found, &task.target, desk) {
@@ -421,9 +417,7 @@ fn split_by_weight<A: Algebra, S: Setting>(
     requires root { IsAtRoot A.algebra task.now (standing scope.old) desk.old }
     requires splits { splits ≤ task.now.budget }
     ensures scope { IsSameScope scope.old scope.new }
-    ensures left { LeavesSearch A.algebra task.now (standing scope.old) (standing scope.new) desk.new }
-    ensures found { IfOk result (IsFound (standing scope.old).net (standing scope.old).rules (seen_target task.now.target) splits) }
-    ensures counted { IfOk result (λ found. CountsConflicts splits found (standing scope.old) (standing scope.new)) }
+    ensures ends { EndsSearch A.algebra task.now splits (standing scope.old) (standing scope.new) desk.new result }
 {
     let by_weight = Task {
         target: task.target,
@@ -464,9 +458,7 @@ fn split_cases<A: Algebra, S: Setting>(
 ) -> Result<Found, OutOfMemory>
     requires root { IsAtRoot A.algebra task.now (standing scope.old) desk.old }
     ensures scope { IsSameScope scope.old scope.new }
-    ensures left { LeavesSearch A.algebra task.now (standing scope.old) (standing scope.new) desk.new }
-    ensures found { IfOk result (IsFound (standing scope.old).net (standing scope.old).rules (seen_target task.now.target) task.now.budget) }
-    ensures counted { IfOk result (λ found. CountsConflicts task.now.budget found (standing scope.old) (standing scope.new)) }
+    ensures ends { EndsSearch A.algebra task.now task.now.budget (standing scope.old) (standing scope.new) desk.new result }
 {
     let mark = scope.mark();
     let ended = grow_tree(alloc, scope, task, desk);

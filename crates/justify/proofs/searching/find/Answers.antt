@@ -56,3 +56,12 @@ returns-in_err-pair-clause-left g c = record {
 
 pub returns-in-Some-clause-found : goal.returns-in-Some-clause-found
 returns-in-Some-clause-found g c = grind (arith, common_steps)
+
+pub returns-in-None-clause-left : goal.returns-in-None-clause-left
+returns-in-None-clause-left g c = c.split_in_turns.ensures.ends.left
+
+pub returns-in-None-clause-found : goal.returns-in-None-clause-found
+returns-in-None-clause-found g c = c.split_in_turns.ensures.ends.found
+
+pub returns-in-None-clause-counted : goal.returns-in-None-clause-counted
+returns-in-None-clause-counted g c = c.split_in_turns.ensures.ends.counted

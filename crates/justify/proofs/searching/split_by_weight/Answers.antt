@@ -17,3 +17,12 @@ split_cases-requires g c = record {
         c.requires.root.serves;
   };
 }
+
+pub returns-clause-ends : goal.returns-clause-ends
+returns-clause-ends g c =
+    let ends = c.split_cases.ensures.ends in
+    record {
+      left = record { restored = ends.left.restored; serves = ends.left.serves };
+      found = ends.found;
+      counted = ends.counted;
+    }

@@ -17,7 +17,7 @@ use Rattle.justify.proofs.searching.split_in_turns.Goals as goal
 pub split_with_budget-requires : goal.split_with_budget-requires
 split_with_budget-requires g c =
     let first = standing c.args.scope.now in let middle = standing c.split_by_weight.new.scope in
-    let left = c.split_by_weight.ensures.left in let target = seen_target c.args.task.now.target in
+    let left = c.split_by_weight.ensures.ends.left in let target = seen_target c.args.task.now.target in
     let P : Circuit → Rules → Type 0 = λ n r. IsDesk g.A.Algebra.algebra n r c.args.task.now.target.path.now c.split_by_weight.new.desk in
     record {
       root = record {
@@ -32,46 +32,42 @@ split_with_budget-requires g c =
       };
     }
 
-pub returns-then-is_dropped-clause-left : goal.returns-then-is_dropped-clause-left
-returns-then-is_dropped-clause-left g c =
-    let first = standing c.args.scope.now in let middle = standing c.split_by_weight.new.scope in
-    let left = c.split_by_weight.ensures.left in let later = c.split_with_budget.ensures.left in
-    let P : Circuit → Rules → Type 0 = λ n r. IsDesk g.A.Algebra.algebra n r c.args.task.now.target.path.now c.split_with_budget.new.desk in
-    record {
-      restored = restored_trans first middle (standing c.split_with_budget.new.scope) left.restored later.restored;
-      serves = there_too P middle.net first.net middle.rules first.rules left.restored.net left.restored.rules later.serves;
-    }
+pub returns-then-is_dropped-clause-ends : goal.returns-then-is_dropped-clause-ends
+returns-then-is_dropped-clause-ends g c = record {
+  left =
+      let first = standing c.args.scope.now in let middle = standing c.split_by_weight.new.scope in
+      let left = c.split_by_weight.ensures.ends.left in let later = c.split_with_budget.ensures.ends.left in
+      let P : Circuit → Rules → Type 0 = λ n r. IsDesk g.A.Algebra.algebra n r c.args.task.now.target.path.now c.split_with_budget.new.desk in
+      record {
+        restored = restored_trans first middle (standing c.split_with_budget.new.scope) left.restored later.restored;
+        serves = there_too P middle.net first.net middle.rules first.rules left.restored.net left.restored.rules later.serves;
+      };
+  found =
+      let first = standing c.args.scope.now in let middle = standing c.split_by_weight.new.scope in
+      let restored = c.split_by_weight.ensures.ends.left.restored in
+      let P : Circuit → Rules → Type 0 = λ n r. IfOk c.split_with_budget.result (IsFound n r (seen_target c.args.task.now.target) c.args.task.now.budget) in
+      there_too P middle.net first.net middle.rules first.rules restored.net restored.rules c.split_with_budget.ensures.ends.found;
+  counted =
+      counts_before c.args.task.now.budget (standing c.args.scope.now) (standing c.split_by_weight.new.scope) (standing c.split_with_budget.new.scope)
+      c.split_by_weight.ensures.ends.left.restored.later c.split_with_budget.result c.split_with_budget.ensures.ends.counted;
+}
 
-pub returns-then-is_dropped-clause-found : goal.returns-then-is_dropped-clause-found
-returns-then-is_dropped-clause-found g c =
-    let first = standing c.args.scope.now in let middle = standing c.split_by_weight.new.scope in
-    let restored = c.split_by_weight.ensures.left.restored in
-    let P : Circuit → Rules → Type 0 = λ n r. IfOk c.split_with_budget.result (IsFound n r (seen_target c.args.task.now.target) c.args.task.now.budget) in
-    there_too P middle.net first.net middle.rules first.rules restored.net restored.rules c.split_with_budget.ensures.found
-
-pub returns-then-is_dropped-clause-counted : goal.returns-then-is_dropped-clause-counted
-returns-then-is_dropped-clause-counted g c =
-    counts_before c.args.task.now.budget (standing c.args.scope.now) (standing c.split_by_weight.new.scope) (standing c.split_with_budget.new.scope)
-    c.split_by_weight.ensures.left.restored.later c.split_with_budget.result c.split_with_budget.ensures.counted
-
-pub returns-clause-left : goal.returns-clause-left
-returns-clause-left g c =
-    let left = c.split_by_weight.ensures.left in
-    record {
-      restored = left.restored;
-      serves =
-          kept_desk g.A.Algebra.algebra (standing c.args.scope.now).net (standing c.args.scope.now).rules c.args.task.now.target.path.now
-          c.split_by_weight.new.desk _
-          (record { cone = refl; states = refl; blame = refl; liked = refl; justifier = c.learn_tree.ensures; judge = refl }) left.serves;
-    }
-
-pub returns-clause-found : goal.returns-clause-found
-returns-clause-found g c =
-    turn_found c.splits_by_weight-splits.result c.args.task.now.budget (standing c.args.scope.now).net (standing c.args.scope.now).rules
-    (seen_target c.args.task.now.target) c.splits_by_weight-splits.ensures c.in_ok-found.found (c.is_dropped.ensures c.if-is_dropped.false)
-    c.in_ok-found.ensures.found
-
-pub returns-clause-counted : goal.returns-clause-counted
-returns-clause-counted g c =
-    turn_counts c.splits_by_weight-splits.result c.args.task.now.budget c.in_ok-found.found (c.is_dropped.ensures c.if-is_dropped.false)
-    (standing c.args.scope.now) (standing c.split_by_weight.new.scope) c.in_ok-found.ensures.counted
+pub returns-clause-ends : goal.returns-clause-ends
+returns-clause-ends g c = record {
+  left =
+      let left = c.split_by_weight.ensures.ends.left in
+      record {
+        restored = left.restored;
+        serves =
+            kept_desk g.A.Algebra.algebra (standing c.args.scope.now).net (standing c.args.scope.now).rules c.args.task.now.target.path.now
+            c.split_by_weight.new.desk _
+            (record { cone = refl; states = refl; blame = refl; liked = refl; justifier = c.learn_tree.ensures; judge = refl }) left.serves;
+      };
+  found =
+      turn_found c.splits_by_weight-splits.result c.args.task.now.budget (standing c.args.scope.now).net (standing c.args.scope.now).rules
+      (seen_target c.args.task.now.target) c.splits_by_weight-splits.ensures c.in_ok-found.found (c.is_dropped.ensures c.if-is_dropped.false)
+      c.in_ok-found.ensures.ends.found;
+  counted =
+      turn_counts c.splits_by_weight-splits.result c.args.task.now.budget c.in_ok-found.found (c.is_dropped.ensures c.if-is_dropped.false)
+      (standing c.args.scope.now) (standing c.split_by_weight.new.scope) c.in_ok-found.ensures.ends.counted;
+}

@@ -16,7 +16,7 @@ use Rattle.justify.proofs.searching.split_with_budget.Goals as goal
 pub split_by_weight-requires : goal.split_by_weight-requires
 split_by_weight-requires g c =
     let first = standing c.args.scope.now in let middle = standing c.split_cases.new.scope in
-    let left = c.split_cases.ensures.left in let target = seen_target c.args.task.now.target in
+    let left = c.split_cases.ensures.ends.left in let target = seen_target c.args.task.now.target in
     let P : Circuit → Rules → Type 0 = λ n r. IsDesk g.A.Algebra.algebra n r c.args.task.now.target.path.now c.split_cases.new.desk in
     record {
       root = record {
@@ -29,24 +29,22 @@ split_by_weight-requires g c =
       splits = omega arith;
     }
 
-pub returns-clause-left : goal.returns-clause-left
-returns-clause-left g c =
-    let first = standing c.args.scope.now in let middle = standing c.split_cases.new.scope in
-    let left = c.split_cases.ensures.left in let later = c.split_by_weight.ensures.left in
-    let P : Circuit → Rules → Type 0 = λ n r. IsDesk g.A.Algebra.algebra n r c.args.task.now.target.path.now c.split_by_weight.new.desk in
-    record {
-      restored = restored_trans first middle (standing c.split_by_weight.new.scope) left.restored later.restored;
-      serves = there_too P middle.net first.net middle.rules first.rules left.restored.net left.restored.rules later.serves;
-    }
-
-pub returns-clause-found : goal.returns-clause-found
-returns-clause-found g c =
-    let first = standing c.args.scope.now in let middle = standing c.split_cases.new.scope in
-    let restored = c.split_cases.ensures.left.restored in
-    let P : Circuit → Rules → Type 0 = λ n r. IfOk c.split_by_weight.result (IsFound n r (seen_target c.args.task.now.target) c.args.task.now.budget) in
-    there_too P middle.net first.net middle.rules first.rules restored.net restored.rules c.split_by_weight.ensures.found
-
-pub returns-clause-counted : goal.returns-clause-counted
-returns-clause-counted g c =
-    counts_before c.args.task.now.budget (standing c.args.scope.now) (standing c.split_cases.new.scope) (standing c.split_by_weight.new.scope)
-    c.split_cases.ensures.left.restored.later c.split_by_weight.result c.split_by_weight.ensures.counted
+pub returns-clause-ends : goal.returns-clause-ends
+returns-clause-ends g c = record {
+  left =
+      let first = standing c.args.scope.now in let middle = standing c.split_cases.new.scope in
+      let left = c.split_cases.ensures.ends.left in let later = c.split_by_weight.ensures.ends.left in
+      let P : Circuit → Rules → Type 0 = λ n r. IsDesk g.A.Algebra.algebra n r c.args.task.now.target.path.now c.split_by_weight.new.desk in
+      record {
+        restored = restored_trans first middle (standing c.split_by_weight.new.scope) left.restored later.restored;
+        serves = there_too P middle.net first.net middle.rules first.rules left.restored.net left.restored.rules later.serves;
+      };
+  found =
+      let first = standing c.args.scope.now in let middle = standing c.split_cases.new.scope in
+      let restored = c.split_cases.ensures.ends.left.restored in
+      let P : Circuit → Rules → Type 0 = λ n r. IfOk c.split_by_weight.result (IsFound n r (seen_target c.args.task.now.target) c.args.task.now.budget) in
+      there_too P middle.net first.net middle.rules first.rules restored.net restored.rules c.split_by_weight.ensures.ends.found;
+  counted =
+      counts_before c.args.task.now.budget (standing c.args.scope.now) (standing c.split_cases.new.scope) (standing c.split_by_weight.new.scope)
+      c.split_cases.ensures.ends.left.restored.later c.split_by_weight.result c.split_by_weight.ensures.ends.counted;
+}
