@@ -7,7 +7,7 @@ ghost use Rattle.prefix_sensitize.specs.SearchedRuns.{IsSearchedRun};
 ghost use Rattle.prefix_sensitize.specs.Searches.{AreBothOutcomesFrom, AreFaultOutcomes, AreSearches, Searches};
 
 use crate::all_outcomes::{AllOutcomes, BothOutcomes, FaultOutcomes};
-use crate::verdicts::Writer;
+use crate::verdicts::{ListedFault, Writer};
 use delay_annotation::Delays;
 use logic_values::with_expected_bits;
 use netlist::Netlist;
@@ -103,8 +103,18 @@ fn list_path(
     ensures writer { IfOk result (λ _. IsWriterFor net.now searches writer.new) }
 {
     let length = length(net, delays, &path);
-    let rise = writer.answer(net, number, &path, Direction::Rise, rise)?;
-    let fall = writer.answer(net, number, &path, Direction::Fall, fall)?;
+    let rising = ListedFault {
+        number,
+        path: &path,
+        direction: Direction::Rise,
+    };
+    let rise = writer.answer(net, &rising, rise)?;
+    let falling = ListedFault {
+        number,
+        path: &path,
+        direction: Direction::Fall,
+    };
+    let fall = writer.answer(net, &falling, fall)?;
     Ok(ListedPath {
         path,
         length,

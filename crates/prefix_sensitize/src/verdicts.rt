@@ -21,6 +21,14 @@ use pd_base::{Direction, Items, Kind, OutOfMemory, Pair, Path, Test};
 use runs::{Proof, Verdict};
 use std::alloc::Global;
 
+/// A fault of a listed path: the number of the path among those that are listed, from 1 on, the path, and the transition at its source.
+#[derive(Clone, Copy)]
+pub(crate) struct ListedFault<'p> {
+    pub(crate) number: u32,
+    pub(crate) path: &'p Path,
+    pub(crate) direction: Direction,
+}
+
 /// What is written of a run so far, and the proofs that were found.
 #[derive(Drop)]
 pub(crate) struct Writer {
@@ -66,34 +74,23 @@ impl Writer {
     pub(crate) fn answer(
         &mut self,
         net: &Netlist,
-        number: u32,
-        path: &Path,
-        direction: Direction,
+        fault: &ListedFault,
         outcomes: FaultOutcomes,
     ) -> Result<Verdict, OutOfMemory>
         ghost searches: { Searches }
-        requires asked { IsAsked net.now searches number path.now self.old }
-        requires outcomes { AreFaultOutcomes net.now searches.rules searches.routes searches.proofs (number - 1) direction path.now outcomes }
-        ensures answered { IfOk result (λ verdict. IsAnswered net.now searches number direction path.now (written_by self.old) (written_by self.new) verdict) }
+        requires asked { IsAsked net.now searches fault.now.number fault.now.path.now self.old }
+        requires outcomes { AreFaultOutcomes net.now searches.rules searches.routes searches.proofs (fault.now.number - 1) fault.now.direction fault.now.path.now outcomes }
+        ensures answered { IfOk result (λ verdict. IsAnswered net.now searches fault.now.number fault.now.direction fault.now.path.now (written_by self.old) (written_by self.new) verdict) }
         ensures writer { IfOk result (λ _. IsWriterFor net.now searches self.new) }
     {
         let FaultOutcomes { robust, nonrobust } = outcomes;
         match robust {
             RowOutcome::Unsearched => unreachable!(),
             RowOutcome::Tested(pair) => {
-                let test = add_test(
-                    self.alloc,
-                    &mut self.tests,
-                    number,
-                    direction,
-                    Kind::Robust,
-                    pair,
-                )?;
+                let test = add_test(self.alloc, &mut self.tests, fault, Kind::Robust, pair)?;
                 Ok(Verdict::Robust { test })
             }
-            RowOutcome::Proved(proof) => {
-                self.not_robust(net, number, path, direction, proof, nonrobust)
-            }
+            RowOutcome::Proved(proof) => { self.not_robust(net, fault, proof, nonrobust) }
         }
     }
 
@@ -101,22 +98,20 @@ impl Writer {
     fn not_robust(
         &mut self,
         net: &Netlist,
-        number: u32,
-        path: &Path,
-        direction: Direction,
+        fault: &ListedFault,
         proof: usize,
         nonrobust: RowOutcome,
     ) -> Result<Verdict, OutOfMemory>
         ghost searches: { Searches }
-        requires asked { IsAsked net.now searches number path.now self.old }
-        requires robust { HasProof searches.routes searches.proofs number (target_of path.now direction Kind.Robust) (proof + 1) }
-        requires nonrobust { IsOutcome net.now searches.rules searches.routes searches.proofs (number - 1) (target_of path.now direction Kind.Nonrobust) nonrobust }
-        ensures answered { IfOk result (λ verdict. IsAnswered net.now searches number direction path.now (written_by self.old) (written_by self.new) verdict) }
+        requires asked { IsAsked net.now searches fault.now.number fault.now.path.now self.old }
+        requires robust { HasProof searches.routes searches.proofs fault.now.number (target_of fault.now.path.now fault.now.direction Kind.Robust) (proof + 1) }
+        requires nonrobust { IsOutcome net.now searches.rules searches.routes searches.proofs (fault.now.number - 1) (target_of fault.now.path.now fault.now.direction Kind.Nonrobust) nonrobust }
+        ensures answered { IfOk result (λ verdict. IsAnswered net.now searches fault.now.number fault.now.direction fault.now.path.now (written_by self.old) (written_by self.new) verdict) }
         ensures writer { IfOk result (λ _. IsWriterFor net.now searches self.new) }
     {
         match nonrobust {
             RowOutcome::Unsearched => unreachable!(),
-            RowOutcome::Tested(pair) => self.by_pair(net, number, path, direction, proof, pair),
+            RowOutcome::Tested(pair) => self.by_pair(net, fault, proof, pair),
             RowOutcome::Proved(index) => {
                 if self.found[index].spent {
                     let robust = self.numbering.cite(proof)?;
@@ -134,42 +129,26 @@ impl Writer {
     fn by_pair(
         &mut self,
         net: &Netlist,
-        number: u32,
-        path: &Path,
-        direction: Direction,
+        fault: &ListedFault,
         proof: usize,
         pair: Pair,
     ) -> Result<Verdict, OutOfMemory>
         ghost searches: { Searches }
-        requires asked { IsAsked net.now searches number path.now self.old }
-        requires robust { HasProof searches.routes searches.proofs number (target_of path.now direction Kind.Robust) (proof + 1) }
-        requires nonrobust { IsTestPair net.now searches.rules (target_of path.now direction Kind.Nonrobust) pair }
-        ensures answered { IfOk result (λ verdict. IsAnswered net.now searches number direction path.now (written_by self.old) (written_by self.new) verdict) }
+        requires asked { IsAsked net.now searches fault.now.number fault.now.path.now self.old }
+        requires robust { HasProof searches.routes searches.proofs fault.now.number (target_of fault.now.path.now fault.now.direction Kind.Robust) (proof + 1) }
+        requires nonrobust { IsTestPair net.now searches.rules (target_of fault.now.path.now fault.now.direction Kind.Nonrobust) pair }
+        ensures answered { IfOk result (λ verdict. IsAnswered net.now searches fault.now.number fault.now.direction fault.now.path.now (written_by self.old) (written_by self.new) verdict) }
         ensures writer { IfOk result (λ _. IsWriterFor net.now searches self.new) }
     {
         // a netlist is a circuit
         let _ = net.sources();
         let refuted = !self.found[proof].spent;
-        if is_robust(net, path, direction, refuted, &pair, &mut self.judge) {
-            let test = add_test(
-                self.alloc,
-                &mut self.tests,
-                number,
-                direction,
-                Kind::Robust,
-                pair,
-            )?;
+        if is_robust(net, fault, refuted, &pair, &mut self.judge) {
+            let test = add_test(self.alloc, &mut self.tests, fault, Kind::Robust, pair)?;
             return Ok(Verdict::Robust { test });
         }
         let proof = self.numbering.cite(proof)?;
-        let test = add_test(
-            self.alloc,
-            &mut self.tests,
-            number,
-            direction,
-            Kind::Nonrobust,
-            pair,
-        )?;
+        let test = add_test(self.alloc, &mut self.tests, fault, Kind::Nonrobust, pair)?;
         Ok(Verdict::Nonrobust { test, proof })
     }
 
@@ -196,25 +175,24 @@ impl Writer {
 // not be judged.
 fn is_robust(
     net: &Netlist,
-    path: &Path,
-    direction: Direction,
+    fault: &ListedFault,
     refuted: bool,
     pair: &Pair,
     judge: &mut ConeJudge,
 ) -> bool
-    requires prefix { IsPrefix net.now path.now }
-    requires refuted { IsTrue refuted → ¬ Meets net.now (target_of path.now direction Kind.Robust) pair.now }
+    requires prefix { IsPrefix net.now fault.now.path.now }
+    requires refuted { IsTrue refuted → ¬ Meets net.now (target_of fault.now.path.now fault.now.direction Kind.Robust) pair.now }
     requires bits { length pair.now.first ≡ source_count net.now }
     requires judge { IsJudgeOf 4 net.now judge.old }
-    ensures robust { IsTrue result ↔ Meets net.now (target_of path.now direction Kind.Robust) pair.now }
+    ensures robust { IsTrue result ↔ Meets net.now (target_of fault.now.path.now fault.now.direction Kind.Robust) pair.now }
     ensures judge { IsJudgeOf 4 net.now judge.new }
 {
     if refuted {
         return false;
     }
     let robust = Target {
-        path,
-        direction,
+        path: fault.path,
+        direction: fault.direction,
         kind: Kind::Robust,
     };
     judge.meets(net, &robust, pair)
@@ -224,17 +202,16 @@ fn is_robust(
 fn add_test(
     alloc: Global,
     tests: &mut Vec<Test>,
-    path: u32,
-    direction: Direction,
+    fault: &ListedFault,
     kind: Kind,
     pair: Pair,
 ) -> Result<u32, OutOfMemory>
     requires { length tests.old.items + 1 < 2 ^ 32 }
-    ensures { IfOk result (λ number. AddsTest tests.old.items tests.new.items path direction kind pair number) }
+    ensures { IfOk result (λ number. AddsTest tests.old.items tests.new.items fault.now.number fault.now.direction kind pair number) }
 {
     tests.push(Test {
-        path,
-        dir: direction,
+        path: fault.number,
+        dir: fault.direction,
         kind,
         pair,
         expected: Items::new(Vec::new(alloc)),

@@ -15,27 +15,27 @@ use Rattle.prefix_sensitize.proofs.verdicts.Writer.not_robust.Goals as goal
 -- where the nonrobust search gave no test
 module _ (g : Over) (c : In-Proved g) where
   abbrev nonrobust : Target
-  nonrobust = target_of c.args.path.now c.args.direction Nonrobust
+  nonrobust = target_of c.args.fault.now.path.now c.args.fault.now.direction Nonrobust
 
   -- its proof is one of the fault
-  proved : HasProof g.searches.routes g.searches.proofs c.args.number nonrobust (c.in-Proved.index + 1)
+  proved : HasProof g.searches.routes g.searches.proofs c.args.fault.now.number nonrobust (c.in-Proved.index + 1)
   proved =
       let asked = c.requires.0 in
-      outcome_proof c.args.net.now g.searches asked.are_searches c.args.number c.args.path.now asked.is_listed c.args.direction
+      outcome_proof c.args.net.now g.searches asked.are_searches c.args.fault.now.number c.args.fault.now.path.now asked.is_listed c.args.fault.now.direction
       Nonrobust c.args.nonrobust c.in-Proved.index c.in-Proved.is c.requires.1.1
 
   within : c.in-Proved.index < length g.searches.proofs
-  within = proof_within g.searches c.args.number nonrobust c.in-Proved.index proved
+  within = proof_within g.searches c.args.fault.now.number nonrobust c.in-Proved.index proved
 
 pub by_pair-requires : goal.by_pair-requires
 by_pair-requires g c =
-    let nonrobust = target_of c.args.path.now c.args.direction Nonrobust in
-    let P : RowOutcome → Type 0 = IsOutcome c.args.net.now g.searches.rules g.searches.routes g.searches.proofs (c.args.number - 1) nonrobust in
+    let nonrobust = target_of c.args.fault.now.path.now c.args.fault.now.direction Nonrobust in
+    let P : RowOutcome → Type 0 = IsOutcome c.args.net.now g.searches.rules g.searches.routes g.searches.proofs (c.args.fault.now.number - 1) nonrobust in
     (c.requires.0, (c.requires.1.0, subst P c.in-Tested.is c.requires.1.1))
 
 pub cite-requires-clause-found : goal.cite-requires-clause-found
 cite-requires-clause-found g c =
-    let within = proof_within g.searches c.args.number (target_of c.args.path.now c.args.direction Robust) c.args.proof c.requires.1.0 in
+    let within = proof_within g.searches c.args.fault.now.number (target_of c.args.fault.now.path.now c.args.fault.now.direction Robust) c.args.proof c.requires.1.0 in
     let numbers = c.requires.0.is_writer.numbers in
     omega (arith, within, numbers)
 
@@ -57,10 +57,10 @@ pub returns-in_ok-nonrobust-in-Proved-clause-answered : goal.returns-in_ok-nonro
 returns-in_ok-nonrobust-in-Proved-clause-answered g c =
     let asked = c.requires.0 in
     let in_arm = (goal.at.returns-in_ok-nonrobust-in-Proved-clause-answered g c).In-Proved in
-    aborted_answers c.args.net.now g.searches asked.are_searches c.args.number c.args.path.now asked.is_listed c.args.direction
+    aborted_answers c.args.net.now g.searches asked.are_searches c.args.fault.now.number c.args.fault.now.path.now asked.is_listed c.args.fault.now.direction
     (written_by c.args.self.now) asked.are_written c.cite.new.self.cited c.cite-then-index.new.self.cited c.args.proof c.in-Proved.index
     c.in_ok-robust-in-Proved.robust c.in_ok-nonrobust-in-Proved.nonrobust c.index.result.now c.requires.1.0 (proved g in_arm)
-    (read_proof g.searches c.args.number (nonrobust g in_arm) c.in-Proved.index (proved g in_arm) c.args.self.now.found.items
+    (read_proof g.searches c.args.fault.now.number (nonrobust g in_arm) c.in-Proved.index (proved g in_arm) c.args.self.now.found.items
     asked.is_writer.found c.index.result.now c.index.ensures)
     c.if-index.true c.in_ok-robust-in-Proved.ensures.cites c.in_ok-nonrobust-in-Proved.ensures.cites
 
@@ -68,10 +68,10 @@ pub returns-in_ok-proof-in-Proved-clause-answered : goal.returns-in_ok-proof-in-
 returns-in_ok-proof-in-Proved-clause-answered g c =
     let asked = c.requires.0 in
     let in_arm = (goal.at.returns-in_ok-proof-in-Proved-clause-answered g c).In-Proved in
-    untestable_answers c.args.net.now g.searches asked.are_searches c.args.number c.args.path.now asked.is_listed c.args.direction
+    untestable_answers c.args.net.now g.searches asked.are_searches c.args.fault.now.number c.args.fault.now.path.now asked.is_listed c.args.fault.now.direction
     (written_by c.args.self.now) asked.are_written c.cite-else-index.new.self.cited c.in-Proved.index c.in_ok-proof-in-Proved.proof
     c.index.result.now (proved g in_arm)
-    (read_proof g.searches c.args.number (nonrobust g in_arm) c.in-Proved.index (proved g in_arm) c.args.self.now.found.items
+    (read_proof g.searches c.args.fault.now.number (nonrobust g in_arm) c.in-Proved.index (proved g in_arm) c.args.self.now.found.items
     asked.is_writer.found c.index.result.now c.index.ensures)
     c.if-index.false c.in_ok-proof-in-Proved.ensures.cites
 
