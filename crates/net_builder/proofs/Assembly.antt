@@ -5,7 +5,6 @@ use Rattle.std.proofs.lemmas.List.{drop_at, length-map, take_at}
 use Rattle.std.proofs.lemmas.List.Elements.{All-map}
 use Rattle.std.proofs.lemmas.List.Sums.{sum_by-cons}
 use Rattle.std.proofs.lemmas.Simd.{map-map}
-use Rattle.std.specs.Global.{Vec}
 use Rattle.pd_base.specs.declared.ids.LineId.{LineId}
 use Rattle.net_builder.specs.Wiring.{FitsLines, IsWired}
 use Rattle.netlist.specs.declared.netlist.Layout.{Layout}
@@ -13,9 +12,7 @@ use Rattle.netlist.specs.Circuit.{Circuit, Gate, HasLines, gate_count, line_coun
 use Rattle.netlist.specs.Description.{AreNamed, NamedGate, described, gate_on, gates, line_named, names_by_line}
 use Rattle.netlist.specs.Statements.{Numbered}
 use Rattle.netlist.specs.Stored.{IsStored, circuit_of, gates_of}
-use Rattle.net_builder.proofs.Looking.{names_of_keys}
 use Rattle.net_builder.proofs.Circuits.{defined_lines, described_lines, described_pins, pins_have_lines}
-use Rattle.net_builder.specs.KeyNames.{key_names}
 
 -- gates out of their names, kinds and pins
 gates_again : (some : List Gate) → gates_of (map (λ g. g.name) some) (map (λ g. g.kind) some) (map (λ g. g.pins) some) ≡ some
@@ -45,8 +42,8 @@ pub stored_itself : (c : Circuit) (n : Layout) → IsStored c n → IsStored (ci
 stored_itself c n stored = subst (λ d. IsStored d n) (sym (stored_view c n stored)) stored
 
 -- there are as many names as lines
-pub keys_counted : (st : List Numbered) (keys : List (Vec ℕ)) → key_names keys ≡ names_by_line st → length keys ≡ line_count (described st)
-keys_counted st keys are = sym (names_of_keys keys) ∙ ap length are ∙ sym (described_lines st)
+pub names_counted : (st : List Numbered) (names : List (List ℕ)) → names ≡ names_by_line st → length names ≡ line_count (described st)
+names_counted st names are = ap length are ∙ sym (described_lines st)
 
 -- the sum of the lengths of images
 sum_of_lists : {X A : Type 0} (f : X → List A) (xs : List X) → sum_by length (map f xs) ≡ sum_by (λ x. length (f x)) xs

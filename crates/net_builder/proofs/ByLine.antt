@@ -2,7 +2,6 @@
 use Rattle.std.proofs.Common.{◌≡◌, ◌≢◌, inl, inr, ℕ, ◌<◌, List, [], ◌∷◌, ◌++◌, length, map, get_or, refl, sym, ap, subst, ◌∙◌, append_assoc, arith}
 use Rattle.std.specs.List.{AllPairs, Contains, flat_map, swap}
 use Rattle.std.specs.List.Sorted.{IsPermutation}
-use Rattle.std.specs.Global.{Vec}
 use Rattle.std.proofs.lemmas.Bool.{cases_lt}
 use Rattle.std.proofs.lemmas.List.{map-append}
 use Rattle.std.proofs.lemmas.List.Edits.{length-swap}
@@ -14,7 +13,6 @@ use Rattle.netlist.specs.Description.{AreDistinct, defined_names, flop_in, gate_
 use Rattle.netlist.specs.Statements.{Numbered, defined_by}
 use Rattle.net_builder.specs.declared.names.Group.TheVariants.{Inputs, Flops, Gates}
 use Rattle.net_builder.specs.Groups.{group_in, group_names}
-use Rattle.net_builder.specs.KeyNames.{key_names}
 
 -- the elements of a list are all different
 abbrev pub Differ : {X : Type 0} → List X → Type 0
@@ -136,10 +134,10 @@ module _ (statements : List Numbered) where
       order_differ (names_by_line statements) (defined_names statements)
       (IsPermutation-sym (defined_names statements) (names_by_line statements) reordered)
 
-  module _ (none one two three : List (Vec ℕ)) (empty : none ≡ []) (is_one : key_names one ≡ key_names none ++ first)
-      (is_two : key_names two ≡ key_names one ++ second) (is_three : key_names three ≡ key_names two ++ third) where
+  module _ (none one two three : List (List ℕ)) (empty : none ≡ []) (is_one : one ≡ none ++ first)
+      (is_two : two ≡ one ++ second) (is_three : three ≡ two ++ third) where
     -- the groups put one behind another are all lines
-    pub all_lines : key_names three ≡ names_by_line statements
+    pub all_lines : three ≡ names_by_line statements
     all_lines =
         is_three ∙ ap (λ l. l ++ third) (is_two ∙ ap (λ l. l ++ second)
-        (is_one ∙ ap (λ (l : List (Vec ℕ)). key_names l ++ first) empty)) ∙ by_groups
+        (is_one ∙ ap (λ l. l ++ first) empty)) ∙ by_groups

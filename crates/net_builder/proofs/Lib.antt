@@ -7,6 +7,7 @@ mod Defining
 mod Distinct
 pub mod Exclusive
 mod FirstBytes
+mod FoundByOrder
 mod GatePlaces
 mod GreatestMore
 mod Idle

@@ -4,8 +4,10 @@ pub mod Faults
 pub mod Filling
 pub mod Groups
 pub mod KeyNames
+pub mod KnownNames
 pub mod NameLists
 pub mod NameOrder
+pub mod OrderedNames
 pub mod Progress
 pub mod Ranked
 pub mod RawStored

@@ -4,21 +4,21 @@ ghost use Rattle.netlist.specs.Description.{AreDefined, AreDistinct, IsWithinLim
 ghost use Rattle.netlist.specs.Statements.{used_by};
 ghost use Rattle.net_builder.specs.Reading.{statement_at};
 ghost use Rattle.net_builder.specs.Refusals.{MayRefuse};
-ghost use Rattle.net_builder.specs.KeyNames.{key_names};
+ghost use Rattle.net_builder.specs.KnownNames.{known_names};
 
 use crate::known::{are_lines, others_defined};
-use crate::name_set::{NameFault, has_name, push_name};
+use crate::name_set::{NameFault, NameSet, has_name, name_count, push_name};
 use crate::names::names_of_lines;
+use crate::ordered_names::OrderedNames;
 use crate::reading::defined;
 use crate::{BuildFault, RawNet};
-use indexmap::IndexSet;
 use pd_base::{FlatLists, Items, LineId, OutOfMemory};
 use std::alloc::Global;
 
 /// The names of all lines, by line, or the first that is defined twice.
-pub(crate) fn distinct_names(alloc: Global, raw: &RawNet) -> Result<IndexSet<Vec<u8>>, BuildFault>
+pub(crate) fn distinct_names(alloc: Global, raw: &RawNet) -> Result<NameSet, BuildFault>
     requires { IsWithinLimits raw.now }
-    ensures names { IfOk result (λ names. key_names names.keys ≡ names_by_line raw.now) }
+    ensures names { IfOk result (λ names. known_names names ≡ names_by_line raw.now) }
     ensures distinct { IfOk result (λ _. AreDistinct raw.now) }
     ensures refused { IfErr result (MayRefuse raw.now) }
 {
@@ -39,19 +39,15 @@ fn check_distinct(alloc: Global, raw: &RawNet) -> Result<(), BuildFault>
     ensures distinct { IfOk result (λ _. AreDistinct raw.now) }
     ensures refused { IfErr result (MayRefuse raw.now) }
 {
-    let mut names = IndexSet::new(alloc);
+    let mut names = NameSet::Ordered(OrderedNames::new(alloc));
     add_all_defined(alloc, raw, &mut names)
 }
 
 // Puts the names that are defined, in order, into a set without names, each once.
-fn add_all_defined(
-    alloc: Global,
-    raw: &RawNet,
-    names: &mut IndexSet<Vec<u8>>,
-) -> Result<(), BuildFault>
+fn add_all_defined(alloc: Global, raw: &RawNet, names: &mut NameSet) -> Result<(), BuildFault>
     requires limits { IsWithinLimits raw.now }
-    requires none { names.old.keys ≡ [] }
-    ensures names { OnOk result (key_names names.new.keys ≡ defined_names raw.now) }
+    requires none { known_names names.old ≡ [] }
+    ensures names { OnOk result (known_names names.new ≡ defined_names raw.now) }
     ensures distinct { IfOk result (λ _. AreDistinct raw.now) }
     ensures refused { IfErr result (MayRefuse raw.now) }
 {
@@ -66,13 +62,13 @@ fn add_defined(
     alloc: Global,
     raw: &RawNet,
     place: usize,
-    names: &mut IndexSet<Vec<u8>>,
+    names: &mut NameSet,
 ) -> Result<(), BuildFault>
     requires within { place < length raw.now }
     requires limits { IsWithinLimits raw.now }
-    requires names { key_names names.old.keys ≡ defined_names (take place raw.now) }
+    requires names { known_names names.old ≡ defined_names (take place raw.now) }
     requires distinct { AreDistinct (take place raw.now) }
-    ensures names { OnOk result (key_names names.new.keys ≡ defined_names (take (place + 1) raw.now)) }
+    ensures names { OnOk result (known_names names.new ≡ defined_names (take (place + 1) raw.now)) }
     ensures distinct { OnOk result (AreDistinct (take (place + 1) raw.now)) }
     ensures refused { IfErr result (MayRefuse raw.now) }
 {
@@ -92,27 +88,27 @@ fn add_defined(
 pub(crate) fn check_uses(
     alloc: Global,
     raw: &RawNet,
-    names: &IndexSet<Vec<u8>>,
+    names: &NameSet,
     pins: &FlatLists<LineId>,
 ) -> Result<(), BuildFault>
     requires limits { IsWithinLimits raw.now }
     requires distinct { AreDistinct raw.now }
-    requires names { key_names names.now.keys ≡ names_by_line raw.now }
-    requires pins { pins.now ≡ map (λ gate. map (line_named (key_names names.now.keys)) gate.arguments) (gates raw.now) }
+    requires names { known_names names.now ≡ names_by_line raw.now }
+    requires pins { pins.now ≡ map (λ gate. map (line_named (known_names names.now)) gate.arguments) (gates raw.now) }
     ensures defined { IfOk result (λ _. AreDefined raw.now) }
     ensures refused { IfErr result (MayRefuse raw.now) }
 {
-    if are_lines(pins, names.len() as u32) && others_defined(raw, names) {
+    if are_lines(pins, name_count(names) as u32) && others_defined(raw, names) {
         return Ok(());
     }
     first_undefined(alloc, raw, names)
 }
 
 // Looks for the first use of a name that is none of these, which are the names of the lines.
-fn first_undefined(alloc: Global, raw: &RawNet, names: &IndexSet<Vec<u8>>) -> Result<(), BuildFault>
+fn first_undefined(alloc: Global, raw: &RawNet, names: &NameSet) -> Result<(), BuildFault>
     requires limits { IsWithinLimits raw.now }
     requires distinct { AreDistinct raw.now }
-    requires names { key_names names.now.keys ≡ names_by_line raw.now }
+    requires names { known_names names.now ≡ names_by_line raw.now }
     ensures defined { IfOk result (λ _. AreDefined raw.now) }
     ensures refused { IfErr result (MayRefuse raw.now) }
 {
@@ -123,16 +119,11 @@ fn first_undefined(alloc: Global, raw: &RawNet, names: &IndexSet<Vec<u8>>) -> Re
 }
 
 // Looks for the first such use in a statement.
-fn check_used(
-    alloc: Global,
-    raw: &RawNet,
-    place: usize,
-    names: &IndexSet<Vec<u8>>,
-) -> Result<(), BuildFault>
+fn check_used(alloc: Global, raw: &RawNet, place: usize, names: &NameSet) -> Result<(), BuildFault>
     requires within { place < length raw.now }
     requires limits { IsWithinLimits raw.now }
     requires distinct { AreDistinct raw.now }
-    requires names { key_names names.now.keys ≡ names_by_line raw.now }
+    requires names { known_names names.now ≡ names_by_line raw.now }
     requires before { All (Contains (defined_names raw.now)) (used_names (take place raw.now)) }
     ensures defined { IfOk result (λ _. All (Contains (defined_names raw.now)) (used_by (statement_at raw.now place))) }
     ensures refused { IfErr result (MayRefuse raw.now) }

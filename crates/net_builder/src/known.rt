@@ -4,11 +4,10 @@ ghost use Rattle.std.specs.Prelude.{◌<◌, length, All, Contains, IsTrue};
 ghost use Rattle.std.specs.List.{flat_map};
 ghost use Rattle.net_builder.specs.Reading.{statement_at};
 ghost use Rattle.net_builder.specs.Groups.{other_uses};
-ghost use Rattle.net_builder.specs.KeyNames.{key_names};
+ghost use Rattle.net_builder.specs.KnownNames.{known_names};
 
-use crate::name_set::has_name;
+use crate::name_set::{NameSet, has_name};
 use crate::{Form, RawNet};
-use indexmap::IndexSet;
 use pd_base::{FlatLists, LineId};
 
 /// Whether all pins of all gates read lines below this number.
@@ -36,8 +35,8 @@ fn are_below(some: &[LineId], lines: u32) -> bool
 }
 
 /// Whether the outputs and the data lines of the flip-flops are among these names.
-pub(crate) fn others_defined(raw: &RawNet, names: &IndexSet<Vec<u8>>) -> bool
-    ensures { IsTrue result → All (Contains (key_names names.now.keys)) (flat_map (λ s. other_uses s.statement) raw.now) }
+pub(crate) fn others_defined(raw: &RawNet, names: &NameSet) -> bool
+    ensures { IsTrue result → All (Contains (known_names names.now)) (flat_map (λ s. other_uses s.statement) raw.now) }
 {
     for place in 0..raw.len() {
         if !other_defined(raw, place, names) {
@@ -48,9 +47,9 @@ pub(crate) fn others_defined(raw: &RawNet, names: &IndexSet<Vec<u8>>) -> bool
 }
 
 // Whether the output or the data line of a statement is among these names, where it has one.
-fn other_defined(raw: &RawNet, place: usize, names: &IndexSet<Vec<u8>>) -> bool
+fn other_defined(raw: &RawNet, place: usize, names: &NameSet) -> bool
     requires { place < length raw.now }
-    ensures { IsTrue result → All (Contains (key_names names.now.keys)) (other_uses (statement_at raw.now place)) }
+    ensures { IsTrue result → All (Contains (known_names names.now)) (other_uses (statement_at raw.now place)) }
 {
     match raw.form(place) {
         Form::Output => has_name(names, raw.name(place)),

@@ -3,6 +3,7 @@
 //! and uses `build`; what is refused, and in which order, stands in specs/Refusals.antt.
 #![tactic(auto)]
 
+mod agreeing;
 mod building;
 mod by_name;
 mod defined;
@@ -20,6 +21,7 @@ mod named_parts;
 mod names;
 mod once;
 mod order;
+mod ordered_names;
 mod parts;
 mod places;
 mod progress;

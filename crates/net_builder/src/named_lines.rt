@@ -5,14 +5,14 @@ ghost use Rattle.netlist.specs.Description.{AreNamed, described, names_by_line};
 ghost use Rattle.netlist.specs.Names.{IsName};
 ghost use Rattle.netlist.specs.Statements.{IsStatement};
 ghost use Rattle.net_builder.specs.Building.{AreNamedLines};
-ghost use Rattle.net_builder.specs.KeyNames.{key_names};
+ghost use Rattle.net_builder.specs.KnownNames.{known_names};
 
 use crate::RawNet;
 use crate::by_name::lines_by_name;
 use crate::measures::longest_of;
+use crate::name_set::{NameSet, name_count, name_texts};
 use crate::once::once;
 use crate::parts::{flops_of, named_outputs};
-use indexmap::IndexSet;
 use pd_base::{FlatLists, LineId, OutOfMemory};
 use std::alloc::Global;
 
@@ -70,11 +70,11 @@ pub(crate) fn named_lines(
 pub(crate) fn unsorted_lines(
     alloc: Global,
     raw: &RawNet,
-    names: &IndexSet<Vec<u8>>,
+    names: &NameSet,
 ) -> Result<UnsortedLines, OutOfMemory>
     requires named { AreNamed raw.now }
     requires lawful { All (λ s. IsStatement s.statement) raw.now }
-    requires names { key_names names.now.keys ≡ names_by_line raw.now }
+    requires names { known_names names.now ≡ names_by_line raw.now }
     ensures names { IfOk result (λ lines. lines.names ≡ names_by_line raw.now) }
     ensures outputs { IfOk result (λ lines. lines.outputs.items ≡ (described raw.now).outputs) }
     ensures flops { IfOk result (λ lines. lines.flops.items ≡ (described raw.now).flops) }
@@ -90,36 +90,32 @@ pub(crate) fn unsorted_lines(
 }
 
 // The output lines, each once.
-fn outputs_of(
-    alloc: Global,
-    raw: &RawNet,
-    names: &IndexSet<Vec<u8>>,
-) -> Result<Vec<LineId>, OutOfMemory>
+fn outputs_of(alloc: Global, raw: &RawNet, names: &NameSet) -> Result<Vec<LineId>, OutOfMemory>
     requires named { AreNamed raw.now }
-    requires names { key_names names.now.keys ≡ names_by_line raw.now }
+    requires names { known_names names.now ≡ names_by_line raw.now }
     ensures { IfOk result (λ lines. lines.items ≡ (described raw.now).outputs) }
 {
     let listed = named_outputs(alloc, raw, names)?;
-    once(alloc, listed.as_slice(), names.len() as u32)
+    once(alloc, listed.as_slice(), name_count(names) as u32)
 }
 
 // The names of a set, one after another.
-fn flat_names(alloc: Global, names: &IndexSet<Vec<u8>>) -> Result<FlatLists<u8>, OutOfMemory>
-    requires few { length names.now.keys ≤ MOST_LINES }
-    requires names { All IsName (key_names names.now.keys) }
-    ensures { IfOk result (λ flat. flat ≡ key_names names.now.keys) }
+fn flat_names(alloc: Global, names: &NameSet) -> Result<FlatLists<u8>, OutOfMemory>
+    requires few { length (known_names names.now) ≤ MOST_LINES }
+    requires names { All IsName (known_names names.now) }
+    ensures { IfOk result (λ flat. flat ≡ known_names names.now) }
 {
-    let mut flat = FlatLists::with_capacity(alloc, names.len(), byte_count(names))?;
-    for name in names.as_slice() {
+    let mut flat = FlatLists::with_capacity(alloc, name_count(names), byte_count(names))?;
+    for name in name_texts(names) {
         flat.push(name.as_slice())?;
     }
     Ok(flat)
 }
 
 // How many bytes the names of a set have: so much room is taken for them.
-fn byte_count(names: &IndexSet<Vec<u8>>) -> usize {
+fn byte_count(names: &NameSet) -> usize {
     let mut count: usize = 0;
-    for name in names.as_slice() {
+    for name in name_texts(names) {
         count = count.saturating_add(name.len());
     }
     count

@@ -5,14 +5,14 @@ ghost use Rattle.netlist.specs.Circuit.{source_count};
 ghost use Rattle.netlist.specs.Description.{AreDistinct, AreNamed, IsWithinLimits, described, gates, line_named, names_by_line};
 ghost use Rattle.netlist.specs.Statements.{IsStatement};
 ghost use Rattle.net_builder.specs.Building.{AreNamedLines};
-ghost use Rattle.net_builder.specs.KeyNames.{key_names};
+ghost use Rattle.net_builder.specs.KnownNames.{known_names};
 ghost use Rattle.net_builder.specs.Refusals.{MayRefuse};
 
 use crate::defined::{check_uses, distinct_names};
+use crate::name_set::NameSet;
 use crate::named_lines::{NamedLines, UnsortedLines, named_lines, unsorted_lines};
 use crate::parts::pins_of;
 use crate::{BuildFault, RawNet};
-use indexmap::IndexSet;
 use pd_base::{FlatLists, LineId};
 use std::alloc::Global;
 
@@ -72,15 +72,11 @@ fn unsorted_parts(alloc: Global, raw: &RawNet) -> Result<UnsortedParts, BuildFau
 }
 
 // What is looked up in the set of the names of the lines, by line.
-fn look_up(
-    alloc: Global,
-    raw: &RawNet,
-    names: &IndexSet<Vec<u8>>,
-) -> Result<UnsortedParts, BuildFault>
+fn look_up(alloc: Global, raw: &RawNet, names: &NameSet) -> Result<UnsortedParts, BuildFault>
     requires limits { IsWithinLimits raw.now }
     requires lawful { All (λ s. IsStatement s.statement) raw.now }
     requires distinct { AreDistinct raw.now }
-    requires names { key_names names.now.keys ≡ names_by_line raw.now }
+    requires names { known_names names.now ≡ names_by_line raw.now }
     ensures named { IfOk result (λ _. AreNamed raw.now) }
     ensures pins { IfOk result (λ parts. parts.pins
         ≡ map (λ gate. map (line_named (names_by_line raw.now)) gate.arguments) (gates raw.now)) }
@@ -98,11 +94,11 @@ fn look_up(
 fn defined_pins(
     alloc: Global,
     raw: &RawNet,
-    names: &IndexSet<Vec<u8>>,
+    names: &NameSet,
 ) -> Result<FlatLists<LineId>, BuildFault>
     requires limits { IsWithinLimits raw.now }
     requires distinct { AreDistinct raw.now }
-    requires names { key_names names.now.keys ≡ names_by_line raw.now }
+    requires names { known_names names.now ≡ names_by_line raw.now }
     ensures named { IfOk result (λ _. AreNamed raw.now) }
     ensures pins { IfOk result (λ pins. pins
         ≡ map (λ gate. map (line_named (names_by_line raw.now)) gate.arguments) (gates raw.now)) }

@@ -3,12 +3,11 @@ ghost use Rattle.std.specs.Prelude.{◌≡◌, ◌≢◌, ◌<◌, [], ◌∷◌
 ghost use Rattle.netlist.specs.Description.{AreDistinct, names_by_line};
 ghost use Rattle.net_builder.specs.Reading.{statement_at};
 ghost use Rattle.net_builder.specs.Groups.{group_in, group_names};
-ghost use Rattle.net_builder.specs.KeyNames.{key_names};
+ghost use Rattle.net_builder.specs.KnownNames.{known_names};
 
 use crate::RawNet;
-use crate::name_set::{NameFault, add_name};
+use crate::name_set::{NameFault, NameSet, add_name, no_names};
 use crate::reading::{flop, gate, input};
-use indexmap::IndexSet;
 use std::alloc::Global;
 
 /// Lines that are numbered one behind another.
@@ -20,19 +19,19 @@ pub(crate) enum Group {
 }
 
 /// The names of all lines, by line, where no two are one.
-pub(crate) fn names_of_lines(alloc: Global, raw: &RawNet) -> Result<IndexSet<Vec<u8>>, NameFault>
-    ensures names { IfOk result (λ names. key_names names.keys ≡ names_by_line raw.now) }
+pub(crate) fn names_of_lines(alloc: Global, raw: &RawNet) -> Result<NameSet, NameFault>
+    ensures names { IfOk result (λ names. known_names names ≡ names_by_line raw.now) }
     ensures distinct { IfOk result (λ _. AreDistinct raw.now) }
 {
-    let mut names = IndexSet::with_capacity(alloc, raw.len())?;
+    let mut names = no_names(alloc, raw)?;
     add_lines(alloc, raw, &mut names)?;
     Ok(names)
 }
 
 // Puts the names of all lines into a set without names.
-fn add_lines(alloc: Global, raw: &RawNet, names: &mut IndexSet<Vec<u8>>) -> Result<(), NameFault>
-    requires { names.old.keys ≡ [] }
-    ensures names { OnOk result (key_names names.new.keys ≡ names_by_line raw.now) }
+fn add_lines(alloc: Global, raw: &RawNet, names: &mut NameSet) -> Result<(), NameFault>
+    requires { known_names names.old ≡ [] }
+    ensures names { OnOk result (known_names names.new ≡ names_by_line raw.now) }
     ensures distinct { OnOk result (AreDistinct raw.now) }
 {
     add_group(alloc, raw, Group::Inputs, names)?;
@@ -46,11 +45,11 @@ fn add_group(
     alloc: Global,
     raw: &RawNet,
     group: Group,
-    names: &mut IndexSet<Vec<u8>>,
+    names: &mut NameSet,
 ) -> Result<(), NameFault>
-    requires { AllPairs (λ a b. a ≢ b) (key_names names.old.keys) }
-    ensures names { OnOk result (key_names names.new.keys ≡ key_names names.old.keys ++ group_names group raw.now) }
-    ensures distinct { OnOk result (AllPairs (λ a b. a ≢ b) (key_names names.new.keys)) }
+    requires { AllPairs (λ a b. a ≢ b) (known_names names.old) }
+    ensures names { OnOk result (known_names names.new ≡ known_names names.old ++ group_names group raw.now) }
+    ensures distinct { OnOk result (AllPairs (λ a b. a ≢ b) (known_names names.new)) }
 {
     for place in 0..raw.len() {
         add_member(alloc, raw, place, group, names)?;
@@ -64,12 +63,12 @@ fn add_member(
     raw: &RawNet,
     place: usize,
     group: Group,
-    names: &mut IndexSet<Vec<u8>>,
+    names: &mut NameSet,
 ) -> Result<(), NameFault>
     requires within { place < length raw.now }
-    requires distinct { AllPairs (λ a b. a ≢ b) (key_names names.old.keys) }
-    ensures names { OnOk result (key_names names.new.keys ≡ key_names names.old.keys ++ group_in group (statement_at raw.now place)) }
-    ensures distinct { OnOk result (AllPairs (λ a b. a ≢ b) (key_names names.new.keys)) }
+    requires distinct { AllPairs (λ a b. a ≢ b) (known_names names.old) }
+    ensures names { OnOk result (known_names names.new ≡ known_names names.old ++ group_in group (statement_at raw.now place)) }
+    ensures distinct { OnOk result (AllPairs (λ a b. a ≢ b) (known_names names.new)) }
 {
     let Some(name) = member(raw, place, group) else {
         return Ok(());

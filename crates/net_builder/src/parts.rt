@@ -5,13 +5,12 @@ ghost use Rattle.netlist.specs.declared.limits.TheConstants.{MOST_LINES, MOST_PI
 ghost use Rattle.netlist.specs.Description.{flop_in, flop_on, flops, gate_in, gates, line_named, output_in, outputs, pins_in, IsWithinLimits};
 ghost use Rattle.netlist.specs.Statements.{used_by};
 ghost use Rattle.net_builder.specs.Reading.{statement_at};
-ghost use Rattle.net_builder.specs.KeyNames.{key_names};
+ghost use Rattle.net_builder.specs.KnownNames.{known_names};
 
 use crate::limits::count_pins;
-use crate::name_set::line_named_in;
+use crate::name_set::{NameSet, line_named_in};
 use crate::reading::{flop, output};
 use crate::{Form, RawNet};
-use indexmap::IndexSet;
 use netlist::GateKind;
 use pd_base::{FlatLists, LineId, OutOfMemory};
 use smallvec::SmallVec;
@@ -45,12 +44,12 @@ fn push_kind(raw: &RawNet, place: usize, kinds: &mut Vec<GateKind>) -> Result<()
 pub(crate) fn pins_of(
     alloc: Global,
     raw: &RawNet,
-    names: &IndexSet<Vec<u8>>,
+    names: &NameSet,
 ) -> Result<FlatLists<LineId>, OutOfMemory>
-    requires few { length names.now.keys ≤ MOST_LINES }
+    requires few { length (known_names names.now) ≤ MOST_LINES }
     requires limits { IsWithinLimits raw.now }
     ensures { IfOk result (λ pins. pins
-        ≡ map (λ gate. map (line_named (key_names names.now.keys)) gate.arguments) (gates raw.now)) }
+        ≡ map (λ gate. map (line_named (known_names names.now)) gate.arguments) (gates raw.now)) }
 {
     let mut pins = FlatLists::with_capacity(alloc, raw.len(), count_pins(raw) as usize)?;
     for place in 0..raw.len() {
@@ -64,14 +63,14 @@ fn push_pins(
     alloc: Global,
     raw: &RawNet,
     place: usize,
-    names: &IndexSet<Vec<u8>>,
+    names: &NameSet,
     pins: &mut FlatLists<LineId>,
 ) -> Result<(), OutOfMemory>
     requires within { place < length raw.now }
-    requires few { length names.now.keys ≤ MOST_LINES }
+    requires few { length (known_names names.now) ≤ MOST_LINES }
     requires room { sum_by length pins.old + pins_in (statement_at raw.now place) ≤ MOST_PINS }
     ensures { OnOk result (pins.new ≡ pins.old
-        ++ map (λ gate. map (line_named (key_names names.now.keys)) gate.arguments) (gate_in (statement_at raw.now place))) }
+        ++ map (λ gate. map (line_named (known_names names.now)) gate.arguments) (gate_in (statement_at raw.now place))) }
 {
     match raw.form(place) {
         Form::Gate(_) => pins.push(lines_used(alloc, raw, place, names)?.as_slice())?,
@@ -85,12 +84,12 @@ fn lines_used(
     alloc: Global,
     raw: &RawNet,
     place: usize,
-    names: &IndexSet<Vec<u8>>,
+    names: &NameSet,
 ) -> Result<SmallVec<LineId, 4>, OutOfMemory>
     requires within { place < length raw.now }
-    requires few { length names.now.keys ≤ MOST_LINES }
+    requires few { length (known_names names.now) ≤ MOST_LINES }
     ensures { IfOk result (λ lines. lines.items
-        ≡ map (line_named (key_names names.now.keys)) (used_by (statement_at raw.now place))) }
+        ≡ map (line_named (known_names names.now)) (used_by (statement_at raw.now place))) }
 {
     let mut lines = SmallVec::new(alloc);
     for argument in 0..raw.used_len(place) {
@@ -103,10 +102,10 @@ fn lines_used(
 pub(crate) fn named_outputs(
     alloc: Global,
     raw: &RawNet,
-    names: &IndexSet<Vec<u8>>,
+    names: &NameSet,
 ) -> Result<Vec<LineId>, OutOfMemory>
-    requires { length names.now.keys ≤ MOST_LINES }
-    ensures { IfOk result (λ lines. lines.items ≡ map (line_named (key_names names.now.keys)) (outputs raw.now)) }
+    requires { length (known_names names.now) ≤ MOST_LINES }
+    ensures { IfOk result (λ lines. lines.items ≡ map (line_named (known_names names.now)) (outputs raw.now)) }
 {
     let mut lines = Vec::new(alloc);
     for place in 0..raw.len() {
@@ -119,13 +118,13 @@ pub(crate) fn named_outputs(
 fn push_output(
     raw: &RawNet,
     place: usize,
-    names: &IndexSet<Vec<u8>>,
+    names: &NameSet,
     lines: &mut Vec<LineId>,
 ) -> Result<(), OutOfMemory>
     requires within { place < length raw.now }
-    requires few { length names.now.keys ≤ MOST_LINES }
+    requires few { length (known_names names.now) ≤ MOST_LINES }
     ensures { OnOk result (lines.new.items
-        ≡ lines.old.items ++ map (line_named (key_names names.now.keys)) (output_in (statement_at raw.now place))) }
+        ≡ lines.old.items ++ map (line_named (known_names names.now)) (output_in (statement_at raw.now place))) }
 {
     match raw.form(place) {
         Form::Output => lines.push(line_named_in(names, raw.name(place)))?,
@@ -138,10 +137,10 @@ fn push_output(
 pub(crate) fn flops_of(
     alloc: Global,
     raw: &RawNet,
-    names: &IndexSet<Vec<u8>>,
+    names: &NameSet,
 ) -> Result<Vec<(LineId, LineId)>, OutOfMemory>
-    requires { length names.now.keys ≤ MOST_LINES }
-    ensures { IfOk result (λ found. found.items ≡ map (flop_on (key_names names.now.keys)) (flops raw.now)) }
+    requires { length (known_names names.now) ≤ MOST_LINES }
+    ensures { IfOk result (λ found. found.items ≡ map (flop_on (known_names names.now)) (flops raw.now)) }
 {
     let mut found = Vec::new(alloc);
     for place in 0..raw.len() {
@@ -154,13 +153,13 @@ pub(crate) fn flops_of(
 fn push_flop(
     raw: &RawNet,
     place: usize,
-    names: &IndexSet<Vec<u8>>,
+    names: &NameSet,
     found: &mut Vec<(LineId, LineId)>,
 ) -> Result<(), OutOfMemory>
     requires within { place < length raw.now }
-    requires few { length names.now.keys ≤ MOST_LINES }
+    requires few { length (known_names names.now) ≤ MOST_LINES }
     ensures { OnOk result (found.new.items
-        ≡ found.old.items ++ map (flop_on (key_names names.now.keys)) (flop_in (statement_at raw.now place))) }
+        ≡ found.old.items ++ map (flop_on (known_names names.now)) (flop_in (statement_at raw.now place))) }
 {
     match raw.form(place) {
         Form::Flop => found.push((

@@ -1,8 +1,8 @@
 use Rattle.std.proofs.Common.{◌≡◌, take}
 use Rattle.netlist.specs.Description.{AreDistinct, defined_names}
 use Rattle.net_builder.proofs.defined.add_all_defined.Given as goal
-use Rattle.net_builder.specs.KeyNames.{key_names}
+use Rattle.net_builder.specs.KnownNames.{known_names}
 
 abbrev pub invariant-loop-place : goal.invariant-loop-place
 invariant-loop-place l =
-    (key_names l.names.keys ≡ defined_names (take l.place l.raw)) × AreDistinct (take l.place l.raw)
+    (known_names l.names ≡ defined_names (take l.place l.raw)) × AreDistinct (take l.place l.raw)

@@ -5,14 +5,14 @@ use Rattle.std.proofs.lemmas.List.{take_all}
 use Rattle.net_builder.specs.Groups.{other_uses}
 use Rattle.net_builder.proofs.KnownUses.{others_more}
 use Rattle.net_builder.proofs.known.others_defined.Goals as goal
-use Rattle.net_builder.specs.KeyNames.{key_names}
+use Rattle.net_builder.specs.KnownNames.{known_names}
 
 pub loop-place-preserved : goal.loop-place-preserved
 loop-place-preserved c =
-    others_more c.args.raw.now c.loop-place.place (omega arith) (Contains (key_names c.args.names.now.keys)) c.loop-place.invariant
+    others_more c.args.raw.now c.loop-place.place (omega arith) (Contains (known_names c.args.names.now)) c.loop-place.invariant
     (c.if-not-other_defined.ensures refl)
 
 pub returns : goal.returns
 returns c =
-    λ yes. subst (All (Contains (key_names c.args.names.now.keys)))
+    λ yes. subst (All (Contains (known_names c.args.names.now)))
     (ap (flat_map (λ s. other_uses s.statement)) (take_all c.loop-place.place c.args.raw.now (omega arith))) c.loop-place.invariant

@@ -10,29 +10,30 @@ use Rattle.net_builder.proofs.named_lines.flat_names.Goals as goal
 
 pub push-requires : goal.push-requires
 push-requires c =
-    let items = c.as_slice-name-items.result.now in
-    let keys = c.as_slice-name-items.ensures.keys in
+    let items = c.name_texts-name-items.result.now in
+    let keys = c.name_texts-name-items.ensures in
     let i = c.loop-name.name-index in
     let within : i < length items = omega arith in
-    let is = subst IsName (ap (λ l. get_or (key_names l) i []) (sym keys) ∙ name_at_key items i c.name-item.result within c.name-item.is)
-    (c.requires.names i [] (omega (arith, ap length keys, names_of_keys c.args.names.now.keys))) in
+    let is = subst IsName (ap (λ l. get_or l i []) (sym keys) ∙ name_at_key items i c.name-item.result within c.name-item.is)
+    (c.requires.names i [] (omega (arith, ap length keys, names_of_keys items))) in
     omega (
       arith,
       is.few_bytes,
       ap length c.as_slice.ensures.value,
       c.loop-name.invariant.few,
       ap length keys,
+      names_of_keys items,
       c.requires.few,
     )
 
 pub loop-name-preserved : goal.loop-name-preserved
 loop-name-preserved c =
-    let items = c.as_slice-name-items.result.now in
-    let keys = c.as_slice-name-items.ensures.keys in
+    let items = c.name_texts-name-items.result.now in
+    let keys = c.name_texts-name-items.ensures in
     let i = c.loop-name.name-index in
     let within : i < length items = omega arith in
-    let is = subst IsName (ap (λ l. get_or (key_names l) i []) (sym keys) ∙ name_at_key items i c.name-item.result within c.name-item.is)
-    (c.requires.names i [] (omega (arith, ap length keys, names_of_keys c.args.names.now.keys))) in
+    let is = subst IsName (ap (λ l. get_or l i []) (sym keys) ∙ name_at_key items i c.name-item.result within c.name-item.is)
+    (c.requires.names i [] (omega (arith, ap length keys, names_of_keys items))) in
     let own : List ℕ = c.name-item.result.items in
     let put : c.push.new.self ≡ c.loop-name.flat ++ own ∷ [] =
     c.in_ok-push.ensures.ok ∙ ap (λ name. c.loop-name.flat ++ name ∷ []) c.as_slice.ensures.value in

@@ -4,27 +4,28 @@ use Rattle.std.specs.List.{All}
 use Rattle.pd_base.specs.declared.ids.LineId.{LineId}
 use Rattle.netlist.specs.Circuit.{distinct_lines, line_count}
 use Rattle.netlist.specs.Description.{described, line_named, outputs}
-use Rattle.net_builder.proofs.Assembly.{keys_counted}
+use Rattle.net_builder.proofs.Assembly.{names_counted}
 use Rattle.net_builder.proofs.Circuits.{outputs_have_lines}
 use Rattle.net_builder.proofs.Deep.{few_lines}
 use Rattle.net_builder.proofs.named_lines.outputs_of.Goals as goal
+use Rattle.net_builder.specs.KnownNames.{known_names}
 
 pub named_outputs-requires : goal.named_outputs-requires
 named_outputs-requires c =
     let st = c.args.raw.now in
-    omega (arith, keys_counted st c.args.names.now.keys c.requires.names, few_lines st c.requires.named.limits)
+    omega (arith, names_counted st (known_names c.args.names.now) c.requires.names, few_lines st c.requires.named.limits)
 
-pub overflow_cast-len : goal.overflow_cast-len
-overflow_cast-len c =
+pub overflow_cast-name_count : goal.overflow_cast-name_count
+overflow_cast-name_count c =
     let st = c.args.raw.now in
-    let counted : c.len.result ≡ length c.args.names.now.keys = c.len.ensures.len in
-    omega (arith, counted, keys_counted st c.args.names.now.keys c.requires.names, few_lines st c.requires.named.limits)
+    let counted : c.name_count.result ≡ length (known_names c.args.names.now) = c.name_count.ensures in
+    omega (arith, counted, names_counted st (known_names c.args.names.now) c.requires.names, few_lines st c.requires.named.limits)
 
 pub once-requires : goal.once-requires
 once-requires c =
     let st = c.args.raw.now in
-    let lines : c.len.result ≡ line_count (described st) =
-    c.len.ensures.len ∙ keys_counted st c.args.names.now.keys c.requires.names in
+    let lines : c.name_count.result ≡ line_count (described st) =
+    c.name_count.ensures ∙ names_counted st (known_names c.args.names.now) c.requires.names in
     let listed = c.as_slice.ensures.value ∙ c.in_ok-listed.ensures
     ∙ ap (λ names. map (line_named names) (outputs st)) c.requires.names in
     subst₂ (λ n some. All (λ (line : LineId). line.0 < n) some) (sym lines) (sym listed) (outputs_have_lines st c.requires.named)

@@ -1,14 +1,15 @@
 -- There are as many names as lines, and all that are used are defined.
 use Rattle.std.proofs.Common.{map, ap, ◌∙◌, arith}
 use Rattle.netlist.specs.Description.{gates, line_named}
-use Rattle.net_builder.proofs.Assembly.{keys_counted}
+use Rattle.net_builder.proofs.Assembly.{names_counted}
 use Rattle.net_builder.proofs.Deep.{few_lines}
 use Rattle.net_builder.proofs.named_parts.defined_pins.Goals as goal
+use Rattle.net_builder.specs.KnownNames.{known_names}
 
 pub pins_of-requires-clause-few : goal.pins_of-requires-clause-few
 pins_of-requires-clause-few c =
     let st = c.args.raw.now in
-    omega (arith, keys_counted st c.args.names.now.keys c.requires.names, few_lines st c.requires.limits)
+    omega (arith, names_counted st (known_names c.args.names.now) c.requires.names, few_lines st c.requires.limits)
 
 pub returns-clause-named : goal.returns-clause-named
 returns-clause-named c = record {

@@ -4,7 +4,7 @@ use Rattle.std.proofs.lemmas.Grind.{common_steps}
 use Rattle.std.proofs.lemmas.List.{take_all}
 use Rattle.netlist.specs.Description.{line_named, outputs}
 use Rattle.netlist.specs.Statements.{Numbered}
-use Rattle.net_builder.specs.KeyNames.{key_names}
+use Rattle.net_builder.specs.KnownNames.{known_names}
 use Rattle.net_builder.proofs.parts.named_outputs.Goals as goal
 
 pub loop-place-preserved : goal.loop-place-preserved
@@ -13,5 +13,5 @@ loop-place-preserved c = grind (arith, common_steps)
 pub returns : goal.returns
 returns c =
     c.loop-place.invariant
-    ∙ ap (λ (some : List Numbered). map (line_named (key_names c.args.names.now.keys)) (outputs some))
+    ∙ ap (λ (some : List Numbered). map (line_named (known_names c.args.names.now)) (outputs some))
     (take_all c.loop-place.place c.args.raw.now (omega (arith, c.len-place-end.ensures.count)))

@@ -1,7 +1,7 @@
 -- What was new is none of the names before.
 use Rattle.std.proofs.Common.{◌∙◌, ap, sym}
 use Rattle.net_builder.proofs.Inserting.{insert_fresh, not_listed}
-use Rattle.net_builder.proofs.name_set.add_name.Goals as goal
+use Rattle.net_builder.proofs.name_set.add_hashed.Goals as goal
 use Rattle.net_builder.specs.KeyNames.{key_names}
 
 pub returns-then-branch-clause-fresh : goal.returns-then-branch-clause-fresh
