@@ -45,7 +45,7 @@ fn count_name(counts: &mut Vec<u32>, name: &[u8]) {
 fn are_crowded(counts: &[u32]) -> bool {
     let mut passed_on: u32 = 0;
     let mut full: u32 = 0;
-    for round in 0..2 {
+    for _ in 0..2 {
         for count in counts {
             passed_on = passed_on
                 .saturating_add(*count)
