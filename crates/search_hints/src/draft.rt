@@ -201,7 +201,7 @@ impl Draft {
         requires gate { gate.0 < gate_count region.now.net.now }
         ensures { self.new ≡ self.old }
     {
-        if !cause.is_gate(gate) && is_inside(region, gate) {
+        if is_inside(region, gate) && !cause.is_gate(gate) {
             self.waiting.add(Turn::of_gate(gate));
         }
     }

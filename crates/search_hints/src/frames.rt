@@ -24,7 +24,8 @@ const MOST_ROOM: usize = 4_194_304;
 struct Frame {
     end: Option<LineId>,
     second: FoundLines,
-    first: FoundLines,
+    // the lines of the first frame, and in the end those of the second one too
+    both: FoundLines,
     // the sources of the second frame, and those of the first one
     sources: Vec<LineId>,
     first_sources: Vec<LineId>,
@@ -42,7 +43,7 @@ impl Model for Frame {
 
     ghost view = { λ f. f.second.room };
 
-    ghost invariant = { λ f. AreFrames f.second.room f.first.room f.sources.items f.first_sources.items };
+    ghost invariant = { λ f. AreFrames f.second.room f.both.room f.sources.items f.first_sources.items };
 }
 
 impl Frame {
@@ -50,12 +51,12 @@ impl Frame {
     fn new(alloc: Global, lines: usize) -> Result<Frame, OutOfMemory>
         ensures { IfOk result (λ frame. frame ≡ lines) }
     {
-        let first = FoundLines::new(alloc, lines)?;
+        let both = FoundLines::new(alloc, lines)?;
         let second = FoundLines::new(alloc, lines)?;
         Ok(Frame {
             end: None,
             second,
-            first,
+            both,
             sources: Vec::new(alloc),
             first_sources: Vec::new(alloc),
             first_alone: Vec::new(alloc),
@@ -99,9 +100,10 @@ impl Frame {
         find_back(net, no_links, &[end], &mut self.second);
         list_sources(cone.sources(), self.second.marks(), &mut self.sources)?;
         list_linked(net, links, self.sources.as_slice(), linked)?;
-        find_back(net, no_links, linked.as_slice(), &mut self.first);
-        list_sources(cone.sources(), self.first.marks(), &mut self.first_sources)?;
+        find_back(net, no_links, linked.as_slice(), &mut self.both);
+        list_sources(cone.sources(), self.both.marks(), &mut self.first_sources)?;
         self.list_gates(net, cone)?;
+        self.both.add_all(self.second.lines());
         self.end = Some(end);
         Ok(())
     }
@@ -112,7 +114,7 @@ impl Frame {
         requires cone { IsConeIn net.now cone.now }
         ensures { self.new ≡ self.old }
     {
-        let first = self.first.marks();
+        let first = self.both.marks();
         let second = self.second.marks();
         list_gates(net, cone.gates(), first, second, &mut self.first_alone)?;
         list_gates(net, cone.gates(), second, &[], &mut self.second_gates)?;
@@ -240,11 +242,11 @@ impl Frames {
         self.current.second.marks()
     }
 
-    // A mark for each line, true at those of the first frame.
-    pub(crate) fn first_marks(&self) -> &[bool]
+    // A mark for each line, true at those of the two frames.
+    pub(crate) fn marks(&self) -> &[bool]
         ensures { length result.now ≡ self.now }
     {
-        self.current.first.marks()
+        self.current.both.marks()
     }
 
     // The lines of the second frame.
@@ -254,11 +256,11 @@ impl Frames {
         self.current.second.lines()
     }
 
-    // The lines of the first frame.
-    pub(crate) fn first_lines(&self) -> &[LineId]
+    // The lines of the two frames.
+    pub(crate) fn lines(&self) -> &[LineId]
         ensures { All (λ line. line.0 < self.now) result.now }
     {
-        self.current.first.lines()
+        self.current.both.lines()
     }
 
     // The sources of the second frame.

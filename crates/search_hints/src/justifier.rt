@@ -181,7 +181,7 @@ impl Justifier {
             net: sight.net,
             conditions: &self.conditions,
             marks: cone.marks(),
-            firsts: cone.marks(),
+            inside: cone.marks(),
             sources: cone.sources(),
             liked: sight.liked,
             links: &self.links,
@@ -303,7 +303,7 @@ impl Justifier {
             net: sight.net,
             conditions: &self.conditions,
             marks: cone.marks(),
-            firsts: cone.marks(),
+            inside: cone.marks(),
             sources: cone.sources(),
             liked: sight.liked,
             links: &self.links,
@@ -336,7 +336,7 @@ impl Justifier {
             net: sight.net,
             conditions: &self.conditions,
             marks: self.frames.second_marks(),
-            firsts: self.frames.first_marks(),
+            inside: self.frames.marks(),
             sources: self.frames.sources(),
             liked: sight.liked,
             links: &self.links,
@@ -369,7 +369,7 @@ impl Justifier {
         ensures { IsJustifierOf sight.now.net.now self.new }
     {
         self.set_frames(alloc, sight.net, cone, path)?;
-        write_liked(&mut self.decisions, self.values, sight, cone);
+        write_liked(&mut self.decisions, self.values, &self.links, sight, cone);
         Ok(self.complete::<A>(sight))
     }
 
@@ -405,7 +405,7 @@ impl Justifier {
         ensures { length liked.new ≡ length liked.old }
     {
         like_firsts(
-            self.frames.first_lines(),
+            self.frames.lines(),
             self.firsts.values(),
             self.values,
             liked,
@@ -439,8 +439,15 @@ impl Justifier {
     }
 }
 
-// Writes what is liked of the labels of a cone's sources, as far as they let it: the states, or the first values, or anything.
-fn write_liked(decisions: &mut Decisions, values: FirstValues, sight: &Sight, cone: &Cone)
+// Writes what is liked of the labels of a cone's sources, as far as they let it: the states; or of a linked source the first values; or
+// anything. A source without a link is sooner steady then than in its first value.
+fn write_liked(
+    decisions: &mut Decisions,
+    values: FirstValues,
+    links: &LinkEnds,
+    sight: &Sight,
+    cone: &Cone,
+)
     requires sizes { IsSizedFor sight.now.net.now decisions.old }
     requires cone { IsConeIn sight.now.net.now cone.now }
     ensures { decisions.new ≡ decisions.old }
@@ -450,7 +457,10 @@ fn write_liked(decisions: &mut Decisions, values: FirstValues, sight: &Sight, co
         let at = source.0 as usize;
         let label = sight.labels[at];
         let liked = sight.liked[at];
-        let near = or_else(label.intersect(values.spread(liked)), label);
+        let near = match links.line_of(*source) {
+            Some(_) => or_else(label.intersect(values.spread(liked)), label),
+            None => label,
+        };
         let exact = or_else(label.intersect(liked), near);
         decisions.write(*source, exact);
     }

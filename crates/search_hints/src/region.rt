@@ -11,20 +11,21 @@ use pd_base::{GateId, LineId};
 use state_sets::{Condition, StateSet};
 
 // A netlist, the conditions at the gates of a path, the cone of the path's end (a mark by line, and its sources), and what lines are
-// liked to be in. With links the cone is that of two frames, and of a line with a mark of the first one alone the first values count.
+// liked to be in. With links the marks are those of the second frame, and inside of these or of the first frame; of a line that is
+// inside and has no mark the first values count. Without links the marks are the same.
 #[derive(Drop)]
 pub(crate) struct Region<'a> {
     pub(crate) net: &'a Netlist,
     pub(crate) conditions: &'a Conditions,
     pub(crate) marks: &'a [bool],
-    pub(crate) firsts: &'a [bool],
+    pub(crate) inside: &'a [bool],
     pub(crate) sources: &'a [LineId],
     pub(crate) liked: &'a [StateSet],
     pub(crate) links: &'a LinkEnds,
     pub(crate) values: FirstValues,
     ghost entered: { IsEnteredOn net.now conditions.now },
     ghost one_each: { length marks.now ≡ line_count net.now },
-    ghost first_each: { length firsts.now ≡ line_count net.now },
+    ghost inside_each: { length inside.now ≡ line_count net.now },
     ghost liked_each: { length liked.now ≡ line_count net.now },
     ghost in_circuit: { All (λ source. source.0 < line_count net.now) sources.now },
 }
@@ -33,8 +34,7 @@ pub(crate) struct Region<'a> {
 pub(crate) fn is_inside(region: &Region, gate: GateId) -> bool
     requires { gate.0 < gate_count region.now.net.now }
 {
-    let line = region.net.line_of(gate).0 as usize;
-    region.marks[line] || (region.firsts[line] && !region.links.is_empty())
+    region.inside[region.net.line_of(gate).0 as usize]
 }
 
 // Whether the first values of a line alone count.
