@@ -5,7 +5,6 @@ pub mod Filling
 pub mod Groups
 pub mod KeyNames
 pub mod KnownNames
-pub mod NameHashes
 pub mod NameLists
 pub mod NameOrder
 pub mod OrderedNames

@@ -1,11 +1,10 @@
 // Whether the hashes of names agree so far that a table finds the names slowly. Its hasher has a fixed seed, so names can be chosen for
 // that; others hardly ever agree so far. Either answer is right: a set of names is the same both ways, and only its time differs.
 use crate::RawNet;
-use crate::name_hasher::NameHasher;
 use crate::reading::defined;
 use pd_base::OutOfMemory;
 use std::alloc::Global;
-use std::hash::{Hash, Hasher};
+use std::hash::{FoldHasher, Hash, Hasher};
 
 // A table has groups of at most sixteen entries, and of nine or fewer on an average. An entry whose group is full goes on to the next one.
 const ENTRIES_ON_AVERAGE: usize = 9;
@@ -33,7 +32,7 @@ fn group_count(entries: usize) -> usize {
 
 // Counts a name at the group where it would be looked for first.
 fn count_name(counts: &mut Vec<u32>, name: &[u8]) {
-    let mut hasher = NameHasher::default();
+    let mut hasher = FoldHasher::default();
     name.hash(&mut hasher);
     let state = hasher.finish();
     let group = (state ^ state >> 32) as usize & counts.len().saturating_sub(1);

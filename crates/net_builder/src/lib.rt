@@ -14,7 +14,6 @@ mod known;
 mod levels;
 mod limits;
 mod measures;
-mod name_hasher;
 mod name_list;
 mod name_set;
 mod named_lines;

@@ -8,20 +8,15 @@ ghost use Rattle.net_builder.specs.KnownNames.{known_names};
 
 use crate::RawNet;
 use crate::agreeing::hashes_agree;
-use crate::name_hasher::NameHasher;
 use crate::ordered_names::OrderedNames;
 use indexmap::IndexSet;
 use pd_base::{LineId, OutOfMemory};
 use std::alloc::{AllocError, AllocFailed, Global};
-use std::hash::BuildHasherDefault;
-
-/// Names in a table.
-pub(crate) type HashedNames = IndexSet<Vec<u8>, BuildHasherDefault<NameHasher>>;
 
 /// Names that are found by their hashes or, where too many of these agree, by their order.
 #[derive(Drop)]
 pub(crate) enum NameSet {
-    Hashed(HashedNames),
+    Hashed(IndexSet<Vec<u8>>),
     Ordered(OrderedNames),
 }
 
@@ -59,8 +54,7 @@ pub(crate) fn no_names(alloc: Global, raw: &RawNet) -> Result<NameSet, NameFault
     if hashes_agree(alloc, raw)? {
         return Ok(NameSet::Ordered(OrderedNames::new(alloc)));
     }
-    let hasher = BuildHasherDefault::new();
-    Ok(NameSet::Hashed(IndexSet::with_capacity_and_hasher(alloc, raw.len(), hasher)?))
+    Ok(NameSet::Hashed(IndexSet::with_capacity(alloc, raw.len())?))
 }
 
 /// The names, in the order in which they came.
@@ -123,7 +117,7 @@ pub(crate) fn add_name(alloc: Global, names: &mut NameSet, name: &[u8]) -> Resul
 }
 
 // Puts a name last, if it is none of these.
-fn add_hashed(alloc: Global, names: &mut HashedNames, name: &[u8]) -> Result<(), NameFault>
+fn add_hashed(alloc: Global, names: &mut IndexSet<Vec<u8>>, name: &[u8]) -> Result<(), NameFault>
     ensures fresh { OnOk result (¬ Contains (key_names names.old.keys) name.now) }
     ensures names { OnOk result (key_names names.new.keys ≡ key_names names.old.keys ++ name.now ∷ []) }
 {
