@@ -1,4 +1,4 @@
--- What the words of the command line ask for: the list of commands (this project's own). How words are read, Scan.antt says; the words of
+-- What the words of the command line ask for: the list of commands (this project's own). How words are read, Reading.antt says; the words of
 -- a command, its form: RunForm.antt and the other files of that kind.
 use Rattle.std.specs.Prelude.{⊤, ℕ, Bool, List, [], ◌∷◌, Result, Ok, Err, codes, nat_eq, if◌then◌else◌}
 use Rattle.std.specs.Cmp.Lexicographic.{pointwise}

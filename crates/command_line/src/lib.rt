@@ -1,5 +1,5 @@
 //! The words of the command line: what they ask for, or why they are refused. The rules read them from the left
-//! (specs/Scan.antt); of words that they accept, clap reads the values. The options are one list (option_name.rt), the commands another
+//! (specs/Reading.antt); of words that they accept, clap reads the values. The options are one list (option_name.rt), the commands another
 //! (command.rt); what each command takes is its form, a module of forms/. Stands on pd_base and clap, of which no other crate sees a
 //! type. The layers above use `read_words`.
 #![tactic(auto)]
