@@ -27,7 +27,7 @@ use Rattle.trees.proofs.Faults.{right_refutes, right_spent, fault_refutes_not, f
 use Rattle.trees.proofs.Walks.{HasCome, come_none, come_stands, stands_fault, come_all, come_leaf, come_split}
 use Rattle.trees.proofs.Walks.IsSplitNode.{value_node, steadiness_node}
 use Rattle.implication.specs.Settings.{IsSameSetting}
-use Rattle.implication.specs.Standing.{Standing, told_ends, IsTold, IsSupportTold, IsToldBy}
+use Rattle.implication.specs.Standing.{Standing, told_ends, IsSupportTold, IsToldBy}
 use Rattle.implication.proofs.Told.{end_told}
 use Rattle.refutation_check.specs.declared.answer.TreeCheck.{TreeCheck}
 use Rattle.refutation_check.specs.declared.answer.TreeCheck.TheVariants.{Yes, No}

@@ -1,8 +1,7 @@
 -- What an engine tells it tells under the same setting; and what its ends tell.
-use Rattle.std.proofs.Common.{◌≡◌, ℕ, ◌<◌, List, length, Option, None, sym, subst, subst₂, arith}
+use Rattle.std.proofs.Common.{◌≡◌, ℕ, ◌<◌, length, Option, None, sym, subst, subst₂, arith}
 use Rattle.pd_base.specs.Links.{links_of}
 use Rattle.pd_base.specs.Route.{Route}
-use Rattle.pd_base.specs.declared.ids.LineId.{LineId}
 use Rattle.pd_base.specs.declared.rules.Rules.{Rules}
 use Rattle.netlist.specs.Circuit.{Circuit, source_count}
 use Rattle.netlist.specs.LinkedPairs.{IsSupported}

@@ -1,6 +1,5 @@
 -- What contracts see of a judge of trees: for what it is made (this project's own).
-use Rattle.std.specs.Prelude.{◌≡◌, List, Option, None}
-use Rattle.pd_base.specs.declared.ids.LineId.{LineId}
+use Rattle.std.specs.Prelude.{◌≡◌, Option, None}
 use Rattle.pd_base.specs.declared.rules.Rules.{Rules}
 use Rattle.netlist.specs.Circuit.{Circuit}
 use Rattle.state_sets.specs.StateAlgebra.{StateAlgebra}

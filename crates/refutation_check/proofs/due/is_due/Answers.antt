@@ -1,6 +1,5 @@
 -- A split is due on a source of the support that has both halves in the hull, at a node that is open.
 use Rattle.std.proofs.Common.{◌<◌, sym, subst, arith}
-use Rattle.pd_base.specs.Links.{links_of}
 use Rattle.netlist.specs.Circuit.{Circuit, source_count}
 use Rattle.netlist.specs.Paths.{end_of}
 use Rattle.implication.specs.Scopes.{standing}
