@@ -17,7 +17,7 @@ use Rattle.implication.specs.declared.assumption.Assumption.{Assumption}
 use Rattle.implication.specs.declared.assumption.Assumption.TheVariants.{Entered, Assumed}
 use Rattle.implication.specs.declared.assumption.Conflict.{Conflict}
 use Rattle.implication.specs.Assumptions.{left_of}
-use Rattle.implication.specs.Standing.{Standing, IsTold, IsToldBy, end_from, end_of_scope}
+use Rattle.implication.specs.Standing.{Standing, ToldEnds, IsTold, IsToldBy, end_from, end_of_scope}
 use Rattle.implication.specs.Moves.{with_assumed, grown, closed_at}
 use Rattle.implication.specs.Clients.{ExtendsStanding}
 use Rattle.implication.specs.Kept.{Kept, IsListFrom, StandsFrom, KeepsStanding}
@@ -62,7 +62,7 @@ assumed_none count list source to left cut from cuts same =
     let Q : StateSet → Type 0 = λ x. (if left.0 == x.0 then list else list ++ Assumed source x ∷ []) ≡ list in
     subst P from (subst Q e (rw f refl))
 
-module _ (a : StateAlgebra) (c : Circuit) (rules : Rules) (ends : Option (List LineId)) (list : List Assumption) (conflict : Option LineId)
+module _ (a : StateAlgebra) (c : Circuit) (rules : Rules) (ends : Option ToldEnds) (list : List Assumption) (conflict : Option LineId)
     (kept : Kept) where
   lefts_from : (beginning : Option Beginning) → StandsFrom a c rules ends beginning list conflict kept
       → length kept.left ≡ source_count c

@@ -25,18 +25,18 @@ use Rattle.implication.specs.declared.assumption.Beginning.{Beginning}
 use Rattle.implication.specs.declared.assumption.Assumption.{Assumption}
 use Rattle.implication.specs.declared.before.Before.{Before}
 use Rattle.implication.specs.Assumptions.{entered_pins}
-use Rattle.implication.specs.Standing.{Standing, IsToldBy, IsTold}
+use Rattle.implication.specs.Standing.{Standing, ToldEnds, IsToldBy, IsTold}
 use Rattle.implication.specs.Idling.{Idling, StandsBy, IsIdleBoard}
-use Rattle.implication.specs.Kept.{most_assumptions, Outset, Kept, AreLabelsUnder, AreLeft, StandsOpen, StandsIdle, StandsFrom, AreToldGates, IsToldEntry, KeepsStanding}
-use Rattle.implication.proofs.Linking.{same_cone}
+use Rattle.implication.specs.Kept.{most_assumptions, Outset, Kept, AreLabelsUnder, AreLeft, StandsOpen, StandsIdle, StandsFrom, AreEnough, IsToldEntry, KeepsStanding}
+use Rattle.implication.proofs.Linking.{same_cone, links_among}
 use Rattle.implication.proofs.Lists.{list_empty}
 use Rattle.netlist.specs.LinkedPairs.{AreLinksOf}
 use Rattle.implication.proofs.Labels.{labels_at_start}
 use Rattle.implication.proofs.Starting.{free_at_start}
 
 -- what an engine keeps as it is made
-pub kept_new : (a : StateAlgebra) (c : Circuit) (rules : Rules) (ends : Option (List LineId)) (list : List Assumption) (kept : Kept)
-    (room befores_room : ℕ) → IsCircuit c → AreToldGates c (links_of rules) ends kept.board.inside kept.board.links → IsIdleBoard a c rules kept.idle kept.board
+pub kept_new : (a : StateAlgebra) (c : Circuit) (rules : Rules) (ends : Option ToldEnds) (list : List Assumption) (kept : Kept)
+    (room befores_room : ℕ) → IsCircuit c → AreEnough a c (links_of rules) ends kept.board.inside kept.board.links → IsIdleBoard a c rules kept.idle kept.board
     → AreLinksOf c (links_of rules)
     → list ≡ [] → kept.befores ≡ [] → kept.left ≡ replicate (source_count c) (all_states a.count)
     → kept.steps ≡ record { kind = Robust; gates = gate_count c; room = greatest_level c; steps = [] }
@@ -114,7 +114,8 @@ module _ (a : StateAlgebra) {standing : Standing} {kept : Kept} {room befores_ro
     -- with the four states no conflict stands then
     pub free_begun : links_of standing.rules ≡ [] → a ≡ four_states → answer ≡ None
     free_begun unlinked four =
-        free_at_start a (from standing.net kept.board.inside standing.rules) board.labels answer keeps.circuit keeps.cone.closed.among source under unlinked four
+        free_at_start a (from standing.net kept.board.inside standing.rules) board.labels answer keeps.circuit
+        (links_among a standing.net (links_of standing.rules) standing.ends kept.board.inside kept.board.links keeps.cone) source under unlinked four
 
     abbrev new : Kept
     new = record { board = board; idle = idling; befores = kept.befores; left = kept.left; steps = steps }
@@ -161,7 +162,7 @@ module _ (a : StateAlgebra) {standing : Standing} {kept : Kept} {room befores_ro
           circuit = keeps.circuit;
           board = still_of standing.net kept.board board inside links lines keeps.board;
           links = keeps.links;
-          cone = same_cone standing.net (links_of standing.rules) standing.ends kept.board.inside board.inside inside kept.board.links board.links
+          cone = same_cone a standing.net (links_of standing.rules) standing.ends kept.board.inside board.inside inside kept.board.links board.links
               links keeps.cone;
           at_rest = at_rest;
           stands = subst R (sym stands.nothing) (subst L (sym links) (subst Q (sym inside) opens));
@@ -174,7 +175,7 @@ module _ (a : StateAlgebra) {standing : Standing} {kept : Kept} {room befores_ro
         }
 
 -- without an entry nothing stands beside the labels
-module _ (a : StateAlgebra) (c : Circuit) (rules : Rules) (ends : Option (List LineId)) (list : List Assumption) (nothing : list ≡ [])
+module _ (a : StateAlgebra) (c : Circuit) (rules : Rules) (ends : Option ToldEnds) (list : List Assumption) (nothing : list ≡ [])
     (conflict : Option LineId) (kept : Kept) where
   idle_parts : (beginning : Option Beginning) → StandsFrom a c rules ends beginning list conflict kept
       → (kept.befores ≡ []) × (kept.steps.steps ≡ []) × AreLeft a.count (source_count c) [] kept.left × StandsBy a c rules kept.idle kept.board
@@ -233,7 +234,7 @@ kept_ended a {standing} {kept} {room} {befores_room} keeps nothing board idling 
       circuit = keeps.circuit;
       board = still_of standing.net kept.board board inside links lines keeps.board;
       links = keeps.links;
-      cone = same_cone standing.net (links_of standing.rules) standing.ends kept.board.inside board.inside inside kept.board.links board.links
+      cone = same_cone a standing.net (links_of standing.rules) standing.ends kept.board.inside board.inside inside kept.board.links board.links
           links keeps.cone;
       at_rest = at_rest;
       stands = record {

@@ -32,7 +32,7 @@ use Rattle.implication.specs.declared.assumption.Assumption.{Assumption}
 use Rattle.implication.specs.declared.assumption.Assumption.TheVariants.{Entered, Assumed}
 use Rattle.implication.specs.declared.before.Before.{Before}
 use Rattle.implication.specs.Assumptions.{entered_pins, left_of}
-use Rattle.implication.specs.Standing.{Standing}
+use Rattle.implication.specs.Standing.{ToldEnds, Standing}
 use Rattle.implication.specs.Kept.{Outset, Kept, AreAssumptions, AreToldEntries, IsListFrom, TakesFrom, DoShrink, IsAboutSource, IsLeftBefore, IsNarrowedMore, IsOpenHull, AreLabelsUnder, AreLeft, Stood, StandsOpen, StandsFrom, HasStepRoom, CanStep, KeepsStanding, left_with, left_without, steps_without}
 use Rattle.implication.proofs.Entering.{pins_of, entered_append, entered_on, can_step}
 use Rattle.implication.proofs.Linking.{same_cone}
@@ -139,7 +139,7 @@ is_ready a from list board kind steps of inside same_links same_kind same_steps 
     }))
 
 -- where something is assumed, a scope has begun
-pub has_begun : (a : StateAlgebra) (c : Circuit) (rules : Rules) (ends : Option (List LineId)) (beginning : Option Beginning)
+pub has_begun : (a : StateAlgebra) (c : Circuit) (rules : Rules) (ends : Option ToldEnds) (beginning : Option Beginning)
     (list : List Assumption) (conflict : Option LineId) (kept : Kept) → StandsFrom a c rules ends beginning list conflict kept
     → 1 ≤ length list → (begun : Beginning) × (beginning ≡ Some begun)
 has_begun a c rules ends None list conflict kept stands some = let e = ap length stands.nothing in absurd (omega (arith, e, some))
@@ -192,7 +192,7 @@ module _ (a : StateAlgebra) {standing : Standing} {kept : Kept} {room befores_ro
         circuit = keeps.circuit;
         board = of;
         links = keeps.links;
-        cone = same_cone standing.net (links_of standing.rules) standing.ends kept.board.inside new.board.inside inside kept.board.links
+        cone = same_cone a standing.net (links_of standing.rules) standing.ends kept.board.inside new.board.inside inside kept.board.links
             new.board.links links keeps.cone;
         at_rest = at_rest;
         stands = subst R (sym is) (subst L (sym links) (subst Q (sym inside) open_));

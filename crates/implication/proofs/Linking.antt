@@ -1,11 +1,11 @@
 -- Links stand beside the gates: flags for them behind those of the gates change nothing at the gates.
 use Rattle.std.proofs.Common.{◌-◌}
-use Rattle.std.proofs.Common.{◌≡◌, ℕ, ◌+◌, ◌<◌, ◌^◌, ◌++◌, inl, inr, ⊎_elim, Bool, true, false, List, [], ◌∷◌, length, replicate, refl, sym, ap, ◌∙◌, subst, arith}
+use Rattle.std.proofs.Common.{◌≡◌, ℕ, ◌+◌, ◌<◌, ◌++◌, inl, inr, ⊎_elim, Bool, true, false, List, [], ◌∷◌, length, replicate, refl, sym, ap, ◌∙◌, subst, arith}
 use Rattle.std.proofs.lemmas.List.{get_or_append_left, get_or-append_right, get_or-replicate, length-append, length-replicate}
 use Rattle.pd_base.specs.Links.{LinkList, IsLink}
 use Rattle.pd_base.specs.declared.ids.LineId.{LineId}
 use Rattle.pd_base.specs.declared.rules.Rules.{Rules}
-use Rattle.netlist.specs.Circuit.{Circuit, gate_count, gate_line, line_count, source_count}
+use Rattle.netlist.specs.Circuit.{Circuit, gate_count, gate_line, line_count, source_count, pins_at}
 use Rattle.netlist.specs.Lawful.{IsCircuit}
 use Rattle.netlist.specs.LinkedPairs.{AreLinksOf}
 use Rattle.netlist.proofs.Evaluation.{all_at_place}
@@ -20,15 +20,24 @@ use Rattle.state_laws.proofs.Linked.{none_linked}
 use Rattle.hulls.specs.Awaiting.{is_inside}
 use Rattle.hulls.specs.Boards.{OnBoard}
 use Rattle.implication.specs.Idling.{Idling, IsIdleBoard}
-use Rattle.implication.specs.Kept.{AreToldGates}
-use Rattle.std.proofs.Common.{Option}
+use Rattle.implication.specs.FirstStates.{HasFirstValues}
+use Rattle.implication.specs.Standing.{ToldEnds}
+use Rattle.implication.specs.Kept.{AreToldGates, AreNearGates, AreEnough}
+use Rattle.std.proofs.Common.{Option, All}
 
 -- the gates and links inside are told by equal flags and lists too
-pub same_cone : (c : Circuit) (links : LinkList) (ends : Option (List LineId)) (old new : List Bool) → new ≡ old → (inner now : LinkList)
-    → now ≡ inner → AreToldGates c links ends old inner → AreToldGates c links ends new now
-same_cone c links ends old new inside inner now same cone =
-    let P : List Bool → Type 0 = λ flags. AreToldGates c links ends flags now in
-    let Q : LinkList → Type 0 = λ ls. AreToldGates c links ends old ls in subst P (sym inside) (subst Q (sym same) cone)
+pub same_cone : (a : StateAlgebra) (c : Circuit) (links : LinkList) (ends : Option ToldEnds) (old new : List Bool) → new ≡ old
+    → (inner now : LinkList) → now ≡ inner → AreEnough a c links ends old inner → AreEnough a c links ends new now
+same_cone a c links ends old new inside inner now same cone =
+    let P : List Bool → Type 0 = λ flags. AreEnough a c links ends flags now in
+    let Q : LinkList → Type 0 = λ ls. AreEnough a c links ends old ls in subst P (sym inside) (subst Q (sym same) cone)
+
+-- the links inside are among all
+pub links_among : (a : StateAlgebra) (c : Circuit) (links : LinkList) (ends : Option ToldEnds) (inside : List Bool) (inner : LinkList)
+    → AreEnough a c links ends inside inner → (source line : ℕ) → IsLink inner source line → IsLink links source line
+links_among a c links ends inside inner cone source line link =
+    ⊎_elim (λ (told : AreToldGates c links ends inside inner). told.closed.among source line link)
+    (λ (near : HasFirstValues a × AreNearGates c links ends inside inner). near.1.closed.among source line link) cone
 
 -- where there are no links, none is inside
 pub none_inner : (links inner : LinkList) → ((source line : ℕ) → IsLink inner source line → IsLink links source line) → links ≡ [] → inner ≡ []
@@ -36,6 +45,26 @@ none_inner links [] among none = refl
 none_inner links (link ∷ inner) among none =
     absurd (none_linked link.0.0 link.1.0
     (subst (λ (ls : LinkList). IsLink ls link.0.0 link.1.0) none (among link.0.0 link.1.0 (0, omega arith, refl))))
+
+-- what is inside has with each gate those whose lines it reads
+closed_back : (c : Circuit) (inside : ℕ → Bool) (links inner : LinkList)
+    → ((gate : ℕ) → gate < gate_count c → inside gate ≡ true → All (λ pin. IsLineWithin c inside links inner pin.0) (pins_at c gate))
+    → IsClosedBack c inside
+closed_back c inside links inner pins gate other within here reads =
+    let of : IsLineWithin c inside links inner (gate_line c other) =
+    all_at_place (λ (l : LineId). IsLineWithin c inside links inner l.0) (pins_at c gate) reads.0 (record { 0 = gate_line c other })
+    (pins gate within here) reads.1 in
+    ⊎_elim
+    (λ (source : (gate_line c other < source_count c) × ((l : ℕ) → IsLink links (gate_line c other) l → IsLink inner (gate_line c other) l)).
+    absurd (omega (arith, source.0)))
+    (λ (at : (g : ℕ) × (g < gate_count c) × (inside g ≡ true) × (gate_line c other ≡ gate_line c g)).
+    subst (λ (n : ℕ). inside n ≡ true) (let e = at.3 in omega (arith, e)) at.2) of
+
+pub closed_inside : (a : StateAlgebra) (c : Circuit) (links : LinkList) (ends : Option ToldEnds) (inside : List Bool) (inner : LinkList)
+    → AreEnough a c links ends inside inner → IsClosedBack c (is_inside inside)
+closed_inside a c links ends inside inner cone =
+    ⊎_elim (λ (told : AreToldGates c links ends inside inner). closed_back c (is_inside inside) links inner told.closed.pins)
+    (λ (near : HasFirstValues a × AreNearGates c links ends inside inner). closed_back c (is_inside inside) inner inner near.1.cone.pins) cone
 
 module _ (c : Circuit) (circuit : IsCircuit c) (flags : List Bool) (gates : length flags ≡ gate_count c) (links : ℕ) where
   abbrev more : List Bool
@@ -57,7 +86,7 @@ module _ (c : Circuit) (circuit : IsCircuit c) (flags : List Bool) (gates : leng
       (λ (at : (g : ℕ) × (g < gate_count c) × (is_inside flags g ≡ true) × (line ≡ gate_line c g)).
       inr (at.0, at.1, flag_same at.0 at.1 ∙ at.2, at.3)) of
 
-  pub more_told : (all inner : LinkList) (ends : Option (List LineId)) → AreToldGates c all ends flags inner → AreToldGates c all ends more inner
+  more_told : (all inner : LinkList) (ends : Option ToldEnds) → AreToldGates c all ends flags inner → AreToldGates c all ends more inner
   more_told all inner ends told = record {
     gates = let e = length-append flags (replicate links true) in omega (arith, e, gates);
     closed = record {
@@ -72,6 +101,29 @@ module _ (c : Circuit) (circuit : IsCircuit c) (flags : List Bool) (gates : leng
     );
     sources = told.sources;
   }
+
+  more_near : (all inner : LinkList) (ends : Option ToldEnds) → AreNearGates c all ends flags inner → AreNearGates c all ends more inner
+  more_near all inner ends are = record {
+    gates = let e = length-append flags (replicate links true) in omega (arith, e, gates);
+    near = are.near;
+    closed = are.closed;
+    told = are.told;
+    sources = are.sources;
+    of = are.of;
+    covers = λ gate within near. flag_same gate within ∙ are.covers gate within near;
+    cone = record {
+      pins = λ gate within here i d in_pins.
+          within_more inner inner _ (are.cone.pins gate within (sym (flag_same gate within) ∙ here) i d in_pins);
+      among = are.cone.among;
+      lines = λ source line link. within_more inner inner line (are.cone.lines source line link);
+    };
+  }
+
+  pub more_enough : (a : StateAlgebra) (all inner : LinkList) (ends : Option ToldEnds) → AreEnough a c all ends flags inner
+      → AreEnough a c all ends more inner
+  more_enough a all inner ends cone =
+      ⊎_elim (λ (told : AreToldGates c all ends flags inner). inl (more_told all inner ends told))
+      (λ (near : HasFirstValues a × AreNearGates c all ends flags inner). inr (near.0, more_near all inner ends near.1)) cone
 
   pub more_forward : (a : StateAlgebra) (start : StateSet) (labels : List StateSet) → IsForward a c (is_inside flags) start labels
       → IsForward a c (is_inside more) start labels

@@ -17,7 +17,7 @@ use Rattle.implication.specs.declared.assumption.Beginning.{Beginning}
 use Rattle.implication.specs.declared.assumption.Assumption.{Assumption}
 use Rattle.implication.specs.declared.assumption.Assumption.TheVariants.{Entered, Assumed}
 use Rattle.implication.specs.Assumptions.{entered_pins, left_of, end_under}
-use Rattle.implication.specs.Standing.{IsToldBy}
+use Rattle.implication.specs.Standing.{ToldEnds, IsToldBy}
 use Rattle.implication.specs.Kept.{AreAssumptions, IsToldEntry, AreToldEntries, most_assumptions}
 use Rattle.implication.proofs.Entering.{entered_append, connects_more, connects_taken}
 use Rattle.implication.proofs.Shrinking.{shrink_taken, shrink_more, sets_within_weight, weight_most, entries_counted}
@@ -81,7 +81,7 @@ module _ (count : ℕ) (c : Circuit) (begun : Beginning) where
           weight_most count (source_count c) [],
         )
 
-module _ (c : Circuit) (links : LinkList) (ends : Option (List LineId)) where
+module _ (c : Circuit) (links : LinkList) (ends : Option ToldEnds) where
   abbrev IsToldPin : PinRef → Type 0
   IsToldPin pin = IsToldBy c links ends (gate_line c pin.gate.0)
 

@@ -17,20 +17,23 @@ use Rattle.state_sets.specs.StateAlgebra.{StateAlgebra, HasLaws}
 use Rattle.state_sets.specs.Labellings.{label_at}
 use Rattle.state_sets.specs.Hulls.{IsNarrowingOf}
 use Rattle.state_laws.specs.Cones.{IsLineWithin, AreFreeOutside, IsPartOfHull}
+use Rattle.state_laws.proofs.FirstValues.{part_of_near_hull}
 use Rattle.state_laws.proofs.LinkedCones.{part_of_linked_hull, emptied_within}
 use Rattle.state_laws.proofs.Linked.{none_linked, linked_source, linked_line}
 use Rattle.netlist.specs.LinkedPairs.{AreLinksOf}
 use Rattle.state_sets.specs.Starts.{IsOtherStart}
 use Rattle.pd_base.specs.declared.rules.Rules.TheVariants.{One, Two, Linked}
 use Rattle.implication.proofs.Lists.{told_pins}
+use Rattle.implication.proofs.Linking.{links_among}
 use Rattle.state_laws.proofs.Hulls.{not_closing}
 use Rattle.hulls.specs.Awaiting.{is_inside}
 use Rattle.implication.specs.declared.assumption.Beginning.{Beginning}
 use Rattle.implication.specs.declared.assumption.Assumption.{Assumption}
 use Rattle.implication.specs.declared.assumption.Assumption.TheVariants.{Entered, Assumed}
 use Rattle.implication.specs.Assumptions.{entered_pins, MayUnder, IsLetBy, IsEmptiedUnder, ClosesUnder}
-use Rattle.implication.specs.Standing.{Standing, IsToldBy, TellsLabels, IsLabels, IsHullFrom, IsOpenFrom, IsOpenIn, IsEmptiedFrom, IsEmptiedIn}
-use Rattle.implication.specs.Kept.{Outset, Kept, AreAssumptions, AreToldEntries, IsToldEntry, IsAboutSource, AreToldGates, IsOpenHull, IsEmptiedInside, StandsFrom, KeepsStanding}
+use Rattle.implication.specs.Standing.{Standing, ToldEnds, IsToldBy, TellsLabels, IsLabels, IsHullFrom, IsOpenFrom, IsOpenIn, IsEmptiedFrom, IsEmptiedIn}
+use Rattle.implication.specs.FirstStates.{HasFirstValues}
+use Rattle.implication.specs.Kept.{Outset, Kept, AreAssumptions, AreToldEntries, IsToldEntry, IsAboutSource, AreToldGates, AreNearGates, AreEnough, IsOpenHull, IsEmptiedInside, StandsFrom, KeepsStanding}
 use Rattle.implication.proofs.Entering.{pins_of}
 use Rattle.implication.proofs.Shrinking.{about_sources}
 
@@ -66,18 +69,30 @@ cone_of_all c circuit links of inside is = record {
         inr (gate, below, whole gate below, sym (gate_line_of c line above)))
         (cases_lt line (source_count c))
 
--- a line that is told is one inside
-told_inside : (c : Circuit) (links : LinkList) (ends : Option (List LineId)) (inside : _) (inner : LinkList) → AreToldGates c links ends inside inner
-    → (line : ℕ) → line < line_count c → IsToldBy c links ends line → IsLineWithin c (is_inside inside) links inner line
-told_inside c links ends inside inner cone line within told = ⊎_elim
-    (λ (source : line < source_count c). inl (source, (λ other link. cone.sources line other told link)))
+-- each gate whose line is told is near
+abbrev HasToldGates : Circuit → LinkList → Option ToldEnds → (ℕ → Bool) → Type 0
+HasToldGates c links ends near = (gate : ℕ) → gate < gate_count c → IsToldBy c links ends (gate_line c gate) → near gate ≡ true
+
+-- and each link of a source that is told is inner
+abbrev HasToldLinks : Circuit → LinkList → Option ToldEnds → LinkList → Type 0
+HasToldLinks c links ends inner = (source line : ℕ) → IsToldBy c links ends source → IsLink links source line → IsLink inner source line
+
+-- then a line that is told is near
+told_near : (c : Circuit) (links : LinkList) (ends : Option ToldEnds) (near : ℕ → Bool) (inner : LinkList) → HasToldGates c links ends near
+    → HasToldLinks c links ends inner → (line : ℕ) → line < line_count c → IsToldBy c links ends line → IsLineWithin c near links inner line
+told_near c links ends near inner gates sources line within told = ⊎_elim
+    (λ (source : line < source_count c). inl (source, (λ other link. sources line other told link)))
     (λ (above : source_count c ≤ line).
     let gate = line - source_count c in
     let is : gate_line c gate ≡ line = gate_line_of c line above in
     let below : gate < gate_count c = omega (arith, within, above) in
     let P : ℕ → Type 0 = λ l. IsToldBy c links ends l in
-    inr (gate, below, (cone.told gate below).1 (subst P (sym is) told), sym is))
+    inr (gate, below, gates gate below (subst P (sym is) told), sym is))
     (cases_lt line (source_count c))
+
+-- a line of the circuit that is told
+abbrev IsToldLine : Circuit → LinkList → Option ToldEnds → ℕ → Type 0
+IsToldLine c links ends line = (line < line_count c) × IsToldBy c links ends line
 
 -- under rules with a link other sources may start in every state of a source
 linked_start : (a : StateAlgebra) (rules : Rules) (source line : ℕ) → IsLink (links_of rules) source line → (state : State)
@@ -86,8 +101,9 @@ linked_start a One source line link state = tt
 linked_start a Two source line link state = absurd (none_linked source line link)
 linked_start a (Linked links) source line link state = tt
 
-module _ (a : StateAlgebra) (laws : HasLaws a) (from : Outset) (circuit : IsCircuit from.net) (linked : AreLinksOf from.net (links_of from.rules))
-    (ends : Option (List LineId)) (cone : AreToldGates from.net (links_of from.rules) ends from.inside from.inner) (list : List Assumption)
+module _ (a : StateAlgebra) (from : Outset) (linked : AreLinksOf from.net (links_of from.rules))
+    (ends : Option ToldEnds) (near : ℕ → Bool) (gates : HasToldGates from.net (links_of from.rules) ends near)
+    (sources : HasToldLinks from.net (links_of from.rules) ends from.inner) (list : List Assumption)
     (are : AreAssumptions a.count from.net from.begun list) (begins : IsToldBy from.net (links_of from.rules) ends from.begun.source.0)
     (told : AreToldEntries from.net (links_of from.rules) ends list) where
   abbrev May : ℕ → State → Type 0
@@ -96,17 +112,16 @@ module _ (a : StateAlgebra) (laws : HasLaws a) (from : Outset) (circuit : IsCirc
   abbrev steps : List PinRef
   steps = entered_pins list
 
-  -- each pin was entered at a gate inside
-  through : All (λ step. is_inside from.inside step.gate.0 ≡ true) steps
+  -- each pin was entered at a near gate
+  through : All (λ step. near step.gate.0 ≡ true) steps
   through k d within =
       let step = get_or steps k d in
       let pins : All (IsPin from.net) steps = pins_of from.net from.begun.source.0 steps are.connects in
-      (cone.told step.gate.0 (pins k d within).in_circuit).1 (told_pins from.net (links_of from.rules) ends list told k d within)
+      gates step.gate.0 (pins k d within).in_circuit (told_pins from.net (links_of from.rules) ends list told k d within)
 
   -- the line of a gate may be in every state
-  free : (gate : ℕ) → gate < gate_count from.net → is_inside from.inside gate ≡ false → (state : State) → state.0 < a.count
-      → May (gate_line from.net gate) state
-  free gate within outside state below =
+  free : (gate : ℕ) → gate < gate_count from.net → (state : State) → state.0 < a.count → May (gate_line from.net gate) state
+  free gate within state below =
       let source = are.source in record {
         start = record {
           is_source = λ less. absurd (omega (arith, less));
@@ -124,7 +139,7 @@ module _ (a : StateAlgebra) (laws : HasLaws a) (from : Outset) (circuit : IsCirc
   lets_loose source line link outside state (Entered pin) told = tt
   lets_loose source line link outside state (Assumed about set) told = λ here.
       let P : ℕ → Type 0 = λ s. IsToldBy from.net (links_of from.rules) ends s in
-      absurd (outside (cone.sources source line (subst P (sym here) told) link))
+      absurd (outside (sources source line (subst P (sym here) told) link))
 
   -- such a source may be in every state of a source
   loose : AreFreeOutside a (links_of from.rules) from.inner May
@@ -135,37 +150,81 @@ module _ (a : StateAlgebra) (laws : HasLaws a) (from : Outset) (circuit : IsCirc
         is_source = λ less. has;
         own = λ here.
             let P : ℕ → Type 0 = λ s. IsToldBy from.net (links_of from.rules) ends s in
-            absurd (outside (cone.sources source line (subst P (sym here) begins) link));
+            absurd (outside (sources source line (subst P (sym here) begins) link));
         other = λ less away. linked_start a from.rules source line link state;
       };
       assumed = λ k d inside. lets_loose source line link outside state (get_or list k d) (told k d inside);
     },
   )
 
-  -- so the labels are part of the hull of the whole circuit
-  pub part : (labels : List StateSet) → IsOpenHull a from list labels
-      → IsPartOfHull a from.net (IsLineWithin from.net (is_inside from.inside) (links_of from.rules) from.inner) (links_of from.rules)
-      from.begun.kind steps May labels
-  part labels is =
-      part_of_linked_hull a from.net laws circuit.reads_lines (is_inside from.inside) (links_of from.rules) from.inner linked cone.closed
-      from.begun.kind steps through May free loose labels is.hull is.none_empty
+  -- these labels are part of the hull of the whole circuit at told lines where they are at near ones
+  part_at_told : (labels : List StateSet)
+      → IsPartOfHull a from.net (IsLineWithin from.net near (links_of from.rules) from.inner) (links_of from.rules) from.begun.kind steps May labels
+      → IsPartOfHull a from.net (IsToldLine from.net (links_of from.rules) ends) (links_of from.rules) from.begun.kind steps May labels
+  part_at_told labels part = record {
+    whole = part.whole;
+    hull = part.hull;
+    none_empty = part.none_empty;
+    same = λ line told_line. part.same line
+        (told_near from.net (links_of from.rules) ends near from.inner gates sources line told_line.0 told_line.1);
+    lies = part.lies;
+  }
 
-  -- each line has some state, then, and the assumptions do not close
-  pub open_if_settled : (labels : List StateSet) → IsOpenHull a from list labels → ¬ ClosesUnder a from.net from.rules from.begun list
-  open_if_settled labels is =
-      let in_whole = part labels is in
-      not_closing a from.net (IsNarrowingOf from.net (links_of from.rules) from.begun.kind steps) May in_whole.whole in_whole.hull in_whole.none_empty
+-- The labels are part of the hull of the whole circuit, with the gates behind told lines over all links,
+module _ (a : StateAlgebra) (laws : HasLaws a) (from : Outset) (circuit : IsCircuit from.net) (linked : AreLinksOf from.net (links_of from.rules))
+    (ends : Option ToldEnds) (list : List Assumption) (are : AreAssumptions a.count from.net from.begun list)
+    (begins : IsToldBy from.net (links_of from.rules) ends from.begun.source.0) (told : AreToldEntries from.net (links_of from.rules) ends list)
+    (labels : List StateSet) (is : IsOpenHull a from list labels) where
+  abbrev IsPart : Type 0
+  IsPart = IsPartOfHull a from.net (IsToldLine from.net (links_of from.rules) ends) (links_of from.rules) from.begun.kind (entered_pins list)
+      (MayUnder a from.net from.rules from.begun list) labels
 
-  -- what the labels tell of a line
-  pub told_by : (labels : List StateSet) (is : IsOpenHull a from list labels) (line : ℕ) → line < line_count from.net
-      → ((state : State) → Has a.count (label_at (part labels is).whole line) state → Has a.count (label_at labels line) state)
-      × (IsToldBy from.net (links_of from.rules) ends line → label_at labels line ≡ label_at (part labels is).whole line)
-  told_by labels is line within =
-      let in_whole = part labels is in (
-        (λ state has. in_whole.lies line state has),
-        (λ told_line. sym (in_whole.same line
-            (told_inside from.net (links_of from.rules) ends from.inside from.inner cone line within told_line))),
-      )
+  part_of_told : AreToldGates from.net (links_of from.rules) ends from.inside from.inner → IsPart
+  part_of_told cone =
+      let gates : HasToldGates from.net (links_of from.rules) ends (is_inside from.inside) = λ gate within. (cone.told gate within).1 in
+      part_at_told a from linked ends (is_inside from.inside) gates cone.sources list are begins told labels
+      (part_of_linked_hull a from.net laws circuit.reads_lines (is_inside from.inside) (links_of from.rules) from.inner linked cone.closed
+      from.begun.kind (entered_pins list) (through a from linked ends (is_inside from.inside) gates cone.sources list are begins told)
+      (MayUnder a from.net from.rules from.begun list)
+      (λ gate within outside. free a from linked ends (is_inside from.inside) gates cone.sources list are begins told gate within)
+      (loose a from linked ends (is_inside from.inside) gates cone.sources list are begins told) labels is.hull is.none_empty)
+
+  -- and with near and first gates
+  part_of_near : HasFirstValues a → AreNearGates from.net (links_of from.rules) ends from.inside from.inner → IsPart
+  part_of_near firsts cone =
+      let gates : HasToldGates from.net (links_of from.rules) ends (is_inside cone.near) = λ gate within. (cone.told gate within).1 in
+      let near_steps = through a from linked ends (is_inside cone.near) gates cone.sources list are begins told in
+      let pins : All (IsPin from.net) (entered_pins list) = pins_of from.net from.begun.source.0 (entered_pins list) are.connects in
+      part_at_told a from linked ends (is_inside cone.near) gates cone.sources list are begins told labels
+      (part_of_near_hull a from.net laws firsts.first firsts.laws circuit.reads_lines circuit.loop_free (is_inside cone.near)
+      (is_inside from.inside) (links_of from.rules) from.inner linked cone.of cone.closed cone.covers cone.cone from.begun.kind
+      (entered_pins list) near_steps
+      (λ k d within. cone.covers (get_or (entered_pins list) k d).gate.0 (pins k d within).in_circuit (near_steps k d within))
+      (MayUnder a from.net from.rules from.begun list)
+      (λ gate within outside. free a from linked ends (is_inside cone.near) gates cone.sources list are begins told gate within)
+      (loose a from linked ends (is_inside cone.near) gates cone.sources list are begins told) labels is.hull is.none_empty)
+
+  pub part : AreEnough a from.net (links_of from.rules) ends from.inside from.inner → IsPart
+  part cone = ⊎_elim part_of_told (λ (near : HasFirstValues a × AreNearGates from.net (links_of from.rules) ends from.inside from.inner).
+      part_of_near near.0 near.1) cone
+
+  module _ (cone : AreEnough a from.net (links_of from.rules) ends from.inside from.inner) where
+    -- each line has some state, then, and the assumptions do not close
+    pub open_if_settled : ¬ ClosesUnder a from.net from.rules from.begun list
+    open_if_settled =
+        let in_whole = part cone in
+        not_closing a from.net (IsNarrowingOf from.net (links_of from.rules) from.begun.kind (entered_pins list))
+        (MayUnder a from.net from.rules from.begun list) in_whole.whole in_whole.hull in_whole.none_empty
+
+    -- what the labels tell of a line
+    pub told_by : (line : ℕ) → line < line_count from.net
+        → ((state : State) → Has a.count (label_at (part cone).whole line) state → Has a.count (label_at labels line) state)
+        × (IsToldBy from.net (links_of from.rules) ends line → label_at labels line ≡ label_at (part cone).whole line)
+    told_by line within =
+        let in_whole = part cone in (
+          (λ state has. in_whole.lies line state has),
+          (λ told_line. sym (in_whole.same line (within, told_line))),
+        )
 
 -- what is emptied by the narrowings inside is emptied in the whole circuit
 pub emptied_under : (a : StateAlgebra) (from : Outset) (list : List Assumption)
@@ -178,22 +237,22 @@ emptied_under a from list among line is = (
 )
 
 -- so it is as an engine stands
-module _ (a : StateAlgebra) (laws : HasLaws a) (c : Circuit) (circuit : IsCircuit c) (rules : Rules) (ends : Option (List LineId))
+module _ (a : StateAlgebra) (laws : HasLaws a) (c : Circuit) (circuit : IsCircuit c) (rules : Rules) (ends : Option ToldEnds)
     (list : List Assumption) (kept : Kept) (linked : AreLinksOf c (links_of rules))
-    (cone : AreToldGates c (links_of rules) ends kept.board.inside kept.board.links) where
+    (cone : AreEnough a c (links_of rules) ends kept.board.inside kept.board.links) where
   open_from : (beginning : Option Beginning) → StandsFrom a c rules ends beginning list None kept → IsOpenFrom a c rules beginning list
   open_from None stands = tt
   open_from (Some begun) stands =
       open_if_settled a laws
-      (record { net = c; inside = kept.board.inside; inner = kept.board.links; rules = rules; begun = begun }) circuit linked ends cone list
-      stands.list stands.begins stands.told kept.board.labels stands.answer
+      (record { net = c; inside = kept.board.inside; inner = kept.board.links; rules = rules; begun = begun }) circuit linked ends list
+      stands.list stands.begins stands.told kept.board.labels stands.answer cone
 
   emptied_from : (beginning : Option Beginning) (line : LineId) → StandsFrom a c rules ends beginning list (Some line) kept
       → IsEmptiedFrom a c rules beginning list line.0
   emptied_from None line stands = tt
   emptied_from (Some begun) line stands =
       emptied_under a (record { net = c; inside = kept.board.inside; inner = kept.board.links; rules = rules; begun = begun }) list
-      cone.closed.among line.0 stands.answer
+      (links_among a c (links_of rules) ends kept.board.inside kept.board.links cone) line.0 stands.answer
 
   tells_from : (beginning : Option Beginning) → StandsFrom a c rules ends beginning list None kept
       → (labels : List StateSet) × IsHullFrom a c rules beginning list labels
@@ -204,9 +263,9 @@ module _ (a : StateAlgebra) (laws : HasLaws a) (c : Circuit) (circuit : IsCircui
   tells_from (Some begun) stands =
       let from : Outset = record { net = c; inside = kept.board.inside; inner = kept.board.links; rules = rules; begun = begun } in
       let is : IsOpenHull a from list kept.board.labels = stands.answer in (
-        (part a laws from circuit linked ends cone list stands.list stands.begins stands.told kept.board.labels is).whole,
-        (part a laws from circuit linked ends cone list stands.list stands.begins stands.told kept.board.labels is).hull,
-        told_by a laws from circuit linked ends cone list stands.list stands.begins stands.told kept.board.labels is,
+        (part a laws from circuit linked ends list stands.list stands.begins stands.told kept.board.labels is cone).whole,
+        (part a laws from circuit linked ends list stands.list stands.begins stands.told kept.board.labels is cone).hull,
+        told_by a laws from circuit linked ends list stands.list stands.begins stands.told kept.board.labels is cone,
       )
 
 module _ (a : StateAlgebra) (laws : HasLaws a) {standing : Standing} {kept : Kept} {room befores_room : ℕ}

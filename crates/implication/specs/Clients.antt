@@ -1,5 +1,5 @@
 -- What functions that take a scope promise of it (this project's own).
-use Rattle.std.specs.Prelude.{◌≡◌, ⊤, ◌≤◌, List, length, take, Option, None, Result, Err, IfNone, IfSome, IfErr, OnOk}
+use Rattle.std.specs.Prelude.{◌≡◌, ⊤, ◌≤◌, List, length, take, None, Result, Err, IfNone, IfSome, IfErr, OnOk}
 use Rattle.state_sets.specs.StateAlgebra.{StateAlgebra}
 use Rattle.implication.specs.declared.assumption.Assumption.{Assumption}
 use Rattle.implication.specs.declared.assumption.Conflict.{Conflict}

@@ -1,10 +1,10 @@
--- Which sources are told by the marks of the lines behind some ends, in words that are spoken inside this crate alone (this project's own).
+-- Which lines are told by the marks of the lines behind some ends, in words that are spoken inside this crate alone (this project's own).
 use Rattle.std.specs.Prelude.{◌≡◌, ℕ, ◌<◌, ◌⊎◌, ◌↔◌, Bool, true, List, length}
 use Rattle.pd_base.specs.Links.{LinkList, IsLink}
 use Rattle.hulls.specs.Awaiting.{is_inside}
 
--- one flag for each source, true where it is marked, or has no link
+-- flags are true where lines are marked, and at sources without a link
 pub record AreFlagged (sources : ℕ) (links : LinkList) (marks told : List Bool) : Type 0 where
-  pub one_each : length told ≡ sources
-  pub exactly : (source : ℕ) → source < sources
-      → (is_inside told source ≡ true) ↔ ((is_inside marks source ≡ true) ⊎ ((line : ℕ) → ¬ IsLink links source line))
+  pub one_each : length told ≡ length marks
+  pub exactly : (line : ℕ)
+      → (is_inside told line ≡ true) ↔ ((is_inside marks line ≡ true) ⊎ ((line < sources) × ((other : ℕ) → ¬ IsLink links line other)))

@@ -1,6 +1,6 @@
 -- What an engine keeps: the board, whose trail leads back to the labels before each assumption, and what was left of each source (this
 -- project's own).
-use Rattle.std.specs.Prelude.{◌≡◌, ◌≢◌, ⊤, ℕ, ◌+◌, ◌-◌, ◌*◌, ◌<◌, ◌≤◌, List, length, take, drop, slice_index_or, slice_set, ◌↔◌, [], ◌∷◌, ◌++◌, All, Bool, true, Option, Some, None, IfSome, IfNone}
+use Rattle.std.specs.Prelude.{◌≡◌, ◌≢◌, ⊤, ℕ, ◌+◌, ◌-◌, ◌*◌, ◌<◌, ◌≤◌, ◌⊎◌, List, length, take, drop, slice_index_or, slice_set, ◌↔◌, [], ◌∷◌, ◌++◌, All, Bool, true, Option, Some, None, IfSome, IfNone}
 use Rattle.pd_base.specs.Links.{LinkList, links_of, IsLink}
 use Rattle.pd_base.specs.declared.ids.LineId.{LineId}
 use Rattle.pd_base.specs.declared.ids.PinRef.{PinRef}
@@ -19,6 +19,7 @@ use Rattle.state_sets.specs.StateAlgebra.{StateAlgebra}
 use Rattle.state_sets.specs.Labellings.{label_at}
 use Rattle.state_sets.specs.Hulls.{HasAt, HasNoEmptySet, IsHull, IsEmptied, condition_at}
 use Rattle.state_laws.specs.Cones.{IsClosedUnder, IsNarrowingIn}
+use Rattle.state_laws.specs.FirstValues.{IsNear}
 use Rattle.hulls.specs.Conditions.{Entered as EnteredSteps}
 use Rattle.undo_trail.specs.Undoing.{undone}
 use Rattle.hulls.specs.Awaiting.{is_inside}
@@ -28,7 +29,8 @@ use Rattle.implication.specs.declared.assumption.Assumption.{Assumption}
 use Rattle.implication.specs.declared.assumption.Assumption.TheVariants.{Entered, Assumed}
 use Rattle.implication.specs.declared.before.Before.{Before}
 use Rattle.implication.specs.Assumptions.{entered_pins, left_of, IsLetBy, MayUnder}
-use Rattle.implication.specs.Standing.{Standing, IsToldBy}
+use Rattle.implication.specs.Standing.{Standing, ToldEnds, IsToldBy}
+use Rattle.implication.specs.FirstStates.{HasFirstValues}
 use Rattle.implication.specs.Idling.{Idling, StandsBy, IsIdleBoard}
 
 -- a set assumed of a source of the circuit, which takes some state away from what was left of the source
@@ -60,16 +62,16 @@ pub record AreAssumptions (count : ℕ) (c : Circuit) (begun : Beginning) (assum
   pub shrink : DoShrink count (source_count c) [] assumptions
 
 -- the gate of a pin that was entered has a line that is told, and so is a source of which a set was assumed
-abbrev pub IsToldEntry : Circuit → LinkList → Option (List LineId) → Assumption → Type 0
+abbrev pub IsToldEntry : Circuit → LinkList → Option ToldEnds → Assumption → Type 0
 IsToldEntry c links ends (Entered pin) = IsToldBy c links ends (gate_line c pin.gate.0)
 IsToldEntry c links ends (Assumed source set) = IsToldBy c links ends source.0
 
 -- the same for each entry
-abbrev pub AreToldEntries : Circuit → LinkList → Option (List LineId) → List Assumption → Type 0
+abbrev pub AreToldEntries : Circuit → LinkList → Option ToldEnds → List Assumption → Type 0
 AreToldEntries c links ends assumptions = All (IsToldEntry c links ends) assumptions
 
 -- the list is one as scopes make it, where a scope is open
-abbrev pub IsListFrom : ℕ → Circuit → LinkList → Option (List LineId) → Option Beginning → List Assumption → Type 0
+abbrev pub IsListFrom : ℕ → Circuit → LinkList → Option ToldEnds → Option Beginning → List Assumption → Type 0
 IsListFrom count c links ends None assumptions = ⊤
 IsListFrom count c links ends (Some begun) assumptions = AreAssumptions count c begun assumptions × AreToldEntries c links ends assumptions
 
@@ -209,7 +211,7 @@ pub record Stood (a : StateAlgebra) (from : Outset) (board : OnBoard) (list : Li
       → (before_at befores earlier).changes ≤ (before_at befores later).changes
 
 -- what stands while a scope is open
-pub record StandsOpen (a : StateAlgebra) (from : Outset) (ends : Option (List LineId)) (assumptions : List Assumption)
+pub record StandsOpen (a : StateAlgebra) (from : Outset) (ends : Option ToldEnds) (assumptions : List Assumption)
     (conflict : Option LineId) (kept : Kept) : Type 0 where
   pub list : AreAssumptions a.count from.net from.begun assumptions
   pub begins : IsToldBy from.net (links_of from.rules) ends from.begun.source.0
@@ -232,30 +234,48 @@ pub record StandsIdle (a : StateAlgebra) (c : Circuit) (rules : Rules) (list : L
   pub idling : IsIdleBoard a c rules kept.idle kept.board
 
 -- what stands, by whether a scope has begun
-abbrev pub StandsFrom : StateAlgebra → Circuit → Rules → Option (List LineId) → Option Beginning → List Assumption → Option LineId → Kept
+abbrev pub StandsFrom : StateAlgebra → Circuit → Rules → Option ToldEnds → Option Beginning → List Assumption → Option LineId → Kept
     → Type 0
 StandsFrom a c rules ends None list conflict kept = StandsIdle a c rules list conflict kept
 StandsFrom a c rules ends (Some begun) list conflict kept =
     StandsOpen a (record { net = c; inside = kept.board.inside; inner = kept.board.links; rules = rules; begun = begun }) ends list conflict kept
 
 -- the gates inside are those whose lines are told, and the links inside those of sources that are told
-pub record AreToldGates (c : Circuit) (links : LinkList) (ends : Option (List LineId)) (inside : List Bool) (inner : LinkList) : Type 0 where
+pub record AreToldGates (c : Circuit) (links : LinkList) (ends : Option ToldEnds) (inside : List Bool) (inner : LinkList) : Type 0 where
   pub gates : gate_count c ≤ length inside
   pub closed : IsClosedUnder c (is_inside inside) links inner
   pub told : (gate : ℕ) → gate < gate_count c → (is_inside inside gate ≡ true) ↔ IsToldBy c links ends (gate_line c gate)
   pub sources : (source line : ℕ) → IsToldBy c links ends source → IsLink links source line → IsLink inner source line
 
--- one flag for each source, true where it is told
-pub record AreToldSources (c : Circuit) (links : LinkList) (ends : Option (List LineId)) (told : List Bool) : Type 0 where
-  pub one_each : length told ≡ source_count c
-  pub exactly : (source : ℕ) → source < source_count c → (is_inside told source ≡ true) ↔ IsToldBy c links ends source
+-- The gates near are those whose lines are told, and the links inside those of sources that are told. Inside are the near gates, and
+-- those behind the lines to which the links inside go.
+pub record AreNearGates (c : Circuit) (links : LinkList) (ends : Option ToldEnds) (inside : List Bool) (inner : LinkList) : Type 0 where
+  pub gates : gate_count c ≤ length inside
+  pub near : List Bool
+  pub closed : IsNear c (is_inside near) links inner
+  pub told : (gate : ℕ) → gate < gate_count c → (is_inside near gate ≡ true) ↔ IsToldBy c links ends (gate_line c gate)
+  pub sources : (source line : ℕ) → IsToldBy c links ends source → IsLink links source line → IsLink inner source line
+  pub of : AreLinksOf c inner
+  pub covers : (gate : ℕ) → gate < gate_count c → is_inside near gate ≡ true → is_inside inside gate ≡ true
+  pub cone : IsClosedUnder c (is_inside inside) inner inner
+
+-- What is inside is enough for the lines that are told: what is behind them over all links, or in states with first values what is behind
+-- them over the links of near sources alone.
+abbrev pub AreEnough : StateAlgebra → Circuit → LinkList → Option ToldEnds → List Bool → LinkList → Type 0
+AreEnough a c links ends inside inner =
+    AreToldGates c links ends inside inner ⊎ (HasFirstValues a × AreNearGates c links ends inside inner)
+
+-- one flag for each line, true where it is told
+pub record AreToldLines (c : Circuit) (links : LinkList) (ends : Option ToldEnds) (told : List Bool) : Type 0 where
+  pub one_each : length told ≡ line_count c
+  pub exactly : (line : ℕ) → line < line_count c → (is_inside told line ≡ true) ↔ IsToldBy c links ends line
 
 -- what an engine keeps stands, and there is room for every list
 pub record KeepsStanding (a : StateAlgebra) (standing : Standing) (kept : Kept) (capacity befores_capacity : ℕ) : Type 0 where
   pub circuit : IsCircuit standing.net
   pub board : IsBoardOf standing.net kept.board
   pub links : AreLinksOf standing.net (links_of standing.rules)
-  pub cone : AreToldGates standing.net (links_of standing.rules) standing.ends kept.board.inside kept.board.links
+  pub cone : AreEnough a standing.net (links_of standing.rules) standing.ends kept.board.inside kept.board.links
   pub at_rest : kept.board.waiting ≡ []
   pub stands : StandsFrom a standing.net standing.rules standing.ends standing.beginning standing.assumptions standing.conflict kept
   pub step_room : HasStepRoom standing.net kept.steps

@@ -1,5 +1,6 @@
 pub mod Assumptions
 pub mod Standing
+pub mod FirstStates
 pub mod Moves
 pub mod Clients
 pub mod Inside

@@ -1,9 +1,10 @@
 -- What contracts see of an engine and of the scopes on it (this project's own).
-use Rattle.std.specs.Prelude.{◌≡◌, ⊤, ℕ, ◌<◌, ◌⊎◌, List, [], Option, Some, None, IsSome}
+use Rattle.std.specs.Prelude.{◌≡◌, ⊤, ℕ, ◌<◌, ◌⊎◌, Bool, false, List, [], Option, Some, None, IsSome, cond}
 use Rattle.pd_base.specs.Links.{LinkList, links_of, IsLink}
 use Rattle.pd_base.specs.declared.ids.LineId.{LineId}
 use Rattle.pd_base.specs.declared.rules.Rules.{Rules}
 use Rattle.netlist.specs.Circuit.{Circuit, source_count, line_count}
+use Rattle.netlist.specs.LinkedPairs.{IsSupported}
 use Rattle.cones.specs.Ends.{IsBehind}
 use Rattle.state_sets.specs.declared.state.State.{State}
 use Rattle.state_sets.specs.declared.state.StateSet.{StateSet}
@@ -14,27 +15,49 @@ use Rattle.implication.specs.declared.assumption.Beginning.{Beginning}
 use Rattle.implication.specs.declared.assumption.Assumption.{Assumption}
 use Rattle.implication.specs.Assumptions.{end_under, IsHullUnder, IsEmptiedUnder, ClosesUnder}
 
--- How an engine and the innermost scope on it stand: the circuit; the rules of the start; the lines whose support is told, or None
+-- The lines behind which an engine tells: their whole support, or the lines near them alone, which are in their fan-in, over no link.
+pub record ToldEnds : Type 0 where
+  pub lines : List LineId
+  pub near : Bool
+
+-- these lines, and whether the near lines alone are told
+abbrev pub told_ends : List LineId → Bool → ToldEnds
+told_ends lines near = record { lines = lines; near = near }
+
+-- the links that are followed behind the ends: none where near lines alone are told
+abbrev pub followed_by : ToldEnds → LinkList → LinkList
+followed_by ends links = cond ends.near [] links
+
+-- the links are followed behind the ends, or all lines are told
+abbrev pub FollowsLinks : Option ToldEnds → Type 0
+FollowsLinks None = ⊤
+FollowsLinks (Some ends) = ends.near ≡ false
+
+-- How an engine and the innermost scope on it stand: the circuit; the rules of the start; the ends behind which lines are told, or None
 -- where all lines are; with what the outermost scope began, and None where no scope is open; what was assumed and entered since, in
 -- order; the line of the conflict that stands, if there is one; and how many times an assume or enter has come upon a conflict.
 pub record Standing : Type 0 where
   pub net : Circuit
   pub rules : Rules
-  pub ends : Option (List LineId)
+  pub ends : Option ToldEnds
   pub beginning : Option Beginning
   pub assumptions : List Assumption
   pub conflict : Option LineId
   pub closings : ℕ
 
--- a line is told where all are, and otherwise where it is a source without a link, or in the support of one of the ends
-abbrev pub IsToldBy : Circuit → LinkList → Option (List LineId) → ℕ → Type 0
+-- A line is told where all are, and otherwise where it is a source without a link, or behind one of the ends over links that are followed.
+abbrev pub IsToldBy : Circuit → LinkList → Option ToldEnds → ℕ → Type 0
 IsToldBy c links None line = ⊤
 IsToldBy c links (Some ends) line =
-    ((line < source_count c) × ((other : ℕ) → ¬ IsLink links line other)) ⊎ IsBehind c links ends line
+    ((line < source_count c) × ((other : ℕ) → ¬ IsLink links line other)) ⊎ IsBehind c (followed_by ends links) ends.lines line
 
 -- the same as an engine stands
 abbrev pub IsTold : Standing → ℕ → Type 0
 IsTold standing line = IsToldBy standing.net (links_of standing.rules) standing.ends line
+
+-- each line in the support of an end is told
+abbrev pub IsSupportTold : Standing → ℕ → Type 0
+IsSupportTold standing end = (line : ℕ) → IsSupported standing.net (links_of standing.rules) end line → IsTold standing line
 
 -- the answer for a line: each state that the line has by these labels, and where the line is told no other one
 pub record TellsLabel (count : ℕ) (standing : Standing) (labels : List StateSet) (line : ℕ) (answer : StateSet) : Type 0 where

@@ -1,7 +1,7 @@
 // The engine: a netlist with the rules, what is assumed of it, and the labels that follow. Its board narrows on from each assumption
 // at the gates that have to be narrowed again, and the trail of the board leads back to what stood before. After an engine is made,
 // nothing costs the circuit: a call costs what changes, and one that begins or ends what its source reaches.
-ghost use Rattle.std.specs.Prelude.{◌≡◌, ◌≢◌, ◌<◌, ◌≤◌, ◌-◌, ◌^◌, ◌⊎◌, true, ◌∷◌, ◌++◌, [], ℕ, List, length, All, Some, None, Ok, Err, IfOk, IfErr, OnOk, OnErr, IfSome, IfNone, IsSome, IsTrue, ◌↔◌};
+ghost use Rattle.std.specs.Prelude.{◌≡◌, ◌≢◌, ◌<◌, ◌≤◌, ◌-◌, ◌^◌, ◌⊎◌, true, false, ◌∷◌, ◌++◌, [], ℕ, List, length, All, Some, None, Ok, Err, IfOk, IfErr, OnOk, OnErr, IfSome, IfNone, IsSome, IsTrue, ◌↔◌};
 ghost use Rattle.std.specs.Option.{option_map};
 ghost use Rattle.pd_base.specs.Links.{links_of};
 ghost use Rattle.netlist.specs.Circuit.{source_count, line_count, gate_count, gate_line};
@@ -12,13 +12,14 @@ ghost use Rattle.netlist.specs.Paths.{Connects, line_after};
 ghost use Rattle.netlist.specs.Pins.{IsPinOn};
 ghost use Rattle.state_sets.specs.States.{AreWithin};
 ghost use Rattle.state_sets.specs.FourStates.{four_states};
-ghost use Rattle.implication.specs.Standing.{IsIdle, IsFree, IsLabels, IsTold, TellsLabels, IsEmptiedIn, IsOpenIn, end_of_scope};
+ghost use Rattle.implication.specs.Standing.{told_ends, IsIdle, IsFree, IsLabels, IsTold, TellsLabels, IsEmptiedIn, IsOpenIn, end_of_scope};
 ghost use Rattle.implication.specs.Moves.{with_entered, with_assumed, grown, closed_at, back_at, left_behind, idle_again, HasBegun};
 ghost use Rattle.implication.specs.Clients.{ExtendsStanding};
-ghost use Rattle.implication.specs.Kept.{IsListFrom, IsLeftBefore, AreToldGates, AreToldSources};
+ghost use Rattle.implication.specs.FirstStates.{HasFirstValues};
+ghost use Rattle.implication.specs.Kept.{IsListFrom, IsLeftBefore, AreEnough, AreToldLines};
 
 use crate::before::Before;
-use crate::engine_cone::{EngineCone, all_of, cone_of};
+use crate::engine_cone::{Ends, EngineCone, all_of, cone_of, near_cone};
 use crate::making::{BoardParts, Lists};
 use crate::narrowing_on::{leave_step, narrow_on, put_back, take_from};
 use crate::{Assumption, Beginning, Conflict, Origin, Setting};
@@ -38,12 +39,12 @@ use undo_trail::Note;
 pub struct Engine<A: Algebra, S: Setting> {
     setting: S,
     // None: all lines are told.
-    ends: Option<Vec<LineId>>,
+    ends: Option<Ends>,
     beginning: Option<Beginning>,
     lists: Lists,
     conflict: Option<LineId>,
     closings: u64,
-    // For each source whether it is told.
+    // For each line whether it is told.
     told: Vec<bool>,
     parts: BoardParts<A>,
 }
@@ -56,12 +57,13 @@ impl<A: Algebra, S: Setting> Model for Engine<A, S> {
     ghost use Rattle.std.specs.Prelude.{length, vec_capacity};
     ghost use Rattle.std.specs.Option.{option_map};
     ghost use Rattle.pd_base.specs.Links.{links_of};
-    ghost use Rattle.implication.specs.Kept.{KeepsStanding, AreToldSources};
+    ghost use Rattle.implication.specs.Standing.{told_ends};
+    ghost use Rattle.implication.specs.Kept.{KeepsStanding, AreToldLines};
 
     ghost view = { λ e. record {
       net = S.circuit e.setting;
       rules = S.rules e.setting;
-      ends = option_map (λ v. v.items) e.ends;
+      ends = option_map (λ v. told_ends v.lines.items v.near) e.ends;
       beginning = e.beginning;
       assumptions = e.lists.assumptions.items;
       conflict = e.conflict;
@@ -71,7 +73,7 @@ impl<A: Algebra, S: Setting> Model for Engine<A, S> {
     ghost invariant = { λ e. (KeepsStanding A.algebra (record {
       net = S.circuit e.setting;
       rules = S.rules e.setting;
-      ends = option_map (λ v. v.items) e.ends;
+      ends = option_map (λ v. told_ends v.lines.items v.near) e.ends;
       beginning = e.beginning;
       assumptions = e.lists.assumptions.items;
       conflict = e.conflict;
@@ -83,7 +85,7 @@ impl<A: Algebra, S: Setting> Model for Engine<A, S> {
       left = e.lists.left.items;
       steps = e.parts.conditions;
     }) (vec_capacity e.lists.assumptions) (vec_capacity e.lists.befores))
-        × AreToldSources (S.circuit e.setting) (links_of (S.rules e.setting)) (option_map (λ v. v.items) e.ends) e.told.items };
+        × AreToldLines (S.circuit e.setting) (links_of (S.rules e.setting)) (option_map (λ v. told_ends v.lines.items v.near) e.ends) e.told.items };
 }
 
 impl<A: Algebra, S: Setting> Engine<A, S> {
@@ -113,7 +115,7 @@ impl<A: Algebra, S: Setting> Engine<A, S> {
         ensures { IfOk result (λ engine. engine ≡ record {
           net = S.circuit setting;
           rules = S.rules setting;
-          ends = Some ends.now;
+          ends = Some (told_ends ends.now false);
           beginning = None;
           assumptions = [];
           conflict = None;
@@ -122,7 +124,32 @@ impl<A: Algebra, S: Setting> Engine<A, S> {
     {
         // narrowing at these gates and along these links alone is enough for the lines that are told
         let cone = cone_of(alloc, setting.netlist(), setting.rules().links(), ends)?;
-        let ends = Vec::from_slice(alloc, ends)?;
+        let lines = Vec::from_slice(alloc, ends)?;
+        let ends = Ends { lines, near: false };
+        Engine::with_cone(alloc, setting, Some(ends), cone)
+    }
+
+    /// The same, but of the support of the ends it tells of the lines near them alone: those in their fan-in, over no link. It narrows at
+    /// gates near the ends, along the links of near sources, and at the gates that are first behind those; so it takes states that have
+    /// first values.
+    pub fn near(alloc: Global, setting: S, ends: &[LineId]) -> Result<Engine<A, S>, OutOfMemory>
+        requires first { HasFirstValues A.algebra }
+        requires ends { All (λ end. end.0 < line_count (S.circuit setting)) ends.now }
+        requires fit { FitRules (S.circuit setting) (S.rules setting) }
+        ensures { IfOk result (λ engine. engine ≡ record {
+          net = S.circuit setting;
+          rules = S.rules setting;
+          ends = Some (told_ends ends.now true);
+          beginning = None;
+          assumptions = [];
+          conflict = None;
+          closings = 0;
+        }) }
+    {
+        // what is behind these links is asked for its first values alone, and closes nothing
+        let cone = near_cone(alloc, setting.netlist(), setting.rules().links(), ends)?;
+        let lines = Vec::from_slice(alloc, ends)?;
+        let ends = Ends { lines, near: true };
         Engine::with_cone(alloc, setting, Some(ends), cone)
     }
 
@@ -130,19 +157,19 @@ impl<A: Algebra, S: Setting> Engine<A, S> {
     fn with_cone(
         alloc: Global,
         setting: S,
-        ends: Option<Vec<LineId>>,
+        ends: Option<Ends>,
         cone: EngineCone,
     ) -> Result<Engine<A, S>, OutOfMemory>
-        requires told { AreToldGates (S.circuit setting) (links_of (S.rules setting)) (option_map (λ list. list.items) ends) cone.inside.items
+        requires told { AreEnough A.algebra (S.circuit setting) (links_of (S.rules setting)) (option_map (λ v. told_ends v.lines.items v.near) ends) cone.inside.items
             cone.links.items }
         requires one_each { length cone.inside.items ≡ gate_count (S.circuit setting) }
         requires of { AreLinksOf (S.circuit setting) cone.links.items }
-        requires sources { AreToldSources (S.circuit setting) (links_of (S.rules setting)) (option_map (λ list. list.items) ends) cone.told.items }
+        requires lines { AreToldLines (S.circuit setting) (links_of (S.rules setting)) (option_map (λ v. told_ends v.lines.items v.near) ends) cone.told.items }
         requires fit { FitRules (S.circuit setting) (S.rules setting) }
         ensures { IfOk result (λ engine. engine ≡ record {
           net = S.circuit setting;
           rules = S.rules setting;
-          ends = option_map (λ list. list.items) ends;
+          ends = option_map (λ v. told_ends v.lines.items v.near) ends;
           beginning = None;
           assumptions = [];
           conflict = None;
@@ -193,10 +220,7 @@ impl<A: Algebra, S: Setting> Engine<A, S> {
         requires { line.0 < line_count self.now.net }
         ensures { IsTrue result ↔ IsTold self.now line.0 }
     {
-        match self.setting.netlist().gate_of(line) {
-            Some(gate) => self.parts.board.is_inside(gate),
-            None => self.told[line.0 as usize],
-        }
+        self.told[line.0 as usize]
     }
 
     // Opens the outermost scope.

@@ -27,8 +27,8 @@ use Rattle.trees.proofs.Faults.{right_refutes, right_spent, fault_refutes_not, f
 use Rattle.trees.proofs.Walks.{HasCome, come_none, come_stands, stands_fault, come_all, come_leaf, come_split}
 use Rattle.trees.proofs.Walks.IsSplitNode.{value_node, steadiness_node}
 use Rattle.implication.specs.Settings.{IsSameSetting}
-use Rattle.implication.specs.Standing.{Standing, IsTold, IsToldBy}
-use Rattle.implication.proofs.Told.{end_told, told_support}
+use Rattle.implication.specs.Standing.{Standing, told_ends, IsSupportTold, IsToldBy}
+use Rattle.implication.proofs.Told.{end_told}
 use Rattle.refutation_check.specs.declared.answer.TreeCheck.{TreeCheck}
 use Rattle.refutation_check.specs.declared.answer.TreeCheck.TheVariants.{Yes, No}
 use Rattle.refutation_check.specs.declared.walk.Pending.{Pending}
@@ -224,14 +224,14 @@ spent_splits_on c rules target halves (Value source) right = right.in_support
 spent_splits_on c rules target halves (Steadiness source) right = right.in_support
 
 -- which is told where the end of the path is
-pub supported_on : (standing : Standing) (target : Target) → IsTold standing (end_of standing.net target.path) → (node : Node)
+pub supported_on : (standing : Standing) (target : Target) → IsSupportTold standing (end_of standing.net target.path) → (node : Node)
     → SplitsOn (IsInSupport standing.net standing.rules target.path) node → IsOnTold standing node
 supported_on standing target told Closed on = tt
 supported_on standing target told Waiting on = tt
 supported_on standing target told (Value source) on =
-    (on.is_source, told_support standing.net (links_of standing.rules) standing.ends (end_of standing.net target.path) source told on.supported)
+    (on.is_source, told source on.supported)
 supported_on standing target told (Steadiness source) on =
-    (on.is_source, told_support standing.net (links_of standing.rules) standing.ends (end_of standing.net target.path) source told on.supported)
+    (on.is_source, told source on.supported)
 
 -- a split on a told source is one under the same setting
 pub on_there : (before now : Standing) → IsSameSetting before now → (node : Node) → IsOnTold before node → IsOnTold now node
@@ -273,9 +273,9 @@ spent_exactly c rules target budget nodes (No place) fault =
 
 -- a judge that is made for the end of a path can judge it
 pub told_at_end : (made : MadeFor) (c : Circuit) (rules : Rules) (end : LineId) (path : Route)
-    → made ≡ record { net = c; rules = rules; ends = Some (end ∷ []) } → end ≡ record { 0 = end_of c path }
+    → made ≡ record { net = c; rules = rules; ends = Some (told_ends (end ∷ []) false) } → end ≡ record { 0 = end_of c path }
     → IsToldBy made.net (links_of made.rules) made.ends (end_of made.net path)
 told_at_end made c rules end path is at_end =
     let P : MadeFor → Type 0 = λ m. IsToldBy m.net (links_of m.rules) m.ends (end_of m.net path) in
-    let Q : LineId → Type 0 = λ line. IsToldBy c (links_of rules) (Some (end ∷ [])) line.0 in
-    subst P (sym is) (subst Q at_end (end_told c (links_of rules) (end ∷ []) end (Contains-get_or (end ∷ []) 0 end (omega arith))))
+    let Q : LineId → Type 0 = λ line. IsToldBy c (links_of rules) (Some (told_ends (end ∷ []) false)) line.0 in
+    subst P (sym is) (subst Q at_end (end_told c (links_of rules) (told_ends (end ∷ []) false) end (Contains-get_or (end ∷ []) 0 end (omega arith))))

@@ -1,10 +1,12 @@
 -- What an engine tells it tells under the same setting; and what its ends tell.
-use Rattle.std.proofs.Common.{◌≡◌, ℕ, ◌<◌, List, length, Option, None, sym, subst, subst₂, arith}
+use Rattle.std.proofs.Common.{◌≡◌, ℕ, ◌<◌, length, Option, None, sym, subst, subst₂, arith}
 use Rattle.pd_base.specs.Links.{links_of}
 use Rattle.pd_base.specs.Route.{Route}
-use Rattle.pd_base.specs.declared.ids.LineId.{LineId}
 use Rattle.pd_base.specs.declared.rules.Rules.{Rules}
 use Rattle.netlist.specs.Circuit.{Circuit, source_count}
+use Rattle.netlist.specs.LinkedPairs.{IsSupported}
+use Rattle.netlist.specs.LinkedPairs.IsSupported.{in_fan_in}
+use Rattle.netlist.specs.Pins.IsInFanIn.{end_itself}
 use Rattle.netlist.specs.Paths.{IsPrefix, end_of}
 use Rattle.state_laws.proofs.FanIns.{leads_in_fan_in}
 use Rattle.trees.specs.declared.tree.Node.{Node}
@@ -12,7 +14,7 @@ use Rattle.trees.specs.declared.tree.Node.TheVariants.{Closed, Waiting, Value, S
 use Rattle.implication.specs.declared.assumption.Beginning.{Beginning}
 use Rattle.implication.specs.Moves.{HasBegun}
 use Rattle.implication.specs.Settings.{IsSameSetting}
-use Rattle.implication.specs.Standing.{Standing, IsTold, IsToldBy}
+use Rattle.implication.specs.Standing.{Standing, ToldEnds, IsSupportTold, IsTold, IsToldBy}
 use Rattle.implication.proofs.Told.{free_told, told_in_fan_in}
 use Rattle.refutation_check.specs.Walks.{IsToldAt}
 
@@ -23,13 +25,19 @@ module _ (before now : Standing) (same : IsSameSetting before now) where
   pub told_there : (line : ℕ) → IsTold before line → IsTold now line
   told_there line told =
       let P : Circuit → Type 0 = λ c. IsToldBy c (links_of now.rules) now.ends line in
-      let Q : Rules → Option (List LineId) → Type 0 = λ rules ends. IsToldBy before.net (links_of rules) ends line in
+      let Q : Rules → Option ToldEnds → Type 0 = λ rules ends. IsToldBy before.net (links_of rules) ends line in
       subst P (sym same.net) (subst₂ Q (sym same.rules) (sym same.ends) told)
 
   pub end_told_there : (path : Route) → IsTold before (end_of before.net path) → IsTold now (end_of now.net path)
   end_told_there path told =
       let P : Circuit → Type 0 = λ c. IsTold now (end_of c path) in
       subst P (sym same.net) (told_there (end_of before.net path) told)
+
+  -- so is the whole support of an end
+  pub support_told_there : (path : Route) → IsSupportTold before (end_of before.net path) → IsSupportTold now (end_of now.net path)
+  support_told_there path told line supported =
+      let P : Circuit → Rules → Type 0 = λ c rules. IsSupported c (links_of rules) (end_of c path) line in
+      told_there line (told line (subst₂ P same.net same.rules supported))
 
   -- so is the source of each split that is
   source_back : (source : ℕ) → source < source_count now.net → source < source_count before.net
@@ -52,10 +60,14 @@ own_told standing path is told =
     told_in_fan_in standing.net (links_of standing.rules) standing.ends (end_of standing.net path) path.source.0 told
     (leads_in_fan_in standing.net path.source.0 path.steps is.connects)
 
+-- an end is told where its support is
+pub told_itself : (standing : Standing) (end : ℕ) → IsSupportTold standing end → IsTold standing end
+told_itself standing end told = told end (in_fan_in end end_itself)
+
 -- where no ends are given, all lines are told
 pub all_are_told : (standing : Standing) → standing.ends ≡ None → (line : ℕ) → IsTold standing line
 all_are_told standing all line =
-    let P : Option (List LineId) → Type 0 = λ ends. IsToldBy standing.net (links_of standing.rules) ends line in subst P (sym all) tt
+    let P : Option ToldEnds → Type 0 = λ ends. IsToldBy standing.net (links_of standing.rules) ends line in subst P (sym all) tt
 
 -- without links all sources are told, and so are those that a node splits
 pub unlinked_told_at : (standing : Standing) → length (links_of standing.rules) ≡ 0 → (node : Node) → IsToldAt standing node

@@ -1,6 +1,6 @@
 -- The ends of the engine that judges a tree: as the sources that the tree splits come to them, those that are there stay, and all of them
 -- are lines; and what an engine tells that has them.
-use Rattle.std.proofs.Common.{◌≡◌, ℕ, ◌<◌, List, Option, Some, get_or, sym, subst, subst₂}
+use Rattle.std.proofs.Common.{◌≡◌, ℕ, ◌<◌, Bool, List, Option, Some, get_or, sym, subst, subst₂}
 use Rattle.std.specs.List.{All, Contains}
 use Rattle.pd_base.specs.Links.{links_of}
 use Rattle.pd_base.specs.Route.{Route}
@@ -10,7 +10,7 @@ use Rattle.netlist.specs.Circuit.{Circuit, source_count}
 use Rattle.netlist.specs.Paths.{end_of}
 use Rattle.trees.specs.declared.tree.Node.{Node}
 use Rattle.trees.specs.declared.tree.Node.TheVariants.{Closed, Waiting, Value, Steadiness}
-use Rattle.implication.specs.Standing.{Standing, IsTold, IsToldBy}
+use Rattle.implication.specs.Standing.{Standing, ToldEnds, told_ends, IsTold, IsToldBy}
 use Rattle.implication.proofs.Told.{end_told}
 use Rattle.refutation_check.specs.SplitEnds.{IsEndAt, AddsEnds}
 use Rattle.refutation_check.specs.Walks.{IsToldAt}
@@ -32,14 +32,14 @@ end_still count old new adds Waiting is = tt
 end_still count old new adds (Value source) is = λ within. adds.still (record { 0 = source }) (is within)
 end_still count old new adds (Steadiness source) is = λ within. adds.still (record { 0 = source }) (is within)
 
-module _ (standing : Standing) (c : Circuit) (rules : Rules) (ends : List LineId) (net : standing.net ≡ c) (same_rules : standing.rules ≡ rules)
-    (within : standing.ends ≡ Some ends) where
+module _ (standing : Standing) (c : Circuit) (rules : Rules) (ends : List LineId) (near : Bool) (net : standing.net ≡ c) (same_rules : standing.rules ≡ rules)
+    (within : standing.ends ≡ Some (told_ends ends near)) where
   -- an end is told
   told_there : (line : LineId) → Contains ends line → IsTold standing line.0
   told_there line among =
       let P : Circuit → Type 0 = λ n. IsToldBy n (links_of standing.rules) standing.ends line.0 in
-      let Q : Rules → Option (List LineId) → Type 0 = λ r all. IsToldBy c (links_of r) all line.0 in
-      subst P (sym net) (subst₂ Q (sym same_rules) (sym within) (end_told c (links_of rules) ends line among))
+      let Q : Rules → Option ToldEnds → Type 0 = λ r all. IsToldBy c (links_of r) all line.0 in
+      subst P (sym net) (subst₂ Q (sym same_rules) (sym within) (end_told c (links_of rules) (told_ends ends near) line among))
 
   pub own_end_told : (path : Route) → Contains ends (record { 0 = end_of c path }) → IsTold standing (end_of standing.net path)
   own_end_told path among =

@@ -3,7 +3,7 @@ ghost use Rattle.std.specs.Prelude.{◌↔◌, List, IsTrue};
 ghost use Rattle.netlist.specs.Paths.{IsPrefix, end_of};
 ghost use Rattle.state_laws.specs.declared.half.Half.{Half};
 ghost use Rattle.implication.specs.Scopes.{standing};
-ghost use Rattle.implication.specs.Standing.{IsTold};
+ghost use Rattle.implication.specs.Standing.{IsSupportTold};
 ghost use Rattle.trees.specs.Spent.{IsDue};
 ghost use Rattle.pair_judging.specs.Targets.{seen_target};
 ghost use Rattle.refutation_check.specs.Trials.{IsTrialRoomAt, IsScopeInSupport};
@@ -30,7 +30,7 @@ pub(crate) fn is_due<A: Algebra, S: Setting>(
     split: Split,
 ) -> bool
     requires prefix { IsPrefix (standing scope.now).net target.now.path.now }
-    requires told { IsTold (standing scope.now) (end_of (standing scope.now).net target.now.path.now) }
+    requires told { IsSupportTold (standing scope.now) (end_of (standing scope.now).net target.now.path.now) }
     requires room { IsTrialRoomAt A.algebra (standing scope.now).net (standing scope.now).rules (seen_target target.now) room.old }
     ensures room { IsTrialRoomAt A.algebra (standing scope.now).net (standing scope.now).rules (seen_target target.now) room.new }
     ensures due { (halves : List Half) → IsScopeInSupport A.algebra (seen_target target.now) halves (standing scope.now)

@@ -1,6 +1,6 @@
 // The judge of trees: one engine within the ends that it is made for, which judges one tree after another. What is asked of the nodes
 // stands in refutation.rt and spent.rt.
-ghost use Rattle.std.specs.Prelude.{◌≡◌, ◌<◌, ◌↔◌, All, Some, Ok, IfOk, Contains, IsTrue};
+ghost use Rattle.std.specs.Prelude.{◌≡◌, ◌<◌, ◌↔◌, All, false, Some, Ok, IfOk, Contains, IsTrue};
 ghost use Rattle.pd_base.specs.Links.{links_of};
 ghost use Rattle.pd_base.specs.Target.{target_of};
 ghost use Rattle.pd_base.specs.Pair.{Vectors};
@@ -10,7 +10,7 @@ ghost use Rattle.netlist.specs.Conditions.{Meets};
 ghost use Rattle.netlist.specs.LinkedPairs.{FitRules, IsOfRules};
 ghost use Rattle.netlist.specs.Paths.{IsPrefix, IsPrefixOf, end_of};
 ghost use Rattle.state_laws.specs.Steadied.{steadied};
-ghost use Rattle.implication.specs.Standing.{IsToldBy};
+ghost use Rattle.implication.specs.Standing.{told_ends, IsToldBy};
 ghost use Rattle.trees.specs.declared.tree.Node.{Node};
 ghost use Rattle.trees.specs.Algebras.{algebra_of};
 ghost use Rattle.trees.specs.Faults.{IsRightInRefutation};
@@ -74,7 +74,7 @@ impl<'n, A: Algebra> TreeJudge<'n, A> {
         requires chosen { A.algebra ≡ algebra_of rules.now }
         requires fit { FitRules net.now rules.now }
         requires ends { All (λ end. end.0 < line_count net.now) ends.now }
-        ensures { IfOk result (λ judge. judge ≡ record { net = net.now; rules = rules.now; ends = Some ends.now }) }
+        ensures { IfOk result (λ judge. judge ≡ record { net = net.now; rules = rules.now; ends = Some (told_ends ends.now false) }) }
     {
         let room = TrialRoom::new::<A>(alloc, net, rules)?;
         let engine = Engine::within(alloc, RuledNetlist { net, rules }, ends)?;

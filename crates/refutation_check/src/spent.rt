@@ -4,7 +4,7 @@ ghost use Rattle.std.specs.Prelude.{◌≡◌, ◌↔◌, [], List, None, IfOk, 
 ghost use Rattle.netlist.specs.Paths.{IsPrefix, end_of};
 ghost use Rattle.state_laws.specs.declared.half.Half.{Half};
 ghost use Rattle.implication.specs.Scopes.{IsSameScope, standing};
-ghost use Rattle.implication.specs.Standing.{IsTold};
+ghost use Rattle.implication.specs.Standing.{IsSupportTold};
 ghost use Rattle.implication.specs.declared.assumption.Origin.TheVariants.{Begun};
 ghost use Rattle.trees.specs.Faults.{IsRightInSpent};
 ghost use Rattle.implication.specs.Settings.{IsSameSetting};
@@ -34,7 +34,7 @@ pub(crate) fn spends<A: Algebra, S: Setting>(
 ) -> Result<TreeCheck, OutOfMemory>
     requires idle { engine.old.beginning ≡ None }
     requires prefix { IsPrefix engine.old.net target.now.path.now }
-    requires told { IsTold engine.old (end_of engine.old.net target.now.path.now) }
+    requires told { IsSupportTold engine.old (end_of engine.old.net target.now.path.now) }
     requires room { IsTrialRoomFor A.algebra engine.old.net engine.old.rules room.old }
     ensures idle { IsIdleOn engine.old engine.new }
     ensures room { IsTrialRoomFor A.algebra engine.old.net engine.old.rules room.new }
@@ -59,7 +59,7 @@ fn walk_spent<A: Algebra, S: Setting>(
 ) -> Result<TreeCheck, OutOfMemory>
     requires begun { scope.old.origin ≡ Begun }
     requires prefix { IsPrefix (standing scope.old).net target.now.path.now }
-    requires told { IsTold (standing scope.old) (end_of (standing scope.old).net target.now.path.now) }
+    requires told { IsSupportTold (standing scope.old) (end_of (standing scope.old).net target.now.path.now) }
     requires root { IsScopeAt A.algebra (seen_target target.now) [] (standing scope.old) }
     requires room { IsTrialRoomAt A.algebra (standing scope.old).net (standing scope.old).rules (seen_target target.now) room.old }
     ensures scope { IsSameScope scope.old scope.new }
@@ -85,7 +85,7 @@ fn is_right_at<A: Algebra, S: Setting>(
     node: Node,
 ) -> bool
     requires prefix { IsPrefix (standing scope.now).net target.now.path.now }
-    requires told { IsTold (standing scope.now) (end_of (standing scope.now).net target.now.path.now) }
+    requires told { IsSupportTold (standing scope.now) (end_of (standing scope.now).net target.now.path.now) }
     requires room { IsTrialRoomAt A.algebra (standing scope.now).net (standing scope.now).rules (seen_target target.now) room.old }
     ensures room { IsTrialRoomAt A.algebra (standing scope.now).net (standing scope.now).rules (seen_target target.now) room.new }
     ensures right { (halves : List Half) → IsScopeInSupport A.algebra (seen_target target.now) halves (standing scope.now)

@@ -9,7 +9,7 @@ ghost use Rattle.netlist.specs.Paths.{IsPrefix, end_of};
 ghost use Rattle.state_sets.specs.declared.state.StateSet.{StateSet};
 ghost use Rattle.state_laws.specs.declared.half.Half.{Half};
 ghost use Rattle.implication.specs.Scopes.{standing};
-ghost use Rattle.implication.specs.Standing.{IsTold};
+ghost use Rattle.implication.specs.Standing.{IsSupportTold};
 ghost use Rattle.trees.specs.Algebras.{algebra_of};
 ghost use Rattle.trees.specs.Spent.{IsOpen};
 ghost use Rattle.cones.specs.KeptCones.{IsConeFor, IsConeAt};
@@ -65,7 +65,7 @@ pub(crate) fn is_open<A: Algebra, S: Setting>(
     room: &mut TrialRoom,
 ) -> bool
     requires prefix { IsPrefix (standing scope.now).net target.now.path.now }
-    requires told { IsTold (standing scope.now) (end_of (standing scope.now).net target.now.path.now) }
+    requires told { IsSupportTold (standing scope.now) (end_of (standing scope.now).net target.now.path.now) }
     requires free { (standing scope.now).conflict ≡ None }
     requires room { IsTrialRoomAt A.algebra (standing scope.now).net (standing scope.now).rules (seen_target target.now) room.old }
     ensures room { IsTrialRoomAt A.algebra (standing scope.now).net (standing scope.now).rules (seen_target target.now) room.new }

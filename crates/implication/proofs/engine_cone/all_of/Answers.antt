@@ -18,9 +18,9 @@ returns-clause-told c =
     (cone_of_all c.args.net.now c.lines.ensures.circuit (links_of c.args.rules.now) c.requires inside
     (flags ∙ ap (λ (n : ℕ). replicate n true) gates))
 
-pub returns-clause-sources : goal.returns-clause-sources
-returns-clause-sources c =
+pub returns-clause-lines : goal.returns-clause-lines
+returns-clause-lines c =
     let told = c.in_ok-told.told.items in
-    let flags : told ≡ replicate c.sources-2.result true = grind (arith, common_steps) in
+    let flags : told ≡ replicate c.lines-2.result true = grind (arith, common_steps) in
     all_flagged c.args.net.now (links_of c.args.rules.now) told
-    (flags ∙ ap (λ (n : ℕ). replicate n true) c.sources-2.ensures.count)
+    (flags ∙ ap (λ (n : ℕ). replicate n true) c.lines-2.ensures.count)

@@ -1,9 +1,7 @@
 -- A split is due on a source of the support that has both halves in the hull, at a node that is open.
 use Rattle.std.proofs.Common.{◌<◌, sym, subst, arith}
-use Rattle.pd_base.specs.Links.{links_of}
 use Rattle.netlist.specs.Circuit.{Circuit, source_count}
 use Rattle.netlist.specs.Paths.{end_of}
-use Rattle.implication.proofs.Told.{told_support}
 use Rattle.implication.specs.Scopes.{standing}
 use Rattle.pair_judging.specs.Targets.{seen_target}
 use Rattle.refutation_check.proofs.Spending.{conflict_stands, none_stands, marked_in_support, unmarked_outside, cone_under, closing_not_due, outside_not_due, lacking_not_due, open_due}
@@ -73,7 +71,7 @@ returns-then-not-has_both_halves-clause-due g c = λ halves at.
     (record {
       at = at.at;
       labelled = labels.1;
-      seen = labels.2.told (told_support now.net (links_of now.rules) now.ends (end_of now.net c.args.target.now.path.now) split.source c.requires.told support.supported);
+      seen = labels.2.told (c.requires.told split.source support.supported);
       tells = c.has_both_halves.ensures;
     })
     c.if-not-has_both_halves.true
@@ -94,7 +92,7 @@ returns-clause-due g c = λ halves at.
     (record {
       at = at.at;
       labelled = labels.1;
-      seen = labels.2.told (told_support now.net (links_of now.rules) now.ends (end_of now.net c.args.target.now.path.now) split.source c.requires.told support.supported);
+      seen = labels.2.told (c.requires.told split.source support.supported);
       tells = c.has_both_halves.ensures;
     })
     c.if-not-has_both_halves.false support c.is_open.result (c.is_open.ensures.open halves at)

@@ -3,14 +3,14 @@ use Rattle.std.proofs.Common.{◌<◌, Some, IfOk, refl, sym, ◌∙◌, subst, 
 use Rattle.pd_base.specs.declared.ids.LineId.{LineId}
 use Rattle.pd_base.specs.declared.rules.Rules.{Rules}
 use Rattle.netlist.specs.Circuit.{Circuit, source_count}
-use Rattle.netlist.specs.Paths.{IsPrefix}
+use Rattle.netlist.specs.Paths.{IsPrefix, end_of}
 use Rattle.implication.specs.Scopes.{standing}
 use Rattle.implication.specs.Standing.{IsTold}
 use Rattle.implication.proofs.Settings.{same_twice}
 use Rattle.trees.specs.Faults.{IsRightInSpent}
 use Rattle.refutation_check.specs.Answers.{TellsOfNodes}
 use Rattle.pair_judging.specs.Targets.{seen_target}
-use Rattle.refutation_check.proofs.SameSettings.{end_told_there, begun_same, own_told}
+use Rattle.refutation_check.proofs.SameSettings.{end_told_there, support_told_there, told_itself, begun_same, own_told}
 use Rattle.refutation_check.proofs.spent.spends.Goals as goal
 
 pub begin-scope-requires-clause-source : goal.begin-scope-requires-clause-source
@@ -20,7 +20,8 @@ begin-scope-requires-clause-source g c =
 pub begin-scope-requires-clause-told : goal.begin-scope-requires-clause-told
 begin-scope-requires-clause-told g c =
     let P : LineId → Type 0 = λ line. IsTold c.args.engine.now line.0 in
-    subst P (sym c.source.ensures) (own_told c.args.engine.now c.args.target.now.path.now c.requires.prefix c.requires.told)
+    subst P (sym c.source.ensures) (own_told c.args.engine.now c.args.target.now.path.now c.requires.prefix
+    (told_itself c.args.engine.now (end_of c.args.engine.now.net c.args.target.now.path.now) c.requires.told))
 
 pub enter_root-requires-clause-prefix : goal.enter_root-requires-clause-prefix
 enter_root-requires-clause-prefix g c =
@@ -30,7 +31,8 @@ pub enter_root-requires-clause-told : goal.enter_root-requires-clause-told
 enter_root-requires-clause-told g c =
     end_told_there c.args.engine.now (standing c.begin-scope.result)
     (begun_same (record { source = c.source.result; direction = c.args.target.now.direction; kind = c.args.target.now.kind }) c.args.engine.now
-    (standing c.begin-scope.result) c.begin-scope.ensures.begun) c.args.target.now.path.now c.requires.told
+    (standing c.begin-scope.result) c.begin-scope.ensures.begun) c.args.target.now.path.now
+    (told_itself c.args.engine.now (end_of c.args.engine.now.net c.args.target.now.path.now) c.requires.told)
 
 pub enter_root-requires-clause-begun : goal.enter_root-requires-clause-begun
 enter_root-requires-clause-begun g c =
@@ -51,7 +53,7 @@ walk_spent-requires-clause-prefix g c =
 
 pub walk_spent-requires-clause-told : goal.walk_spent-requires-clause-told
 walk_spent-requires-clause-told g c =
-    end_told_there c.args.engine.now (standing c.enter_root.new.scope)
+    support_told_there c.args.engine.now (standing c.enter_root.new.scope)
     (same_twice c.args.engine.now (standing c.begin-scope.result) (standing c.enter_root.new.scope)
     (begun_same (record { source = c.source.result; direction = c.args.target.now.direction; kind = c.args.target.now.kind }) c.args.engine.now
     (standing c.begin-scope.result) c.begin-scope.ensures.begun) c.enter_root.ensures.setting) c.args.target.now.path.now c.requires.told

@@ -17,7 +17,7 @@ use Rattle.refutation_check.specs.declared.answer.TreeCheck.TheVariants.{Yes}
 use Rattle.refutation_check.specs.Answers.{TellsOfNodes}
 use Rattle.refutation_check.specs.Trials.{IsTrialRoomAt}
 use Rattle.refutation_check.proofs.Checking.{checked_none, checked_walk, checked_on, checked_fault, checked_more, checked_all, spends_there, spent_splits_on, supported_on, on_there}
-use Rattle.refutation_check.proofs.SameSettings.{end_told_there}
+use Rattle.refutation_check.proofs.SameSettings.{support_told_there}
 use Rattle.implication.proofs.Settings.{same_itself, same_twice}
 use Rattle.refutation_check.proofs.spent.walk_spent.Goals as goal
 
@@ -95,7 +95,7 @@ is_right_at-requires-clause-prefix g c =
 
 pub is_right_at-requires-clause-told : goal.is_right_at-requires-clause-told
 is_right_at-requires-clause-told g c =
-    end_told_there (standing c.args.scope.now) (standing c.loop-place.scope) c.loop-place.invariant.setting c.args.target.now.path.now
+    support_told_there (standing c.args.scope.now) (standing c.loop-place.scope) c.loop-place.invariant.setting c.args.target.now.path.now
     c.requires.told
 
 pub is_right_at-requires-clause-room : goal.is_right_at-requires-clause-room

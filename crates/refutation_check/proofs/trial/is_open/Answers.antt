@@ -7,7 +7,6 @@ use Rattle.netlist.specs.Lawful.{IsCircuit}
 use Rattle.netlist.specs.LinkedPairs.{AreLinksOf}
 use Rattle.netlist.specs.Paths.{IsPrefix, end_of}
 use Rattle.implication.specs.Scopes.{standing}
-use Rattle.implication.proofs.Told.{told_support}
 use Rattle.cones.specs.KeptCones.{IsConeFor, IsConeAt}
 use Rattle.pair_judging.specs.Targets.{seen_target}
 use Rattle.refutation_check.specs.TrialStates.{AreTrialStates}
@@ -89,7 +88,7 @@ returns-then-fails_again-clause-open g c = λ halves within.
     λ ls. AreLeastOf g.A.Algebra.algebra.count now.net ls (end_of now.net target.path) c.labels-labels.result.now room.kept.states.items in
     failed_open target halves now c.requires.free (subst C c.net-net.ensures c.sources.ensures.circuit) (subst F made.linked made.cone.fit)
     c.requires.prefix
-    (λ line further. told_support now.net (links_of now.rules) now.ends (end_of now.net target.path) line c.requires.told further)
+    c.requires.told
     labels.0 c.labels-labels.result.now room.kept.states.items g.A.Algebra.algebra c.requires.room.made.chosen
     (record {
       scope = within;
@@ -113,7 +112,7 @@ returns-then-are_tests-clause-open g c = λ halves within.
     let E : Circuit → LinkList → Type 0 = λ n ls. EachIsTest g.A.Algebra.algebra n ls target states in
     test_not_open target halves now c.requires.free (subst C c.net-net.ensures c.sources.ensures.circuit) (subst F made.linked made.cone.fit)
     c.requires.prefix
-    (λ line further. told_support now.net (links_of now.rules) now.ends (end_of now.net target.path) line c.requires.told further)
+    c.requires.told
     labels.0 c.labels-labels.result.now states g.A.Algebra.algebra c.requires.room.made.chosen
     (record {
       scope = within;
@@ -136,7 +135,7 @@ returns-clause-open g c = λ halves within.
     let N : Circuit → LinkList → Type 0 = λ n ls. EachFails g.A.Algebra.algebra n ls target states in
     failed_open target halves now c.requires.free (subst C c.net-net.ensures c.sources.ensures.circuit) (subst F made.linked made.cone.fit)
     c.requires.prefix
-    (λ line further. told_support now.net (links_of now.rules) now.ends (end_of now.net target.path) line c.requires.told further)
+    c.requires.told
     labels.0 c.labels-labels.result.now states g.A.Algebra.algebra c.requires.room.made.chosen
     (record {
       scope = within;

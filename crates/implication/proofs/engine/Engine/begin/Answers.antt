@@ -4,13 +4,14 @@ use Rattle.pd_base.specs.Links.{links_of}
 use Rattle.implication.specs.Standing.{Standing}
 use Rattle.implication.proofs.Wholes.{open_of, emptied_of}
 use Rattle.implication.proofs.Beginnings.{kept_begun, free_begun}
-use Rattle.implication.proofs.Linking.{none_inner}
+use Rattle.implication.proofs.Linking.{none_inner, links_among}
 use Rattle.implication.proofs.engine.Engine.begin.Goals as goal
 
 pub begin-self-inside-requires-clause-links : goal.begin-self-inside-requires-clause-links
 begin-self-inside-requires-clause-links g c = λ none.
     let rules = g.S.Setting.rules c.self.inside.setting in
-    none_inner (links_of rules) c.self.inside.parts.board.links c.self.invariant.0.cone.closed.among
+    none_inner (links_of rules) c.self.inside.parts.board.links
+    (links_among g.A.Algebra.algebra (g.S.Setting.circuit c.self.inside.setting) (links_of rules) _ _ _ c.self.invariant.0.cone)
     (sym (ap links_of c.rules.ensures) ∙ none)
 
 pub invariant_of-self : goal.invariant_of-self

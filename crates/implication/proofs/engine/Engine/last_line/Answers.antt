@@ -6,14 +6,14 @@ use Rattle.netlist.specs.Circuit.{Circuit}
 use Rattle.netlist.specs.Paths.{line_after}
 use Rattle.implication.specs.declared.assumption.Beginning.{Beginning}
 use Rattle.implication.specs.Assumptions.{entered_pins}
-use Rattle.implication.specs.Standing.{Standing, IsTold, IsToldBy}
+use Rattle.implication.specs.Standing.{Standing, told_ends, IsTold, IsToldBy}
 use Rattle.implication.specs.Kept.{StandsFrom}
 use Rattle.implication.proofs.Lists.{told_end}
 use Rattle.implication.proofs.engine.Engine.last_line.Goals as goal
 
 pub returns-in-Some-clause-told : goal.returns-in-Some-clause-told
 returns-in-Some-clause-told g c = λ open_.
-    let e = c.self.inside in let net = g.S.Setting.circuit e.setting in let ends = option_map (λ (v : _). v.items) e.ends in
+    let e = c.self.inside in let net = g.S.Setting.circuit e.setting in let ends = option_map (λ (v : _). told_ends v.lines.items v.near) e.ends in
     let begun = c.in-Some.begun in
     let P : Option Beginning → Type 0 = λ b. StandsFrom g.A.Algebra.algebra net (g.S.Setting.rules e.setting) ends b e.lists.assumptions.items
     e.conflict

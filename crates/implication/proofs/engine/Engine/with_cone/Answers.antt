@@ -2,7 +2,7 @@
 use Rattle.std.proofs.Common.{◌++◌}
 use Rattle.std.proofs.Common.{◌≡◌, true, length}
 use Rattle.pd_base.specs.Links.{LinkList, links_of}
-use Rattle.implication.proofs.Linking.{more_told}
+use Rattle.implication.proofs.Linking.{more_enough, closed_inside}
 use Rattle.std.proofs.Common.{◌≤◌, [], Bool, List, replicate, vec_capacity, sym, ap, ◌∙◌, subst}
 use Rattle.std.specs.Option.{option_map}
 use Rattle.pd_base.specs.declared.fault.Kind.TheVariants.{Robust}
@@ -12,22 +12,31 @@ use Rattle.netlist.specs.Lawful.{IsCircuit}
 use Rattle.netlist.specs.Levels.{greatest_level}
 use Rattle.state_sets.specs.States.{all_states}
 use Rattle.hulls.specs.Conditions.{Entered as Steps}
+use Rattle.implication.specs.Standing.{told_ends}
+use Rattle.state_laws.specs.Cones.{IsClosedBack}
+use Rattle.hulls.specs.Awaiting.{is_inside}
 use Rattle.implication.specs.Idling.{IsIdleBoard}
-use Rattle.implication.specs.Kept.{AreToldGates, most_assumptions}
+use Rattle.implication.specs.Kept.{AreEnough, most_assumptions}
 use Rattle.implication.proofs.Beginnings.{kept_new}
 use Rattle.implication.proofs.engine.Engine.with_cone.Goals as goal
+
+pub new-requires-2-clause-closed : goal.new-requires-2-clause-closed
+new-requires-2-clause-closed g c =
+    subst (λ (x : Circuit). IsClosedBack x (is_inside c.args.cone.inside.items)) (sym c.netlist-2.ensures)
+    (closed_inside g.A.Algebra.algebra (g.S.Setting.circuit c.args.setting) (links_of (g.S.Setting.rules c.args.setting)) _
+    c.args.cone.inside.items c.args.cone.links.items c.requires.told)
 
 pub invariant_of-result : goal.invariant_of-result
 invariant_of-result g c =
     let a = g.A.Algebra.algebra in
     let net = g.S.Setting.circuit c.args.setting in let rules = g.S.Setting.rules c.args.setting in
-    let ends = option_map (λ (v : _). v.items) c.args.ends in
+    let ends = option_map (λ (v : _). told_ends v.lines.items v.near) c.args.ends in
     let lists = c.in_ok-lists.lists in let made = c.in_ok-lists.ensures in
     let parts = c.in_ok-parts.parts in let placed = c.in_ok-parts.ensures in
     let circuit : IsCircuit net = subst IsCircuit c.netlist.ensures made.circuit in
     let flags = c.args.cone.inside.items in let inner = c.args.cone.links.items in
-    let P : List Bool → Type 0 = λ fs. AreToldGates net (links_of rules) ends fs parts.board.links in
-    let U : LinkList → Type 0 = λ ls. AreToldGates net (links_of rules) ends (flags ++ replicate (length inner) true) ls in
+    let P : List Bool → Type 0 = λ fs. AreEnough a net (links_of rules) ends fs parts.board.links in
+    let U : LinkList → Type 0 = λ ls. AreEnough a net (links_of rules) ends (flags ++ replicate (length inner) true) ls in
     let inside_is : parts.board.inside ≡ flags ++ replicate (length inner) true =
     placed.inside ∙ ap (λ (ls : LinkList). flags ++ replicate (length ls) true) c.as_slice.ensures.value in
     let links_are : parts.board.links ≡ inner = placed.links ∙ c.as_slice.ensures.value in
@@ -46,10 +55,10 @@ invariant_of-result g c =
           })
           (vec_capacity lists.assumptions) (vec_capacity lists.befores) circuit
           (subst P (sym inside_is) (subst U (sym links_are)
-          (more_told net circuit flags c.requires.one_each (length inner) (links_of rules) inner ends c.requires.told)))
+          (more_enough net circuit flags c.requires.one_each (length inner) a (links_of rules) inner ends c.requires.told)))
           (subst R c.rules.ensures (subst Q c.netlist-2.ensures placed.idle))
           c.requires.fit made.none_assumed
           made.none_before (made.left ∙ ap (λ (x : Circuit). replicate (source_count x) (all_states a.count)) c.netlist.ensures)
           (placed.conditions ∙ ap begun c.netlist-2.ensures) (subst S c.netlist.ensures made.room) (subst T c.netlist.ensures made.befores_room),
-      c.requires.sources,
+      c.requires.lines,
     )

@@ -1,5 +1,5 @@
 -- A board as it is made, of the gates inside.
-use Rattle.std.proofs.Common.{◌≡◌, ◌++◌, true, replicate, arith}
+use Rattle.std.proofs.Common.{◌≡◌, ◌++◌, true, replicate}
 use Rattle.implication.proofs.Linking.{idle_linked}
 use Rattle.std.proofs.Common.{ap, ◌∙◌, length, List, Bool}
 use Rattle.std.proofs.lemmas.List.{append-nil}

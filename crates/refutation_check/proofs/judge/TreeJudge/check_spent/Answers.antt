@@ -7,6 +7,7 @@ use Rattle.pd_base.specs.Links.{links_of}
 use Rattle.pd_base.specs.Target.{target_of}
 use Rattle.netlist.specs.Paths.{IsPrefix, end_of}
 use Rattle.implication.specs.Standing.{IsToldBy}
+use Rattle.implication.proofs.Told.{told_support}
 use Rattle.trees.specs.declared.tree.Node.{Node}
 use Rattle.trees.specs.declared.tree.Node.TheVariants.{Waiting}
 use Rattle.trees.specs.Faults.{IsRightInSpent}
@@ -43,7 +44,10 @@ spends-requires-clause-prefix g c =
 
 pub spends-requires-clause-told : goal.spends-requires-clause-told
 spends-requires-clause-told g c =
-    let P : MadeFor → Type 0 = λ m. IsToldBy m.net (links_of m.rules) m.ends (end_of m.net c.args.path.now) in subst P (sym c.self.view_is) c.requires.told
+    let P : MadeFor → Type 0 = λ m. IsToldBy m.net (links_of m.rules) m.ends (end_of m.net c.args.path.now) in
+    let engine = c.self.inside.engine in
+    λ line supported. told_support engine.net (links_of engine.rules) engine.ends c.self.invariant.follows (end_of engine.net c.args.path.now)
+    line (subst P (sym c.self.view_is) c.requires.told) supported
 
 pub spends-requires-clause-room : goal.spends-requires-clause-room
 spends-requires-clause-room g c = c.self.invariant.room

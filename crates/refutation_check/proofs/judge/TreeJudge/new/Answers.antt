@@ -1,8 +1,8 @@
 -- The engine is idle as it is made, and the room for trials is made for its circuit and rules.
-use Rattle.std.proofs.Common.{sym, ap, subst₂}
+use Rattle.std.proofs.Common.{Option, refl, sym, ap, subst, subst₂}
 use Rattle.pd_base.specs.declared.rules.Rules.{Rules}
 use Rattle.netlist.specs.Circuit.{Circuit}
-use Rattle.implication.specs.Standing.{Standing}
+use Rattle.implication.specs.Standing.{Standing, ToldEnds, FollowsLinks}
 use Rattle.refutation_check.specs.Judges.{MadeFor}
 use Rattle.refutation_check.specs.Trials.{IsTrialRoomFor}
 use Rattle.refutation_check.proofs.judge.TreeJudge.new.Goals as goal
@@ -14,6 +14,8 @@ invariant_of-result g c =
     let R : Circuit → Rules → Type 0 = λ n r. IsTrialRoomFor g.A.Algebra.algebra n r c.in_ok-room.room in
     record {
       idle = ap (λ (s : Standing). s.beginning) made;
+      follows = let P : Option ToldEnds → Type 0 = λ ends. FollowsLinks ends in
+          subst P (sym (ap (λ (s : Standing). s.ends) made)) refl;
       room = subst₂ R (sym net) (sym rules) c.in_ok-room.ensures;
     }
 
