@@ -1,14 +1,14 @@
--- What a flag for each test tells of the test that a verdict names; and how the flags are made.
-use Rattle.std.proofs.Common.{◌≡◌, ⊎_elim, ℕ, ◌+◌, ◌-◌, ◌<◌, ◌↔◌, Bool, true, false, IsTrue, List, [], ◌∷◌, ◌++◌, length, replicate, sym, ap, subst, ◌∙◌, arith}
-use Rattle.std.specs.Prelude.{slice_get, slice_index_or, Some}
-use Rattle.std.proofs.lemmas.Bool.{cases_lt}
-use Rattle.std.proofs.lemmas.List.{get_or-replicate, get_or_append_left, get_or_push, length-replicate, length_push}
-use Rattle.std.proofs.lemmas.Option.{get_or_from_slice_get, same_Some, slice_get_cases, slice_get_within}
+-- What a flag for each test tells of the test that a verdict names; and the flags of what is so of all tests.
+use Rattle.std.proofs.Common.{◌≡◌, ⊎_elim, ℕ, ◌-◌, ◌↔◌, Bool, true, false, IsTrue, List, length, replicate, subst, ◌∙◌, arith}
+use Rattle.std.specs.Prelude.{slice_index_or}
+use Rattle.std.proofs.lemmas.List.{get_or-replicate, length-replicate}
+use Rattle.std.proofs.lemmas.Option.{get_or_from_slice_get, slice_get_cases, slice_get_within}
 use Rattle.pd_base.specs.declared.test.Test.{Test}
 use Rattle.runs.specs.declared.run.Verdict.{Verdict}
 use Rattle.runs.specs.declared.run.Verdict.TheVariants.{Robust, Nonrobust, Untestable, Aborted}
+use Rattle.logic_values.specs.Blocks.{AreFlags}
 use Rattle.good_runs.specs.Faults.{IsNumber}
-use Rattle.claim_check.specs.FaultsInRows.{AreFlags, HasTrueFlag}
+use Rattle.claim_check.specs.FaultsInRows.{HasTrueFlag}
 use Rattle.claim_check.specs.Right.{IsSoOfItsTest, IsSoOfTest}
 
 module _ (IsSo : Test → Type 0) (tests : List Test) (flags : List Bool) (are : AreFlags IsSo tests flags) where
@@ -52,39 +52,6 @@ module _ (IsSo : Test → Type 0) (tests : List Test) (flags : List Bool) (are :
   its_flag_tells (Aborted robust nonrobust) = (λ _. tt, λ _. tt)
 
 module _ (IsSo : Test → Type 0) (tests : List Test) where
-  -- so many tests, the first ones, have their flags
-  pub record AreFirstFlags (count : ℕ) (flags : List Bool) : Type 0 where
-    pub so_many : length flags ≡ count
-    pub exactly : (place : ℕ) (test : Test) → place < count → slice_get tests place ≡ Some test
-        → IsTrue (slice_index_or flags place false) ↔ IsSo test
-
-  pub one_flag_more : (count : ℕ) (flags : List Bool) → AreFirstFlags count flags → (test : Test) → slice_get tests count ≡ Some test
-      → (flag : Bool) → IsTrue flag ↔ IsSo test → AreFirstFlags (count + 1) (flags ++ flag ∷ [])
-  one_flag_more count flags are test there flag tells = record {
-    so_many = length_push flags flag ∙ ap (λ n. n + 1) are.so_many;
-    exactly = λ place other below is.
-        ⊎_elim
-        (λ (less : place < count).
-        let few = are.so_many in
-        subst (λ (b : Bool). IsTrue b ↔ IsSo other) (sym (get_or_append_left flags (flag ∷ []) false place (omega arith)))
-        (are.exactly place other less is))
-        (λ from.
-        let this : count ≡ place = omega arith in
-        let same : test ≡ other = same_Some test other (sym there ∙ subst (λ (k : ℕ). slice_get tests k ≡ Some other) (sym this) is) in
-        subst (λ (k : ℕ). IsTrue (slice_index_or (flags ++ flag ∷ []) k false) ↔ IsSo other) this
-        (subst (λ (b : Bool). IsTrue b ↔ IsSo other) (sym (get_or_push flags flag false count are.so_many))
-        (subst (λ (t : Test). IsTrue flag ↔ IsSo t) same tells)))
-        (cases_lt place count);
-  }
-
-  -- and all of them, where these are all tests
-  pub all_flags : (count : ℕ) (flags : List Bool) → count ≡ length tests → AreFirstFlags count flags → AreFlags IsSo tests flags
-  all_flags count flags many are = record {
-    one_each = are.so_many ∙ many;
-    exactly = λ place test there.
-        let inside = slice_get_within tests place test there in are.exactly place test (omega arith) there;
-  }
-
   -- what is so of each test
   pub true_flags : ((test : Test) → IsSo test) → (count : ℕ) → count ≡ length tests → AreFlags IsSo tests (replicate count true)
   true_flags each count many = record {

@@ -1,5 +1,5 @@
 -- The faults of the listed path in a row, as they are judged, in words that are spoken inside this crate alone (this project's own).
-use Rattle.std.specs.Prelude.{◌≡◌, ⊤, ℕ, ◌+◌, ◌↔◌, Bool, true, false, IsTrue, List, length, slice_get, slice_index_or, Some}
+use Rattle.std.specs.Prelude.{◌≡◌, ⊤, ℕ, ◌+◌, Bool, true, IsTrue, List, length, slice_get, Some}
 use Rattle.pd_base.specs.Target.{target_of}
 use Rattle.pd_base.specs.declared.fault.Direction.{Direction}
 use Rattle.pd_base.specs.declared.fault.Kind.{Kind}
@@ -7,6 +7,7 @@ use Rattle.pd_base.specs.declared.fault.Kind.TheVariants as kinds
 use Rattle.pd_base.specs.declared.rules.Rules.{Rules}
 use Rattle.pd_base.specs.declared.test.Test.{Test}
 use Rattle.netlist.specs.Circuit.{Circuit}
+use Rattle.logic_values.specs.Blocks.{AreFlags}
 use Rattle.runs.specs.declared.run.ListedPath.{ListedPath}
 use Rattle.runs.specs.declared.run.Proof.{Proof}
 use Rattle.runs.specs.declared.run.Run.{Run}
@@ -26,11 +27,6 @@ pub record AreLeastFor (run : Run) (direction : Direction) (least : Least) : Typ
   pub nonrobust_each : length least.nonrobust.items ≡ length run.paths
   pub robust : AreLeastRefutations (routes_of run) run.proofs direction kinds.Robust least.robust.items
   pub nonrobust : AreLeastRefutations (routes_of run) run.proofs direction kinds.Nonrobust least.nonrobust.items
-
--- each test has a flag, which is true exactly where this is so of it
-pub record AreFlags (IsSo : Test → Type 0) (tests : List Test) (flags : List Bool) : Type 0 where
-  pub one_each : length flags ≡ length tests
-  pub exactly : (place : ℕ) (test : Test) → slice_get tests place ≡ Some test → IsTrue (slice_index_or flags place false) ↔ IsSo test
 
 -- the verdict's flag, if it has a test that has one, is true
 abbrev pub HasTrueFlag : List Bool → Verdict → Type 0

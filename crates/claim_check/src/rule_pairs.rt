@@ -1,13 +1,13 @@
 // For each test of a run whether its pair is one of the rules. No pair is evaluated where the rules have no links, since each is one then.
 ghost use Rattle.std.specs.Prelude.{◌≡◌, [], IfOk, MatchOption, replicate, true};
 ghost use Rattle.pd_base.specs.Links.{links_of};
-ghost use Rattle.netlist.specs.LinkedPairs.{AreLinksOf, FitRules, KeepsLinks};
+ghost use Rattle.netlist.specs.LinkedPairs.{FitRules};
 ghost use Rattle.runs.specs.Lawful.{AreLawfulTests};
-ghost use Rattle.claim_check.specs.FaultsInRows.{AreFlags};
+ghost use Rattle.logic_values.specs.Blocks.{AreFlags};
 ghost use Rattle.claim_check.specs.Right.{HasPairOf};
 
+use logic_values::keep_links;
 use netlist::Netlist;
-use path_model::{Scratch, linked};
 use pd_base::{Links, OutOfMemory, Rules, Test};
 use std::alloc::Global;
 
@@ -43,23 +43,4 @@ fn all_true(alloc: Global, count: usize) -> Result<Vec<bool>, OutOfMemory>
     ensures { IfOk result (λ flags. flags.items ≡ replicate count true) }
 {
     Ok(vec![in alloc; true; count]?)
-}
-
-// A flag for each test, which is true exactly where its pair keeps these links.
-fn keep_links(
-    alloc: Global,
-    net: &Netlist,
-    links: &Links,
-    tests: &[Test],
-) -> Result<Vec<bool>, OutOfMemory>
-    requires links { AreLinksOf net.now links.now.pairs }
-    requires lawful { AreLawfulTests net.now tests.now }
-    ensures { IfOk result (λ flags. AreFlags (λ test. KeepsLinks net.now links.now.pairs test.pair) tests.now flags.items) }
-{
-    let mut scratch = Scratch::new(alloc, net)?;
-    let mut flags = Vec::with_capacity(alloc, tests.len())?;
-    for test in tests {
-        flags.push_reserved(linked(net, links, &test.pair, &mut scratch));
-    }
-    Ok(flags)
 }

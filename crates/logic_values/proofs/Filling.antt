@@ -1,6 +1,6 @@
 -- Tests get the bits that they expect, or are told whether they expect the right ones, block by block, each out of its lane.
-use Rattle.std.proofs.Common.{◌≡◌, ◌≢◌, ◌↔◌, ⊎_elim, ℕ, suc, ◌+◌, ◌-◌, ◌<◌, ◌≤◌, Bool, false, List, [], ◌∷◌, length, map, get_or, get_or-set_same, get_or-set_other, set, Some, refl, sym, ap, subst, ◌∙◌, arith, All}
-use Rattle.std.specs.Prelude.{IsTrue, slice_get}
+use Rattle.std.proofs.Common.{◌≡◌, ◌≢◌, ⊎_elim, ℕ, suc, ◌+◌, ◌-◌, ◌<◌, ◌≤◌, Bool, List, [], ◌∷◌, length, map, get_or, get_or-set_same, get_or-set_other, set, Some, refl, sym, ap, subst, ◌∙◌, arith, All}
+use Rattle.std.specs.Prelude.{slice_get}
 use Rattle.std.specs.Option.{option_map}
 use Rattle.std.proofs.lemmas.Bool.{cases_eq, cases_lt}
 use Rattle.std.proofs.lemmas.List.{length-set}
@@ -10,8 +10,10 @@ use Rattle.pd_base.specs.declared.test.Test.{Test}
 use Rattle.netlist.specs.Circuit.{Circuit, HasLines, line_count, observed_lines, source_count}
 use Rattle.netlist.specs.Values.{observed_values, value}
 use Rattle.netlist.proofs.Evaluation.{map_agree}
-use Rattle.logic_values.specs.Lanes.{IsInLane, lane_bit, lane_of}
-use Rattle.logic_values.specs.Expected.{AreCompared, AreFilled, AreInLanes, AreObservedIn, expecting, word_of}
+use Rattle.logic_values.specs.Lanes.{lane_bit, lane_of}
+use Rattle.logic_values.specs.Blocks.{AreValuesIn}
+use Rattle.logic_values.specs.Expected.{AreFilled, AreObservedIn, expecting, word_of}
+use Rattle.logic_values.specs.declared.blocks.PairVector.TheVariants.{Second}
 
 module _ {T : Type 0} (items : List T) (place : ℕ) (item : T) where
   -- a place that is written has what was written
@@ -50,92 +52,14 @@ taken_bits words taken lane lines are = ap (map (λ word. lane_of word lane)) ar
     of_each [] = refl
     of_each (line ∷ lines) = ap (λ bits. lane_bit words lane line.0 ∷ bits) (of_each lines)
 
--- the second vectors so far stay in their lanes when one more is put into its own
-pub one_more_lane : (begin place : ℕ) (tests : List Test) (old new : List ℕ) → begin ≤ place → place < begin + 64
-    → (own : Test) → slice_get tests place ≡ Some own → AreInLanes begin place tests old
-    → IsInLane new (place - begin) own.pair.second
-    → ((other line : ℕ) → other < 64 → other ≢ place - begin → lane_bit new other line ≡ lane_bit old other line)
-    → AreInLanes begin (place + 1) tests new
-one_more_lane begin place tests old new from few own at are there others other test first last is =
-    ⊎_elim
-    (λ (same : other ≡ place).
-    let its : own ≡ test = same_Some own test (sym at ∙ ap (slice_get tests) (sym same) ∙ is) in
-    subst (λ (t : Test). IsInLane new (other - begin) t.pair.second) its
-    (subst (λ (p : ℕ). IsInLane new (p - begin) own.pair.second) (sym same) there))
-    (λ (differs : other ≢ place).
-    let before : other < place = omega arith in
-    let lane : other - begin ≢ place - begin = λ e. differs (omega arith) in
-    record {
-      each = λ source within.
-          others (other - begin) source (omega arith) lane ∙ (are other test first before is).each source within;
-    })
-    (cases_eq other place)
-
--- no test was compared yet
-pub none_compared : (begin : ℕ) (tests : List Test) (observed : List ℕ) (flags : List Bool) → AreCompared begin begin tests observed flags flags
-none_compared begin tests observed flags = record {
-  inside = λ place test first last is. absurd (omega arith);
-  before = λ place within. refl;
-}
-
--- one test more
-pub one_compared : (begin place : ℕ) (tests : List Test) (observed : List ℕ) (old now : List Bool) (own : Test) (flag : Bool) → begin ≤ place
-    → place < length now → slice_get tests place ≡ Some own
-    → (IsTrue flag ↔ (own.expected ≡ map (λ word. lane_of word (place - begin)) observed))
-    → AreCompared begin place tests observed old now → AreCompared begin (place + 1) tests observed old (set now place flag)
-one_compared begin place tests observed old now own flag from inside at is are = record {
-  inside = λ other test first last there.
-      ⊎_elim
-      (λ (same : other ≡ place).
-      let its : own ≡ test = same_Some own test (sym at ∙ ap (slice_get tests) (sym same) ∙ there) in
-      let wrote : flag ≡ get_or (set now place flag) other false =
-      sym (get_or-set_same now place flag false inside) ∙ ap (λ k. get_or (set now place flag) k false) (sym same) in
-      subst (λ (b : Bool). IsTrue b ↔ (test.expected ≡ map (λ word. lane_of word (other - begin)) observed)) wrote
-      (subst (λ (k : ℕ). IsTrue flag ↔ (test.expected ≡ map (λ word. lane_of word (k - begin)) observed)) (sym same)
-      (subst (λ (t : Test). IsTrue flag ↔ (t.expected ≡ map (λ word. lane_of word (place - begin)) observed)) its is)))
-      (λ (differs : other ≢ place).
-      subst (λ (b : Bool). IsTrue b ↔ (test.expected ≡ map (λ word. lane_of word (other - begin)) observed))
-      (sym (get_or-set_other now place other flag false differs))
-      (are.inside other test first (let e = differs in omega arith) there))
-      (cases_eq other place);
-  before = λ other within.
-      get_or-set_other now place other flag false (λ same. let e : other ≡ place = same in omega arith) ∙ are.before other within;
-}
-
 module _ (c : Circuit) where
   -- the words of the observed lines have the observed bits of each vector in its lane
-  pub observed_lanes : (begin end : ℕ) (tests : List Test) → end ≤ begin + 64 → All (λ test. length test.pair.second ≡ source_count c) tests
-      → (put : List ℕ) → AreInLanes begin end tests put → (words : List ℕ)
-      → ((lane : ℕ) (vector : List Bool) → lane < 64 → length vector ≡ source_count c → IsInLane put lane vector
-      → (line : ℕ) → line < line_count c → lane_bit words lane line ≡ value c vector line)
+  pub observed_lanes : (begin end : ℕ) (tests : List Test) (words : List ℕ) → AreValuesIn c Second begin end tests words
       → (taken : List ℕ) (lines : List LineId) → taken ≡ map (word_of words) lines → lines ≡ observed_lines c → HasLines c lines
       → AreObservedIn c begin end tests taken
-  observed_lanes begin end tests few fit put lanes words values taken lines are are_lines in_circuit place test first last is =
-      let fits : length test.pair.second ≡ source_count c =
-      subst (λ (t : Test). length t.pair.second ≡ source_count c) (get_or_from_slice_get tests place test test is)
-      (fit place test (slice_get_within tests place test is)) in
+  observed_lanes begin end tests words values taken lines are are_lines in_circuit place test first last is =
       taken_bits words taken (place - begin) lines are
-      ∙ bits_of_lane c test.pair.second words (place - begin) lines are_lines in_circuit
-      (values (place - begin) test.pair.second (omega arith) fits (lanes place test first last is))
-
-  -- Each test before a place has a flag, which is true exactly where it expects what the observed lines have under its second vector.
-  abbrev pub AreToldBelow : ℕ → List Test → List Bool → Type 0
-  AreToldBelow end tests flags =
-      (place : ℕ) (test : Test) → place < end → slice_get tests place ≡ Some test
-      → IsTrue (get_or flags place false) ↔ (test.expected ≡ observed_values c test.pair.second)
-
-  -- so have those of one block more
-  pub block_told : (begin end : ℕ) (tests : List Test) (observed : List ℕ) (old new : List Bool) → AreObservedIn c begin end tests observed
-      → AreCompared begin end tests observed old new → AreToldBelow begin tests old → AreToldBelow end tests new
-  block_told begin end tests observed old new are compared told place test within is =
-      ⊎_elim
-      (λ (before : place < begin).
-      subst (λ (b : Bool). IsTrue b ↔ (test.expected ≡ observed_values c test.pair.second)) (sym (compared.before place before))
-      (told place test before is))
-      (λ (from : begin ≤ place).
-      subst (λ (bits : List Bool). IsTrue (get_or new place false) ↔ (test.expected ≡ bits)) (are place test from within is)
-      (compared.inside place test from within is))
-      (cases_lt place begin)
+      ∙ bits_of_lane c test.pair.second words (place - begin) lines are_lines in_circuit (values place test first last is)
 
   -- no test was filled yet
   pub none_filled : (begin : ℕ) (tests : List Test) → AreFilled c begin begin tests tests

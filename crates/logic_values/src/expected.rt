@@ -4,16 +4,13 @@ ghost use Rattle.std.specs.Prelude.{◌≡◌, ◌+◌, ◌<◌, ◌≤◌, ◌�
 ghost use Rattle.logic_values.specs.Known.{HasPlaces};
 ghost use Rattle.logic_values.specs.Lanes.{lane_of};
 ghost use Rattle.netlist.specs.Circuit.{line_count, observed_lines, source_count};
-ghost use Rattle.logic_values.specs.Expected.{AreCompared, AreFilled, AreInLanes, AreObservedIn, TellsExpected, expecting, word_of};
+ghost use Rattle.logic_values.specs.Expected.{AreCompared, AreFilled, AreObservedIn, TellsExpected, expecting, word_of};
 
-use crate::lane::{bit_in_lane, put_into_lane};
-use crate::lanes::evaluate_lanes;
+use crate::blocks::{PairVector, block_end, evaluate_block};
+use crate::lane::bit_in_lane;
 use netlist::Netlist;
 use pd_base::{Items, LineId, OutOfMemory, Test};
 use std::alloc::Global;
-
-// How many vectors are evaluated at once.
-const LANES: usize = 64;
 
 /// The tests with the bits that they expect, in place of those that they came with. The one error is that memory ran out.
 pub fn with_expected_bits(
@@ -113,20 +110,6 @@ fn tell_blocks(
     }
 }
 
-// Where the block ends that begins at a place of so many.
-fn block_end(begin: usize, count: usize) -> usize
-    requires { begin < count }
-    ensures on { begin < result }
-    ensures within { result ≤ count }
-    ensures few { result ≤ begin + 64 }
-{
-    if count - begin > LANES {
-        begin + LANES
-    } else {
-        count
-    }
-}
-
 // Fills in those of the tests between two places, whose second vectors fit in a word's lanes.
 fn fill_block(
     alloc: Global,
@@ -184,24 +167,8 @@ fn observe_block(
     requires within { end ≤ length tests.now }
     ensures { AreObservedIn net.now begin end tests.now observed.new }
 {
-    put_vectors(net, tests, begin, end, words);
-    evaluate_lanes(net, words);
+    evaluate_block(net, PairVector::Second, tests, begin, end, words);
     take_words(net.observed(), words, observed);
-}
-
-// Puts the second vectors of the tests between two places into lanes.
-fn put_vectors(net: &Netlist, tests: &[Test], begin: usize, end: usize, words: &mut [u64])
-    requires words { length words.old ≡ line_count net.now }
-    requires bits { All (λ test. length test.pair.second ≡ source_count net.now) tests.now }
-    requires few { end ≤ begin + 64 }
-    requires within { end ≤ length tests.now }
-    ensures { AreInLanes begin end tests.now words.new }
-{
-    // a circuit's sources are lines
-    let _ = net.sources();
-    for place in begin..end {
-        put_into_lane(tests[place].pair.second(), (place - begin) as u32, words);
-    }
 }
 
 // Takes the words of these lines, which are read from one place after another: what is done with each of their lanes then reads memory in

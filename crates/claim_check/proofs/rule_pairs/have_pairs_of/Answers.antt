@@ -5,7 +5,7 @@ use Rattle.std.proofs.lemmas.Result.{IfOk-weaker}
 use Rattle.pd_base.specs.Links.{LinkList}
 use Rattle.netlist.specs.LinkedPairs.{KeepsLinks}
 use Rattle.trees.proofs.Unlinked.{every_pair_is_of_rules}
-use Rattle.claim_check.specs.FaultsInRows.{AreFlags}
+use Rattle.logic_values.specs.Blocks.{AreFlags}
 use Rattle.claim_check.specs.Right.{HasPairOf}
 use Rattle.claim_check.proofs.TestFlags.{true_flags}
 use Rattle.claim_check.proofs.rule_pairs.have_pairs_of.Goals as goal

@@ -1,7 +1,7 @@
 -- What the verdict lacks first is told.
 use Rattle.std.proofs.Common.{sym, subst, ◌∙◌}
 use Rattle.std.proofs.lemmas.Bool.{false≢true}
-use Rattle.claim_check.specs.FaultsInRows.{AreFlags}
+use Rattle.logic_values.specs.Blocks.{AreFlags}
 use Rattle.claim_check.specs.Right.{ExpectsRight, HasPairOf}
 use Rattle.claim_check.proofs.TestFlags.{its_flag_tells}
 use Rattle.claim_check.proofs.VerdictFlaws.{expects_not, shares_not, tests_not, verdict_right}

@@ -5,12 +5,13 @@ use Rattle.std.proofs.lemmas.List.{length-set}
 use Rattle.std.proofs.lemmas.Option.{slice_get-get_or}
 use Rattle.pd_base.specs.declared.test.Test.{Test}
 use Rattle.logic_values.specs.Lanes.{lane_of}
-use Rattle.logic_values.proofs.Filling.{none_compared, one_compared}
+use Rattle.logic_values.proofs.Flagging.{none_flagged, one_flagged}
 use Rattle.logic_values.proofs.expected.tell_block.Goals as goal
 
 pub loop-place-init : goal.loop-place-init
 loop-place-init c = record {
-  compared = none_compared c.args.begin c.args.tests.now c.args.observed.now c.args.flags.now;
+  compared = none_flagged (λ lane test. test.expected ≡ map (λ word. lane_of word lane) c.args.observed.now) c.args.begin c.args.tests.now
+      c.args.flags.now;
   places = c.requires.flags;
 }
 
@@ -24,8 +25,9 @@ loop-place-preserved c =
     let last = c.loop-place-test.true in
     let within = c.requires.within in
     record {
-      compared = one_compared c.args.begin place tests c.args.observed.now c.args.flags.now c.loop-place.flags own flag c.loop-place.auto.place
-          (let same = turn.places in omega arith) (slice_get-get_or tests place c.index-tests-place.result (omega arith))
+      compared = one_flagged (λ lane test. test.expected ≡ map (λ word. lane_of word lane) c.args.observed.now) c.args.begin place tests
+          c.args.flags.now c.loop-place.flags own flag c.loop-place.auto.place (let same = turn.places in omega arith)
+          (slice_get-get_or tests place c.index-tests-place.result (omega arith))
           (subst (λ (bits : List Bool). IsTrue flag ↔ (bits ≡ map (λ word. lane_of word (place - c.args.begin)) c.args.observed.now))
           c.as_slice-bits.ensures c.are_bits_in_lane.ensures)
           turn.compared;

@@ -2,8 +2,8 @@
 use Rattle.std.proofs.Common.{Bool, List, get_or, subst, ◌-◌, ◌∙◌, arith}
 use Rattle.std.proofs.lemmas.Option.{slice_get-get_or}
 use Rattle.logic_values.specs.Lanes.{IsInLane}
-use Rattle.logic_values.proofs.Filling.{one_more_lane}
-use Rattle.logic_values.proofs.expected.put_vectors.Goals as goal
+use Rattle.logic_values.proofs.LaneBlocks.{one_more_lane}
+use Rattle.logic_values.proofs.blocks.put_vectors.Goals as goal
 
 pub loop-place-preserved : goal.loop-place-preserved
 loop-place-preserved c =
@@ -16,8 +16,8 @@ loop-place-preserved c =
     let within = c.requires.within in
     let InLane : List Bool → Type 0 = λ vector. IsInLane c.put_into_lane.new.words (place - c.args.begin) vector in
     record {
-      lanes = one_more_lane c.args.begin place tests c.loop-place.words c.put_into_lane.new.words from (omega arith) own
+      lanes = one_more_lane c.args.which c.args.begin place tests c.loop-place.words c.put_into_lane.new.words from (omega arith) own
           (slice_get-get_or tests place c.index-tests-place.result (omega arith)) c.loop-place.invariant.lanes
-          (subst InLane c.second.ensures.bits c.put_into_lane.ensures.there) c.put_into_lane.ensures.others;
+          (subst InLane c.vector_of-vector.ensures c.put_into_lane.ensures.there) c.put_into_lane.ensures.others;
       places = c.put_into_lane.auto.words ∙ c.loop-place.invariant.places;
     }
