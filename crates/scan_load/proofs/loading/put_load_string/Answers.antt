@@ -2,7 +2,7 @@
 use Rattle.std.proofs.Common.{◌∙◌, ◌-◌, ◌++◌, ◌∷◌, [], length, false, get_or, reverse, Bool, List, ap, ap₂, arith}
 use Rattle.scan_load.specs.Shifting.{chain_bits}
 use Rattle.scan_load.proofs.Shifts.{all_bits, first_bit, loads_of, one_more_bit}
-use Rattle.scan_load.proofs.loading.load_string.Goals as goal
+use Rattle.scan_load.proofs.loading.put_load_string.Goals as goal
 
 pub loop-at-preserved : goal.loop-at-preserved
 loop-at-preserved c =
