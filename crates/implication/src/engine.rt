@@ -24,7 +24,7 @@ use crate::making::{BoardParts, Lists};
 use crate::narrowing_on::{leave_step, narrow_on, put_back, take_from};
 use crate::{Assumption, Beginning, Conflict, Origin, Setting};
 use netlist::Netlist;
-use pd_base::{LineId, OutOfMemory, PinRef, Rules};
+use pd_base::{GateId, LineId, OutOfMemory, PinRef, Rules};
 use state_sets::{Algebra, StateSet};
 use std::alloc::Global;
 use std::marker::Model;
@@ -221,6 +221,18 @@ impl<A: Algebra, S: Setting> Engine<A, S> {
         ensures { IsTrue result ↔ IsTold self.now line.0 }
     {
         self.told[line.0 as usize]
+    }
+
+    /// How many gates it narrows at: the more these are, the more a search on it may take.
+    pub fn narrows(&self) -> u32 {
+        let net = self.setting.netlist();
+        let mut count = 0;
+        for gate in 0..net.lines() - net.sources() {
+            if self.parts.board.is_inside(GateId(gate)) {
+                count += 1;
+            }
+        }
+        count
     }
 
     // Opens the outermost scope.

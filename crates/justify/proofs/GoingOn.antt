@@ -1,6 +1,6 @@
 -- A visit of a place: how the search goes on where the place is shut out, and where a trial has failed there.
-use Rattle.std.proofs.Common.{◌≡◌, ℕ, ◌<◌, ◌≤◌, List, [], ◌∷◌, ◌++◌, length, take, reverse, Option, Some, None, Result, Ok, Err, refl, sym}
-use Rattle.std.proofs.Common.{ap, ◌∙◌, subst}
+use Rattle.std.proofs.Common.{◌≡◌, ℕ, suc, ◌<◌, ◌≤◌, List, [], ◌∷◌, ◌++◌, length, take, get_or, reverse, Option, Some, None, Result, Ok, Err, refl, sym}
+use Rattle.std.proofs.Common.{ap, ◌∙◌, subst, arith}
 use Rattle.std.specs.Prelude.{IfOk, IsSome, is_some}
 use Rattle.std.proofs.lemmas.List.{length_push, length-take}
 use Rattle.pd_base.specs.Pair.{Vectors}
@@ -21,7 +21,7 @@ use Rattle.justify.specs.declared.growing.Place.{Place}
 use Rattle.justify.specs.declared.task.Task.{Task}
 use Rattle.justify.specs.Choices.{AreSingle}
 use Rattle.justify.specs.Desks.{IsDesk}
-use Rattle.justify.specs.Growths.{IsEntered, IsShut, IsExtended}
+use Rattle.justify.specs.Growths.{IsEntered, IsShut, IsExtended, AreToldPlaces}
 use Rattle.implication.specs.NodeScopes.{StandsAtNode}
 use Rattle.justify.specs.Searches.{IsSearching, SearchGoesOn, AddsNode, AddsClosed, IsNodeVisit, IsVisit, IsGrowthOf}
 use Rattle.pair_judging.specs.Targets.{seen_target}
@@ -32,10 +32,10 @@ use Rattle.implication.proofs.Settings.{same_twice}
 use Rattle.justify.proofs.Orders.{late_enough, at_least, no_less, up_from, as_much_left}
 use Rattle.justify.proofs.SameNodes.{same_restored, failed_stays}
 use Rattle.justify.specs.Scoping.{SuitsSearch}
-use Rattle.justify.proofs.Suiting.{support_told, suits_after}
+use Rattle.justify.proofs.Suiting.{told_after, setting_restored, suits_after}
 use Rattle.justify.proofs.Placing.{IsNext, next_place}
 use Rattle.justify.proofs.Visits.{growing_same, shut_under_way, shut_growing, entered_at_node, last_under_way, extended_growing}
-use Rattle.justify.proofs.Visits.{extended_by_one, extended_left}
+use Rattle.justify.proofs.Visits.{extended_by_one, extended_left, extended_told}
 
 -- the search goes on with another desk that serves
 pub other_desk : (a : StateAlgebra) (task : Task) (standing : Standing) (desk later : Desk) (places : List Place) (growth : Growth)
@@ -46,7 +46,12 @@ other_desk a task standing desk later places growth searching serves = record {
   under_way = searching.under_way;
   serves = serves;
   growing = searching.growing;
+  told = searching.told;
 }
+
+-- places at sources that are told are so as long as the setting stays
+places_told : (old new : Standing) → IsSameSetting old new → (places : List Place) → AreToldPlaces old places → AreToldPlaces new places
+places_told old new same places told k d inside = told_after old new same (get_or places k d).source.0 (told k d inside)
 
 module _ (a : StateAlgebra) (task : Task) (old : Standing) (desk : Desk) (growth : Growth) (place : Place)
     (searching : IsSearching a task old desk (place ∷ reverse growth.places.items) growth) where
@@ -71,7 +76,10 @@ module _ (a : StateAlgebra) (task : Task) (old : Standing) (desk : Desk) (growth
   next_at_source = next.here.in_support.is_source
 
   pub next_told : IsTold old place.source.0
-  next_told = support_told a target old searching.suits place.source.0 next.here.in_support
+  next_told = searching.told 0 place (omega arith)
+
+  others_told : AreToldPlaces old (reverse growth.places.items)
+  others_told k d inside = searching.told (suc k) d (omega (arith, inside))
 
   pub next_within : IsWithin a.count place.set
   next_within = next.here.within
@@ -85,13 +93,16 @@ module _ (a : StateAlgebra) (task : Task) (old : Standing) (desk : Desk) (growth
       subst P (sym searching.under_way.beginning) next.here.left_open
 
   module _ (new : Standing) (shut : IsShut a place old new) (later : old.closings ≤ new.closings) where
+    shut_setting : IsSameSetting old new
+    shut_setting = record {
+      net = ap (λ (s : Standing). s.net) shut.now;
+      rules = ap (λ (s : Standing). s.rules) shut.now;
+      ends = ap (λ (s : Standing). s.ends) shut.now;
+    }
+
     pub shut_goes_on : SearchGoesOn a task old new desk
     shut_goes_on = record {
-      setting = record {
-        net = ap (λ (s : Standing). s.net) shut.now;
-        rules = ap (λ (s : Standing). s.rules) shut.now;
-        ends = ap (λ (s : Standing). s.ends) shut.now;
-      };
+      setting = shut_setting;
       under_way =
           shut_under_way a target task.budget old searching.suits.of_rules searching.under_way place (reverse growth.places.items) growth.nodes.items growth.splits
           next new shut;
@@ -116,6 +127,9 @@ module _ (a : StateAlgebra) (task : Task) (old : Standing) (desk : Desk) (growth
           (sym (ap reverse places)) refl (sym splits)
           (shut_growing a target task.budget old searching.suits.of_rules searching.under_way place (reverse growth.places.items) growth.nodes.items growth.splits
           next new shut after.nodes.items nodes);
+      told =
+          let P : List Place → Type 0 = λ ps. AreToldPlaces new (reverse ps) in
+          subst P (sym places) (places_told old new shut_setting (reverse growth.places.items) others_told);
     }
 
     -- a visit that added a closed leaf
@@ -138,10 +152,11 @@ module _ (a : StateAlgebra) (task : Task) (old : Standing) (desk : Desk) (growth
     same_rules : new.rules ≡ old.rules
     same_rules = ap (λ (s : Standing). s.rules) entered.now
 
+    pub entered_setting : IsSameSetting old new
+    entered_setting = record { net = same_net; rules = same_rules; ends = ap (λ (s : Standing). s.ends) entered.now }
+
     pub entered_suits : SuitsSearch a target new
-    entered_suits =
-        suits_after a target old new (record { net = same_net; rules = same_rules; ends = ap (λ (s : Standing). s.ends) entered.now })
-        searching.suits
+    entered_suits = suits_after a target old new entered_setting searching.suits
 
     pub entered_desk : IsDesk a new.net new.rules task.target.path.now desk
     entered_desk =
@@ -149,13 +164,12 @@ module _ (a : StateAlgebra) (task : Task) (old : Standing) (desk : Desk) (growth
         there_too P old.net new.net old.rules new.rules (sym same_net) (sym same_rules) searching.serves
 
     module _ (last : Standing) (restored : IsRestored new last) where
+      last_setting : IsSameSetting old last
+      last_setting = same_twice old new last entered_setting (setting_restored new last restored)
+
       pub entered_goes_on : (later : Desk) → IsDesk a new.net new.rules task.target.path.now later → SearchGoesOn a task old last later
       entered_goes_on later made = record {
-        setting = record {
-          net = restored.net ∙ same_net;
-          rules = restored.rules ∙ same_rules;
-          ends = restored.ends ∙ ap (λ (s : Standing). s.ends) entered.now;
-        };
+        setting = last_setting;
         under_way =
             last_under_way a target task.budget old searching.suits.of_rules searching.under_way place (reverse growth.places.items) growth.nodes.items growth.splits
             next new entered last restored;
@@ -174,6 +188,9 @@ module _ (a : StateAlgebra) (task : Task) (old : Standing) (desk : Desk) (growth
         left = extended_left a target last task.budget growth after extended;
         growing =
             extended_growing a target task.budget old searching.suits.of_rules searching.under_way place growth after next new entered last restored failed extended;
+        told =
+            extended_told a target last task.budget growth after extended
+            (places_told old last last_setting (reverse growth.places.items) others_told);
       }
 
       -- a visit of the open node there
@@ -196,6 +213,7 @@ searching_on a task old new desk later places growth before after searching goes
   under_way = goes.under_way;
   serves = goes.serves;
   growing = adds.growing;
+  told = adds.told;
 }
 
 -- a visit that found no test added a node
@@ -213,11 +231,11 @@ grown_some a task first old new before after growth answer pair some same_net sa
     let Q : Circuit → Rules → Type 0 = λ c rules. IsFitTest c rules (seen_target task.target) pair in
     there_too Q old.net first.net old.rules first.rules same_net same_rules (subst P some visited)
 
--- where a trial has failed, some source of the support has two states
+-- where a trial has failed, some source of the support that is told has two states
 pub two_where_failed : (a : StateAlgebra) (target : Target) (standing : Standing) → HasFailed a target standing
     → ¬ AreSingle a target standing
 two_where_failed a _ standing failed single =
-    failed.two (λ source support. single source support failed.hull failed.labels)
+    failed.two (λ source told. single source told failed.hull failed.labels)
 
 -- what goes on from where the setting was the same, and no count has fallen, goes on from there
 pub goes_further : (a : StateAlgebra) (task : Task) (first middle last : Standing) (desk : Desk) → IsSameSetting first middle

@@ -5,7 +5,6 @@ mod Suiting
 mod SameNodes
 mod Trials
 mod TriedSources
-mod SplitChoices
 mod HalfStates
 mod Placing
 mod Visits

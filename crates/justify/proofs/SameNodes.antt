@@ -21,16 +21,23 @@ use Rattle.justify.specs.Scoping.{IsStart}
 use Rattle.justify.specs.Tests.{IsFitTest}
 use Rattle.justify.specs.Trying.{HasFailed, IsTrialOf, HasLeast, IsSingle}
 use Rattle.implication.proofs.ScopeLabels.{there_too}
+use Rattle.implication.specs.Settings.{IsSameSetting}
+use Rattle.justify.proofs.Suiting.{told_in_support_after}
 use Rattle.justify.proofs.Orders.{at_least, no_less}
 use Rattle.justify.proofs.Resting.{counted_before}
 
--- the same circuit, rules, beginning, assumptions and conflict
+-- the same circuit, rules, ends, beginning, assumptions and conflict
 pub record IsSameNode (first last : Standing) : Type 0 where
   pub net : last.net ≡ first.net
   pub rules : last.rules ≡ first.rules
   pub beginning : last.beginning ≡ first.beginning
   pub assumptions : last.assumptions ≡ first.assumptions
   pub conflict : last.conflict ≡ first.conflict
+  pub ends : last.ends ≡ first.ends
+
+-- so the setting is the same
+pub same_setting : (first last : Standing) → IsSameNode first last → IsSameSetting first last
+same_setting first last same = record { net = same.net; rules = same.rules; ends = same.ends }
 
 pub same_restored : (first last : Standing) → IsRestored first last → IsSameNode first last
 same_restored first last restored = record {
@@ -39,6 +46,7 @@ same_restored first last restored = record {
   beginning = restored.beginning;
   assumptions = restored.assumptions;
   conflict = restored.conflict;
+  ends = restored.ends;
 }
 
 pub same_back : (first last : Standing) → IsSameNode first last → IsSameNode last first
@@ -48,6 +56,7 @@ same_back first last same = record {
   beginning = sym same.beginning;
   assumptions = sym same.assumptions;
   conflict = sym same.conflict;
+  ends = sym same.ends;
 }
 
 pub restored_trans : (first middle last : Standing) → IsRestored first middle → IsRestored middle last → IsRestored first last
@@ -114,10 +123,8 @@ module _ (a : StateAlgebra) (target : Target) (first last : Standing) (same : Is
     is_open = λ halves at.
         let P : Circuit → Rules → Type 0 = λ c rules. IsOpen c rules target halves failed.hull in
         there_too P first.net last.net first.rules last.rules (sym same.net) (sym same.rules) (failed.is_open halves (same_node halves at));
-    two =
-        let P : Circuit → Rules → Type 0 = λ c rules. ¬ ((source : ℕ) → IsInSupport c rules target.path source
-        → IsSingle a.count (label_at failed.hull source)) in
-        there_too P first.net last.net first.rules last.rules (sym same.net) (sym same.rules) failed.two;
+    two = λ single. failed.two (λ source told.
+        single source (told_in_support_after target first last (same_setting first last same) source told));
   }
 
   -- and the scope stands at the node
@@ -132,9 +139,9 @@ module _ (a : StateAlgebra) (target : Target) (first last : Standing) (same : Is
 -- least states stay the least ones
 pub least_stays : (a : StateAlgebra) (target : Target) (first last : Standing) → IsSameNode first last → (states : List State) → HasLeast a target first states
     → HasLeast a target last states
-least_stays a target first last same states least source support labels is =
-    let P : Circuit → Rules → Type 0 = λ c rules. IsInSupport c rules target.path source in
-    least source (there_too P last.net first.net last.rules first.rules same.net same.rules support) labels (same_labels a target last first (same_back first last same) labels is)
+least_stays a target first last same states least source told labels is =
+    let back = same_setting last first (same_back first last same) in
+    least source (told_in_support_after target last first back source told) labels (same_labels a target last first (same_back first last same) labels is)
 
 -- what is found after a scope was restored is found of what stood before
 pub answer_before : (a : StateAlgebra) (target : Target) (first middle last : Standing) → IsRestored first middle → (answer : Option Vectors)

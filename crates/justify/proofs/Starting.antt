@@ -4,6 +4,7 @@ use Rattle.std.specs.List.{All}
 use Rattle.std.proofs.lemmas.List.{length-map, take_all}
 use Rattle.std.proofs.lemmas.Nat.{pow_pos}
 use Rattle.std.proofs.lemmas.List.Elements.{All-nil, All-cons}
+use Rattle.pd_base.specs.Links.{links_of}
 use Rattle.pd_base.specs.Target.{Target}
 use Rattle.pd_base.specs.declared.ids.PinRef.{PinRef}
 use Rattle.netlist.specs.Circuit.{Circuit}
@@ -13,6 +14,7 @@ use Rattle.state_sets.specs.States.{IsWithin, all_states}
 use Rattle.state_sets.specs.StateAlgebra.{StateAlgebra}
 use Rattle.trees.proofs.Bound.{own_in_support}
 use Rattle.state_laws.specs.Nodes.{IsCut}
+use Rattle.state_laws.proofs.FanIns.{leads_in_fan_in}
 use Rattle.hulls.proofs.Sets.{all_have}
 use Rattle.trees.proofs.Growing.{grows_from_root}
 use Rattle.implication.specs.declared.assumption.Beginning.{Beginning}
@@ -25,11 +27,12 @@ use Rattle.implication.specs.Moves.{back_at}
 use Rattle.implication.specs.Standing.{Standing, IsOpenIn, IsTold, end_of_scope, end_from}
 use Rattle.implication.specs.NodeScopes.{beginning_of}
 use Rattle.implication.proofs.Entered.{pins_of_entered}
+use Rattle.implication.proofs.Told.{told_in_fan_in}
 use Rattle.implication.proofs.ScopeLabels.{open_under}
 use Rattle.justify.specs.declared.desk.Desk.{Desk}
 use Rattle.justify.specs.declared.growing.Growth.{Growth}
 use Rattle.justify.specs.declared.growing.Place.{Place}
-use Rattle.justify.specs.Growths.{AllowAsNodeWith, IsPlace, IsGrowing, root_place}
+use Rattle.justify.specs.Growths.{AllowAsNodeWith, IsPlace, IsGrowing, AreToldPlaces, root_place}
 use Rattle.implication.specs.Settings.{IsSameSetting}
 use Rattle.justify.specs.UnderWay.{IsUnderWay}
 use Rattle.justify.specs.Desks.{IsDeskFor, IsDesk}
@@ -158,6 +161,17 @@ module _ (target : Target) (standing : Standing) (start : IsStart target standin
           growing_same a standing.net standing.net standing.rules standing.rules target budget standing.assumptions standing.assumptions
           (root ∷ []) (reverse growth.places.items) [] growth.nodes.items 0 growth.splits refl refl refl (sym (ap reverse places))
           (sym nodes) (sym splits) root_growing
+
+-- the path's source is told where its end is; so is the source of the tree's root
+pub root_told : (a : StateAlgebra) (target : Target) (standing : Standing) → SuitsSearch a target standing → (mark : ScopeMark)
+    → (places : List Place) → places ≡ root_place a.count mark target.path.source ∷ [] → AreToldPlaces standing (reverse places)
+root_told a target standing suits mark places is =
+    let Told : Place → Type 0 = λ place. IsTold standing place.source.0 in
+    let P : List Place → Type 0 = λ ps. AreToldPlaces standing (reverse ps) in
+    subst P (sym is) (All-cons Told (root_place a.count mark target.path.source) []
+    (told_in_fan_in standing.net (links_of standing.rules) standing.ends (end_of standing.net target.path) target.path.source.0 suits.told
+    (leads_in_fan_in standing.net target.path.source.0 target.path.steps suits.prefix.connects))
+    (All-nil Told))
 
 -- where the search ends, going back restores what stood
 pub ended_restored : (target : Target) (first middle last : Standing) → IsStart target first

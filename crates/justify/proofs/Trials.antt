@@ -39,6 +39,7 @@ use Rattle.justify.specs.declared.trial.Tried.{Tried}
 use Rattle.implication.specs.NodeScopes.{beginning_of, StandsAtNode, AllowAsNode}
 use Rattle.pair_judging.specs.ConeStates.{HasLinkedStates}
 use Rattle.pair_judging.proofs.Taking.{least_is_taken}
+use Rattle.justify.specs.Scoping.{IsToldInSupport}
 use Rattle.justify.specs.Trying.{CanTry, IsWithinTrial, IsHeldIn, EndsTrial, HasFailed, IsSingle, IsTriedAs, GivesTest}
 use Rattle.implication.proofs.MoreAssumed.{may_assumed, entered_assumed}
 use Rattle.implication.proofs.NodeScopes.{hull_at_node}
@@ -70,9 +71,9 @@ module _ (a : StateAlgebra) (target : Target) (first : Standing) where
           let P : List Assumption → Type 0 = λ list. MayUnder a first.net first.rules begun list line state in
           let in_set : line ≡ tried.source.0 → Has a.count set state =
           λ here.
-          let Q : ℕ → Type 0 = λ l. IsInSupport first.net first.rules target.path l → IsLeast a.count (label_at labels l) state in
+          let Q : ℕ → Type 0 = λ l. IsToldInSupport target first l → IsLeast a.count (label_at labels l) state in
           let at_source : Q tried.source.0 = subst Q here least in
-          let same = least_is_taken a.count (label_at labels tried.source.0) state tried.state (at_source is.in_support) (is.least labels is_labels) in
+          let same = least_is_taken a.count (label_at labels tried.source.0) state tried.state (at_source is.source) (is.least labels is_labels) in
           let R : State → Type 0 = λ s. Has a.count set s in
           subst R (sym same) (only_has a.count set tried.state only is.in_range) in
           subst P (sym more)
@@ -111,9 +112,9 @@ module _ (a : StateAlgebra) (target : Target) (first : Standing) (node : StandsA
             (MayUnder a first.net first.rules start first.assumptions) hull under line empty;
       })
 
-  -- where each source of the support had one state only, the hull would lie within what was assumed
+  -- where each source of the support that is told had one state only, the hull would lie within what was assumed
   two : ClosesUnder a first.net first.rules start last.assumptions
-      → ¬ ((source : ℕ) → IsInSupport first.net first.rules target.path source → IsSingle a.count (label_at hull source))
+      → ¬ ((source : ℕ) → IsToldInSupport target first source → IsSingle a.count (label_at hull source))
   two closes singles =
       let Might = MayUnder a first.net first.rules start last.assumptions in
       let Narrowings : List PinRef → Narrowing → Type 0 = λ steps. IsNarrowingOf first.net (links_of first.rules) start.kind steps in
@@ -122,10 +123,10 @@ module _ (a : StateAlgebra) (target : Target) (first : Standing) (node : StandsA
         labelling = under.rest.labelling;
         rest = under.rest.rest;
         among = λ line state has. trial.lets hull labels line state has.in_range (under.rest.among line state has)
-            (λ support. record {
+            (λ told. record {
               has = has;
               least = λ other in_other.
-                  let same = ap (λ (s : State). s.0) (singles line support state other has in_other) in omega (arith, same);
+                  let same = ap (λ (s : State). s.0) (singles line told state other has in_other) in omega (arith, same);
             });
       } in
       none_empty closes.line closes.in_circuit (closes.emptied hull (subst P (sym trial.entered) among))
@@ -212,7 +213,8 @@ module _ (target : Target) (first : Standing) where
         closes_if_wider own first.net Narrowings Narrowings May Might
         (widens_by_states own first.net Narrowings May Might
         (λ line state in_circuit in_range may.
-        trial.lets hull labels line state in_range ((at line state in_circuit in_range).1 may.at_node) may.least))
+        trial.lets hull labels line state in_range ((at line state in_circuit in_range).1 may.at_node)
+        (λ told. may.least told.in_support)))
         (subst P (trial.entered ∙ node.entered) closes);
   }
 

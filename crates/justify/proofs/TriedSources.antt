@@ -36,7 +36,7 @@ use Rattle.trees.specs.Algebras.{algebra_of}
 use Rattle.trees.specs.Spent.{IsInSupport}
 use Rattle.implication.specs.Assumptions.{entered_pins, MayUnder}
 use Rattle.implication.proofs.ScopeLabels.{labels_under, open_under}
-use Rattle.implication.specs.Standing.{Standing, IsLabels, TellsLabels}
+use Rattle.implication.specs.Standing.{Standing, IsLabels, IsTold, TellsLabels}
 use Rattle.justify.specs.declared.trial.Tried.{Tried}
 use Rattle.search_hints.specs.Blamed.{AreBlamed}
 use Rattle.pair_judging.specs.ConeStates.{state_in, AreStates, AreSourceStates, HasSourceStates, HasSupportStates, HasLinkedStates, IsReadFrom, IsLinkedFrom}
@@ -52,9 +52,8 @@ use Rattle.implication.specs.NodeScopes.{beginning_of, StandsAtNode}
 use Rattle.pair_judging.specs.Taken.{AreLeast}
 use Rattle.justify.specs.Tests.{IsFitTest}
 use Rattle.justify.proofs.Resting.{label_is}
-use Rattle.justify.proofs.Suiting.{support_told}
-use Rattle.justify.specs.Scoping.{SuitsSearch}
-use Rattle.justify.specs.Trying.{CanTry, HasLeastLabel, AreTriedIn, HasLeast, GivesTest}
+use Rattle.justify.specs.Scoping.{IsToldInSupport, TellsSupport}
+use Rattle.justify.specs.Trying.{CanTry, HasLeastLabel, IsTriedIn, AreTriedIn, HasLeast, GivesTest}
 
 -- the sources of the cone are those of the support
 pub cone_in_support : (c : Circuit) (rules : Rules) (path : Route) (cone : KeptCone) → cone.links ≡ links_of rules
@@ -112,22 +111,23 @@ in_cone_within c circuit links fit path is line supported =
 
 -- what was tried of sources of the support, in states that are the least of their labels
 pub all_tried : (a : StateAlgebra) (target : Target) (standing : Standing) (sources : List LineId) (states : List State) (tried : List Tried)
-    → AreTriedIn sources states tried → AreInSupport standing.net standing.rules target.path sources → HasLeast a target standing states
+    → AreTriedIn standing sources states tried → AreInSupport standing.net standing.rules target.path sources → HasLeast a target standing states
     → AreStates a.count states → length states ≡ line_count standing.net → All (CanTry a target standing) tried
 all_tried a target standing sources states tried are support least four long k d inside =
     let entry = get_or tried k d in
     let each = are.each k d inside in
     let P : LineId → Type 0 = λ source. IsInSupport standing.net standing.rules target.path source.0 in
-    let at = each.0 in
+    let at = each.among in
     let here : IsInSupport standing.net standing.rules target.path entry.source.0 = subst P at.2 (support at.0 entry.source at.1) in
+    let source : IsToldInSupport target standing entry.source.0 = record { in_support = here; told = each.told } in
     let within = here.is_source in
     let Q : State → Type 0 = λ state. state.0 < a.count in
     record {
-      in_support = here;
-      in_range = subst Q (sym each.1) (four entry.source.0 (record { 0 = 0 }) (omega (arith, within, long)));
+      source = source;
+      in_range = subst Q (sym each.state) (four entry.source.0 (record { 0 = 0 }) (omega (arith, within, long)));
       least = λ labels is.
           let T : State → Type 0 = λ state. IsTakenOf a.count (label_at labels entry.source.0) state in
-          subst T (sym each.1) (least entry.source.0 here labels is);
+          subst T (sym each.state) (least entry.source.0 source labels is);
     }
 
 -- so are sources that still have these as their least states
@@ -135,37 +135,66 @@ pub tried_again : (a : StateAlgebra) (target : Target) (standing : Standing) (ma
     → ((line : ℕ) → HasMark marks line → IsSupported standing.net (links_of standing.rules) (end_of standing.net target.path) line)
     → HasLeastLabel a standing marks tried → CanTry a target standing tried
 tried_again a target standing marks tried marked has = record {
-  in_support = record { is_source = has.is_source; supported = marked tried.source.0 has.marked };
+  source = record {
+    in_support = record { is_source = has.is_source; supported = marked tried.source.0 has.marked };
+    told = has.told;
+  };
   in_range = has.in_range;
   least = has.least;
 }
 
 -- the list of what is tried, as it grows
-module _ (sources : List LineId) (states : List State) where
+module _ (standing : Standing) (sources : List LineId) (states : List State) where
   pub tried_more : (place : ℕ) (d : LineId) (tried more : List Tried) → place < length sources
-      → AreTriedIn (take place sources) states tried
+      → IsTold standing (get_or sources place d).0 → AreTriedIn standing (take place sources) states tried
       → more ≡ tried ++ (record { source = get_or sources place d; state = state_in states (get_or sources place d).0 }) ∷ []
-      → AreTriedIn (take (place + 1) sources) states more
-  tried_more place d tried more inside before is =
+      → AreTriedIn standing (take (place + 1) sources) states more
+  tried_more place d tried more inside told before is =
       let source = get_or sources place d in
       let entry : Tried = record { source = source; state = state_in states source.0 } in
       let front = take place sources in
-      let P : List LineId → Type 0 = λ xs. AreTriedIn xs states (tried ++ entry ∷ []) in
-      let Q : List Tried → Type 0 = λ xs. AreTriedIn (take (place + 1) sources) states xs in
-      let Each : List LineId → Tried → Type 0 = λ xs e. Contains xs e.source × (e.state ≡ state_in states e.source.0) in
+      let P : List LineId → Type 0 = λ xs. AreTriedIn standing xs states (tried ++ entry ∷ []) in
+      let Q : List Tried → Type 0 = λ xs. AreTriedIn standing (take (place + 1) sources) states xs in
+      let Each : List LineId → Tried → Type 0 = λ xs e. IsTriedIn standing xs states e in
       subst Q (sym is) (subst P (sym (take_more sources place d inside)) (record {
         each = All-push (Each (front ++ source ∷ [])) tried entry
             (λ k e within.
             let each = before.each k e within in
-            (Contains-append_left front (source ∷ []) (get_or tried k e).source each.0, each.1))
-            (Contains-push front source, refl);
-        whole = λ other has. ⊎_elim
-            (λ (earlier : Contains front other). Contains-append_left tried (entry ∷ []) _ (before.whole other earlier))
+            record {
+              among = Contains-append_left front (source ∷ []) (get_or tried k e).source each.among;
+              told = each.told;
+              state = each.state;
+            })
+            (record { among = Contains-push front source; told = told; state = refl });
+        whole = λ other has is_told. ⊎_elim
+            (λ (earlier : Contains front other). Contains-append_left tried (entry ∷ []) _ (before.whole other earlier is_told))
             (λ (same : source ≡ other).
             let R : LineId → Type 0 = λ l. Contains (tried ++ entry ∷ []) (record { source = l; state = state_in states l.0 }) in
             subst R same (Contains-push tried entry))
             (Contains-push_cases front source other has);
       }))
+
+  -- and where a source is passed over that is not told
+  pub tried_as_before : (place : ℕ) (d : LineId) (tried : List Tried) → place < length sources
+      → ¬ IsTold standing (get_or sources place d).0 → AreTriedIn standing (take place sources) states tried
+      → AreTriedIn standing (take (place + 1) sources) states tried
+  tried_as_before place d tried inside untold before =
+      let source = get_or sources place d in
+      let front = take place sources in
+      let P : List LineId → Type 0 = λ xs. AreTriedIn standing xs states tried in
+      subst P (sym (take_more sources place d inside)) (record {
+        each = λ k e within.
+            let each = before.each k e within in
+            record {
+              among = Contains-append_left front (source ∷ []) (get_or tried k e).source each.among;
+              told = each.told;
+              state = each.state;
+            };
+        whole = λ other has is_told. ⊎_elim
+            (λ (earlier : Contains front other). before.whole other earlier is_told)
+            (λ (same : source ≡ other). let R : LineId → Type 0 = λ l. IsTold standing l.0 in absurd (untold (subst R (sym same) is_told)))
+            (Contains-push_cases front source other has);
+      })
 
 -- a pair that is read off states is one of the rules, where the states along links of the support may be linked
 own_of_rules : (c : Circuit) → IsCircuit c → (rules : Rules) → FitRules c rules → (end : ℕ) (states : List State) (pair : Vectors)
@@ -200,16 +229,19 @@ read_fits a c circuit rules same fit target states pair read linked meets = reco
 }
 
 -- and where all sources of the cone were tried without a conflict, it is one
-pub tried_fits : (a : StateAlgebra) (c : Circuit) (rules : Rules) (target : Target) (desk : Desk) → IsDesk a c rules target.path desk
+pub tried_fits : (a : StateAlgebra) (target : Target) (standing : Standing) (desk : Desk)
+    → IsDesk a standing.net standing.rules target.path desk → TellsSupport target standing
     → (sources : List LineId) → sources ≡ desk.cone.sources
-    → (states : List State) (tried : List Tried) (pair : Vectors) → AreTriedIn sources states tried
-    → IsReadFrom a c (links_of rules) (end_of c target.path) states pair → GivesTest a c rules target tried → IsFitTest c rules target pair
-tried_fits a c rules target desk is sources same states tried pair are read gives =
-    let P : List LineId → Type 0 = λ xs. AreTriedIn xs states tried in
+    → (states : List State) (tried : List Tried) (pair : Vectors) → AreTriedIn standing sources states tried
+    → IsReadFrom a standing.net (links_of standing.rules) (end_of standing.net target.path) states pair
+    → GivesTest a standing.net standing.rules target tried → IsFitTest standing.net standing.rules target pair
+tried_fits a target standing desk is tells sources same states tried pair are read gives =
+    let c = standing.net in let rules = standing.rules in
+    let P : List LineId → Type 0 = λ xs. AreTriedIn standing xs states tried in
     let given = gives pair (λ source support. record {
       entry = record { source = record { 0 = source }; state = state_in states source };
       among = (subst P same are).whole (record { 0 = source })
-          (support_in_cone c rules target.path desk.cone is.made.links is.cone source support);
+          (support_in_cone c rules target.path desk.cone is.made.links is.cone source support) (tells source support);
       here = refl;
       same = sym (read.has source support.is_source support.supported);
     }) in
@@ -288,21 +320,36 @@ desk_asked a n c same rules path desk is justifier asked =
     desk_again a c rules path desk (record desk { justifier = justifier }) desk.states.items is refl refl refl refl refl is.made.within refl
     (subst P same asked)
 
+-- where all sources of the cone are told, so are those of the support; and the other way round
+pub cone_tells_support : (a : StateAlgebra) (target : Target) (standing : Standing) (desk : Desk)
+    → IsDesk a standing.net standing.rules target.path desk → (sources : List LineId) → sources ≡ desk.cone.sources
+    → All (λ (source : LineId). IsTold standing source.0) sources → TellsSupport target standing
+cone_tells_support a target standing desk is sources same told source support =
+    let Told : LineId → Type 0 = λ l. IsTold standing l.0 in
+    let P : List LineId → Type 0 = λ xs. All Told xs in
+    All-contains Told desk.cone.sources (record { 0 = source }) (subst P same told)
+    (support_in_cone standing.net standing.rules target.path desk.cone is.made.links is.cone source support)
+
+pub support_tells_cone : (a : StateAlgebra) (target : Target) (standing : Standing) (desk : Desk)
+    → IsDesk a standing.net standing.rules target.path desk → (sources : List LineId) → sources ≡ desk.cone.sources
+    → TellsSupport target standing → All (λ (source : LineId). IsTold standing source.0) sources
+support_tells_cone a target standing desk is sources same tells k d inside =
+    tells (get_or sources k d).0 (read_in_support a standing.net standing.rules target.path desk is sources same k d inside)
+
 -- what was taken of the labels are the least states
-pub taken_least : (a : StateAlgebra) (target : Target) (standing : Standing) → SuitsSearch a target standing → StandsAtNode a target standing
+pub taken_least : (a : StateAlgebra) (target : Target) (standing : Standing) → StandsAtNode a target standing
     → (desk : Desk) → IsDesk a standing.net standing.rules target.path desk → (sources : List LineId) → sources ≡ desk.cone.sources
     → (answers : List StateSet)
     → (labels : List StateSet) × IsLabels a standing labels × TellsLabels a.count standing labels answers
     → (states : List State) → AreLeast a.count sources answers states → HasLeast a target standing states
-taken_least a target standing suits node desk is sources same answers tells states taken source support labels labelled =
+taken_least a target standing node desk is sources same answers tells states taken source told labels labelled =
     let P : List LineId → Type 0 = λ xs. Contains xs (record { 0 = source }) in
     let there = subst P (sym same)
-    (support_in_cone standing.net standing.rules target.path desk.cone is.made.links is.cone source support) in
-    let within = support.is_source in
+    (support_in_cone standing.net standing.rules target.path desk.cone is.made.links is.cone source told.in_support) in
+    let within = told.in_support.is_source in
     let line : source < line_count standing.net = omega (arith, within) in
     let T : StateSet → Type 0 = λ set. IsTakenOf a.count set (state_in states source) in
-    subst T (label_is a standing (beginning_of target) node.beginning source (label_at answers source)
-    (support_told a target standing suits source support) (tells.0, tells.1, tells.2 source line) labels labelled) (taken source there)
+    subst T (label_is a standing (beginning_of target) node.beginning source (label_at answers source) told.told (tells.0, tells.1, tells.2 source line) labels labelled) (taken source there)
 
 -- the state that is taken of a set with some states is in it
 taken_has : (count : ℕ) (set : StateSet) (state : State) → IsTakenOf count set state → set.0 < 2 ^ count → set ≢ no_states
@@ -321,12 +368,12 @@ taken_has count set state taken within some =
     (cases_lt found.0.0 state.0))
     (cases_lt (state.0 + 1) count)
 
--- the least states of the sources of the support are such as sources may be in
-pub least_of_sources : (a : StateAlgebra) (target : Target) (standing : Standing) → StandsAtNode a target standing
+-- the least states of the sources of the support are such as sources may be in, where all are told
+pub least_of_sources : (a : StateAlgebra) (target : Target) (standing : Standing) → StandsAtNode a target standing → TellsSupport target standing
     → (desk : Desk) → IsDesk a standing.net standing.rules target.path desk
     → (labels : List StateSet) → IsLabels a standing labels
     → (states : List State) → HasLeast a target standing states → AreSourceStates a desk.cone.sources states
-least_of_sources a target standing node desk is labels labelled states least source among =
+least_of_sources a target standing node tells desk is labels labelled states least source among =
     let begun = beginning_of target in
     let P : LineId → Type 0 = λ l. IsInSupport standing.net standing.rules target.path l.0 in
     let support = All-contains P desk.cone.sources (record { 0 = source })
@@ -341,16 +388,17 @@ least_of_sources a target standing node desk is labels labelled states least sou
           (MayUnder a standing.net standing.rules begun standing.assumptions) labels under source empty;
     }) in
     let small = under.rest.labelling.within source no_states (omega (arith, within, under.rest.labelling.one_each)) in
-    let has = taken_has a.count (label_at labels source) (state_in states source) (least source support labels labelled) small none_empty in
+    let has = taken_has a.count (label_at labels source) (state_in states source)
+    (least source (record { in_support = support; told = tells source support }) labels labelled) small none_empty in
     (under.rest.among source (state_in states source) has).start.is_source within
 
 -- and they stay so where the states of sources are kept
 pub kept_least : (a : StateAlgebra) (target : Target) (standing : Standing) (first later : List State)
     → ((source : ℕ) → source < source_count standing.net → state_in later source ≡ state_in first source)
     → HasLeast a target standing first → HasLeast a target standing later
-kept_least a target standing first later kept least source support labels is =
+kept_least a target standing first later kept least source told labels is =
     let T : State → Type 0 = λ state. IsTakenOf a.count (label_at labels source) state in
-    subst T (sym (kept source support.is_source)) (least source support labels is)
+    subst T (sym (kept source told.in_support.is_source)) (least source told labels is)
 
 -- so do states that sources may be in
 pub kept_sources : (a : StateAlgebra) (c : Circuit) (rules : Rules) (path : Route) (desk : Desk) → IsDesk a c rules path desk

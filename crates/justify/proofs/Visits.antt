@@ -4,7 +4,9 @@ use Rattle.std.proofs.Common.{None, nat_lt, if◌then◌else◌, refl, sym, ap, 
 use Rattle.std.specs.Prelude.{is_some, IfNone}
 use Rattle.std.proofs.lemmas.Bool.{false≢true}
 use Rattle.std.proofs.lemmas.List.{take-take, length-take, length_push, reverse-append}
+use Rattle.std.proofs.lemmas.List.Elements.{All-cons}
 use Rattle.pd_base.specs.Target.{Target}
+use Rattle.pd_base.specs.declared.ids.LineId.{LineId}
 use Rattle.pd_base.specs.declared.rules.Rules.{Rules}
 use Rattle.netlist.specs.Circuit.{Circuit}
 use Rattle.state_sets.specs.StateAlgebra.{StateAlgebra}
@@ -18,7 +20,7 @@ use Rattle.implication.specs.declared.assumption.Assumption.{Assumption}
 use Rattle.implication.specs.declared.scope.ScopeMark.{ScopeMark}
 use Rattle.implication.specs.Assumptions.{entered_pins, ClosesUnder}
 use Rattle.implication.specs.Clients.{IsRestored}
-use Rattle.implication.specs.Standing.{Standing, IsEmptiedFrom, IsOpenIn}
+use Rattle.implication.specs.Standing.{Standing, IsEmptiedFrom, IsOpenIn, IsTold}
 use Rattle.implication.specs.Moves.{with_assumed, grown, back_at, conflict_at}
 use Rattle.implication.specs.NodeScopes.{beginning_of, StandsAtNode, AllowAsNode}
 use Rattle.implication.proofs.NodeScopes.{closes_at_node}
@@ -26,7 +28,7 @@ use Rattle.implication.proofs.ScopeLabels.{there_too, open_under}
 use Rattle.justify.specs.declared.choosing.Split.{Split}
 use Rattle.justify.specs.declared.growing.Growth.{Growth}
 use Rattle.justify.specs.declared.growing.Place.{Place}
-use Rattle.justify.specs.Growths.{IsEntered, IsShut, IsGrowing, IsExtended, IsSplitAt}
+use Rattle.justify.specs.Growths.{IsEntered, IsShut, IsGrowing, IsExtended, IsSplitAt, AreToldPlaces}
 use Rattle.justify.specs.Growths.IsExtended.{waits, splits}
 use Rattle.justify.specs.Choices.{IsUsefulSplit}
 use Rattle.justify.specs.Trying.{HasFailed}
@@ -50,6 +52,14 @@ from_none (Some value) none holds = absurd (false≢true (sym none))
 -- the places, the last one first
 reverse_push : {X : Type 0} (xs ys : List X) (x : X) → ys ≡ xs ++ x ∷ [] → reverse ys ≡ x ∷ reverse xs
 reverse_push xs ys x is = ap reverse is ∙ reverse-append xs (x ∷ [])
+
+-- after a split the places of its halves are the next ones
+places_split : (a : StateAlgebra) (split : Split) (mark : ScopeMark) (before_it after_it : Growth) (at : IsSplitAt a split mark before_it after_it)
+    → reverse after_it.places.items ≡ at.first_place ∷ at.second_place ∷ reverse before_it.places.items
+places_split a split mark before_it after_it at =
+    let first = at.first_place in let second = at.second_place in
+    reverse_push (before_it.places.items ++ second ∷ []) after_it.places.items first at.places
+    ∙ ap (λ (ps : List Place). first ∷ ps) (reverse_push before_it.places.items (before_it.places.items ++ second ∷ []) second refl)
 
 -- the same growth, seen otherwise
 pub growing_same : (a : StateAlgebra) (c d : Circuit) (r s : Rules) (target : Target) (budget : ℕ) (list others : List Assumption)
@@ -199,9 +209,7 @@ module _ (a : StateAlgebra) (target : Target) (budget : ℕ) (old : Standing) (s
             let first = at.first_place in let second = at.second_place in
             let P : Circuit → Rules → Type 0 = λ c rules. IsInSupport c rules target.path split.source.0 in
             let turned : reverse after_it.places.items ≡ first ∷ second ∷ places =
-            reverse_push (before_it.places.items ++ second ∷ []) after_it.places.items first at.places
-            ∙ ap (λ (ps : List Place). first ∷ ps) (reverse_push before_it.places.items (before_it.places.items ++ second ∷ []) second refl
-            ∙ ap (λ (ps : List Place). second ∷ ps) same_places) in
+            places_split a split mark before_it after_it at ∙ ap (λ (ps : List Place). first ∷ second ∷ ps) same_places in
             growing_same a old.net last.net old.rules last.rules target budget at_node last.assumptions (first ∷ second ∷ places)
             (reverse after_it.places.items) (nodes ++ split_node split.steadiness split.source.0 ∷ []) after_it.nodes.items
             (splits_before + 1) after_it.splits last_net last_rules (sym same_list) (sym turned)
@@ -209,7 +217,7 @@ module _ (a : StateAlgebra) (target : Target) (budget : ℕ) (old : Standing) (s
             (sym (at.counted ∙ ap (λ k. k + 1) same_count))
             (growing_split a old.net old.rules target budget old.assumptions place places nodes splits_before next failed.hull open_there
             node_left_open split same_states
-            (there_too P last.net old.net last.rules old.rules (sym last_net) (sym last_rules) choice.in_support) (choice.splits.in_half failed.hull failed.labels)
+            (there_too P last.net old.net last.rules old.rules (sym last_net) (sym last_rules) choice.source.in_support) (choice.splits.in_half failed.hull failed.labels)
             mark (at_end ∙ ap length same_list) first second at.in_first at.in_second less)
 
 -- so it does after a trial that failed
@@ -226,6 +234,21 @@ extended_growing a target budget old same_states way place first after next new 
 extended_growing a target budget old same_states way place first after next new entered last restored failed (splits split mark at_end choice less at) =
     split_growing a target budget old same_states way place (reverse first.places.items) first.nodes.items first.splits next new entered
     last restored failed split mark at_end choice less first after at refl refl refl
+
+-- and its places are at sources that are told
+pub extended_told : (a : StateAlgebra) (target : Target) (last : Standing) (budget : ℕ) (before_it after_it : Growth)
+    → IsExtended a target last budget before_it after_it → AreToldPlaces last (reverse before_it.places.items)
+    → AreToldPlaces last (reverse after_it.places.items)
+extended_told a target last budget before_it after_it (waits spent at) told =
+    let P : List Place → Type 0 = λ places. AreToldPlaces last (reverse places) in subst P (sym at.places) told
+extended_told a target last budget before_it after_it (splits split mark at_end choice less at) told =
+    let Told : Place → Type 0 = λ place. IsTold last place.source.0 in
+    let At : LineId → Type 0 = λ source. IsTold last source.0 in
+    let P : List Place → Type 0 = λ places. AreToldPlaces last places in
+    let rest = reverse before_it.places.items in
+    subst P (sym (places_split a split mark before_it after_it at))
+    (All-cons Told at.first_place (at.second_place ∷ rest) (subst At (sym at.in_first.at_source) choice.source.told)
+    (All-cons Told at.second_place rest (subst At (sym at.in_second.at_source) choice.source.told) told))
 
 -- by one node, and less is left to do
 pub extended_by_one : (a : StateAlgebra) (target : Target) (last : Standing) (budget : ℕ) (before_it after_it : Growth)

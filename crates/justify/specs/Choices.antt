@@ -5,19 +5,19 @@ use Rattle.pd_base.specs.declared.ids.LineId.{LineId}
 use Rattle.state_sets.specs.declared.state.StateSet.{StateSet}
 use Rattle.state_sets.specs.StateAlgebra.{StateAlgebra}
 use Rattle.state_sets.specs.Labellings.{label_at}
-use Rattle.trees.specs.Spent.{IsInSupport, HasInHalf}
+use Rattle.trees.specs.Spent.{HasInHalf}
 use Rattle.implication.specs.Standing.{Standing, IsLabels}
 use Rattle.justify.specs.declared.choosing.Split.{Split}
+use Rattle.justify.specs.Scoping.{IsToldInSupport}
 use Rattle.justify.specs.Trying.{IsSingle}
 
 -- the source's label as the scope stands has at most one state
 abbrev pub IsSingleAt : StateAlgebra → Standing → ℕ → Type 0
 IsSingleAt a standing source = (labels : List StateSet) → IsLabels a standing labels → IsSingle a.count (label_at labels source)
 
--- so has that of each source in the support of the path
+-- so has that of each source in the support of the path that is told
 abbrev pub AreSingle : StateAlgebra → Target → Standing → Type 0
-AreSingle a target standing =
-    (source : ℕ) → IsInSupport standing.net standing.rules target.path source → IsSingleAt a standing source
+AreSingle a target standing = (source : ℕ) → IsToldInSupport target standing source → IsSingleAt a standing source
 
 -- the split is at this source, whose label has a state in each half
 pub record SplitsAt (a : StateAlgebra) (standing : Standing) (source : LineId) (split : Split) : Type 0 where
@@ -25,7 +25,7 @@ pub record SplitsAt (a : StateAlgebra) (standing : Standing) (source : LineId) (
   pub in_half : (labels : List StateSet) → IsLabels a standing labels → (second : Bool)
       → HasInHalf a (label_at labels source.0) split.steadiness second
 
--- the split is at a source of the support, whose label has a state in each half
+-- the split is at a source of the support that is told, whose label has a state in each half
 pub record IsUsefulSplit (a : StateAlgebra) (target : Target) (standing : Standing) (split : Split) : Type 0 where
-  pub in_support : IsInSupport standing.net standing.rules target.path split.source.0
+  pub source : IsToldInSupport target standing split.source.0
   pub splits : SplitsAt a standing split.source split

@@ -82,6 +82,10 @@ pub record IsPlace (a : StateAlgebra) (c : Circuit) (rules : Rules) (target : Ta
   pub within : IsWithin a.count place.set
   pub node : AllowAsNodeWith a c rules target assumptions place.source place.set halves
 
+-- the sources of these places are told
+abbrev pub AreToldPlaces : Standing → List Place → Type 0
+AreToldPlaces standing places = All (λ place. IsTold standing place.source.0) places
+
 -- a place at which a tree is due, and the halves below which the tree is
 pub record DueTree : Type 0 where
   pub place : Place

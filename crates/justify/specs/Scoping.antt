@@ -1,14 +1,17 @@
 -- How an engine has to be set for a search for a path, and how a scope stands at its start (this project's own).
-use Rattle.std.specs.Prelude.{◌≡◌, ℕ, ◌≤◌, Some, None}
+use Rattle.std.specs.Prelude.{◌≡◌, ⊤, ℕ, ◌≤◌, Some, None}
 use Rattle.pd_base.specs.Target.{Target}
 use Rattle.pd_base.specs.declared.limits.TheConstants.{MOST_BUDGET}
 use Rattle.netlist.specs.LinkedPairs.{FitRules}
 use Rattle.netlist.specs.Paths.{IsPrefix, end_of}
 use Rattle.state_sets.specs.StateAlgebra.{StateAlgebra}
 use Rattle.trees.specs.Algebras.{algebra_of}
+use Rattle.trees.specs.Spent.{IsInSupport}
 use Rattle.implication.specs.Standing.{Standing, IsTold}
 use Rattle.implication.specs.NodeScopes.{beginning_of}
 use Rattle.justify.specs.UnderWay.{entered_steps}
+use Rattle.justify.specs.declared.answer.Unfinished.{Unfinished}
+use Rattle.justify.specs.declared.answer.Unfinished.TheVariants.{NoMemory, Undecided}
 
 -- the path's pins are entered, nothing else is assumed, and no conflict stands
 pub record IsStart (target : Target) (standing : Standing) : Type 0 where
@@ -35,3 +38,18 @@ pub record SuitsSearch (a : StateAlgebra) (target : Target) (standing : Standing
   pub fit : FitRules standing.net standing.rules
   pub prefix : IsPrefix standing.net target.path
   pub told : IsTold standing (end_of standing.net target.path)
+
+-- a source of the path's support that the engine tells
+pub record IsToldInSupport (target : Target) (standing : Standing) (source : ℕ) : Type 0 where
+  pub in_support : IsInSupport standing.net standing.rules target.path source
+  pub told : IsTold standing source
+
+-- the engine tells all sources of the path's support
+abbrev pub TellsSupport : Target → Standing → Type 0
+TellsSupport target standing = (source : ℕ) → IsInSupport standing.net standing.rules target.path source → IsTold standing source
+
+-- What a search may have ended by with nothing found: want of memory; or nothing is known, only where the engine doesn't tell all sources of
+-- the support.
+abbrev pub MayEndBy : Target → Standing → Unfinished → Type 0
+MayEndBy target standing NoMemory = ⊤
+MayEndBy target standing Undecided = ¬ TellsSupport target standing

@@ -1,8 +1,7 @@
 -- A search that is under way on a scope, and what a visit of a place makes of it, in words that are spoken
 -- inside this crate alone (this project's own).
-use Rattle.std.specs.Prelude.{◌≡◌, ◌+◌, ◌*◌, ◌-◌, ◌≤◌, ℕ, List, [], ◌∷◌, ◌++◌, length, reverse, Option, Some, None, Result, IfOk}
+use Rattle.std.specs.Prelude.{◌≡◌, ◌+◌, ◌*◌, ◌-◌, ◌≤◌, ℕ, List, [], ◌∷◌, ◌++◌, length, reverse, Option, Some, None, Result, IfOk, IfErr}
 use Rattle.pd_base.specs.Pair.{Vectors}
-use Rattle.pd_base.specs.declared.memory.OutOfMemory.{OutOfMemory}
 use Rattle.pd_base.specs.declared.limits.TheConstants.{MOST_BUDGET}
 use Rattle.state_sets.specs.StateAlgebra.{StateAlgebra}
 use Rattle.trees.specs.declared.tree.Node.TheVariants.{Closed}
@@ -14,10 +13,11 @@ use Rattle.justify.specs.declared.growing.Growth.{Growth}
 use Rattle.justify.specs.declared.growing.Place.{Place}
 use Rattle.justify.specs.declared.task.Task.{Task}
 use Rattle.justify.specs.declared.answer.Found.{Found}
+use Rattle.justify.specs.declared.answer.Unfinished.{Unfinished}
 use Rattle.justify.specs.Answers.{IsFound, CountsConflicts, HasCounted}
 use Rattle.justify.specs.Desks.{IsDesk}
-use Rattle.justify.specs.Scoping.{IsStart, SuitsSearch}
-use Rattle.justify.specs.Growths.{IsGrowing, IsExtended}
+use Rattle.justify.specs.Scoping.{IsStart, SuitsSearch, MayEndBy}
+use Rattle.justify.specs.Growths.{IsGrowing, IsExtended, AreToldPlaces}
 use Rattle.pair_judging.specs.Targets.{seen_target}
 use Rattle.justify.specs.Tests.{IsFitTest}
 use Rattle.justify.specs.Trying.{FailsAtNode}
@@ -34,12 +34,13 @@ pub record IsAtRoot (a : StateAlgebra) (task : Task) (standing : Standing) (desk
   pub serves : IsDesk a standing.net standing.rules task.target.path.now desk
 
 -- The engine suits the search, what was entered stands, the desk is the path's, and the tree has grown so far, with these places left,
--- the next one first.
+-- the next one first, at sources that are told.
 pub record IsSearching (a : StateAlgebra) (task : Task) (standing : Standing) (desk : Desk) (places : List Place) (growth : Growth) : Type 0 where
   pub suits : SuitsSearch a (seen_target task.target) standing
   pub under_way : IsUnderWay (seen_target task.target) standing
   pub serves : IsDesk a standing.net standing.rules task.target.path.now desk
   pub growing : IsGrowing a standing.net standing.rules (seen_target task.target) task.budget standing.assumptions places growth.nodes.items growth.splits
+  pub told : AreToldPlaces standing places
 
 -- what was entered still stands, and no count has fallen
 pub record SearchGoesOn (a : StateAlgebra) (task : Task) (old new : Standing) (desk : Desk) : Type 0 where
@@ -53,11 +54,13 @@ pub record LeavesSearch (a : StateAlgebra) (task : Task) (old new : Standing) (d
   pub restored : IsRestored old new
   pub serves : IsDesk a old.net old.rules task.target.path.now desk
 
--- A search for trees has ended: the scope is left so, and what was found, with so many splits as its budget, has its conflicts counted.
-pub record EndsSearch (a : StateAlgebra) (task : Task) (splits : ℕ) (old new : Standing) (desk : Desk) (ended : Result Found OutOfMemory) : Type 0 where
+-- A search for trees has ended: the scope is left so, and what was found, with so many splits as its budget, has its conflicts counted; or
+-- nothing was found, by what it may end by.
+pub record EndsSearch (a : StateAlgebra) (task : Task) (splits : ℕ) (old new : Standing) (desk : Desk) (ended : Result Found Unfinished) : Type 0 where
   pub left : LeavesSearch a task old new desk
   pub found : IfOk ended (IsFound old.net old.rules (seen_target task.target) splits)
   pub counted : IfOk ended (λ found. CountsConflicts splits found old new)
+  pub unfinished : IfErr ended (MayEndBy (seen_target task.target) old)
 
 -- the tree has one node more, a conflict was counted, and less is left to do
 pub record AddsNode (a : StateAlgebra) (task : Task) (old new : Standing) (before after : Growth) : Type 0 where
@@ -65,6 +68,7 @@ pub record AddsNode (a : StateAlgebra) (task : Task) (old new : Standing) (befor
   pub one_more : length after.nodes.items ≡ length before.nodes.items + 1
   pub left : 2 * (task.budget - after.splits) + length after.places.items ≤ 2 * (task.budget - before.splits) + length before.places.items
   pub growing : IsGrowing a new.net new.rules (seen_target task.target) task.budget new.assumptions (reverse after.places.items) after.nodes.items after.splits
+  pub told : AreToldPlaces new (reverse after.places.items)
 
 -- a closed leaf is one node more, and no test was found
 pub record AddsClosed (before after : Growth) (test : Option Vectors) : Type 0 where

@@ -1,5 +1,5 @@
--- The trial of a node through its scope: sources of the path's support are assumed to be in the least states of their labels, one
--- after another, until a conflict comes. Its words are spoken inside this crate alone (this project's own).
+-- The trial of a node through its scope: sources of the path's support that are told are assumed to be in the least states of their
+-- labels, one after another, until a conflict comes. Its words are spoken inside this crate alone (this project's own).
 use Rattle.std.specs.Prelude.{◌≡◌, ℕ, ◌<◌, ◌≤◌, Bool, true, false, List, Option, Some, None, All, Contains}
 use Rattle.pd_base.specs.Links.{links_of}
 use Rattle.pd_base.specs.Pair.{Vectors}
@@ -21,33 +21,33 @@ use Rattle.trees.specs.Spent.{IsInSupport, IsOpen}
 use Rattle.implication.specs.declared.assumption.Assumption.{Assumption}
 use Rattle.implication.specs.Assumptions.{entered_pins, MayUnder, ClosesUnder}
 use Rattle.implication.specs.Moves.{risen}
-use Rattle.implication.specs.Standing.{Standing, IsLabels, IsOpenIn}
+use Rattle.implication.specs.Standing.{Standing, IsLabels, IsOpenIn, IsTold}
 use Rattle.justify.specs.declared.trial.Tried.{Tried}
 use Rattle.implication.specs.NodeScopes.{beginning_of, AllowAsNode}
 use Rattle.pair_judging.specs.ConeStates.{state_in, HasLinkedStates}
 use Rattle.pair_judging.specs.LeastStates.{IsTakenOf}
 use Rattle.cones.specs.FoundLines.{HasMark}
+use Rattle.justify.specs.Scoping.{IsToldInSupport}
 use Rattle.justify.specs.Tests.{IsFitTest}
 
--- the source is in the support of the path, and the state is the least one of its label
+-- the source is in the support of the path and told, and the state is the least one of its label
 pub record CanTry (a : StateAlgebra) (target : Target) (standing : Standing) (tried : Tried) : Type 0 where
-  pub in_support : IsInSupport standing.net standing.rules target.path tried.source.0
+  pub source : IsToldInSupport target standing tried.source.0
   pub in_range : tried.state.0 < a.count
   pub least : (labels : List StateSet) → IsLabels a standing labels → IsTakenOf a.count (label_at labels tried.source.0) tried.state
 
--- what lines may be in under the first assumptions, and sources of the support only in the least states of these labels, they may be
--- in under the later ones too
-abbrev pub LetsTrial : StateAlgebra → Circuit → Rules → Target → List StateSet → List Assumption → List Assumption → Type 0
-LetsTrial a c rules target labels first later = (line : ℕ) (state : State) → state.0 < a.count
-    → MayUnder a c rules (beginning_of target) first line state
-    → (IsInSupport c rules target.path line → IsLeast a.count (label_at labels line) state)
-    → MayUnder a c rules (beginning_of target) later line state
+-- what lines may be in as the scope stands, and sources of the support that are told only in the least states of these labels, they may
+-- be in under the later assumptions too
+abbrev pub LetsTrial : StateAlgebra → Target → Standing → List StateSet → List Assumption → Type 0
+LetsTrial a target standing labels later = (line : ℕ) (state : State) → state.0 < a.count
+    → MayUnder a standing.net standing.rules (beginning_of target) standing.assumptions line state
+    → (IsToldInSupport target standing line → IsLeast a.count (label_at labels line) state)
+    → MayUnder a standing.net standing.rules (beginning_of target) later line state
 
 -- no pin more was entered, and all that was assumed more is what the trial assumes
 pub record IsWithinTrial (a : StateAlgebra) (target : Target) (old new : Standing) : Type 0 where
   pub entered : entered_pins new.assumptions ≡ entered_pins old.assumptions
-  pub lets : (labels : List StateSet) → IsLabels a old labels
-      → LetsTrial a old.net old.rules target labels old.assumptions new.assumptions
+  pub lets : (labels : List StateSet) → IsLabels a old labels → LetsTrial a target old labels new.assumptions
 
 -- the source may only be in the state that was tried
 abbrev pub IsHeldIn : StateAlgebra → Target → Standing → Standing → Tried → Type 0
@@ -75,13 +75,13 @@ abbrev pub IsSingle : ℕ → StateSet → Type 0
 IsSingle count set = (one other : State) → Has count set one → Has count set other → one ≡ other
 
 -- The trial of the node at which the scope stands has closed: the node of any tree that allows what the scope does is open, and some
--- source of the support has two states in its hull.
+-- source of the support that is told has two states in its hull.
 pub record HasFailed (a : StateAlgebra) (target : Target) (standing : Standing) : Type 0 where
   pub hull : List StateSet
   pub labels : IsLabels a standing hull
   pub is_open : (halves : List Half) → AllowAsNode a standing.net standing.rules target standing.assumptions halves
       → IsOpen standing.net standing.rules target halves hull
-  pub two : ¬ ((source : ℕ) → IsInSupport standing.net standing.rules target.path source → IsSingle a.count (label_at hull source))
+  pub two : ¬ ((source : ℕ) → IsToldInSupport target standing source → IsSingle a.count (label_at hull source))
 
 -- some source that was tried is this one, and it was tried in its state under the pair
 pub record IsTriedAs (a : StateAlgebra) (c : Circuit) (pair : Vectors) (tried : List Tried) (source : ℕ) : Type 0 where
@@ -112,19 +112,27 @@ abbrev pub IsTrialOf : StateAlgebra → Target → Standing → Standing → Opt
 IsTrialOf a target old new (Some pair) = IsFitTest old.net old.rules target pair
 IsTrialOf a target old new None = FailsAtNode a target old new
 
--- the source is marked, and the state is the least one of its label as the scope stands
+-- the source is marked and told, and the state is the least one of its label as the scope stands
 pub record HasLeastLabel (a : StateAlgebra) (standing : Standing) (marks : List Bool) (tried : Tried) : Type 0 where
   pub is_source : tried.source.0 < source_count standing.net
   pub marked : HasMark marks tried.source.0
+  pub told : IsTold standing tried.source.0
   pub in_range : tried.state.0 < a.count
   pub least : (labels : List StateSet) → IsLabels a standing labels → IsTakenOf a.count (label_at labels tried.source.0) tried.state
 
--- these sources were tried, each in its state by this list, and no others
-pub record AreTriedIn (sources : List LineId) (states : List State) (tried : List Tried) : Type 0 where
-  pub each : All (λ entry. Contains sources entry.source × (entry.state ≡ state_in states entry.source.0)) tried
-  pub whole : (source : LineId) → Contains sources source → Contains tried (record { source = source; state = state_in states source.0 })
+-- what was tried is one of these sources that is told, in its state by this list
+pub record IsTriedIn (standing : Standing) (sources : List LineId) (states : List State) (tried : Tried) : Type 0 where
+  pub among : Contains sources tried.source
+  pub told : IsTold standing tried.source.0
+  pub state : tried.state ≡ state_in states tried.source.0
 
--- at each source of the support the state is the least one of the label as the scope stands
+-- those of these sources that are told were tried, each in its state by this list, and no others
+pub record AreTriedIn (standing : Standing) (sources : List LineId) (states : List State) (tried : List Tried) : Type 0 where
+  pub each : All (IsTriedIn standing sources states) tried
+  pub whole : (source : LineId) → Contains sources source → IsTold standing source.0
+      → Contains tried (record { source = source; state = state_in states source.0 })
+
+-- at each source of the support that is told the state is the least one of the label as the scope stands
 abbrev pub HasLeast : StateAlgebra → Target → Standing → List State → Type 0
-HasLeast a target standing states = (source : ℕ) → IsInSupport standing.net standing.rules target.path source
+HasLeast a target standing states = (source : ℕ) → IsToldInSupport target standing source
     → (labels : List StateSet) → IsLabels a standing labels → IsTakenOf a.count (label_at labels source) (state_in states source)

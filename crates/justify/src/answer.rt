@@ -1,8 +1,9 @@
-// What a search ends with.
+// What a search ends with, and what it may end by with nothing found.
 ghost use Rattle.std.specs.Prelude.{◌≡◌};
 ghost use Rattle.justify.specs.Ends.{is_spent};
+ghost use Rattle.justify.specs.declared.answer.Unfinished.TheVariants.{NoMemory};
 
-use pd_base::Pair;
+use pd_base::{OutOfMemory, Pair};
 use trees::Tree;
 
 /// What a search found for a path, a transition and a kind of test.
@@ -14,6 +15,24 @@ pub enum Found {
     Refuted(Tree),
     /// A tree of cases that spent the budget: it has exactly so many splits, and a pair was tried and failed at each open node.
     Spent(Tree),
+}
+
+/// Why a search found nothing.
+#[derive(Clone, Copy, Debug, PartialEq, Eq)]
+pub enum Unfinished {
+    /// Memory ran out.
+    NoMemory,
+    /// The engine doesn't tell all sources in the support of the path, and by those that it tells nothing was shown. A search on an engine
+    /// that tells them all doesn't end so.
+    Undecided,
+}
+
+impl From<OutOfMemory> for Unfinished {
+    ghost from_gives = { λ _ unfinished. unfinished ≡ NoMemory };
+
+    fn from(_: OutOfMemory) -> Unfinished {
+        Unfinished::NoMemory
+    }
 }
 
 impl Found {

@@ -1,13 +1,14 @@
-// The choice of a split. Any source of the support will do whose label has a state of each half: the one that is led to, else
-// the first one that can be split, by its last value if it has both.
+// The choice of a split. Any source of the support will do that is told and whose label has a state of each half: the one that is led to,
+// else the first one that can be split, by its last value if it has both.
 ghost use Rattle.std.specs.Prelude.{◌≡◌, ◌<◌, IfSome, IfNone};
 ghost use Rattle.trees.specs.Spent.{IsInSupport};
 ghost use Rattle.implication.specs.Scopes.{standing};
+ghost use Rattle.implication.specs.Standing.{IsTold};
 ghost use Rattle.pair_judging.specs.Targets.{seen_target};
 ghost use Rattle.implication.specs.NodeScopes.{StandsAtNode};
 ghost use Rattle.justify.specs.Desks.{IsDesk};
 ghost use Rattle.justify.specs.Scoping.{SuitsSearch};
-ghost use Rattle.justify.specs.Choices.{IsUsefulSplit, AreSingle, SplitsAt, IsSingleAt};
+ghost use Rattle.justify.specs.Choices.{IsUsefulSplit, AreSingle, IsSingleAt};
 
 use crate::desk::Desk;
 use crate::halves::way_to_split;
@@ -23,8 +24,8 @@ pub(crate) struct Split {
     pub(crate) steadiness: bool,
 }
 
-// A split at a source of the support, of which each half has a state in the source's label: at the lead, if that can be split. There
-// is none where each source of the support has less than two states.
+// A split at a source of the support that is told, of which each half has a state in the source's label: at the lead, if that can be split.
+// There is none where each such source has less than two states.
 pub(crate) fn choose<A: Algebra, S: Setting>(
     scope: &Scope<A, S>,
     target: &Target,
@@ -72,7 +73,7 @@ fn split_at_lead<A: Algebra, S: Setting>(
     }
 }
 
-// A split at a source, if its label has two states.
+// A split at a source of the support, if it is told and its label has two states.
 fn split_at<A: Algebra, S: Setting>(
     scope: &Scope<A, S>,
     target: &Target,
@@ -81,9 +82,12 @@ fn split_at<A: Algebra, S: Setting>(
     requires suits { SuitsSearch A.algebra (seen_target target.now) (standing scope.now) }
     requires node { StandsAtNode A.algebra (seen_target target.now) (standing scope.now) }
     requires source { IsInSupport (standing scope.now).net (standing scope.now).rules target.now.path.now source.0 }
-    ensures some { IfSome result (SplitsAt A.algebra (standing scope.now) source) }
-    ensures none { IfNone result (IsSingleAt A.algebra (standing scope.now) source.0) }
+    ensures some { IfSome result (IsUsefulSplit A.algebra (seen_target target.now) (standing scope.now)) }
+    ensures none { IfNone result (IsTold (standing scope.now) source.0 → IsSingleAt A.algebra (standing scope.now) source.0) }
 {
+    if !scope.engine.tells(source) {
+        return None;
+    }
     let steadiness = way_to_split::<A>(scope.label(source))?;
     Some(Split { source, steadiness })
 }

@@ -1,12 +1,12 @@
 // The end of a search: a test, or the tree that its nodes make, which refutes if no leaf waits.
-ghost use Rattle.std.specs.Prelude.{◌≡◌, ◌<◌, ◌^◌, ◌↔◌, IfOk, IfNone, IsTrue, length};
+ghost use Rattle.std.specs.Prelude.{◌≡◌, ◌<◌, ◌^◌, ◌↔◌, Err, IfOk, IfErr, IfNone, IsTrue, length};
 ghost use Rattle.std.specs.List.{Contains};
 ghost use Rattle.trees.specs.declared.tree.Node.{Node};
 ghost use Rattle.trees.specs.declared.tree.Node.TheVariants.{Waiting};
 ghost use Rattle.trees.specs.Trees.{IsTree};
 ghost use Rattle.justify.specs.Ends.{IsEnd, IsAnswerOf, IsReplacedBy};
 
-use crate::Found;
+use crate::{Found, Unfinished};
 use crate::growing::Growth;
 use pd_base::{OutOfMemory, Pair};
 use trees::{Node, Tree};
@@ -14,11 +14,12 @@ use trees::{Node, Tree};
 // The answer of a search that grew a tree: the test that was found, or else the tree, which then is whole.
 pub(crate) fn answer(
     growth: Growth,
-    grown: Result<Option<Pair>, OutOfMemory>,
-) -> Result<Found, OutOfMemory>
+    grown: Result<Option<Pair>, Unfinished>,
+) -> Result<Found, Unfinished>
     requires whole { IfOk grown (λ test. IfNone test (IsTree growth.nodes.items)) }
     requires few { IfOk grown (λ test. IfNone test (length growth.nodes.items < 2 ^ 31)) }
-    ensures { IfOk result (IsAnswerOf grown growth.nodes.items) }
+    ensures answer { IfOk result (IsAnswerOf grown growth.nodes.items) }
+    ensures unfinished { IfErr result (λ error. grown ≡ Err error) }
 {
     match grown? {
         Some(pair) => Ok(Found::Test(pair)),

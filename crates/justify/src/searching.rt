@@ -1,9 +1,8 @@
 // The search itself: depth first, one node after another in preorder, each with its assumptions on the scope.
-ghost use Rattle.std.specs.Prelude.{◌≡◌, ◌<◌, ◌≤◌, [], true, false, All, IfOk, IfSome, IsTrue, length, reverse};
+ghost use Rattle.std.specs.Prelude.{◌≡◌, ◌<◌, ◌≤◌, [], true, false, IfOk, IfErr, IfSome, length, reverse};
 ghost use Rattle.pd_base.specs.Target.{target_of};
 ghost use Rattle.pd_base.specs.declared.limits.TheConstants.{MOST_BUDGET};
 ghost use Rattle.netlist.specs.Paths.{IsPrefix};
-ghost use Rattle.pair_judging.specs.ConeStates.{AreStates, AreSourceStates};
 ghost use Rattle.implication.specs.Standing.{IsOpenIn};
 ghost use Rattle.implication.specs.Moves.{start_at};
 ghost use Rattle.implication.specs.Scopes.{IsSameScope, standing};
@@ -11,25 +10,25 @@ ghost use Rattle.implication.specs.Clients.{IsRestored};
 ghost use Rattle.justify.specs.Answers.{IsFound, CountsConflicts, IsOutcomeOf};
 ghost use Rattle.justify.specs.Desks.{IsDeskFor, IsDesk};
 ghost use Rattle.justify.specs.Ends.{is_spent};
-ghost use Rattle.justify.specs.Scoping.{CanBegin, IsStart, SuitsRules};
+ghost use Rattle.justify.specs.Scoping.{CanBegin, IsStart, SuitsRules, MayEndBy};
 ghost use Rattle.justify.specs.Searches.{IsAtRoot, IsSearching, SearchGoesOn, LeavesSearch, EndsSearch, IsGrowthOf};
 ghost use Rattle.pair_judging.specs.Targets.{seen_target};
 ghost use Rattle.justify.specs.Tests.{IsFitTest};
 ghost use Rattle.trees.specs.Unlinked.{IsUnlinked};
 ghost use Rattle.state_sets.specs.SixStates.{six_states};
 
-use crate::Found;
 use crate::desk::Desk;
 use crate::ending::{answer, or_test};
 use crate::growing::Growth;
+use crate::judging::judge_proposal;
 use crate::task::{Splitting, Task};
-use crate::trying::judge_states;
 use crate::visiting::visit;
+use crate::{Found, Unfinished};
 use implication::{Scope, Setting};
-use pair_judging::{Target, read_linked, take_least, take_preferred};
-use pd_base::{Direction, Kind, LineId, OutOfMemory, Pair, Path};
+use pair_judging::{Target, take_least, take_preferred};
+use pd_base::{Direction, Kind, OutOfMemory, Pair, Path};
 use search_hints::{Effort, Sight};
-use state_sets::{Algebra, FourStates, SixStates, State};
+use state_sets::{Algebra, FourStates, SixStates};
 use std::alloc::Global;
 
 /// Searches for a test of a kind for a path and a transition, on a scope that has begun with these and has entered the path's pins.
@@ -64,7 +63,12 @@ pub fn search<S: Setting>(
         direction: dir,
         kind,
     };
-    search_at(alloc, scope, &mut desk, &target, budget)
+    match search_at(alloc, scope, &mut desk, &target, budget) {
+        Ok(found) => Ok(found),
+        Err(Unfinished::NoMemory) => Err(OutOfMemory),
+        // without links all sources of the support are told
+        Err(Unfinished::Undecided) => unreachable!(),
+    }
 }
 
 /// The same under linked rules, which fit the engine's netlist, with six states: a test is a pair of the rules, and a refutation excludes
@@ -76,7 +80,7 @@ pub fn search_linked<S: Setting>(
     dir: Direction,
     kind: Kind,
     budget: u32,
-) -> Result<Found, OutOfMemory>
+) -> Result<Found, Unfinished>
     requires prefix { IsPrefix (standing scope.old).net path.now }
     requires start { IsStart (target_of path.now dir kind) (standing scope.old) }
     requires some_budget { 1 ≤ budget }
@@ -86,6 +90,7 @@ pub fn search_linked<S: Setting>(
     ensures counted { IfOk result (λ found. CountsConflicts budget found (standing scope.old) (standing scope.new)) }
     ensures scope { IsSameScope scope.old scope.new }
     ensures restored { IsRestored (standing scope.old) (standing scope.new) }
+    ensures unfinished { IfErr result (MayEndBy (target_of path.now dir kind) (standing scope.old)) }
 {
     let mut desk = Desk::new::<SixStates>(alloc, scope.net(), scope.rules())?;
     let target = Target {
@@ -105,7 +110,7 @@ pub fn search_at<A: Algebra, S: Setting>(
     desk: &mut Desk,
     target: &Target,
     budget: u32,
-) -> Result<Found, OutOfMemory>
+) -> Result<Found, Unfinished>
     requires can { CanBegin (seen_target target.now) budget (standing scope.old) }
     requires desk { IsDeskFor A.algebra (standing scope.old).net (standing scope.old).rules desk.old }
     ensures desk { IsDeskFor A.algebra (standing scope.old).net (standing scope.old).rules desk.new }
@@ -113,6 +118,7 @@ pub fn search_at<A: Algebra, S: Setting>(
     ensures counted { IfOk result (λ found. CountsConflicts budget found (standing scope.old) (standing scope.new)) }
     ensures scope { IsSameScope scope.old scope.new }
     ensures restored { IsRestored (standing scope.old) (standing scope.new) }
+    ensures unfinished { IfErr result (MayEndBy (seen_target target.now) (standing scope.old)) }
 {
     // no conflict stands, so each line has some state
     if scope.conflict().is_some() {
@@ -133,7 +139,7 @@ fn find<A: Algebra, S: Setting>(
     scope: &mut Scope<A, S>,
     task: &Task,
     desk: &mut Desk,
-) -> Result<Found, OutOfMemory>
+) -> Result<Found, Unfinished>
     requires prefix { IsPrefix (standing scope.old).net task.now.target.path.now }
     requires start { IsStart (seen_target task.now.target) (standing scope.old) }
     requires left_open { IsOpenIn A.algebra (standing scope.old) }
@@ -143,6 +149,7 @@ fn find<A: Algebra, S: Setting>(
     ensures left { LeavesSearch A.algebra task.now (standing scope.old) (standing scope.new) desk.new }
     ensures found { IfOk result (IsFound (standing scope.old).net (standing scope.old).rules (seen_target task.now.target) task.now.budget) }
     ensures counted { IfOk result (λ found. CountsConflicts task.now.budget found (standing scope.old) (standing scope.new)) }
+    ensures unfinished { IfErr result (MayEndBy (seen_target task.now.target) (standing scope.old)) }
 {
     desk.cone.set_end(scope.net(), scope.last_line());
     match propose(alloc, scope, &task.target, desk)? {
@@ -247,12 +254,14 @@ fn conclude<A: Algebra, S: Setting>(
     scope: &Scope<A, S>,
     target: &Target,
     desk: &mut Desk,
-    ended: Result<Found, OutOfMemory>,
-) -> Result<Found, OutOfMemory>
+    ended: Result<Found, Unfinished>,
+) -> Result<Found, Unfinished>
     requires prefix { IsPrefix (standing scope.now).net target.now.path.now }
     requires desk { IsDesk A.algebra (standing scope.now).net (standing scope.now).rules target.now.path.now desk.old }
+    requires ended { IfErr ended (MayEndBy (seen_target target.now) (standing scope.now)) }
     ensures desk { IsDesk A.algebra (standing scope.now).net (standing scope.now).rules target.now.path.now desk.new }
     ensures found { IfOk result (IsOutcomeOf (standing scope.now).net (standing scope.now).rules (seen_target target.now) ended) }
+    ensures unfinished { IfErr result (MayEndBy (seen_target target.now) (standing scope.now)) }
 {
     let found = ended?;
     desk.justifier.learn(target.kind, found.is_refuted());
@@ -260,7 +269,7 @@ fn conclude<A: Algebra, S: Setting>(
         return Ok(found);
     }
     let again = justify_lines(alloc, scope, target, desk, Effort::Much);
-    or_test(found, again)
+    Ok(or_test(found, again)?)
 }
 
 // A test with what decisions on lines of the cone come to, if they justify all of its lines.
@@ -300,66 +309,6 @@ fn justify_lines<A: Algebra, S: Setting>(
     judge_proposal(alloc, scope, target, desk)
 }
 
-// Judges the pair that has the desk's states at the sources of the cone, if a source may be in them.
-fn judge_proposal<A: Algebra, S: Setting>(
-    alloc: Global,
-    scope: &Scope<A, S>,
-    target: &Target,
-    desk: &mut Desk,
-) -> Result<Option<Pair>, OutOfMemory>
-    requires prefix { IsPrefix (standing scope.now).net target.now.path.now }
-    requires desk { IsDesk A.algebra (standing scope.now).net (standing scope.now).rules target.now.path.now desk.old }
-    ensures desk { IsDesk A.algebra (standing scope.now).net (standing scope.now).rules target.now.path.now desk.new }
-    ensures test { IfOk result (λ found. IfSome found (IsFitTest (standing scope.now).net (standing scope.now).rules (seen_target target.now))) }
-{
-    if !are_source_states::<A>(desk.cone.sources(), desk.states.as_slice()) {
-        return Ok(None);
-    }
-    if desk.cone.links().pairs().is_empty() {
-        judge_states(alloc, scope, target, desk)
-    } else {
-        judge_pair(alloc, scope, target, desk)
-    }
-}
-
-// Judges the pair that has the desk's first values at the sources of the cone, and the second vector that the links make of them: only
-// the fan-in of the path's end tells whether it is a test.
-fn judge_pair<A: Algebra, S: Setting>(
-    alloc: Global,
-    scope: &Scope<A, S>,
-    target: &Target,
-    desk: &mut Desk,
-) -> Result<Option<Pair>, OutOfMemory>
-    requires prefix { IsPrefix (standing scope.now).net target.now.path.now }
-    requires desk { IsDesk A.algebra (standing scope.now).net (standing scope.now).rules target.now.path.now desk.old }
-    requires sources { AreSourceStates A.algebra desk.old.cone.sources desk.old.states.items }
-    ensures desk { IsDesk A.algebra (standing scope.now).net (standing scope.now).rules target.now.path.now desk.new }
-    ensures test { IfOk result (λ found. IfSome found (IsFitTest (standing scope.now).net (standing scope.now).rules (seen_target target.now))) }
-{
-    let net = scope.net();
-    let pair = read_linked::<A>(alloc, net, &desk.cone, desk.states.as_slice())?;
-    if !desk.judge.meets(net, target, &pair) {
-        return Ok(None);
-    }
-    desk.like::<A>();
-    Ok(Some(pair))
-}
-
-// Whether each of these sources is in a state that a source may have.
-fn are_source_states<A: Algebra>(sources: &[LineId], states: &[State]) -> bool
-    requires places { All (λ source. source.0 < length states.now) sources.now }
-    requires states { AreStates A.algebra.count states.now }
-    ensures { IsTrue result → AreSourceStates A.algebra sources.now states.now }
-{
-    let allowed = A::source_states();
-    for source in sources {
-        if !allowed.holds(states[source.0 as usize]) {
-            return false;
-        }
-    }
-    true
-}
-
 // Grows trees in turn: one by weights that has few splits, and where it spent them and more are left of the budget, others that may have
 // the whole budget. What the earlier ones came to is dropped then.
 fn split_in_turns<A: Algebra, S: Setting>(
@@ -367,7 +316,7 @@ fn split_in_turns<A: Algebra, S: Setting>(
     scope: &mut Scope<A, S>,
     task: &Task,
     desk: &mut Desk,
-) -> Result<Found, OutOfMemory>
+) -> Result<Found, Unfinished>
     requires root { IsAtRoot A.algebra task.now (standing scope.old) desk.old }
     ensures scope { IsSameScope scope.old scope.new }
     ensures ends { EndsSearch A.algebra task.now task.now.budget (standing scope.old) (standing scope.new) desk.new result }
@@ -388,7 +337,7 @@ fn split_with_budget<A: Algebra, S: Setting>(
     scope: &mut Scope<A, S>,
     task: &Task,
     desk: &mut Desk,
-) -> Result<Found, OutOfMemory>
+) -> Result<Found, Unfinished>
     requires root { IsAtRoot A.algebra task.now (standing scope.old) desk.old }
     ensures scope { IsSameScope scope.old scope.new }
     ensures ends { EndsSearch A.algebra task.now task.now.budget (standing scope.old) (standing scope.new) desk.new result }
@@ -413,7 +362,7 @@ fn split_by_weight<A: Algebra, S: Setting>(
     task: &Task,
     desk: &mut Desk,
     splits: u32,
-) -> Result<Found, OutOfMemory>
+) -> Result<Found, Unfinished>
     requires root { IsAtRoot A.algebra task.now (standing scope.old) desk.old }
     requires splits { splits ≤ task.now.budget }
     ensures scope { IsSameScope scope.old scope.new }
@@ -455,7 +404,7 @@ fn split_cases<A: Algebra, S: Setting>(
     scope: &mut Scope<A, S>,
     task: &Task,
     desk: &mut Desk,
-) -> Result<Found, OutOfMemory>
+) -> Result<Found, Unfinished>
     requires root { IsAtRoot A.algebra task.now (standing scope.old) desk.old }
     ensures scope { IsSameScope scope.old scope.new }
     ensures ends { EndsSearch A.algebra task.now task.now.budget (standing scope.old) (standing scope.new) desk.new result }
@@ -472,12 +421,13 @@ fn grow_tree<A: Algebra, S: Setting>(
     scope: &mut Scope<A, S>,
     task: &Task,
     desk: &mut Desk,
-) -> Result<Found, OutOfMemory>
+) -> Result<Found, Unfinished>
     requires root { IsAtRoot A.algebra task.now (standing scope.old) desk.old }
     ensures scope { IsSameScope scope.old scope.new }
     ensures goes_on { SearchGoesOn A.algebra task.now (standing scope.old) (standing scope.new) desk.new }
     ensures found { IfOk result (IsFound (standing scope.old).net (standing scope.old).rules (seen_target task.now.target) task.now.budget) }
     ensures counted { IfOk result (λ found. CountsConflicts task.now.budget found (standing scope.old) (standing scope.new)) }
+    ensures unfinished { IfErr result (MayEndBy (seen_target task.now.target) (standing scope.old)) }
 {
     let mut growth = Growth::new::<A>(alloc, scope.mark(), task.target.path.source())?;
     let grown = grow(alloc, scope, task, desk, &mut growth);
@@ -491,13 +441,14 @@ fn grow<A: Algebra, S: Setting>(
     task: &Task,
     desk: &mut Desk,
     growth: &mut Growth,
-) -> Result<Option<Pair>, OutOfMemory>
+) -> Result<Option<Pair>, Unfinished>
     requires searching { IsSearching A.algebra task.now (standing scope.old) desk.old (reverse growth.old.places.items) growth.old }
     requires origin { start_at scope.old.origin ≤ length task.now.target.path.now.steps }
     requires nodes { growth.old.nodes.items ≡ [] }
     ensures scope { IsSameScope scope.old scope.new }
     ensures goes_on { SearchGoesOn A.algebra task.now (standing scope.old) (standing scope.new) desk.new }
     ensures answer { IfOk result (IsGrowthOf A.algebra task.now (standing scope.old) (standing scope.new) growth.new) }
+    ensures unfinished { IfErr result (MayEndBy (seen_target task.now.target) (standing scope.old)) }
 {
     while let Some(place) = growth.places.pop() {
         let test = visit(alloc, scope, task, desk, growth, place)?;

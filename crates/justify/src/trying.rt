@@ -1,38 +1,38 @@
 // What is tried at a node: the pair whose states are the least ones of the labels is judged; where it fails, sources are tried through
-// the scope: those that closed the last trial, if they still have the same least states; then those to blame for the failure; then all.
-ghost use Rattle.std.specs.Prelude.{◌≡◌, ◌<◌, ℕ, length, All, IfOk, IfSome, IfNone, IsTrue};
+// the scope: those that closed the last trial, if they still have the same least states; then those to blame for the failure; then all that
+// are told.
+ghost use Rattle.std.specs.Prelude.{◌≡◌, ◌<◌, ◌↔◌, length, All, IfOk, IfErr, IfSome, IfNone, IsTrue};
 ghost use Rattle.netlist.specs.Circuit.{line_count};
-ghost use Rattle.pd_base.specs.Links.{links_of};
-ghost use Rattle.netlist.specs.LinkedPairs.{IsSupported};
-ghost use Rattle.netlist.specs.Paths.{IsPrefix, end_of};
-ghost use Rattle.cones.specs.FoundLines.{HasMark};
-ghost use Rattle.justify.specs.Scoping.{SuitsSearch};
+ghost use Rattle.netlist.specs.Paths.{IsPrefix};
+ghost use Rattle.justify.specs.Scoping.{SuitsSearch, TellsSupport, MayEndBy};
+ghost use Rattle.implication.specs.Standing.{IsTold};
 ghost use Rattle.implication.specs.Scopes.{IsSameScope, standing};
 ghost use Rattle.implication.specs.Clients.{IsRestored};
-ghost use Rattle.pair_judging.specs.ConeStates.{AreStates, AreSourceStates};
 ghost use Rattle.pair_judging.specs.Targets.{seen_target};
 ghost use Rattle.implication.specs.NodeScopes.{StandsAtNode};
-ghost use Rattle.justify.specs.Desks.{IsDesk, HasSameStates, AreInSupport};
+ghost use Rattle.justify.specs.Desks.{IsDesk, AreInSupport};
 ghost use Rattle.justify.specs.Tests.{IsFitTest};
 ghost use Rattle.justify.specs.Trying.{CanTry, HasLeastLabel, AreTriedIn, HasLeast, FailsAtNode, IsTrialOf};
 
+use crate::Unfinished;
 use crate::desk::Desk;
+use crate::judging::{are_source_states, judge_proposal, judge_states};
 use crate::trial::{Tried, closes};
 use implication::{Scope, Setting};
-use pair_judging::{Judgement, Target, judge, least, read_test, take_least};
+use pair_judging::{Target, least, read_test, take_least};
 use pd_base::{LineId, OutOfMemory, Pair};
 use state_sets::{Algebra, State};
 use std::alloc::Global;
 
 // Tries the node at which the scope stands: by the sources that were tried last; else judges the node's pair, and where it fails tries the
-// sources to blame for that, and then all. A test is the answer; else there is none, the node's trial has failed, and a conflict was
-// counted. The scope is afterwards as before, also where memory runs out, which is the one error; and the desk still serves.
+// sources to blame for that, and then all that are told. A test is the answer; else there is none, the node's trial has failed, and a
+// conflict was counted. The scope is afterwards as before, also after an error; and the desk still serves.
 pub(crate) fn try_node<A: Algebra, S: Setting>(
     alloc: Global,
     scope: &mut Scope<A, S>,
     target: &Target,
     desk: &mut Desk,
-) -> Result<Option<Pair>, OutOfMemory>
+) -> Result<Option<Pair>, Unfinished>
     requires suits { SuitsSearch A.algebra (seen_target target.now) (standing scope.old) }
     requires node { StandsAtNode A.algebra (seen_target target.now) (standing scope.old) }
     requires desk { IsDesk A.algebra (standing scope.old).net (standing scope.old).rules target.now.path.now desk.old }
@@ -40,6 +40,7 @@ pub(crate) fn try_node<A: Algebra, S: Setting>(
     ensures scope { IsSameScope scope.old scope.new }
     ensures restored { IsRestored (standing scope.old) (standing scope.new) }
     ensures answer { IfOk result (IsTrialOf A.algebra (seen_target target.now) (standing scope.old) (standing scope.new)) }
+    ensures unfinished { IfErr result (MayEndBy (seen_target target.now) (standing scope.old)) }
 {
     if closes_again(scope, target, desk) {
         return Ok(None);
@@ -85,21 +86,48 @@ fn judge_least<A: Algebra, S: Setting>(
     ensures blamed { IfOk result (λ found. IfNone found
         (AreInSupport (standing scope.now).net (standing scope.now).rules target.now.path.now desk.new.blame.sources)) }
 {
+    take_states(scope, target, desk);
+    if are_source_states::<A>(desk.cone.sources(), desk.states.as_slice()) {
+        judge_states(alloc, scope, target, desk)
+    } else {
+        blame_source(scope, target, desk);
+        Ok(None)
+    }
+}
+
+// Puts the sources of the cone into the least states of their labels.
+fn take_states<A: Algebra, S: Setting>(scope: &Scope<A, S>, target: &Target, desk: &mut Desk)
+    requires node { StandsAtNode A.algebra (seen_target target.now) (standing scope.now) }
+    requires desk { IsDesk A.algebra (standing scope.now).net (standing scope.now).rules target.now.path.now desk.old }
+    ensures desk { IsDesk A.algebra (standing scope.now).net (standing scope.now).rules target.now.path.now desk.new }
+    ensures least { HasLeast A.algebra (seen_target target.now) (standing scope.now) desk.new.states.items }
+{
     take_least::<A>(
         desk.cone.sources(),
         scope.labels(),
         desk.states.as_mut_slice(),
     );
-    judge_states(alloc, scope, target, desk)
 }
 
-// Tries the sources to blame for the failure of that pair, and then all.
+// Blames the path's source, where no pair can be judged: a line that is not told may have states in its label that its hull lacks.
+fn blame_source<A: Algebra, S: Setting>(scope: &Scope<A, S>, target: &Target, desk: &mut Desk)
+    requires prefix { IsPrefix (standing scope.now).net target.now.path.now }
+    requires desk { IsDesk A.algebra (standing scope.now).net (standing scope.now).rules target.now.path.now desk.old }
+    ensures desk { IsDesk A.algebra (standing scope.now).net (standing scope.now).rules target.now.path.now desk.new }
+    ensures kept { desk.new.states.items ≡ desk.old.states.items }
+    ensures blamed { AreInSupport (standing scope.now).net (standing scope.now).rules target.now.path.now desk.new.blame.sources }
+{
+    desk.blame
+        .set_failure(scope.net(), scope.labels(), target.path.source(), None);
+}
+
+// Tries the sources to blame for the failure of that pair, and then all that are told.
 fn try_blamed<A: Algebra, S: Setting>(
     alloc: Global,
     scope: &mut Scope<A, S>,
     target: &Target,
     desk: &mut Desk,
-) -> Result<Option<Pair>, OutOfMemory>
+) -> Result<Option<Pair>, Unfinished>
     requires suits { SuitsSearch A.algebra (seen_target target.now) (standing scope.old) }
     requires node { StandsAtNode A.algebra (seen_target target.now) (standing scope.old) }
     requires desk { IsDesk A.algebra (standing scope.old).net (standing scope.old).rules target.now.path.now desk.old }
@@ -109,8 +137,10 @@ fn try_blamed<A: Algebra, S: Setting>(
     ensures scope { IsSameScope scope.old scope.new }
     ensures restored { IsRestored (standing scope.old) (standing scope.new) }
     ensures answer { IfOk result (IsTrialOf A.algebra (seen_target target.now) (standing scope.old) (standing scope.new)) }
+    ensures unfinished { IfErr result (MayEndBy (seen_target target.now) (standing scope.old)) }
 {
     collect(
+        scope,
         desk.blame.sources(),
         desk.states.as_slice(),
         &mut desk.tried,
@@ -121,13 +151,14 @@ fn try_blamed<A: Algebra, S: Setting>(
     try_all(alloc, scope, target, desk)
 }
 
-// Tries all sources. Where no conflict comes of that, the pair is a test.
+// Tries all sources that are told. Where no conflict comes of that, the pair is a test if these are all; else the same first vector may
+// still be that of one.
 fn try_all<A: Algebra, S: Setting>(
     alloc: Global,
     scope: &mut Scope<A, S>,
     target: &Target,
     desk: &mut Desk,
-) -> Result<Option<Pair>, OutOfMemory>
+) -> Result<Option<Pair>, Unfinished>
     requires suits { SuitsSearch A.algebra (seen_target target.now) (standing scope.old) }
     requires node { StandsAtNode A.algebra (seen_target target.now) (standing scope.old) }
     requires desk { IsDesk A.algebra (standing scope.old).net (standing scope.old).rules target.now.path.now desk.old }
@@ -136,60 +167,66 @@ fn try_all<A: Algebra, S: Setting>(
     ensures scope { IsSameScope scope.old scope.new }
     ensures restored { IsRestored (standing scope.old) (standing scope.new) }
     ensures answer { IfOk result (IsTrialOf A.algebra (seen_target target.now) (standing scope.old) (standing scope.new)) }
+    ensures unfinished { IfErr result (MayEndBy (seen_target target.now) (standing scope.old)) }
 {
     // there are labels here
     scope.labels();
-    collect(desk.cone.sources(), desk.states.as_slice(), &mut desk.tried)?;
+    collect(
+        scope,
+        desk.cone.sources(),
+        desk.states.as_slice(),
+        &mut desk.tried,
+    )?;
     if closes(scope, target, desk.tried.as_slice()) {
         return Ok(None);
+    }
+    if !tells_all(scope, desk.cone.sources()) {
+        let pair = judge_untold(alloc, scope, target, desk)?;
+        return Ok(Some(pair));
     }
     let pair = read_test::<A>(alloc, scope.net(), &desk.cone, desk.states.as_slice())?;
     Ok(Some(pair))
 }
 
-// Judges the pair that has the desk's states at the sources of the cone. It is the answer if it is a test, and lines are liked to be
-// as it has them from then on; else sources are blamed.
-pub(crate) fn judge_states<A: Algebra, S: Setting>(
+// Judges the pair that the desk's states propose, where no conflict came of all sources that are told, and others are not. Where it is no
+// test, nothing is known.
+fn judge_untold<A: Algebra, S: Setting>(
     alloc: Global,
     scope: &Scope<A, S>,
     target: &Target,
     desk: &mut Desk,
-) -> Result<Option<Pair>, OutOfMemory>
+) -> Result<Pair, Unfinished>
     requires prefix { IsPrefix (standing scope.now).net target.now.path.now }
     requires desk { IsDesk A.algebra (standing scope.now).net (standing scope.now).rules target.now.path.now desk.old }
-    requires sources { AreSourceStates A.algebra desk.old.cone.sources desk.old.states.items }
+    requires untold { ¬ TellsSupport (seen_target target.now) (standing scope.now) }
     ensures desk { IsDesk A.algebra (standing scope.now).net (standing scope.now).rules target.now.path.now desk.new }
-    ensures kept { HasSameStates (standing scope.now).net desk.old desk.new }
-    ensures test { IfOk result (λ found. IfSome found (IsFitTest (standing scope.now).net (standing scope.now).rules (seen_target target.now))) }
-    ensures blamed { IfOk result (λ found. IfNone found
-        (AreInSupport (standing scope.now).net (standing scope.now).rules target.now.path.now desk.new.blame.sources)) }
+    ensures test { IfOk result (IsFitTest (standing scope.now).net (standing scope.now).rules (seen_target target.now)) }
+    ensures unfinished { IfErr result (MayEndBy (seen_target target.now) (standing scope.now)) }
 {
-    // the path's end is a line of a circuit, as which a netlist knows itself
-    let net = scope.net();
-    let at_source = target.path.source().0 < net.sources();
-    prove!(at_source);
-    let judgement = judge::<A>(
-        net,
-        &desk.cone,
-        scope.labels(),
-        target,
-        desk.states.as_mut_slice(),
-    );
-    match judgement {
-        Judgement::IsTest => {
-            let pair = read_test::<A>(alloc, net, &desk.cone, desk.states.as_slice())?;
+    match judge_proposal(alloc, scope, target, desk)? {
+        Some(pair) => {
             desk.keep::<A>();
-            Ok(Some(pair))
+            Ok(pair)
         }
-        Judgement::FailsAt(line, side) => {
-            desk.blame.set_failure(net, scope.labels(), line, side);
-            Ok(None)
-        }
+        None => Err(Unfinished::Undecided),
     }
 }
 
-// Whether the sources that were tried last can be tried here in the same states: they are in the support, and these are their least
-// states here too.
+// Whether all of these sources are told.
+fn tells_all<A: Algebra, S: Setting>(scope: &Scope<A, S>, sources: &[LineId]) -> bool
+    requires { All (λ source. source.0 < line_count (standing scope.now).net) sources.now }
+    ensures { IsTrue result ↔ All (λ source. IsTold (standing scope.now) source.0) sources.now }
+{
+    for source in sources {
+        if !scope.engine.tells(*source) {
+            return false;
+        }
+    }
+    true
+}
+
+// Whether the sources that were tried last can be tried here in the same states: they are in the support and told, and these are their
+// least states here too.
 fn can_try_again<A: Algebra, S: Setting>(scope: &Scope<A, S>, target: &Target, desk: &Desk) -> bool
     requires suits { SuitsSearch A.algebra (seen_target target.now) (standing scope.now) }
     requires node { StandsAtNode A.algebra (seen_target target.now) (standing scope.now) }
@@ -205,7 +242,7 @@ fn can_try_again<A: Algebra, S: Setting>(scope: &Scope<A, S>, target: &Target, d
     !tried.is_empty()
 }
 
-// Whether a marked source has this state as the least one of its label.
+// Whether the source is marked and told, and has this state as the least one of its label.
 fn has_least<A: Algebra, S: Setting>(
     scope: &Scope<A, S>,
     target: &Target,
@@ -215,29 +252,37 @@ fn has_least<A: Algebra, S: Setting>(
     requires suits { SuitsSearch A.algebra (seen_target target.now) (standing scope.now) }
     requires node { StandsAtNode A.algebra (seen_target target.now) (standing scope.now) }
     requires marks { length marks.now ≡ line_count (standing scope.now).net }
-    requires supported { (line : ℕ) → HasMark marks.now line → IsSupported (standing scope.now).net (links_of (standing scope.now).rules)
-        (end_of (standing scope.now).net target.now.path.now) line }
     ensures { IsTrue result → HasLeastLabel A.algebra (standing scope.now) marks.now entry }
 {
     let sources = scope.net().sources();
     if entry.source.0 >= sources {
         return false;
     }
-    let marked = marks[entry.source.0 as usize];
-    marked && least::<A>(scope.label(entry.source)) == entry.state
+    if !marks[entry.source.0 as usize] || !scope.engine.tells(entry.source) {
+        return false;
+    }
+    least::<A>(scope.label(entry.source)) == entry.state
 }
 
-// Makes the list that of these sources, each with its state.
-fn collect(sources: &[LineId], states: &[State], tried: &mut Vec<Tried>) -> Result<(), OutOfMemory>
-    requires { All (λ source. source.0 < length states.now) sources.now }
-    ensures { IfOk result (λ done. AreTriedIn sources.now states.now tried.new.items) }
+// Makes the list that of those of these sources that are told, each with its state.
+fn collect<A: Algebra, S: Setting>(
+    scope: &Scope<A, S>,
+    sources: &[LineId],
+    states: &[State],
+    tried: &mut Vec<Tried>,
+) -> Result<(), OutOfMemory>
+    requires lines { All (λ source. source.0 < length states.now) sources.now }
+    requires states { length states.now ≡ line_count (standing scope.now).net }
+    ensures { IfOk result (λ done. AreTriedIn (standing scope.now) sources.now states.now tried.new.items) }
 {
     tried.clear();
     for source in sources {
-        tried.push(Tried {
-            source: *source,
-            state: states[source.0 as usize],
-        })?;
+        if scope.engine.tells(*source) {
+            tried.push(Tried {
+                source: *source,
+                state: states[source.0 as usize],
+            })?;
+        }
     }
     Ok(())
 }

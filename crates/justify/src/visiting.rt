@@ -1,7 +1,7 @@
 // A visit of the place that is due next: pairs are tried at the node there, and where none is a test the tree grows by that node.
-ghost use Rattle.std.specs.Prelude.{◌≡◌, ◌≤◌, ◌∷◌, IfOk, length, reverse};
+ghost use Rattle.std.specs.Prelude.{◌≡◌, ◌≤◌, ◌∷◌, IfOk, IfErr, length, reverse};
 ghost use Rattle.netlist.specs.Circuit.{line_count};
-ghost use Rattle.justify.specs.Scoping.{SuitsSearch};
+ghost use Rattle.justify.specs.Scoping.{SuitsSearch, MayEndBy};
 ghost use Rattle.implication.specs.Clients.{IsRestored};
 ghost use Rattle.implication.specs.Moves.{start_at};
 ghost use Rattle.implication.specs.Scopes.{IsSameScope, standing};
@@ -12,6 +12,7 @@ ghost use Rattle.implication.specs.NodeScopes.{StandsAtNode};
 ghost use Rattle.justify.specs.Searches.{IsSearching, SearchGoesOn, IsVisit, AddsClosed, IsNodeVisit};
 ghost use Rattle.pair_judging.specs.Targets.{seen_target};
 
+use crate::Unfinished;
 use crate::choosing::choose;
 use crate::desk::Desk;
 use crate::entering::enter;
@@ -29,7 +30,7 @@ use trees::Node;
 // Visits a place: adds the node that stands there, and the places below it. A test is the answer as soon as one is found; where there
 // is none, the tree has one node more, and a conflict was counted.
 //
-// What was entered stays entered, also where memory runs out, which is the one error.
+// What was entered stays entered, also after an error.
 pub(crate) fn visit<A: Algebra, S: Setting>(
     alloc: Global,
     scope: &mut Scope<A, S>,
@@ -37,17 +38,18 @@ pub(crate) fn visit<A: Algebra, S: Setting>(
     desk: &mut Desk,
     growth: &mut Growth,
     place: Place,
-) -> Result<Option<Pair>, OutOfMemory>
+) -> Result<Option<Pair>, Unfinished>
     requires searching { IsSearching A.algebra task.now (standing scope.old) desk.old (place ∷ reverse growth.old.places.items) growth.old }
     requires origin { start_at scope.old.origin ≤ length task.now.target.path.now.steps }
     ensures scope { IsSameScope scope.old scope.new }
     ensures goes_on { SearchGoesOn A.algebra task.now (standing scope.old) (standing scope.new) desk.new }
     ensures answer { IfOk result (IsVisit A.algebra task.now (standing scope.old) (standing scope.new) growth.old growth.new) }
+    ensures unfinished { IfErr result (MayEndBy (seen_target task.now.target) (standing scope.old)) }
 {
     if enter(scope, task, desk, place) {
         visit_node(alloc, scope, task, desk, growth, place.frontier)
     } else {
-        add_closed(growth)
+        Ok(add_closed(growth)?)
     }
 }
 
@@ -67,7 +69,7 @@ fn visit_node<A: Algebra, S: Setting>(
     desk: &mut Desk,
     growth: &mut Growth,
     frontier: Frontier,
-) -> Result<Option<Pair>, OutOfMemory>
+) -> Result<Option<Pair>, Unfinished>
     requires suits { SuitsSearch A.algebra (seen_target task.now.target) (standing scope.old) }
     requires node { StandsAtNode A.algebra (seen_target task.now.target) (standing scope.old) }
     requires desk { IsDesk A.algebra (standing scope.old).net (standing scope.old).rules task.now.target.path.now desk.old }
@@ -76,6 +78,7 @@ fn visit_node<A: Algebra, S: Setting>(
     ensures scope { IsSameScope scope.old scope.new }
     ensures restored { IsRestored (standing scope.old) (standing scope.new) }
     ensures answer { IfOk result (IsNodeVisit A.algebra task.now (standing scope.old) (standing scope.new) growth.old growth.new) }
+    ensures unfinished { IfErr result (MayEndBy (seen_target task.now.target) (standing scope.old)) }
 {
     let test = try_node(alloc, scope, &task.target, desk)?;
     match test {

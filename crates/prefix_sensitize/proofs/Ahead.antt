@@ -15,6 +15,7 @@ use Rattle.trees.specs.declared.tree.Node.{Node}
 use Rattle.trees.proofs.Refuting.{refutation_excludes_path}
 use Rattle.good_runs.specs.Faults.{NoneApplies}
 use Rattle.good_runs.specs.Truth.{HasSomeTest}
+use Rattle.implication.specs.Standing.{ToldEnds}
 use Rattle.prefix_sensitize.specs.declared.course.Course.{Course}
 use Rattle.prefix_sensitize.specs.declared.outcome.RowOutcome.{RowOutcome}
 use Rattle.prefix_sensitize.specs.Coming.{HasCome, StandsOn}
@@ -40,7 +41,7 @@ none_above course proofs prefix route of none number proof is applies =
       has_prefix = prefix_through (prefix_of proof.steps applies.listed) prefix route applies.has_prefix of;
     })
 
-module _ (c : Circuit) (rules : Rules) (ends : Option (List LineId)) (course : Course) (is_course : IsCourse c rules ends course) (begin place row : ℕ) (route : Route)
+module _ (c : Circuit) (rules : Rules) (ends : Option ToldEnds) (course : Course) (is_course : IsCourse c rules ends course) (begin place row : ℕ) (route : Route)
     (here : StandsInOrder course.paths.now course.order.now place row route) (outcomes : List RowOutcome) (proofs : List Proof) (steps : ℕ)
     (come : HasCome c rules course begin place outcomes proofs steps) (source : LineId) (pins : List PinRef)
     (on : StandsOn course place come.entered (record { source = source; steps = pins })) (shared : ℕ)

@@ -10,7 +10,7 @@ use Rattle.pd_base.specs.Route.{Route}
 use Rattle.netlist.specs.declared.limits.TheConstants.{MOST_LEVELS}
 use Rattle.netlist.specs.Circuit.{Circuit}
 use Rattle.implication.specs.declared.assumption.Beginning.{Beginning}
-use Rattle.implication.specs.Standing.{Standing}
+use Rattle.implication.specs.Standing.{ToldEnds, Standing}
 use Rattle.prefix_sensitize.specs.declared.course.Course.{Course}
 use Rattle.justify.specs.declared.answer.Found.{Found}
 use Rattle.justify.specs.declared.answer.Found.TheVariants.{Test, Spent, Refuted}
@@ -43,7 +43,7 @@ pub same_course : (old new : Standing) → IsSameBeginning old new → (course :
     → IsCourse new.net new.rules new.ends course
 same_course old new same course is =
     let P : Circuit → Rules → Type 0 = λ c r. IsCourse c r old.ends course in
-    let Q : Option (List LineId) → Type 0 = λ ends. IsCourse new.net new.rules ends course in
+    let Q : Option ToldEnds → Type 0 = λ ends. IsCourse new.net new.rules ends course in
     subst Q (sym same.ends) (subst₂ P (sym same.net) (sym same.rules) is)
 
 -- the sources of one beginning are the same

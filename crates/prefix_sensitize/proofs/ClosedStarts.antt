@@ -29,7 +29,7 @@ use Rattle.trees.proofs.Refuting.{refutation_excludes_path}
 use Rattle.implication.specs.declared.assumption.Assumption.{Assumption}
 use Rattle.implication.specs.declared.assumption.Beginning.{Beginning}
 use Rattle.implication.specs.declared.assumption.Conflict.{Conflict}
-use Rattle.implication.specs.Standing.{Standing, IsEmptiedFrom, IsEmptiedIn}
+use Rattle.implication.specs.Standing.{ToldEnds, Standing, IsEmptiedFrom, IsEmptiedIn}
 use Rattle.good_runs.specs.Faults.{CitesRefutation, CitesSpent, IsNumber}
 use Rattle.good_runs.specs.Faults.HasProof.{refuted, spent}
 use Rattle.good_runs.specs.GoodRun.{IsGoodSpent}
@@ -76,7 +76,7 @@ pub no_conflict : {X : Type 0} {P : Type 0} → (found : Option X) → is_some f
 no_conflict None none free = free
 no_conflict (Some conflict) none free = absurd (true≢false none)
 
-module _ (c : Circuit) (rules : Rules) (ends : Option (List LineId)) (course : Course) (is_course : IsCourse c rules ends course)
+module _ (c : Circuit) (rules : Rules) (ends : Option ToldEnds) (course : Course) (is_course : IsCourse c rules ends course)
     (begin place row : ℕ) (route : Route) (here : StandsInOrder course.paths.now course.order.now place row route)
     (closes : ClosesAtStart c rules (target_for course.aim (prefix_of 0 route))) where
   -- one closed leaf refutes the source

@@ -21,7 +21,7 @@ use Rattle.trees.specs.Refutations.{IsRefutation}
 use Rattle.implication.specs.declared.assumption.Assumption.TheVariants.{Entered}
 use Rattle.implication.specs.declared.assumption.Beginning.{Beginning}
 use Rattle.implication.specs.Clients.{IsRestored}
-use Rattle.implication.specs.Standing.{Standing, IsTold, IsToldBy}
+use Rattle.implication.specs.Standing.{ToldEnds, Standing, IsTold, IsToldBy}
 use Rattle.justify.specs.declared.answer.Found.{Found}
 use Rattle.justify.specs.declared.answer.Found.TheVariants as found
 use Rattle.justify.specs.Answers.{IsFound}
@@ -74,7 +74,7 @@ still_along a old new path same along = record {
   is_path = let P : Circuit → Type 0 = λ c. IsPath c path in subst P (sym same.net) along.is_path;
   is_told =
       let P : Circuit → Rules → Type 0 = λ c r. IsToldBy c (links_of r) old.ends (end_of c path) in
-      let Q : Option (List LineId) → Type 0 = λ ends. IsToldBy new.net (links_of new.rules) ends (end_of new.net path) in
+      let Q : Option ToldEnds → Type 0 = λ ends. IsToldBy new.net (links_of new.rules) ends (end_of new.net path) in
       subst Q (sym same.ends) (subst₂ P (sym same.net) (sym same.rules) along.is_told);
   begun = along.begun;
   began = same.beginning ∙ along.began;
@@ -101,7 +101,7 @@ module _ (a : StateAlgebra) (old : Standing) (of_rules : a ≡ algebra_of old.ru
       record { of_rules = of_rules; is_path = is_path; is_told = is_told; begun = begun; began = gone.beginning; source = refl }
 
   -- the start that closes is that for the aim
-  closes_for_aim : (prefix : Route) → ClosesFrom old prefix → ClosesAtStart old.net old.rules (target_for aim prefix)
+  pub closes_for_aim : (prefix : Route) → ClosesFrom old prefix → ClosesAtStart old.net old.rules (target_for aim prefix)
   closes_for_aim prefix closes =
       let P : Beginning → Type 0 = λ b. ClosesAtStart old.net old.rules (target_of prefix b.direction b.kind) in
       subst P (same_Some closes.begun begun (sym closes.began ∙ gone.beginning)) closes.closes

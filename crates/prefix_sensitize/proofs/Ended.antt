@@ -20,6 +20,7 @@ use Rattle.trees.specs.declared.tree.Node.{Node}
 use Rattle.good_runs.specs.Faults.{Applies, HasProof, IsAbout, IsNumber, NoneApplies}
 use Rattle.good_runs.specs.Faults.HasProof.{refuted, spent}
 use Rattle.good_runs.proofs.Numbers.{number_new, number_of_push}
+use Rattle.implication.specs.Standing.{ToldEnds}
 use Rattle.prefix_sensitize.specs.declared.course.Course.{Course}
 use Rattle.justify.specs.declared.answer.Found.{Found}
 use Rattle.justify.specs.declared.answer.Found.TheVariants.{Test, Spent, Refuted}
@@ -48,7 +49,7 @@ StandsNoEarlier course place prefix =
     (at other : ℕ) (another : Route) → StandsInOrder course.paths.now course.order.now at other another → IsPrefixOf prefix another
     → place ≤ at
 
-module _ (c : Circuit) (rules : Rules) (ends : Option (List LineId)) (course : Course) (is_course : IsCourse c rules ends course) (begin place row : ℕ)
+module _ (c : Circuit) (rules : Rules) (ends : Option ToldEnds) (course : Course) (is_course : IsCourse c rules ends course) (begin place row : ℕ)
     (route : Route) (here : StandsInOrder course.paths.now course.order.now place row route) (before : List RowOutcome) (old : List Proof)
     (steps : ℕ) (come : HasCome c rules course begin place before old steps) (source : LineId) (same : route.source ≡ source)
     (pins : List PinRef) (on : StandsOn course place come.entered (record { source = source; steps = pins })) (ended : FoundAlong)
@@ -270,7 +271,7 @@ pub record HasVisited (c : Circuit) (rules : Rules) (course : Course) (begin pla
   pub within : end ≤ length course.order.now
   pub adds : AddsProofs course.aim old new
 
-module _ (c : Circuit) (rules : Rules) (ends : Option (List LineId)) (course : Course) (is_course : IsCourse c rules ends course) (begin place row : ℕ)
+module _ (c : Circuit) (rules : Rules) (ends : Option ToldEnds) (course : Course) (is_course : IsCourse c rules ends course) (begin place row : ℕ)
     (route : Route) (here : StandsInOrder course.paths.now course.order.now place row route) (before : List RowOutcome) (old : List Proof)
     (steps : ℕ) (source : LineId) (same : route.source ≡ source) (pins : List PinRef)
     (come : HasComeOn c rules course begin place (record { source = source; steps = pins }) before old steps) where

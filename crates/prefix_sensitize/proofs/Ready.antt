@@ -7,7 +7,7 @@ use Rattle.pd_base.specs.declared.ids.LineId.{LineId}
 use Rattle.pd_base.specs.Route.{Route}
 use Rattle.netlist.specs.Circuit.{Circuit}
 use Rattle.netlist.specs.Paths.{end_of}
-use Rattle.implication.specs.Standing.{IsToldBy, Standing}
+use Rattle.implication.specs.Standing.{ToldEnds, IsToldBy, Standing}
 use Rattle.justify.specs.declared.desk.Desk.{Desk}
 use Rattle.justify.specs.Desks.{IsDeskFor}
 use Rattle.prefix_sensitize.specs.Entering.{IsIdleAgain}
@@ -22,7 +22,7 @@ ready_again a in_order budget old new before after ready rest desk =
     let routes = in_order.paths.now in
     let S : Circuit → Type 0 = λ c. AreSearchablePaths c routes in
     let T : Circuit → Rules → Type 0 = λ c r. All (λ (route : Route). IsToldBy c (links_of r) old.ends (end_of c route)) routes in
-    let E : Option (List LineId) → Type 0 =
+    let E : Option ToldEnds → Type 0 =
     λ ends. All (λ (route : Route). IsToldBy new.net (links_of new.rules) ends (end_of new.net route)) routes in
     let D : Circuit → Rules → Type 0 = λ c r. IsDeskFor a c r after in
     record {

@@ -8,14 +8,14 @@ use Rattle.netlist.specs.Circuit.{Circuit}
 use Rattle.netlist.specs.Lawful.{IsCircuit}
 use Rattle.netlist.specs.LinkedPairs.{FitRules}
 use Rattle.netlist.specs.Paths.{end_of}
-use Rattle.implication.specs.Standing.{Standing, IsToldBy}
+use Rattle.implication.specs.Standing.{ToldEnds, Standing, IsToldBy}
 use Rattle.prefix_sensitize.specs.declared.course.Course.{Course}
 use Rattle.prefix_sensitize.specs.PathOrder.{IsOrder, StandsInOrder}
 use Rattle.prefix_sensitize.specs.Walks.{AreExcused, AreSearchablePaths, IsBudget}
 
 -- listed paths that can be searched on this circuit under these rules, which fit it, with their ends told, in an order; and where no
 -- outcome is asked for there is a test
-pub record IsCourse (c : Circuit) (rules : Rules) (ends : Option (List LineId)) (course : Course) : Type 0 where
+pub record IsCourse (c : Circuit) (rules : Rules) (ends : Option ToldEnds) (course : Course) : Type 0 where
   pub circuit : IsCircuit c
   pub fit : FitRules c rules
   pub searchable : AreSearchablePaths c course.paths.now

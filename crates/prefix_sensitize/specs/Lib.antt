@@ -2,6 +2,7 @@ pub mod Prefixes
 pub mod PathOrder
 pub mod Outcomes
 pub mod Entering
+pub mod Anew
 pub mod Walks
 pub mod Marks
 pub mod AlongPaths

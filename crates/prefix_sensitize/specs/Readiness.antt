@@ -1,6 +1,7 @@
 -- What stands between the searches for one aim and those for the next (this project's own).
-use Rattle.std.specs.Prelude.{◌≡◌, ℕ, ◌+◌, ◌*◌, ◌≤◌, List, ◌++◌, length, None, All}
+use Rattle.std.specs.Prelude.{◌≡◌, ℕ, ◌+◌, ◌*◌, ◌≤◌, List, ◌++◌, length, Bool, Some, None, All}
 use Rattle.state_sets.specs.StateAlgebra.{StateAlgebra}
+use Rattle.pd_base.specs.declared.ids.LineId.{LineId}
 use Rattle.pd_base.specs.declared.rules.Rules.{Rules}
 use Rattle.netlist.specs.Circuit.{Circuit}
 use Rattle.netlist.specs.LinkedPairs.{FitRules}
@@ -9,7 +10,7 @@ use Rattle.netlist.specs.declared.limits.TheConstants.{MOST_LEVELS}
 use Rattle.pd_base.specs.Route.{Route}
 use Rattle.pd_base.specs.declared.fault.Direction.{Direction}
 use Rattle.runs.specs.declared.run.Proof.{Proof}
-use Rattle.implication.specs.Standing.{Standing}
+use Rattle.implication.specs.Standing.{Standing, told_ends}
 use Rattle.justify.specs.declared.desk.Desk.{Desk}
 use Rattle.justify.specs.Desks.{IsDeskFor}
 use Rattle.prefix_sensitize.specs.declared.course.PathsInOrder.{PathsInOrder}
@@ -28,6 +29,14 @@ pub record IsTreeFor (routes : List Route) (tree : OrderedPaths) : Type 0 where
 pub record IsSet (a : StateAlgebra) (standing : Standing) : Type 0 where
   pub of_rules : a ≡ algebra_of standing.rules
   pub fit : FitRules standing.net standing.rules
+  pub idle : standing.beginning ≡ None
+
+-- no scope is open on the engine, which is made for this circuit and these rules, and tells these ends
+pub record IsMadeFor (c : Circuit) (rules : Rules) (ends : List LineId) (standing : Standing) : Type 0 where
+  pub net : standing.net ≡ c
+  pub own : standing.rules ≡ rules
+  pub near : Bool
+  pub ends : standing.ends ≡ Some (told_ends ends near)
   pub idle : standing.beginning ≡ None
 
 -- the paths can be searched with this engine and this desk: no scope is open on it, and it tells the end of each path

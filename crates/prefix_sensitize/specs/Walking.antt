@@ -7,7 +7,7 @@ use Rattle.netlist.specs.declared.limits.TheConstants.{MOST_LEVELS}
 use Rattle.netlist.specs.Circuit.{Circuit}
 use Rattle.state_sets.specs.StateAlgebra.{StateAlgebra}
 use Rattle.runs.specs.declared.run.Proof.{Proof}
-use Rattle.implication.specs.Standing.{Standing}
+use Rattle.implication.specs.Standing.{ToldEnds, Standing}
 use Rattle.justify.specs.declared.desk.Desk.{Desk}
 use Rattle.justify.specs.Desks.{IsDeskFor}
 use Rattle.prefix_sensitize.specs.declared.course.Course.{Course}
@@ -19,7 +19,7 @@ use Rattle.prefix_sensitize.specs.Outcomes.{AddsProofs, AreFoundProofs, AreOutco
 use Rattle.prefix_sensitize.specs.Walks.{AreExcused, CountsPrefixes}
 
 -- A course, and a desk for it; and from where the count of steps stood when the walk began there is room to count all prefixes.
-pub record CanWalk (a : StateAlgebra) (c : Circuit) (rules : Rules) (ends : Option (List LineId)) (course : Course) (begin : ℕ)
+pub record CanWalk (a : StateAlgebra) (c : Circuit) (rules : Rules) (ends : Option ToldEnds) (course : Course) (begin : ℕ)
     (desk : Desk) : Type 0 where
   pub is_course : IsCourse c rules ends course
   pub is_desk : IsDeskFor a c rules desk

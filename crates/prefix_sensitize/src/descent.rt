@@ -13,11 +13,11 @@ ghost use Rattle.prefix_sensitize.specs.Entering.{CanSearch, CountsPins, HasSear
 ghost use Rattle.prefix_sensitize.specs.PathOrder.{ShareSteps};
 ghost use Rattle.prefix_sensitize.specs.Walks.{IsBudget};
 
+use crate::anew::decide;
 use crate::outcome::Aim;
 use crate::sharing::shared_steps;
 use implication::{Scope, ScopeMark, Setting};
-use justify::{Desk, Found, search_at};
-use pair_judging::Target;
+use justify::{Desk, Found};
 use pd_base::{OutOfMemory, Path, PinRef, Steps};
 use state_sets::Algebra;
 use std::alloc::Global;
@@ -96,12 +96,7 @@ impl Descent {
                 steps: kept + 1,
             });
         }
-        let target = Target {
-            path,
-            direction: aim.direction,
-            kind: aim.kind,
-        };
-        let found = search_at(alloc, scope, desk, &target, aim.budget)?;
+        let found = decide(alloc, scope, desk, path, aim)?;
         Ok(FoundAlong { found, steps: kept })
     }
 
@@ -141,7 +136,7 @@ impl Descent {
 
     // Enters the pins of a path behind the first ones, so many, which are entered. Tells how many are entered then: where these are not
     // all, a conflict came up at the next one, which was left again.
-    fn go_on<A: Algebra, S: Setting, L>(
+    pub(crate) fn go_on<A: Algebra, S: Setting, L>(
         &mut self,
         scope: &mut Scope<A, S>,
         path: &Path,

@@ -5,6 +5,7 @@
 #![tactic(auto)]
 
 mod all_outcomes;
+mod anew;
 mod course;
 mod descent;
 mod listing;

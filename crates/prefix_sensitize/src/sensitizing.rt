@@ -1,6 +1,7 @@
 // All searches for the first paths of a circuit, and the run that they make. For how many paths it was asked no search needs to know:
 // there may be fewer, and the run is good for each number of paths of which these are the first ones.
-ghost use Rattle.std.specs.Prelude.{◌≡◌, ◌+◌, ◌*◌, ◌<◌, ◌≤◌, ◌^◌, None, length, map, not, IfOk, OnOk};
+ghost use Rattle.std.specs.Prelude.{◌≡◌, ◌+◌, ◌*◌, ◌<◌, ◌≤◌, ◌^◌, None, length, map, not, All, IfOk, OnOk};
+ghost use Rattle.netlist.specs.Circuit.{line_count};
 ghost use Rattle.netlist.specs.declared.limits.TheConstants.{MOST_LEVELS};
 ghost use Rattle.delay_annotation.specs.Annotation.{delays_of, Fits};
 ghost use Rattle.netlist.specs.LinkedPairs.{FitRules};
@@ -8,7 +9,7 @@ ghost use Rattle.trees.specs.Algebras.{algebra_of};
 ghost use Rattle.justify.specs.Desks.{IsDeskFor};
 ghost use Rattle.prefix_sensitize.specs.Entering.{IsIdleAgain};
 ghost use Rattle.prefix_sensitize.specs.Listed.{AreAllOutcomes};
-ghost use Rattle.prefix_sensitize.specs.Readiness.{AreBeforeDirection, CountsAtMost, IsReadyFor, IsSet};
+ghost use Rattle.prefix_sensitize.specs.Readiness.{AreBeforeDirection, CountsAtMost, IsMadeFor, IsReadyFor, IsSet};
 ghost use Rattle.prefix_sensitize.specs.SearchedRuns.{AreFirstOnes, IsSearchedRun};
 ghost use Rattle.prefix_sensitize.specs.Searches.{AreDirectionFindings, is_test, searches_of};
 ghost use Rattle.prefix_sensitize.specs.Walks.{AreSearchablePaths, AreToldPaths, IsBudget};
@@ -24,7 +25,7 @@ use implication::{Engine, RuledNetlist, Setting};
 use justify::Desk;
 use netlist::Netlist;
 use pair_judging::ends_of;
-use pd_base::{Direction, Kind, OutOfMemory, Path, Rules, Steps};
+use pd_base::{Direction, Kind, LineId, OutOfMemory, Path, Rules, Steps};
 use runs::{Proof, Run};
 use state_sets::{Algebra, FourStates, SixStates};
 use std::alloc::Global;
@@ -106,11 +107,38 @@ fn search_by<A: Algebra, L>(
     let _ = net.sources();
     let ends = ends_of(alloc, net, paths)?;
     let setting = RuledNetlist { net, rules };
-    let mut engine: Engine<A, RuledNetlist> = Engine::within(alloc, setting, ends.as_slice())?;
+    let mut engine = engine_for::<A>(alloc, setting, ends.as_slice())?;
     let outcomes = search_on(alloc, &mut engine, paths, budget, steps);
     // a call ends it, so that its many parts needn't be ended in this function's proof
     drop(engine);
     outcomes
+}
+
+// An engine that tells the ends of the paths. Under links it is one of near gates where these are few, since a search on another one
+// narrows at gates all over the netlist.
+fn engine_for<'n, A: Algebra>(
+    alloc: Global,
+    setting: RuledNetlist<'n>,
+    ends: &[LineId],
+) -> Result<Engine<A, RuledNetlist<'n>>, OutOfMemory>
+    requires states { A.algebra ≡ algebra_of setting.rules.now }
+    requires fit { FitRules setting.net.now setting.rules.now }
+    requires ends { All (λ end. end.0 < line_count setting.net.now) ends.now }
+    ensures { IfOk result (IsMadeFor setting.net.now setting.rules.now ends.now) }
+{
+    if let Rules::Linked(_) = setting.rules {
+        let near: Engine<A, RuledNetlist<'n>> = Engine::near(alloc, setting, ends)?;
+        if are_few(near.narrows(), setting.net) {
+            return Ok(near);
+        }
+    }
+    Engine::within(alloc, setting, ends)
+}
+
+// Whether so many gates are few of those of the netlist, so that a search that narrows at them alone takes less, as measured, though it
+// splits at fewer sources.
+fn are_few(gates: u32, net: &Netlist) -> bool {
+    gates <= (net.lines() - net.sources()) / 4
 }
 
 // Does so with this engine, on which no scope is open.

@@ -1,4 +1,5 @@
--- What is chosen splits at a source of the support; where nothing is, each source of the cone was passed over for its one state.
+-- What is chosen splits at a source of the support that is told; where nothing is, each such source of the cone was passed over for its one
+-- state.
 use Rattle.std.proofs.Common.{◌≡◌, Option, Some, None, true, sym, ◌∙◌, subst, List}
 use Rattle.std.specs.Prelude.{is_some, IfNone}
 use Rattle.std.proofs.lemmas.Bool.{false≢true}
@@ -7,9 +8,9 @@ use Rattle.std.proofs.lemmas.List.{take_all}
 use Rattle.std.proofs.lemmas.List.Elements.{All-more, All-contains}
 use Rattle.pd_base.specs.declared.ids.LineId.{LineId}
 use Rattle.implication.specs.Scopes.{standing}
+use Rattle.implication.specs.Standing.{IsTold}
 use Rattle.justify.specs.Choices.{IsSingleAt}
 use Rattle.pair_judging.specs.Targets.{seen_target}
-use Rattle.justify.proofs.SplitChoices.{useful_at}
 use Rattle.justify.proofs.TriedSources.{read_in_support, support_in_cone}
 use Rattle.justify.proofs.Visits.{from_none}
 use Rattle.justify.proofs.choosing.choose.Goals as goal
@@ -32,24 +33,21 @@ split_at-split-requires-clause-source g c =
 
 pub returns-then-is_some-2-clause-some : goal.returns-then-is_some-2-clause-some
 returns-then-is_some-2-clause-some g c =
-    useful_at g.A.Algebra.algebra (seen_target c.args.target.now) (standing c.args.scope.now) _
-    (read_in_support g.A.Algebra.algebra (standing c.args.scope.now).net (standing c.args.scope.now).rules c.args.target.now.path.now
-    c.args.desk.now c.requires.desk c.sources-sources.result.now c.sources-sources.ensures c.loop-source.source-index _ c.loop-source-test.true)
-    c.split_at-split.result c.split_at-split.ensures.some
+    c.split_at-split.ensures.some
 
 pub loop-source-preserved : goal.loop-source-preserved
 loop-source-preserved g c =
-    All-more (λ source. IsSingleAt g.A.Algebra.algebra (standing c.args.scope.now) source.0) c.sources-sources.result.now c.loop-source.source-index _
+    All-more (λ source. IsTold (standing c.args.scope.now) source.0 → IsSingleAt g.A.Algebra.algebra (standing c.args.scope.now) source.0) c.sources-sources.result.now c.loop-source.source-index _
     c.loop-source-test.true c.loop-source.invariant
     (from_none c.split_at-split.result (sym c.is_some-in-loop-source.ensures ∙ c.if-is_some-2.false) c.split_at-split.ensures.none)
 
 pub returns-clause-none : goal.returns-clause-none
-returns-clause-none g c = λ source support.
-    let Single : LineId → Type 0 = λ l. IsSingleAt g.A.Algebra.algebra (standing c.args.scope.now) l.0 in
+returns-clause-none g c = λ source told.
+    let Single : LineId → Type 0 = λ l. IsTold (standing c.args.scope.now) l.0 → IsSingleAt g.A.Algebra.algebra (standing c.args.scope.now) l.0 in
     let P : List LineId → Type 0 = λ xs. All Single xs in
     let all =
     subst P (take_all c.loop-source.source-index c.sources-sources.result.now c.loop-source-test.false ∙ c.sources-sources.ensures)
     c.loop-source.invariant in
     All-contains Single c.args.desk.now.cone.sources (record { 0 = source }) all
     (support_in_cone (standing c.args.scope.now).net (standing c.args.scope.now).rules c.args.target.now.path.now c.args.desk.now.cone
-    c.requires.desk.made.links c.requires.desk.cone source support)
+    c.requires.desk.made.links c.requires.desk.cone source told.in_support) told.told

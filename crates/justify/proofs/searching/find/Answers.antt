@@ -65,3 +65,6 @@ returns-in-None-clause-found g c = c.split_in_turns.ensures.ends.found
 
 pub returns-in-None-clause-counted : goal.returns-in-None-clause-counted
 returns-in-None-clause-counted g c = c.split_in_turns.ensures.ends.counted
+
+pub returns-in-None-clause-unfinished : goal.returns-in-None-clause-unfinished
+returns-in-None-clause-unfinished g c = c.split_in_turns.ensures.ends.unfinished

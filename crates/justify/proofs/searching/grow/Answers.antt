@@ -8,6 +8,8 @@ use Rattle.justify.proofs.Orders.{no_less}
 use Rattle.std.proofs.lemmas.Grind.{common_steps}
 use Rattle.justify.proofs.GoingOn.{goes_further, grown_some, visit_none, searching_on}
 use Rattle.implication.proofs.Settings.{same_twice}
+use Rattle.pair_judging.specs.Targets.{seen_target}
+use Rattle.justify.proofs.Suiting.{ended_before}
 use Rattle.justify.proofs.searching.grow.Goals as goal
 
 pub returns-in_err-test-clause-goes_on : goal.returns-in_err-test-clause-goes_on
@@ -62,3 +64,8 @@ visit-requires-clause-searching g c = grind (arith, common_steps)
 
 pub returns-clause-answer : goal.returns-clause-answer
 returns-clause-answer g c = grind (arith, common_steps)
+
+pub returns-in_err-test-clause-unfinished : goal.returns-in_err-test-clause-unfinished
+returns-in_err-test-clause-unfinished g c =
+    ended_before (seen_target c.args.task.now.target) (standing c.args.scope.now) (standing c.loop-place.scope) c.loop-place.invariant.setting
+    _ c.visit.ensures.unfinished

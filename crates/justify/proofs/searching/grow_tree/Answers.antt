@@ -7,7 +7,9 @@ use Rattle.justify.specs.declared.growing.Place.{Place}
 use Rattle.justify.specs.Growths.{root_place}
 use Rattle.pair_judging.specs.Targets.{seen_target}
 use Rattle.justify.proofs.Orders.{at_least}
-use Rattle.justify.proofs.Starting.{start_under_way, start_growing}
+use Rattle.justify.proofs.Starting.{start_under_way, start_growing, root_told}
+use Rattle.justify.specs.Scoping.{MayEndBy}
+use Rattle.justify.proofs.Suiting.{same_error}
 use Rattle.justify.proofs.Ended.{grown_whole, grown_few, answer_found, answer_counts}
 use Rattle.justify.proofs.searching.grow_tree.Goals as goal
 
@@ -29,6 +31,8 @@ grow-grown-requires-clause-searching g c =
       growing = start_growing (seen_target c.args.task.now.target) (standing c.args.scope.now) c.requires.root.start c.requires.root.suits.prefix g.A.Algebra.algebra c.requires.root.left_open
           c.args.task.now.budget c.mark.result c.mark.ensures c.in_ok-growth.growth c.in_ok-growth.ensures.nodes
           (c.in_ok-growth.ensures.places ∙ ap P c.source.ensures) c.in_ok-growth.ensures.splits;
+      told = root_told g.A.Algebra.algebra (seen_target c.args.task.now.target) (standing c.args.scope.now) c.requires.root.suits c.mark.result _
+          (c.in_ok-growth.ensures.places ∙ ap P c.source.ensures);
     }
 
 pub grow-grown-requires-clause-origin : goal.grow-grown-requires-clause-origin
@@ -51,9 +55,14 @@ pub returns-clause-found : goal.returns-clause-found
 returns-clause-found g c =
     answer_found g.A.Algebra.algebra c.args.task.now (standing c.args.scope.now) (standing c.grow-grown.new.scope) c.grow-grown.new.growth
     c.grow-grown.ensures.goes_on.setting.net c.grow-grown.ensures.goes_on.setting.rules
-    c.grow-grown.result c.answer.result c.grow-grown.ensures.answer c.answer.ensures
+    c.grow-grown.result c.answer.result c.grow-grown.ensures.answer c.answer.ensures.answer
 
 pub returns-clause-counted : goal.returns-clause-counted
 returns-clause-counted g c =
     answer_counts g.A.Algebra.algebra c.args.task.now (standing c.args.scope.now) (standing c.grow-grown.new.scope) c.grow-grown.new.growth
-    c.grow-grown.result c.answer.result c.grow-grown.ensures.answer c.answer.ensures
+    c.grow-grown.result c.answer.result c.grow-grown.ensures.answer c.answer.ensures.answer
+
+pub returns-clause-unfinished : goal.returns-clause-unfinished
+returns-clause-unfinished g c =
+    same_error (MayEndBy (seen_target c.args.task.now.target) (standing c.args.scope.now)) c.grow-grown.result c.answer.result
+    c.grow-grown.ensures.unfinished c.answer.ensures.unfinished

@@ -8,6 +8,7 @@ use Rattle.implication.specs.Scopes.{standing}
 use Rattle.pd_base.specs.declared.rules.Rules.{Rules}
 use Rattle.implication.proofs.ScopeLabels.{there_too}
 use Rattle.justify.specs.Desks.{IsDeskFor, IsDesk}
+use Rattle.justify.proofs.Suiting.{ended_before, setting_back, setting_restored}
 use Rattle.justify.proofs.Ended.{concluded_found, concluded_counts}
 use Rattle.justify.proofs.searching.search_at.Goals as goal
 
@@ -57,3 +58,15 @@ find-ended-requires-clause-start g c = c.requires.can.start
 
 pub find-ended-requires-clause-budget : goal.find-ended-requires-clause-budget
 find-ended-requires-clause-budget g c = c.requires.can.within
+
+pub conclude-requires-clause-ended : goal.conclude-requires-clause-ended
+conclude-requires-clause-ended g c =
+    let first = standing c.args.scope.now in let last = standing c.find-ended.new.scope in
+    ended_before (seen_target c.args.target.now) last first (setting_back first last (setting_restored first last c.find-ended.ensures.left.restored))
+    c.find-ended.result c.find-ended.ensures.unfinished
+
+pub returns-clause-unfinished : goal.returns-clause-unfinished
+returns-clause-unfinished g c =
+    let first = standing c.args.scope.now in let last = standing c.find-ended.new.scope in
+    ended_before (seen_target c.args.target.now) first last (setting_restored first last c.find-ended.ensures.left.restored)
+    c.conclude.result c.conclude.ensures.unfinished

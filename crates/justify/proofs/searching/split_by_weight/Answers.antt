@@ -25,4 +25,5 @@ returns-clause-ends g c =
       left = record { restored = ends.left.restored; serves = ends.left.serves };
       found = ends.found;
       counted = ends.counted;
+      unfinished = ends.unfinished;
     }

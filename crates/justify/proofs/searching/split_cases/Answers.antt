@@ -32,6 +32,7 @@ returns-clause-ends g c =
       counted =
           counts_after c.args.task.now.budget first middle (standing c.back_to.new.self)
           (ap (λ (s : Standing). s.closings) c.back_to.ensures.back) c.grow_tree-ended.result c.grow_tree-ended.ensures.counted;
+      unfinished = c.grow_tree-ended.ensures.unfinished;
     }
 
 pub grow_tree-ended-requires : goal.grow_tree-ended-requires

@@ -10,7 +10,7 @@ use Rattle.justify.specs.Desks.{IsDesk}
 use Rattle.pair_judging.specs.Targets.{seen_target}
 use Rattle.justify.proofs.Ended.{counts_before, turn_found, turn_counts}
 use Rattle.justify.proofs.SameNodes.{same_restored, restored_trans, start_restored, open_stays}
-use Rattle.justify.proofs.Suiting.{suits_restored}
+use Rattle.justify.proofs.Suiting.{suits_restored, setting_restored, ended_before}
 use Rattle.justify.proofs.TriedSources.{kept_desk}
 use Rattle.justify.proofs.searching.split_in_turns.Goals as goal
 
@@ -50,6 +50,10 @@ returns-then-is_dropped-clause-ends g c = record {
   counted =
       counts_before c.args.task.now.budget (standing c.args.scope.now) (standing c.split_by_weight.new.scope) (standing c.split_with_budget.new.scope)
       c.split_by_weight.ensures.ends.left.restored.later c.split_with_budget.result c.split_with_budget.ensures.ends.counted;
+  unfinished =
+      let first = standing c.args.scope.now in let middle = standing c.split_by_weight.new.scope in
+      ended_before (seen_target c.args.task.now.target) first middle (setting_restored first middle c.split_by_weight.ensures.ends.left.restored)
+      c.split_with_budget.result c.split_with_budget.ensures.ends.unfinished;
 }
 
 pub returns-clause-ends : goal.returns-clause-ends
@@ -70,4 +74,5 @@ returns-clause-ends g c = record {
   counted =
       turn_counts c.splits_by_weight-splits.result c.args.task.now.budget c.in_ok-found.found (c.is_dropped.ensures c.if-is_dropped.false)
       (standing c.args.scope.now) (standing c.split_by_weight.new.scope) c.in_ok-found.ensures.ends.counted;
+  unfinished = tt;
 }

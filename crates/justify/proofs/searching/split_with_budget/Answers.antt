@@ -10,7 +10,7 @@ use Rattle.justify.specs.Desks.{IsDesk}
 use Rattle.pair_judging.specs.Targets.{seen_target}
 use Rattle.justify.proofs.Ended.{counts_before}
 use Rattle.justify.proofs.SameNodes.{same_restored, restored_trans, start_restored, open_stays}
-use Rattle.justify.proofs.Suiting.{suits_restored}
+use Rattle.justify.proofs.Suiting.{suits_restored, setting_restored, ended_before}
 use Rattle.justify.proofs.searching.split_with_budget.Goals as goal
 
 pub split_by_weight-requires : goal.split_by_weight-requires
@@ -47,4 +47,8 @@ returns-clause-ends g c = record {
   counted =
       counts_before c.args.task.now.budget (standing c.args.scope.now) (standing c.split_cases.new.scope) (standing c.split_by_weight.new.scope)
       c.split_cases.ensures.ends.left.restored.later c.split_by_weight.result c.split_by_weight.ensures.ends.counted;
+  unfinished =
+      let first = standing c.args.scope.now in let middle = standing c.split_cases.new.scope in
+      ended_before (seen_target c.args.task.now.target) first middle (setting_restored first middle c.split_cases.ensures.ends.left.restored)
+      c.split_by_weight.result c.split_by_weight.ensures.ends.unfinished;
 }

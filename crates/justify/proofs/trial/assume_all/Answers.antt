@@ -13,7 +13,7 @@ use Rattle.justify.specs.Trying.{IsHeldIn}
 use Rattle.justify.proofs.Assumed.{grown_list, grown_conflict, closed_list, closed_count}
 use Rattle.implication.proofs.ScopeLabels.{closes_there}
 use Rattle.justify.proofs.Resting.{counted_later}
-use Rattle.justify.proofs.Suiting.{support_told, told_after}
+use Rattle.justify.proofs.Suiting.{told_after}
 use Rattle.justify.proofs.Trials.{within_itself, within_more, held_here, held_before}
 use Rattle.justify.proofs.trial.assume_all.Goals as goal
 
@@ -82,15 +82,14 @@ loop-entry-init g c =
 
 pub assume-requires-clause-source : goal.assume-requires-clause-source
 assume-requires-clause-source g c =
-    rw c.loop-entry.invariant.extends.net (c.requires.tried c.loop-entry.entry-index _ c.loop-entry-test.true).in_support.is_source
+    rw c.loop-entry.invariant.extends.net (c.requires.tried c.loop-entry.entry-index _ c.loop-entry-test.true).source.in_support.is_source
 
 pub assume-requires-clause-told : goal.assume-requires-clause-told
 assume-requires-clause-told g c =
     let first = standing c.args.scope.now in let now = standing c.loop-entry.scope in
     let extends = c.loop-entry.invariant.extends in
     told_after first now (record { net = extends.net; rules = extends.rules; ends = extends.ends }) _
-    (support_told g.A.Algebra.algebra (seen_target c.args.target.now) first c.requires.suits _
-    (c.requires.tried c.loop-entry.entry-index _ c.loop-entry-test.true).in_support)
+    (c.requires.tried c.loop-entry.entry-index _ c.loop-entry-test.true).source.told
 
 pub returns-in-Err-clause-scope : goal.returns-in-Err-clause-scope
 returns-in-Err-clause-scope g c = same_scope_twice c.loop-entry.invariant.scope c.assume.ensures.scope

@@ -35,9 +35,3 @@ has_least-requires-clause-marks g c = grind (arith, common_steps)
 
 pub loop-entry-init : goal.loop-entry-init
 loop-entry-init g c = grind (arith, common_steps)
-
-pub has_least-requires-clause-supported : goal.has_least-requires-clause-supported
-has_least-requires-clause-supported g c = λ line marked.
-    let now = standing c.args.scope.now in let target = seen_target c.args.target.now in
-    let P : LinkList → Type 0 = λ links. IsSupported now.net links (end_of now.net target.path) line in
-    subst P c.requires.desk.made.links ((c.requires.desk.cone.lines line).0 ((c.marks.ensures.exactly line).0 marked))

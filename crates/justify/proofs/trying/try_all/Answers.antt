@@ -11,10 +11,45 @@ use Rattle.cones.specs.KeptCones.{IsConeFor}
 use Rattle.pair_judging.specs.Targets.{seen_target}
 use Rattle.justify.specs.Trying.{CanTry, HasLeast, GivesTest}
 use Rattle.justify.proofs.TriedSources.{read_in_support, read_within, all_tried, read_at, sources_within, tried_fits, least_of_sources}
+use Rattle.justify.proofs.trying.try_all.Given.{Over}
+use Rattle.justify.proofs.trying.try_all.Goals.{After-tells_all}
 use Rattle.justify.proofs.trying.try_all.Goals as goal
 
-pub collect-requires : goal.collect-requires
-collect-requires g c =
+-- once it is asked whether all sources of the cone are told
+module _ (g : Over) (c : After-tells_all g) where
+  abbrev now : Standing
+  now = standing c.args.scope.now
+
+  abbrev later : Standing
+  later = standing c.closes.new.scope
+
+  desk_later : IsDesk g.A.Algebra.algebra later.net later.rules c.args.target.now.path.now
+      (record c.args.desk.now { tried = c.collect.new.tried })
+  desk_later =
+      let P : Circuit → Rules → Type 0 = λ n r. IsDesk g.A.Algebra.algebra n r c.args.target.now.path.now
+      (record c.args.desk.now { tried = c.collect.new.tried }) in
+      there_too P now.net later.net now.rules later.rules (sym c.closes.ensures.restored.net) (sym c.closes.ensures.restored.rules)
+      (kept_desk g.A.Algebra.algebra now.net now.rules c.args.target.now.path.now c.args.desk.now _
+      (record { cone = refl; states = refl; blame = refl; liked = refl; justifier = refl; judge = refl }) c.requires.desk)
+
+  all_told : c.tells_all.result ≡ true → TellsSupport (seen_target c.args.target.now) now
+  all_told yes source support =
+      let back = setting_back now later (setting_restored now later c.closes.ensures.restored) in
+      told_after later now back source
+      (cone_tells_support g.A.Algebra.algebra (seen_target c.args.target.now) later _ desk_later c.sources-2.result.now c.sources-2.ensures
+      (c.tells_all.ensures.0 yes) source
+      (supported_after (seen_target c.args.target.now) now later (setting_restored now later c.closes.ensures.restored) source support))
+
+  not_all_told : c.tells_all.result ≡ false → ¬ TellsSupport (seen_target c.args.target.now) later
+  not_all_told no tells =
+      false≢true (sym no ∙ c.tells_all.ensures.1
+      (support_tells_cone g.A.Algebra.algebra (seen_target c.args.target.now) later _ desk_later c.sources-2.result.now c.sources-2.ensures tells))
+
+pub collect-requires-clause-states : goal.collect-requires-clause-states
+collect-requires-clause-states g c = ap length c.as_slice.ensures.value ∙ c.requires.desk.made.states
+
+pub collect-requires-clause-lines : goal.collect-requires-clause-lines
+collect-requires-clause-lines g c =
     read_within g.A.Algebra.algebra (standing c.args.scope.now).net (standing c.args.scope.now).rules c.args.target.now.path.now
     c.args.desk.now c.requires.desk c.sources.result.now c.sources.ensures
     (length c.as_slice.result.now) (ap length c.as_slice.ensures.value ∙ c.requires.desk.made.states)
@@ -43,7 +78,8 @@ returns-clause-answer g c =
     let net = (standing c.args.scope.now).net in let target = seen_target c.args.target.now in
     let rules = (standing c.args.scope.now).rules in
     let Q : List Tried → Type 0 = λ xs. GivesTest g.A.Algebra.algebra net rules target xs in
-    tried_fits g.A.Algebra.algebra net rules target c.args.desk.now c.requires.desk c.sources.result.now c.sources.ensures
+    tried_fits g.A.Algebra.algebra target (standing c.args.scope.now) c.args.desk.now c.requires.desk
+    (all_told g (goal.at.returns-clause-answer g c).After-tells_all c.if-not-tells_all.false) c.sources.result.now c.sources.ensures
     c.as_slice.result.now c.collect.new.tried.items c.in_ok-pair.pair c.in_ok-collect.ensures
     (read_at g.A.Algebra.algebra c.net.result.now net (c.net.ensures ∙ c.closes.ensures.restored.net) rules target.path
     c.args.desk.now c.requires.desk c.as_slice-3.result.now c.as_slice.result.now
@@ -56,7 +92,8 @@ read_test-requires-clause-states g c =
     let Q : List State → Type 0 = λ xs. AreSourceStates g.A.Algebra.algebra c.args.desk.now.cone.sources xs in
     let labels = c.labels.ensures.told c.requires.node.free in
     subst Q (sym c.as_slice-3.ensures.value)
-    (least_of_sources g.A.Algebra.algebra target now c.requires.node c.args.desk.now c.requires.desk labels.0 labels.1
+    (least_of_sources g.A.Algebra.algebra target now c.requires.node
+    (all_told g (goal.at.read_test-requires-clause-states g c).After-tells_all c.if-not-tells_all.false) c.args.desk.now c.requires.desk labels.0 labels.1
     c.args.desk.now.states.items c.requires.least)
 
 pub read_test-requires-clause-made : goal.read_test-requires-clause-made
@@ -69,3 +106,21 @@ read_test-requires-clause-places g c = grind (arith, common_steps)
 
 pub returns-then-closes-clause-answer : goal.returns-then-closes-clause-answer
 returns-then-closes-clause-answer g c = grind (arith, common_steps)
+
+pub tells_all-requires : goal.tells_all-requires
+tells_all-requires g c =
+    let within = sources_within g.A.Algebra.algebra (standing c.closes.new.scope).net (standing c.args.scope.now).net c.closes.ensures.restored.net
+    (standing c.args.scope.now).rules c.args.target.now.path.now c.args.desk.now c.requires.desk in
+    let P : List LineId → Type 0 = λ xs. All (λ source. source.0 < line_count (standing c.closes.new.scope).net) xs in
+    subst P (sym c.sources-2.ensures) (λ k d inside. let one = within k d inside in omega (arith, one))
+
+pub judge_untold-requires-clause-desk : goal.judge_untold-requires-clause-desk
+judge_untold-requires-clause-desk g c = desk_later g (goal.at.judge_untold-requires-clause-desk g c).After-tells_all
+
+pub judge_untold-requires-clause-untold : goal.judge_untold-requires-clause-untold
+judge_untold-requires-clause-untold g c = not_all_told g (goal.at.judge_untold-requires-clause-untold g c).After-tells_all c.if-not-tells_all.true
+
+pub judge_untold-requires-clause-prefix : goal.judge_untold-requires-clause-prefix
+judge_untold-requires-clause-prefix g c =
+    let P : Circuit → Type 0 = λ n. IsPrefix n c.args.target.now.path.now in
+    subst P (sym c.closes.ensures.restored.net) c.requires.suits.prefix

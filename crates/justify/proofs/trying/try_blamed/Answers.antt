@@ -14,16 +14,19 @@ use Rattle.justify.specs.Desks.{IsDesk, AreInSupport}
 use Rattle.pair_judging.specs.Targets.{seen_target}
 use Rattle.justify.specs.Trying.{CanTry, HasLeast, EndsAtNode}
 use Rattle.justify.proofs.SameNodes.{same_restored, restored_trans, ok_answer, least_stays, stays_at_node}
-use Rattle.justify.proofs.Suiting.{suits_restored}
+use Rattle.justify.proofs.Suiting.{suits_restored, setting_restored, ended_before}
 use Rattle.justify.proofs.TriedSources.{support_within, all_tried, kept_desk}
 use Rattle.justify.proofs.trying.try_blamed.Goals as goal
 
-pub collect-requires : goal.collect-requires
-collect-requires g c =
+pub collect-requires-clause-lines : goal.collect-requires-clause-lines
+collect-requires-clause-lines g c =
     let net = (standing c.args.scope.now).net in
     let S : List LineId → Type 0 = λ xs. AreInSupport net (standing c.args.scope.now).rules c.args.target.now.path.now xs in
     support_within net (standing c.args.scope.now).rules c.args.target.now.path.now c.sources.result.now (length c.as_slice.result.now)
     (ap length c.as_slice.ensures.value ∙ c.requires.desk.made.states) (subst S (sym c.sources.ensures) c.requires.blamed)
+
+pub collect-requires-clause-states : goal.collect-requires-clause-states
+collect-requires-clause-states g c = ap length c.as_slice.ensures.value ∙ c.requires.desk.made.states
 
 pub returns-in_err-collect-clause-desk : goal.returns-in_err-collect-clause-desk
 returns-in_err-collect-clause-desk g c =
@@ -100,3 +103,9 @@ try_all-requires-clause-desk g c =
     (standing c.closes.new.scope).rules (sym c.closes.ensures.restored.net) (sym c.closes.ensures.restored.rules)
     (kept_desk g.A.Algebra.algebra (standing c.args.scope.now).net (standing c.args.scope.now).rules c.args.target.now.path.now
     c.args.desk.now after (record { cone = refl; states = refl; blame = refl; liked = refl; justifier = refl; judge = refl }) c.requires.desk)
+
+pub returns-clause-unfinished : goal.returns-clause-unfinished
+returns-clause-unfinished g c =
+    let now = standing c.args.scope.now in let last = standing c.closes.new.scope in
+    ended_before (seen_target c.args.target.now) now last (setting_restored now last c.closes.ensures.restored) c.try_all.result
+    c.try_all.ensures.unfinished

@@ -7,7 +7,7 @@ use Rattle.pd_base.specs.declared.rules.Rules.{Rules}
 use Rattle.implication.specs.Scopes.{standing}
 use Rattle.implication.proofs.Restoring.{same_scope_twice}
 use Rattle.implication.proofs.ScopeLabels.{there_too}
-use Rattle.justify.proofs.Suiting.{suits_restored}
+use Rattle.justify.proofs.Suiting.{suits_restored, setting_restored, ended_before}
 use Rattle.justify.specs.Tests.{IsFitTest}
 use Rattle.justify.specs.Desks.{IsDesk}
 use Rattle.pair_judging.specs.Targets.{seen_target}
@@ -83,3 +83,9 @@ pub returns-in-None-clause-answer : goal.returns-in-None-clause-answer
 returns-in-None-clause-answer g c =
     ok_answer g.A.Algebra.algebra (seen_target c.args.target.now) (standing c.args.scope.now) (standing c.closes_again.new.scope) (standing c.try_blamed.new.scope)
     c.closes_again.ensures.restored c.try_blamed.result c.try_blamed.ensures.answer
+
+pub returns-in-None-clause-unfinished : goal.returns-in-None-clause-unfinished
+returns-in-None-clause-unfinished g c =
+    let now = standing c.args.scope.now in let last = standing c.closes_again.new.scope in
+    ended_before (seen_target c.args.target.now) now last (setting_restored now last c.closes_again.ensures.restored) c.try_blamed.result
+    c.try_blamed.ensures.unfinished

@@ -1,7 +1,9 @@
 -- The place is shut out, or the node there is visited.
 use Rattle.implication.specs.Moves.{start_at}
 use Rattle.implication.specs.Scopes.{standing}
-use Rattle.justify.proofs.GoingOn.{next_late, next_at_mark, next_at_source, next_told, next_within, next_begun, next_open, other_desk, shut_goes_on, shut_visited, entered_node, entered_suits, entered_desk, entered_goes_on, node_visited}
+use Rattle.pair_judging.specs.Targets.{seen_target}
+use Rattle.justify.proofs.Suiting.{ended_before}
+use Rattle.justify.proofs.GoingOn.{next_late, next_at_mark, next_at_source, next_told, next_within, next_begun, next_open, other_desk, shut_goes_on, shut_visited, entered_node, entered_setting, entered_suits, entered_desk, entered_goes_on, node_visited}
 use Rattle.justify.proofs.visiting.visit.Goals as goal
 
 pub enter-requires-clause-can : goal.enter-requires-clause-can
@@ -66,3 +68,10 @@ returns-else-enter-clause-answer g c =
     shut_visited g.A.Algebra.algebra c.args.task.now (standing c.args.scope.now) c.args.desk.now c.args.growth.now c.args.place c.requires.searching
     (standing c.enter.new.scope) (c.enter.ensures.shut c.if-enter.false) c.enter.ensures.later
     c.add_closed.new.growth c.add_closed.result c.add_closed.ensures
+
+pub returns-then-enter-clause-unfinished : goal.returns-then-enter-clause-unfinished
+returns-then-enter-clause-unfinished g c =
+    ended_before (seen_target c.args.task.now.target) (standing c.args.scope.now) (standing c.enter.new.scope)
+    (entered_setting g.A.Algebra.algebra c.args.task.now (standing c.args.scope.now) c.args.desk.now c.args.growth.now c.args.place c.requires.searching
+    (standing c.enter.new.scope) (c.enter.ensures.entered c.if-enter.true))
+    c.visit_node.result c.visit_node.ensures.unfinished

@@ -3,6 +3,7 @@ use Rattle.std.proofs.Common.{◌≡◌, ℕ, List, length, Option, refl, sym, s
 use Rattle.pd_base.specs.declared.ids.LineId.{LineId}
 use Rattle.pd_base.specs.declared.rules.Rules.{Rules}
 use Rattle.netlist.specs.Circuit.{Circuit}
+use Rattle.implication.specs.Standing.{ToldEnds}
 use Rattle.justify.specs.Desks.{IsDeskFor}
 use Rattle.prefix_sensitize.specs.Coming.{HasComeApart}
 use Rattle.prefix_sensitize.specs.Courses.{IsCourse}
@@ -23,7 +24,7 @@ walk_source-requires g c κs lives =
     let course = c.args.course.now in
     let rest = c.loop-place.invariant.rest in
     let C : Circuit → Rules → Type 0 = λ n r. IsCourse n r c.args.engine.now.ends course in
-    let E : Option (List LineId) → Type 0 = λ ends. IsCourse c.loop-place.engine.net c.loop-place.engine.rules ends course in
+    let E : Option ToldEnds → Type 0 = λ ends. IsCourse c.loop-place.engine.net c.loop-place.engine.rules ends course in
     let D : Circuit → Rules → Type 0 = λ n r. IsDeskFor g.A.Algebra.algebra n r c.loop-place.desk in
     let H : Circuit → Rules → Type 0 =
     λ n rules.

@@ -7,7 +7,7 @@ use Rattle.trees.specs.declared.tree.Node.TheVariants.{Closed}
 use Rattle.trees.specs.Algebras.{algebra_of}
 use Rattle.good_runs.specs.Shortest.{ClosesAtStart}
 use Rattle.state_laws.proofs.FanIns.{leads_in_fan_in}
-use Rattle.implication.specs.Standing.{IsToldBy}
+use Rattle.implication.specs.Standing.{ToldEnds, IsToldBy}
 use Rattle.implication.proofs.Told.{told_in_fan_in}
 use Rattle.pd_base.specs.declared.ids.LineId.{LineId}
 use Rattle.pd_base.specs.declared.rules.Rules.{Rules}
@@ -81,7 +81,7 @@ walk_from-requires g c κs lives =
     let begun = c.begin-scope.ensures.begun in
     let row = get_or course.order.now place 0 in
     let C : Circuit → Rules → Type 0 = λ n r. IsCourse n r c.args.engine.now.ends course in
-    let E : Option (List LineId) → Type 0 = λ ends. IsCourse (standing c.begin-scope.result).net (standing c.begin-scope.result).rules ends course in
+    let E : Option ToldEnds → Type 0 = λ ends. IsCourse (standing c.begin-scope.result).net (standing c.begin-scope.result).rules ends course in
     let D : Circuit → Rules → Type 0 = λ n r. IsDeskFor g.A.Algebra.algebra n r c.args.desk.now in
     let H : Circuit → Rules → Type 0 =
     λ n rules. HasComeApart n rules course g.begin place c.args.found.now c.args.steps.now in (

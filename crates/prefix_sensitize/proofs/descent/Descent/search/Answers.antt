@@ -7,6 +7,7 @@ use Rattle.implication.specs.Scopes.{IsSameScope, standing}
 use Rattle.implication.proofs.Restoring.{same_scope_twice}
 use Rattle.justify.specs.Desks.{IsDeskFor}
 use Rattle.prefix_sensitize.specs.Entering.{CountsPins, IsSameBeginning}
+use Rattle.prefix_sensitize.proofs.Anew.{entered_again}
 use Rattle.prefix_sensitize.proofs.Descents.{closed_ends, counts_pins, has_gone, leads_along, moved_on, moved_to_end, same_restored, same_twice, search_ends, starts_search, still_along, still_closes}
 use Rattle.prefix_sensitize.proofs.descent.Descent.search.Given.{Over}
 use Rattle.prefix_sensitize.proofs.descent.Descent.search.Goals.{After-go_on}
@@ -38,10 +39,20 @@ go_on-requires-clause-along g c =
 pub go_on-requires-clause-at : goal.go_on-requires-clause-at
 go_on-requires-clause-at g c = c.go_back-shared.ensures.at
 
-pub search_at-requires-clause-can : goal.search_at-requires-clause-can
-search_at-requires-clause-can g c = record {
+pub decide-requires-clause-enter : goal.decide-requires-clause-enter
+decide-requires-clause-enter g c =
+    let path = c.args.path.now in
+    let kept = c.in_ok-kept.kept in
+    let long = ap length c.steps.ensures in
+    let all : length path.steps ≤ kept = omega (arith, long, c.if-kept-steps.false) in
+    entered_again g.A.Algebra.algebra (standing c.args.scope.now) (standing c.go_on.new.scope) path c.args.aim c.args.self.now c.go_on.new.self
+    c.requires.can.gone c.requires.can.is_desk.of_rules c.requires.can.is_path
+    (same_on g (goal.at.decide-requires-clause-enter g c).After-go_on) kept c.in_ok-kept.ensures.on.at all
+
+pub decide-requires-clause-can : goal.decide-requires-clause-can
+decide-requires-clause-can g c = record {
   prefix =
-      (let same = same_on g (goal.at.search_at-requires-clause-can g c).After-go_on in
+      (let same = same_on g (goal.at.decide-requires-clause-can g c).After-go_on in
       let P : Circuit → Type 0 = λ net. IsPrefix net c.args.path.now in
       subst P (sym same.net) c.requires.can.is_path.prefix);
   start =
@@ -50,14 +61,14 @@ search_at-requires-clause-can g c = record {
       let long = ap length c.steps.ensures in
       let all : length path.steps ≤ kept = omega (arith, long, c.if-kept-steps.false) in
       starts_search g.A.Algebra.algebra (standing c.args.scope.now) c.requires.can.is_desk.of_rules path c.args.aim c.args.self.now c.requires.can.gone (standing c.go_on.new.scope)
-      (same_on g (goal.at.search_at-requires-clause-can g c).After-go_on) c.go_on.new.self kept c.in_ok-kept.ensures.on.at all);
+      (same_on g (goal.at.decide-requires-clause-can g c).After-go_on) c.go_on.new.self kept c.in_ok-kept.ensures.on.at all);
   positive = c.requires.can.is_budget.positive;
   within = c.requires.can.is_budget.within;
 }
 
-pub search_at-requires-clause-desk : goal.search_at-requires-clause-desk
-search_at-requires-clause-desk g c =
-    let same = same_on g (goal.at.search_at-requires-clause-desk g c).After-go_on in
+pub decide-requires-clause-desk : goal.decide-requires-clause-desk
+decide-requires-clause-desk g c =
+    let same = same_on g (goal.at.decide-requires-clause-desk g c).After-go_on in
     let P : Circuit → Rules → Type 0 = λ net r. IsDeskFor g.A.Algebra.algebra net r c.args.desk.now in
     subst₂ P (sym same.net) (sym same.rules) c.requires.can.is_desk
 
@@ -73,28 +84,28 @@ returns-then-kept-steps-clause-same g c = same_on g (goal.at.returns-then-kept-s
 pub returns-in_err-found-clause-same : goal.returns-in_err-found-clause-same
 returns-in_err-found-clause-same g c =
     let last = standing c.go_on.new.scope in
-    let end = standing c.search_at.new.scope in
+    let end = standing c.decide.new.scope in
     same_twice (standing c.args.scope.now) last end (same_on g (goal.at.returns-in_err-found-clause-same g c).After-go_on)
-    (same_restored last end c.search_at.ensures.restored)
+    (same_restored last end c.decide.ensures.restored)
 
 pub returns-in_err-found-clause-desk : goal.returns-in_err-found-clause-desk
 returns-in_err-found-clause-desk g c =
     let same = same_on g (goal.at.returns-in_err-found-clause-desk g c).After-go_on in
-    let P : Circuit → Rules → Type 0 = λ net r. IsDeskFor g.A.Algebra.algebra net r c.search_at.new.desk in
-    subst₂ P same.net same.rules c.search_at.ensures.desk
+    let P : Circuit → Rules → Type 0 = λ net r. IsDeskFor g.A.Algebra.algebra net r c.decide.new.desk in
+    subst₂ P same.net same.rules c.decide.ensures.desk
 
 pub returns-clause-same : goal.returns-clause-same
 returns-clause-same g c =
     let last = standing c.go_on.new.scope in
-    let end = standing c.search_at.new.scope in
+    let end = standing c.decide.new.scope in
     same_twice (standing c.args.scope.now) last end (same_on g (goal.at.returns-clause-same g c).After-go_on)
-    (same_restored last end c.search_at.ensures.restored)
+    (same_restored last end c.decide.ensures.restored)
 
 pub returns-clause-desk : goal.returns-clause-desk
 returns-clause-desk g c =
     let same = same_on g (goal.at.returns-clause-desk g c).After-go_on in
-    let P : Circuit → Rules → Type 0 = λ net r. IsDeskFor g.A.Algebra.algebra net r c.search_at.new.desk in
-    subst₂ P same.net same.rules c.search_at.ensures.desk
+    let P : Circuit → Rules → Type 0 = λ net r. IsDeskFor g.A.Algebra.algebra net r c.decide.new.desk in
+    subst₂ P same.net same.rules c.decide.ensures.desk
 
 pub returns-in_err-kept-clause-counted : goal.returns-in_err-kept-clause-counted
 returns-in_err-kept-clause-counted g c = counts_on g (goal.at.returns-in_err-kept-clause-counted g c).After-go_on
@@ -131,10 +142,10 @@ returns-then-kept-steps-clause-scope g c = scope_on g (goal.at.returns-then-kept
 
 pub returns-in_err-found-clause-scope : goal.returns-in_err-found-clause-scope
 returns-in_err-found-clause-scope g c =
-    same_scope_twice (scope_on g (goal.at.returns-in_err-found-clause-scope g c).After-go_on) c.search_at.ensures.scope
+    same_scope_twice (scope_on g (goal.at.returns-in_err-found-clause-scope g c).After-go_on) c.decide.ensures.scope
 
 pub returns-clause-scope : goal.returns-clause-scope
-returns-clause-scope g c = same_scope_twice (scope_on g (goal.at.returns-clause-scope g c).After-go_on) c.search_at.ensures.scope
+returns-clause-scope g c = same_scope_twice (scope_on g (goal.at.returns-clause-scope g c).After-go_on) c.decide.ensures.scope
 
 pub returns-then-kept-steps-clause-searched : goal.returns-then-kept-steps-clause-searched
 returns-then-kept-steps-clause-searched g c = record {
@@ -177,7 +188,7 @@ returns-clause-searched g c = record {
       (same_on g (goal.at.returns-clause-searched g c).After-go_on) c.go_on.new.self kept c.in_ok-kept.ensures.on.at
       all c.in_ok-found.found c.in_ok-found.ensures.found);
   gone =
-      (let restored = c.search_at.ensures.restored in
+      (let restored = c.decide.ensures.restored in
       let gone =
       has_gone g.A.Algebra.algebra (standing c.args.scope.now) c.requires.can.is_desk.of_rules c.args.path.now c.args.aim c.args.self.now c.requires.can.gone (standing c.go_on.new.scope)
       (same_on g (goal.at.returns-clause-searched g c).After-go_on) c.go_on.new.self c.in_ok-kept.kept c.in_ok-kept.ensures.on.at in

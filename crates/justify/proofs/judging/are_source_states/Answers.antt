@@ -9,7 +9,7 @@ use Rattle.state_sets.specs.declared.state.State.{State}
 use Rattle.state_sets.specs.declared.state.StateSet.{StateSet}
 use Rattle.state_sets.specs.States.{Has}
 use Rattle.pair_judging.specs.ConeStates.{state_in}
-use Rattle.justify.proofs.searching.are_source_states.Goals as goal
+use Rattle.justify.proofs.judging.are_source_states.Goals as goal
 
 pub loop-source-preserved : goal.loop-source-preserved
 loop-source-preserved g c =

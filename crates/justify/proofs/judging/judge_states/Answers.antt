@@ -13,7 +13,7 @@ use Rattle.justify.specs.Desks.{AreInSupport}
 use Rattle.pair_judging.specs.Targets.{seen_target}
 use Rattle.justify.proofs.TriedSources.{blamed_in_support, in_cone_within, side_within, desk_again, kept_desk, read_at, sources_within}
 use Rattle.justify.proofs.TriedSources.{judged_fits, kept_sources}
-use Rattle.justify.proofs.trying.judge_states.Goals as goal
+use Rattle.justify.proofs.judging.judge_states.Goals as goal
 
 pub set_failure-requires-clause-line : goal.set_failure-requires-clause-line
 set_failure-requires-clause-line g c =

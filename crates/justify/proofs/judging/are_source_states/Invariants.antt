@@ -3,7 +3,7 @@ use Rattle.std.proofs.Common.{take}
 use Rattle.std.specs.List.{All}
 use Rattle.state_sets.specs.States.{Has}
 use Rattle.pair_judging.specs.ConeStates.{state_in}
-use Rattle.justify.proofs.searching.are_source_states.Given as goal
+use Rattle.justify.proofs.judging.are_source_states.Given as goal
 
 abbrev pub invariant-loop-source : goal.invariant-loop-source
 invariant-loop-source g l =

@@ -5,7 +5,7 @@ use Rattle.state_sets.specs.declared.state.State.{State}
 use Rattle.implication.specs.Scopes.{standing}
 use Rattle.pair_judging.specs.ConeStates.{AreStates, AreSourceStates}
 use Rattle.justify.proofs.TriedSources.{read_within}
-use Rattle.justify.proofs.searching.judge_proposal.Goals as goal
+use Rattle.justify.proofs.judging.judge_proposal.Goals as goal
 
 pub are_source_states-requires-clause-places : goal.are_source_states-requires-clause-places
 are_source_states-requires-clause-places g c =

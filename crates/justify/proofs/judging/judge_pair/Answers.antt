@@ -9,7 +9,7 @@ use Rattle.pair_judging.specs.Judges.{IsJudgeOf}
 use Rattle.cones.specs.KeptCones.{IsConeAt, IsConeFor}
 use Rattle.pair_judging.specs.Targets.{seen_target}
 use Rattle.justify.proofs.TriedSources.{sources_within, desk_judged, kept_desk, linked_fits}
-use Rattle.justify.proofs.searching.judge_pair.Goals as goal
+use Rattle.justify.proofs.judging.judge_pair.Goals as goal
 
 pub read_linked-requires-clause-made : goal.read_linked-requires-clause-made
 read_linked-requires-clause-made g c =
