@@ -3,8 +3,9 @@
 // that are not met, then the lines that its decisions changed and that are not justified, then those that were not justified at the
 // beginning; it brings a pin to what would justify them, narrows, and at a conflict goes back to the last decision on which the conflict
 // rests. It is tried with the lowest levels first, and once more with the highest first where the conflicts ran out. With links it looks
-// for a first vector and last values that go with it, in the two frames of the path's end, and completes what it found by the links; and
-// where the conflicts ran out in both orders, it goes on with the lines first on which late conflicts rested.
+// for a first vector and last values that go with it, in the two frames of the path's end, and completes what it found by the links;
+// robust tests with the lowest levels first alone; and where the conflicts ran out, it goes on with the lines first on which late conflicts
+// rested.
 ghost use Rattle.std.specs.Prelude.{◌≡◌, ◌<◌, [], length, All, IfOk, IfSome};
 ghost use Rattle.netlist.specs.Circuit.{line_count, HasGates, HasLines};
 ghost use Rattle.netlist.specs.Paths.{IsPrefix, end_of};
@@ -46,6 +47,8 @@ const GROWTH_PART: u64 = 33;
 const MOST_SPLITS: u32 = 100;
 
 const LEAST_SPLITS: u32 = 6;
+// The same with links, where a tree by weights often refutes just after others spent theirs.
+const LEAST_LINKED_SPLITS: u32 = 50;
 
 /// How much is tried.
 #[derive(Clone, Copy)]
@@ -98,6 +101,7 @@ impl Justifier {
         let weights = Weights::new(alloc, net.sources() as usize, GROWTH_PART)?;
         let line_weights = Weights::new(alloc, net.lines() as usize, GROWTH_PART)?;
         let grounds = Grounds::new(alloc, net)?;
+        let least = least_splits(links);
         let links = LinkEnds::new(alloc, net, links)?;
         let decisions = Decisions::new::<A>(alloc, net, links.room())?;
         let frames = Frames::new(alloc, net)?;
@@ -109,7 +113,7 @@ impl Justifier {
             weights,
             line_weights,
             for_proposals: Patience::new(FIRST_CONFLICTS, 0),
-            for_trees: Patience::new(MOST_SPLITS, LEAST_SPLITS),
+            for_trees: Patience::new(MOST_SPLITS, least),
             links,
             values: FirstValues::new::<A>(),
             frames,
@@ -260,8 +264,13 @@ impl Justifier {
             Effort::Little | Effort::Much => None,
         };
         Limits {
-            by_level,
-            by_activity,
+            lowest_first: by_level,
+            highest_first: match kind {
+                // with links the highest levels first hardly ever end a search for a robust test
+                Kind::Robust if is_linked => None,
+                Kind::Robust | Kind::Nonrobust => by_level,
+            },
+            most_active_first: by_activity,
         }
     }
 
@@ -439,6 +448,15 @@ impl Justifier {
     }
 }
 
+// How few splits a first tree by weights may have where that was halved.
+fn least_splits(links: &[(LineId, LineId)]) -> u32 {
+    if links.is_empty() {
+        LEAST_SPLITS
+    } else {
+        LEAST_LINKED_SPLITS
+    }
+}
+
 // Writes what is liked of the labels of a cone's sources, as far as they let it: the states; or of a linked source the first values; or
 // anything. A source without a link is sooner steady then than in its first value.
 fn write_liked(
@@ -535,11 +553,12 @@ fn seen(region: &Region, labels: &[StateSet], line: LineId) -> StateSet
     }
 }
 
-// How many conflicts there may be in an order by levels, and in that by activity; none where an order is left out.
+// How many conflicts there may be in each order; none where it is left out.
 #[derive(Clone, Copy)]
 struct Limits {
-    by_level: Option<u32>,
-    by_activity: Option<u32>,
+    lowest_first: Option<u32>,
+    highest_first: Option<u32>,
+    most_active_first: Option<u32>,
 }
 
 // Decides in one order after another, as long as that takes too many conflicts: the lines of the lowest levels first, those of the
@@ -552,19 +571,46 @@ fn search<A: Algebra>(
     requires { IsSizedFor region.now.net.now decisions.old }
     ensures { decisions.new ≡ decisions.old }
 {
-    let mut ended = Ended::Unknown;
-    if let Some(most) = limits.by_level {
-        ended = decisions.search::<A>(region, Order::LowestFirst, most)?;
-        if let Ended::Unknown = ended {
-            ended = decisions.search::<A>(region, Order::HighestFirst, most)?;
-        }
-    }
-    if let Some(most) = limits.by_activity
-        && let Ended::Unknown = ended
-    {
-        ended = decisions.search::<A>(region, Order::MostActiveFirst, most)?;
-    }
+    let ended = Ended::Unknown;
+    let ended = go_on::<A>(
+        decisions,
+        region,
+        ended,
+        Order::LowestFirst,
+        limits.lowest_first,
+    )?;
+    let ended = go_on::<A>(
+        decisions,
+        region,
+        ended,
+        Order::HighestFirst,
+        limits.highest_first,
+    )?;
+    let ended = go_on::<A>(
+        decisions,
+        region,
+        ended,
+        Order::MostActiveFirst,
+        limits.most_active_first,
+    )?;
     Ok(matches!(ended, Ended::Justified))
+}
+
+// Decides in a further order, where those before took too many conflicts and this one is not left out.
+fn go_on<A: Algebra>(
+    decisions: &mut Decisions,
+    region: &Region,
+    ended: Ended,
+    order: Order,
+    limit: Option<u32>,
+) -> Result<Ended, OutOfMemory>
+    requires { IsSizedFor region.now.net.now decisions.old }
+    ensures { decisions.new ≡ decisions.old }
+{
+    match (ended, limit) {
+        (Ended::Unknown, Some(most)) => decisions.search::<A>(region, order, most),
+        _ => Ok(ended),
+    }
 }
 
 // Leaves all steps.
