@@ -37,8 +37,8 @@ use std::alloc::Global;
 /// source alone, before a pin is entered: the refutation has 0 steps then, and serves all paths from the source.
 ///
 /// `steps` stands at no more than 2^63, and counts the pins that are entered: at most four times as many as the paths have different
-/// prefixes of at least one step, once for each transition and kind of test, whatever the answer is. The one error is that memory ran
-/// out.
+/// prefixes of at least one step, once for each transition and kind of test, whatever the answer is. Not counted are those of a path whose
+/// search, under linked rules, is begun anew on an engine of its own. The one error is that memory ran out.
 pub fn sensitize_all<L>(
     alloc: Global,
     net: &Netlist,
