@@ -1,6 +1,6 @@
 -- What is told stays told while the circuit, the rules and the ends stay; an engine without ends tells all lines, and without links each
 -- engine tells all sources.
-use Rattle.std.proofs.Common.{◌≡◌, ◌<◌, inl, inr, ℕ, Bool, List, ◌∷◌, [], Option, None, Some, refl, sym, subst, subst₂, arith}
+use Rattle.std.proofs.Common.{◌≡◌, ◌<◌, inl, inr, ℕ, Bool, List, ◌∷◌, [], Option, None, Some, false, refl, sym, subst, subst₂, arith}
 use Rattle.std.specs.Bool.{IsTrue}
 use Rattle.pd_base.specs.Links.{IsLink, LinkList, links_of}
 use Rattle.pd_base.specs.declared.ids.LineId.{LineId}
@@ -13,19 +13,19 @@ use Rattle.cones.specs.Marks.{is_marked}
 use Rattle.state_laws.proofs.Linked.{none_linked}
 use Rattle.trees.specs.Unlinked.{IsUnlinked}
 use Rattle.trees.proofs.Unlinked.{no_links, unlinked_fit}
-use Rattle.implication.specs.Standing.{Standing, IsTold, IsToldBy}
+use Rattle.implication.specs.Standing.{Standing, ToldEnds, told_ends, IsTold, IsToldBy}
 use Rattle.search_answers.specs.Told.{AreMarkedTold}
 
 pub still_told : (old new : Standing) (marks : List Bool) → new.net ≡ old.net → new.rules ≡ old.rules → new.ends ≡ old.ends
     → AreMarkedTold old marks → AreMarkedTold new marks
 still_told old new marks net rules ends told line marked =
-    let P : Circuit → Option (List LineId) → Type 0 = λ c e. IsToldBy c (links_of new.rules) e line in
+    let P : Circuit → Option ToldEnds → Type 0 = λ c e. IsToldBy c (links_of new.rules) e line in
     let Q : Rules → Type 0 = λ r. IsToldBy old.net (links_of r) old.ends line in
     subst₂ P (sym net) (sym ends) (subst Q (sym rules) (told line marked))
 
 pub told_by_all : (standing : Standing) (line : ℕ) → standing.ends ≡ None → IsTold standing line
 told_by_all standing line all =
-    let P : Option (List LineId) → Type 0 = λ e. IsToldBy standing.net (links_of standing.rules) e line in
+    let P : Option ToldEnds → Type 0 = λ e. IsToldBy standing.net (links_of standing.rules) e line in
     subst P (sym all) tt
 
 pub all_told : (standing : Standing) (marks : List Bool) → standing.ends ≡ None → AreMarkedTold standing marks
@@ -36,7 +36,7 @@ pub unlinked_told : (standing : Standing) (source : ℕ) → IsUnlinked standing
     → IsTold standing source
 unlinked_told standing source unlinked within = by standing.ends
   where
-    by : (ends : Option (List LineId)) → IsToldBy standing.net (links_of standing.rules) ends source
+    by : (ends : Option ToldEnds) → IsToldBy standing.net (links_of standing.rules) ends source
     by None = tt
     by (Some ends) = inl (
       within,
@@ -49,8 +49,8 @@ pub fits : (c : Circuit) (rules : Rules) → IsUnlinked rules → FitRules c rul
 fits c rules unlinked = unlinked_fit c rules (no_links rules unlinked)
 
 -- an engine with this one end tells the lines that are marked where exactly its fan-in is
-pub cone_told : (standing : Standing) (end : LineId) (marks : List Bool) → standing.ends ≡ Some (end ∷ [])
+pub cone_told : (standing : Standing) (end : LineId) (marks : List Bool) → standing.ends ≡ Some (told_ends (end ∷ []) false)
     → ((line : ℕ) → IsTrue (is_marked marks line) → IsInFanIn standing.net end.0 line) → AreMarkedTold standing marks
 cone_told standing end marks ends inside line marked =
-    let P : Option (List LineId) → Type 0 = λ e. IsToldBy standing.net (links_of standing.rules) e line in
+    let P : Option ToldEnds → Type 0 = λ e. IsToldBy standing.net (links_of standing.rules) e line in
     subst P (sym ends) (inr (end, (0, omega arith, refl), in_fan_in line (inside line marked)))
