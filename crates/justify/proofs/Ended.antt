@@ -226,9 +226,3 @@ replaced_outcome c rules target ended (Err error) before after is fit replaced =
 replaced_outcome c rules target ended (Ok None) before after is fit replaced = inl (is ∙ ap (λ (f : Found). Ok f) (sym replaced))
 replaced_outcome c rules target ended (Ok (Some pair)) before after is fit replaced =
     let P : Found → Type 0 = λ f. IsTestFor c rules target f in inr (subst P (sym replaced) fit)
-
-pub replaced_all : {E F G : Type 0} (c : Circuit) (rules : Rules) (target : Target) (ended : Result Found E) (later : Result (Option Vectors) F) (before : Found)
-    → ended ≡ Ok before → IfOk later (λ pair. IfSome pair (IsFitTest c rules target)) → (result : Result Found G) → IfOk result (IsReplacedBy later before)
-    → IfOk result (IsOutcomeOf c rules target ended)
-replaced_all c rules target ended later before is fit (Err error) replaced = tt
-replaced_all c rules target ended later before is fit (Ok after) replaced = replaced_outcome c rules target ended later before after is fit replaced

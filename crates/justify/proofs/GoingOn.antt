@@ -34,7 +34,7 @@ use Rattle.justify.proofs.SameNodes.{same_restored, failed_stays}
 use Rattle.justify.specs.Scoping.{SuitsSearch}
 use Rattle.justify.proofs.Suiting.{told_after, setting_restored, suits_after}
 use Rattle.justify.proofs.Placing.{IsNext, next_place}
-use Rattle.justify.proofs.Visits.{growing_same, shut_under_way, shut_growing, entered_at_node, last_under_way, extended_growing}
+use Rattle.justify.proofs.Visits.{reverse_push, growing_same, shut_under_way, shut_growing, entered_at_node, last_under_way, extended_growing}
 use Rattle.justify.proofs.Visits.{extended_by_one, extended_left, extended_told}
 
 -- the search goes on with another desk that serves
@@ -133,10 +133,8 @@ module _ (a : StateAlgebra) (task : Task) (old : Standing) (desk : Desk) (growth
     }
 
     -- a visit that added a closed leaf
-    pub shut_visited : {E : Type 0} (after : Growth) (result : Result (Option Vectors) E) → IfOk result (AddsClosed growth after)
-        → IfOk result (IsVisit a task old new growth after)
-    shut_visited after (Err error) closed = tt
-    shut_visited after (Ok test) closed =
+    pub shut_visited : (after : Growth) (test : Option Vectors) → AddsClosed growth after test → IsVisit a task old new growth after test
+    shut_visited after test closed =
         let P : Option Vectors → Type 0 = λ t. IsVisit a task old new growth after t in
         subst P (sym closed.none) (shut_adds after closed.nodes closed.places closed.splits)
 
@@ -215,6 +213,24 @@ searching_on a task old new desk later places growth before after searching goes
   growing = adds.growing;
   told = adds.told;
 }
+
+-- the last place is the next one
+pub searching_popped : (a : StateAlgebra) (task : Task) (standing : Standing) (desk : Desk) (before after : Growth) (place : Place)
+    → after.nodes.items ≡ before.nodes.items → after.splits ≡ before.splits → before.places.items ≡ after.places.items ++ place ∷ []
+    → IsSearching a task standing desk (reverse before.places.items) before
+    → IsSearching a task standing desk (place ∷ reverse after.places.items) after
+searching_popped a task standing desk before after place nodes splits is searching =
+    let turned = reverse_push after.places.items before.places.items place is in
+    record {
+      suits = searching.suits;
+      under_way = searching.under_way;
+      serves = searching.serves;
+      growing =
+          growing_same a standing.net standing.net standing.rules standing.rules (seen_target task.target) task.budget standing.assumptions
+          standing.assumptions (reverse before.places.items) (place ∷ reverse after.places.items) before.nodes.items after.nodes.items
+          before.splits after.splits refl refl refl turned (sym nodes) (sym splits) searching.growing;
+      told = let P : List Place → Type 0 = λ places. AreToldPlaces standing places in subst P turned searching.told;
+    }
 
 -- a visit that found no test added a node
 pub visit_none : (a : StateAlgebra) (task : Task) (old new : Standing) (before after : Growth) (answer : Option Vectors) → answer ≡ None

@@ -50,7 +50,7 @@ from_none None none holds = holds
 from_none (Some value) none holds = absurd (false≢true (sym none))
 
 -- the places, the last one first
-reverse_push : {X : Type 0} (xs ys : List X) (x : X) → ys ≡ xs ++ x ∷ [] → reverse ys ≡ x ∷ reverse xs
+pub reverse_push : {X : Type 0} (xs ys : List X) (x : X) → ys ≡ xs ++ x ∷ [] → reverse ys ≡ x ∷ reverse xs
 reverse_push xs ys x is = ap reverse is ∙ reverse-append xs (x ∷ [])
 
 -- after a split the places of its halves are the next ones

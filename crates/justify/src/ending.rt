@@ -6,8 +6,8 @@ ghost use Rattle.trees.specs.declared.tree.Node.TheVariants.{Waiting};
 ghost use Rattle.trees.specs.Trees.{IsTree};
 ghost use Rattle.justify.specs.Ends.{IsEnd, IsAnswerOf, IsReplacedBy};
 
-use crate::{Found, Unfinished};
 use crate::growing::Growth;
+use crate::{Found, Unfinished};
 use pd_base::{OutOfMemory, Pair};
 use trees::{Node, Tree};
 

@@ -3,7 +3,7 @@ use Rattle.std.proofs.Common.{inl, refl, ap, ◌∙◌}
 use Rattle.std.specs.Result.{result_from_control_flow}
 use Rattle.implication.specs.Scopes.{standing}
 use Rattle.pair_judging.specs.Targets.{seen_target}
-use Rattle.justify.proofs.Ended.{replaced_all}
+use Rattle.justify.proofs.Ended.{replaced_outcome}
 use Rattle.justify.proofs.TriedSources.{kept_desk}
 use Rattle.justify.proofs.searching.conclude.Goals as goal
 
@@ -22,5 +22,5 @@ justify_lines-again-requires-clause-desk g c =
 
 pub returns-clause-found : goal.returns-clause-found
 returns-clause-found g c =
-    replaced_all (standing c.args.scope.now).net (standing c.args.scope.now).rules (seen_target c.args.target.now) c.args.ended c.justify_lines-again.result c.in_ok-found.found
-    (c.branch-found.ensures ∙ ap result_from_control_flow c.in_ok-found.is) c.justify_lines-again.ensures.test c.or_test.result c.or_test.ensures
+    replaced_outcome (standing c.args.scope.now).net (standing c.args.scope.now).rules (seen_target c.args.target.now) c.args.ended c.justify_lines-again.result c.in_ok-found.found c.in_ok-or_test.field-0
+    (c.branch-found.ensures ∙ ap result_from_control_flow c.in_ok-found.is) c.justify_lines-again.ensures.test c.in_ok-or_test.ensures

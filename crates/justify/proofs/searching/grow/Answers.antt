@@ -1,15 +1,16 @@
 -- Each visit goes on with the search, and adds a node for which a conflict was counted, or finds a test.
-use Rattle.std.proofs.Common.{ℕ, length, sym, subst, arith}
+use Rattle.std.proofs.Common.{◌≡◌, ◌∷◌, ◌++◌, [], ℕ, length, refl, sym, subst, arith}
 use Rattle.implication.specs.Scopes.{standing}
 use Rattle.implication.proofs.Restoring.{same_scope_twice}
 use Rattle.justify.specs.Answers.{HasCounted}
 use Rattle.justify.proofs.Ended.{counted_more}
 use Rattle.justify.proofs.Orders.{no_less}
 use Rattle.std.proofs.lemmas.Grind.{common_steps}
-use Rattle.justify.proofs.GoingOn.{goes_further, grown_some, visit_none, searching_on}
+use Rattle.std.proofs.lemmas.Result.{err_from_is_err_and}
+use Rattle.justify.proofs.GoingOn.{goes_further, grown_some, visit_none, searching_on, searching_popped}
 use Rattle.implication.proofs.Settings.{same_twice}
 use Rattle.pair_judging.specs.Targets.{seen_target}
-use Rattle.justify.proofs.Suiting.{ended_before}
+use Rattle.justify.proofs.Suiting.{may_end_before}
 use Rattle.justify.proofs.searching.grow.Goals as goal
 
 pub returns-in_err-test-clause-goes_on : goal.returns-in_err-test-clause-goes_on
@@ -60,12 +61,17 @@ pub loop-place-smaller : goal.loop-place-smaller
 loop-place-smaller g c = grind (arith, common_steps)
 
 pub visit-requires-clause-searching : goal.visit-requires-clause-searching
-visit-requires-clause-searching g c = grind (arith, common_steps)
+visit-requires-clause-searching g c =
+    let popped : c.loop-place.growth.places.items ≡ c.pop.new.self.items ++ c.in-Some.place ∷ [] = grind (arith, common_steps) in
+    searching_popped g.A.Algebra.algebra c.args.task.now (standing c.loop-place.scope) c.loop-place.desk c.loop-place.growth
+    (record c.loop-place.growth { places = c.pop.new.self }) c.in-Some.place refl refl popped c.loop-place.invariant.searching
 
 pub returns-clause-answer : goal.returns-clause-answer
 returns-clause-answer g c = grind (arith, common_steps)
 
 pub returns-in_err-test-clause-unfinished : goal.returns-in_err-test-clause-unfinished
 returns-in_err-test-clause-unfinished g c =
-    ended_before (seen_target c.args.task.now.target) (standing c.args.scope.now) (standing c.loop-place.scope) c.loop-place.invariant.setting
-    _ c.visit.ensures.unfinished
+    let error = err_from_is_err_and c.from_residual.result c.from_residual.ensures.1 in
+    rw (error.1, error.2)
+    (may_end_before (seen_target c.args.task.now.target) (standing c.args.scope.now) (standing c.loop-place.scope) c.loop-place.invariant.setting
+    _ c.in_err-test.ensures.unfinished)

@@ -1,6 +1,10 @@
 -- The path's source is in the support, and so is what is blamed for it.
-use Rattle.std.proofs.Common.{◌<◌, Option, None, refl, sym, ap, ◌∙◌, subst, arith}
-use Rattle.netlist.specs.Circuit.{Circuit, line_count, source_count}
+use Rattle.std.proofs.Common.{◌<◌, None, refl, sym, ap, ◌∙◌, subst, subst₂, arith}
+use Rattle.pd_base.specs.Links.{links_of}
+use Rattle.pd_base.specs.declared.ids.LineId.{LineId}
+use Rattle.netlist.specs.Circuit.{Circuit, line_count}
+use Rattle.netlist.specs.LinkedPairs.{IsSupported}
+use Rattle.netlist.specs.Paths.{end_of}
 use Rattle.implication.specs.Scopes.{standing}
 use Rattle.trees.proofs.Bound.{own_in_support}
 use Rattle.justify.specs.Desks.{AreInSupport}

@@ -22,7 +22,7 @@ returns g c = λ yes.
     let told = c.tells.ensures.0 c.if-not-tells.false in
     record {
       is_source = within;
-      marked = c.if-not-marks-source.false;
+      marked = c.if-not-marks-entry.false;
       told = told;
       in_range = subst P (sym is) c.least.ensures.in_range;
       least = λ labels labelled.

@@ -17,4 +17,4 @@ pub returns-in-Some-clause-test : goal.returns-in-Some-clause-test
 returns-in-Some-clause-test g c =
     let now = standing c.args.scope.now in
     let P : Option Vectors → Type 0 = λ found. IfSome found (IsFitTest now.net now.rules (seen_target c.args.target.now)) in
-    subst P c.in-Some.is c.in_ok-judge_proposal.ensures.test
+    subst P c.in-Some.is c.in_ok-pair.ensures.test

@@ -1,16 +1,28 @@
--- The sources of the cone are tried in their least states; where no conflict comes of that, the pair that has these states is a test.
-use Rattle.std.proofs.Common.{sym, ap, ◌∙◌, subst, length, List, arith}
+-- The sources of the cone that are told are tried in their least states; where no conflict comes of that, and all are told, the pair that has
+-- these states is a test.
+use Rattle.std.proofs.Common.{◌≡◌, ◌<◌, true, false, refl, sym, ap, ◌∙◌, subst, length, List, arith}
+use Rattle.std.proofs.lemmas.Bool.{false≢true}
 use Rattle.std.proofs.lemmas.Grind.{common_steps}
+use Rattle.std.proofs.lemmas.Result.{err_from_is_err_and}
 use Rattle.std.specs.List.{All}
-use Rattle.netlist.specs.Circuit.{Circuit}
+use Rattle.pd_base.specs.declared.ids.LineId.{LineId}
+use Rattle.pd_base.specs.declared.rules.Rules.{Rules}
+use Rattle.netlist.specs.Circuit.{Circuit, line_count}
+use Rattle.netlist.specs.Paths.{IsPrefix}
 use Rattle.state_sets.specs.declared.state.State.{State}
 use Rattle.implication.specs.Scopes.{standing}
+use Rattle.implication.specs.Standing.{Standing}
+use Rattle.implication.proofs.ScopeLabels.{there_too}
 use Rattle.justify.specs.declared.trial.Tried.{Tried}
+use Rattle.justify.specs.Desks.{IsDesk}
+use Rattle.justify.specs.Scoping.{TellsSupport}
 use Rattle.pair_judging.specs.ConeStates.{AreStates, AreSourceStates}
 use Rattle.cones.specs.KeptCones.{IsConeFor}
 use Rattle.pair_judging.specs.Targets.{seen_target}
 use Rattle.justify.specs.Trying.{CanTry, HasLeast, GivesTest}
+use Rattle.justify.proofs.Suiting.{told_after, supported_after, setting_back, setting_restored, may_end_before}
 use Rattle.justify.proofs.TriedSources.{read_in_support, read_within, all_tried, read_at, sources_within, tried_fits, least_of_sources}
+use Rattle.justify.proofs.TriedSources.{kept_desk, cone_tells_support, support_tells_cone}
 use Rattle.justify.proofs.trying.try_all.Given.{Over}
 use Rattle.justify.proofs.trying.try_all.Goals.{After-tells_all}
 use Rattle.justify.proofs.trying.try_all.Goals as goal
@@ -33,16 +45,16 @@ module _ (g : Over) (c : After-tells_all g) where
       (record { cone = refl; states = refl; blame = refl; liked = refl; justifier = refl; judge = refl }) c.requires.desk)
 
   all_told : c.tells_all.result ≡ true → TellsSupport (seen_target c.args.target.now) now
-  all_told yes source support =
+  all_told all source support =
       let back = setting_back now later (setting_restored now later c.closes.ensures.restored) in
       told_after later now back source
       (cone_tells_support g.A.Algebra.algebra (seen_target c.args.target.now) later _ desk_later c.sources-2.result.now c.sources-2.ensures
-      (c.tells_all.ensures.0 yes) source
+      (c.tells_all.ensures.0 all) source
       (supported_after (seen_target c.args.target.now) now later (setting_restored now later c.closes.ensures.restored) source support))
 
   not_all_told : c.tells_all.result ≡ false → ¬ TellsSupport (seen_target c.args.target.now) later
-  not_all_told no tells =
-      false≢true (sym no ∙ c.tells_all.ensures.1
+  not_all_told some tells =
+      false≢true (sym some ∙ c.tells_all.ensures.1
       (support_tells_cone g.A.Algebra.algebra (seen_target c.args.target.now) later _ desk_later c.sources-2.result.now c.sources-2.ensures tells))
 
 pub collect-requires-clause-states : goal.collect-requires-clause-states
@@ -80,10 +92,10 @@ returns-clause-answer g c =
     let Q : List Tried → Type 0 = λ xs. GivesTest g.A.Algebra.algebra net rules target xs in
     tried_fits g.A.Algebra.algebra target (standing c.args.scope.now) c.args.desk.now c.requires.desk
     (all_told g (goal.at.returns-clause-answer g c).After-tells_all c.if-not-tells_all.false) c.sources.result.now c.sources.ensures
-    c.as_slice.result.now c.collect.new.tried.items c.in_ok-pair.pair c.in_ok-collect.ensures
+    c.as_slice.result.now c.collect.new.tried.items c.in_ok-pair-2.pair c.in_ok-collect.ensures
     (read_at g.A.Algebra.algebra c.net.result.now net (c.net.ensures ∙ c.closes.ensures.restored.net) rules target.path
     c.args.desk.now c.requires.desk c.as_slice-3.result.now c.as_slice.result.now
-    (c.as_slice-3.ensures.value ∙ sym c.as_slice.ensures.value) c.in_ok-pair.pair c.in_ok-pair.ensures)
+    (c.as_slice-3.ensures.value ∙ sym c.as_slice.ensures.value) c.in_ok-pair-2.pair c.in_ok-pair-2.ensures)
     (subst Q c.as_slice-2.ensures.value c.if-closes.ensures.ends)
 
 pub read_test-requires-clause-states : goal.read_test-requires-clause-states
@@ -124,3 +136,12 @@ pub judge_untold-requires-clause-prefix : goal.judge_untold-requires-clause-pref
 judge_untold-requires-clause-prefix g c =
     let P : Circuit → Type 0 = λ n. IsPrefix n c.args.target.now.path.now in
     subst P (sym c.closes.ensures.restored.net) c.requires.suits.prefix
+
+pub returns-in_err-pair-clause-unfinished : goal.returns-in_err-pair-clause-unfinished
+returns-in_err-pair-clause-unfinished g c =
+    let now = standing c.args.scope.now in let later = standing c.closes.new.scope in
+    let left = c.from_residual-in_err-pair in
+    let error = err_from_is_err_and left.result left.ensures.1 in
+    rw (error.1, error.2)
+    (may_end_before (seen_target c.args.target.now) now later (setting_restored now later c.closes.ensures.restored) _
+    c.in_err-pair.ensures.unfinished)

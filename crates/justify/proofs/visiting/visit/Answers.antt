@@ -56,18 +56,25 @@ returns-then-enter-clause-answer g c =
     (standing c.enter.new.scope) (c.enter.ensures.entered c.if-enter.true)
     (standing c.visit_node.new.scope) c.visit_node.ensures.restored c.visit_node.new.growth c.visit_node.result c.visit_node.ensures.answer
 
-pub returns-else-enter-clause-goes_on : goal.returns-else-enter-clause-goes_on
-returns-else-enter-clause-goes_on g c =
+pub returns-in_ok-add_closed-clause-goes_on : goal.returns-in_ok-add_closed-clause-goes_on
+returns-in_ok-add_closed-clause-goes_on g c =
     shut_goes_on g.A.Algebra.algebra c.args.task.now (standing c.args.scope.now) c.enter.new.desk c.args.growth.now c.args.place
     (other_desk g.A.Algebra.algebra c.args.task.now (standing c.args.scope.now) c.args.desk.now c.enter.new.desk _ c.args.growth.now
     c.requires.searching c.enter.ensures.desk)
     (standing c.enter.new.scope) (c.enter.ensures.shut c.if-enter.false) c.enter.ensures.later
 
-pub returns-else-enter-clause-answer : goal.returns-else-enter-clause-answer
-returns-else-enter-clause-answer g c =
+pub returns-in_err-add_closed-clause-goes_on : goal.returns-in_err-add_closed-clause-goes_on
+returns-in_err-add_closed-clause-goes_on g c =
+    shut_goes_on g.A.Algebra.algebra c.args.task.now (standing c.args.scope.now) c.enter.new.desk c.args.growth.now c.args.place
+    (other_desk g.A.Algebra.algebra c.args.task.now (standing c.args.scope.now) c.args.desk.now c.enter.new.desk _ c.args.growth.now
+    c.requires.searching c.enter.ensures.desk)
+    (standing c.enter.new.scope) (c.enter.ensures.shut c.if-enter.false) c.enter.ensures.later
+
+pub returns-in_ok-add_closed-clause-answer : goal.returns-in_ok-add_closed-clause-answer
+returns-in_ok-add_closed-clause-answer g c =
     shut_visited g.A.Algebra.algebra c.args.task.now (standing c.args.scope.now) c.args.desk.now c.args.growth.now c.args.place c.requires.searching
     (standing c.enter.new.scope) (c.enter.ensures.shut c.if-enter.false) c.enter.ensures.later
-    c.add_closed.new.growth c.add_closed.result c.add_closed.ensures
+    c.add_closed.new.growth c.in_ok-add_closed.field-0 c.in_ok-add_closed.ensures
 
 pub returns-then-enter-clause-unfinished : goal.returns-then-enter-clause-unfinished
 returns-then-enter-clause-unfinished g c =
