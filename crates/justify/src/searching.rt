@@ -72,7 +72,7 @@ pub fn search<S: Setting>(
 }
 
 /// The same under linked rules, which fit the engine's netlist, with six states: a test is a pair of the rules, and a refutation excludes
-/// the pairs of the rules.
+/// the pairs of the rules. Where the engine doesn't tell all sources of the path's support, the search may end undecided, too.
 pub fn search_linked<S: Setting>(
     alloc: Global,
     scope: &mut Scope<SixStates, S>,
