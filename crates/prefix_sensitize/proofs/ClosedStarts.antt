@@ -5,7 +5,6 @@ use Rattle.std.specs.Prelude.{is_some, IfNone, IfSome, slice_index_or}
 use Rattle.std.proofs.lemmas.Bool.{cases_Bool, cases_lt}
 use Rattle.pd_base.specs.declared.fault.Direction.{Direction}
 use Rattle.pd_base.specs.declared.fault.Kind.{Kind}
-use Rattle.pd_base.specs.declared.ids.LineId.{LineId}
 use Rattle.pd_base.specs.declared.rules.Rules.{Rules}
 use Rattle.pd_base.specs.Pair.{Vectors}
 use Rattle.pd_base.specs.Route.{Route}

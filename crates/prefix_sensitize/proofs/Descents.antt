@@ -6,7 +6,6 @@ use Rattle.std.proofs.lemmas.Option.{same_Some}
 use Rattle.pd_base.specs.Links.{links_of}
 use Rattle.trees.specs.Algebras.{algebra_of}
 use Rattle.state_sets.specs.StateAlgebra.{StateAlgebra}
-use Rattle.pd_base.specs.declared.ids.LineId.{LineId}
 use Rattle.pd_base.specs.declared.ids.PinRef.{PinRef}
 use Rattle.pd_base.specs.declared.rules.Rules.{Rules}
 use Rattle.pd_base.specs.Route.{Route}

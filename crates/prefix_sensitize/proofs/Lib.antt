@@ -6,7 +6,7 @@ mod PathOrderSteps
 pub mod Prefixes
 mod AlongPaths
 mod Descents
-mod Anew
+mod SearchedAnew
 mod RoutePrefixes
 mod EnteredPrefixes
 mod OrderPlaces

@@ -1,9 +1,8 @@
 -- What a walk stands on stands again after it, for the next one.
-use Rattle.std.proofs.Common.{ℕ, List, All, Option, sym, subst, subst₂}
+use Rattle.std.proofs.Common.{ℕ, All, Option, sym, subst, subst₂}
 use Rattle.pd_base.specs.declared.rules.Rules.{Rules}
 use Rattle.pd_base.specs.Links.{links_of}
 use Rattle.state_sets.specs.StateAlgebra.{StateAlgebra}
-use Rattle.pd_base.specs.declared.ids.LineId.{LineId}
 use Rattle.pd_base.specs.Route.{Route}
 use Rattle.netlist.specs.Circuit.{Circuit}
 use Rattle.netlist.specs.Paths.{end_of}

@@ -1,5 +1,5 @@
 -- What a walk goes by, in words that are spoken inside this crate alone (this project's own).
-use Rattle.std.specs.Prelude.{◌≡◌, ℕ, List, length, Option, Some, All}
+use Rattle.std.specs.Prelude.{◌≡◌, ℕ, length, Option, Some, All}
 use Rattle.pd_base.specs.declared.ids.LineId.{LineId}
 use Rattle.pd_base.specs.Links.{links_of}
 use Rattle.pd_base.specs.declared.rules.Rules.{Rules}

@@ -36,7 +36,7 @@ pub record IsMadeFor (c : Circuit) (rules : Rules) (ends : List LineId) (standin
   pub net : standing.net ≡ c
   pub own : standing.rules ≡ rules
   pub near : Bool
-  pub ends : standing.ends ≡ Some (told_ends ends near)
+  pub told : standing.ends ≡ Some (told_ends ends near)
   pub idle : standing.beginning ≡ None
 
 -- the paths can be searched with this engine and this desk: no scope is open on it, and it tells the end of each path

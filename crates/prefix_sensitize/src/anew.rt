@@ -80,8 +80,8 @@ fn search_anew<A: Algebra>(
     requires end { end.0 ≡ end_of setting.net.now path.now }
     requires line { end.0 < line_count setting.net.now }
     requires desk { IsDeskFor A.algebra setting.net.now setting.rules.now desk.old }
-    ensures desk { IsDeskFor A.algebra setting.net.now setting.rules.now desk.new }
-    ensures found { IfOk result (IsFound setting.net.now setting.rules.now (target_for aim path.now) aim.budget) }
+    ensures desk { IsDeskFor A.algebra setting.entry.net.now setting.entry.rules.now desk.new }
+    ensures found { IfOk result (IsFound setting.entry.net.now setting.entry.rules.now (target_for aim path.now) aim.budget) }
 {
     let ends = [end];
     let mut engine: Engine<A, RuledNetlist> = Engine::within(alloc, setting, &ends)?;

@@ -124,7 +124,7 @@ fn engine_for<'n, A: Algebra>(
     requires states { A.algebra ≡ algebra_of setting.rules.now }
     requires fit { FitRules setting.net.now setting.rules.now }
     requires ends { All (λ end. end.0 < line_count setting.net.now) ends.now }
-    ensures { IfOk result (IsMadeFor setting.net.now setting.rules.now ends.now) }
+    ensures { IfOk result (IsMadeFor setting.entry.net.now setting.entry.rules.now ends.now) }
 {
     if let Rules::Linked(_) = setting.rules {
         let near: Engine<A, RuledNetlist<'n>> = Engine::near(alloc, setting, ends)?;

@@ -1,16 +1,15 @@
 -- What is found on either engine is found of the path; a search that ends undecided leaves the scope as it was.
 use Rattle.std.proofs.Common.{◌<◌, sym, ap, subst, subst₂, ◌∙◌}
-use Rattle.std.specs.Prelude.{is_some, IfOk}
+use Rattle.std.specs.Prelude.{is_some}
 use Rattle.pd_base.specs.Target.{Target}
 use Rattle.pd_base.specs.declared.rules.Rules.{Rules}
 use Rattle.netlist.specs.Circuit.{Circuit, line_count}
 use Rattle.netlist.specs.Paths.{end_of}
 use Rattle.implication.specs.Scopes.{standing}
-use Rattle.justify.specs.Answers.{IsFound}
 use Rattle.justify.specs.Desks.{IsDeskFor}
 use Rattle.justify.specs.Scoping.{CanBegin}
 use Rattle.prefix_sensitize.specs.Outcomes.{target_for}
-use Rattle.prefix_sensitize.proofs.Anew.{entered_there, last_at_start, start_again}
+use Rattle.prefix_sensitize.proofs.SearchedAnew.{entered_there, last_at_start, start_again}
 use Rattle.prefix_sensitize.proofs.anew.decide.Goals as goal
 
 pub search_at-requires-clause-can : goal.search_at-requires-clause-can

@@ -14,13 +14,13 @@ use Rattle.prefix_sensitize.specs.Anew.{CanBeEntered}
 use Rattle.prefix_sensitize.specs.Outcomes.{target_for}
 use Rattle.prefix_sensitize.proofs.anew.search_anew.Goals as goal
 
-pub within-engine-requires-clause-ends : goal.within-engine-requires-clause-ends
-within-engine-requires-clause-ends g c =
+pub within-requires-clause-ends : goal.within-requires-clause-ends
+within-requires-clause-ends g c =
     let P : LineId → Type 0 = λ end. end.0 < line_count c.args.setting.net.now in
     All-cons P c.args.end [] c.requires.line (All-nil P)
 
-pub within-engine-requires-clause-fit : goal.within-engine-requires-clause-fit
-within-engine-requires-clause-fit g c = c.requires.desk.fit
+pub within-requires-clause-fit : goal.within-requires-clause-fit
+within-requires-clause-fit g c = c.requires.desk.fit
 
 pub search_begun-found-requires-clause-idle : goal.search_begun-found-requires-clause-idle
 search_begun-found-requires-clause-idle g c = ap (λ (s : Standing). s.beginning) c.in_ok-engine.ensures
@@ -32,7 +32,7 @@ search_begun-found-requires-clause-told g c =
     let P : ℕ → Type 0 = λ line. IsToldBy net links (Some ends) line in
     let Q : Standing → Type 0 = λ s. IsToldBy s.net (links_of s.rules) s.ends (end_of s.net c.args.path.now) in
     subst Q (sym c.in_ok-engine.ensures)
-    (subst P c.requires.end (end_told net links ends c.args.end (0, (omega arith, refl))))
+    (subst P c.requires.end (end_told net links ends c.args.end (0, omega arith, refl)))
 
 pub search_begun-found-requires-clause-follows : goal.search_begun-found-requires-clause-follows
 search_begun-found-requires-clause-follows g c =

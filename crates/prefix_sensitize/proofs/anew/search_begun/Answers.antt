@@ -1,19 +1,19 @@
 -- The start closes at no prefix, so none at the source; and what is found on the scope is found on its engine.
-use Rattle.std.proofs.Common.{◌≡◌, ◌<◌, Option, Some, sym, ap, subst, subst₂, ◌∙◌, arith}
+use Rattle.std.proofs.Common.{◌<◌, Option, Some, sym, ap, subst, subst₂, ◌∙◌, arith}
 use Rattle.pd_base.specs.Links.{links_of}
 use Rattle.pd_base.specs.declared.ids.LineId.{LineId}
 use Rattle.pd_base.specs.declared.rules.Rules.{Rules}
 use Rattle.netlist.specs.Circuit.{Circuit, source_count}
-use Rattle.netlist.specs.Paths.{end_of}
+use Rattle.netlist.specs.Paths.{end_of, prefix_of}
 use Rattle.state_laws.proofs.FanIns.{leads_in_fan_in}
 use Rattle.trees.specs.Algebras.{algebra_of}
 use Rattle.implication.specs.Scopes.{standing}
 use Rattle.implication.specs.Standing.{ToldEnds, FollowsLinks, IsToldBy}
 use Rattle.implication.proofs.Told.{told_in_fan_in}
-use Rattle.justify.specs.Answers.{IsFound}
+use Rattle.good_runs.specs.Shortest.{ClosesAtStart}
 use Rattle.justify.specs.Desks.{IsDeskFor}
 use Rattle.prefix_sensitize.specs.Outcomes.{target_for}
-use Rattle.prefix_sensitize.proofs.Anew.{entered_there}
+use Rattle.prefix_sensitize.proofs.SearchedAnew.{entered_there}
 use Rattle.prefix_sensitize.proofs.ClosedStarts.{conflict_closes, no_conflict}
 use Rattle.prefix_sensitize.proofs.anew.search_begun.Goals as goal
 
@@ -71,3 +71,13 @@ returns-clause-desk g c =
     let begun = c.begin-scope.ensures.begun in
     let P : Circuit → Rules → Type 0 = λ n r. IsDeskFor g.A.Algebra.algebra n r c.search_from_source.new.desk in
     subst₂ P begun.net begun.rules c.search_from_source.ensures.desk
+
+pub unreachable-requires : goal.unreachable-requires
+unreachable-requires g c =
+    let begun = c.begin-scope.ensures.begun in let new = standing c.begin-scope.result in
+    let aim = c.args.aim in let path = c.args.path.now in
+    let P : Circuit → Rules → Type 0 = λ n r. ClosesAtStart n r (target_for aim (prefix_of 0 path)) in
+    c.requires.enter.left_open 0 (omega arith) (subst₂ P begun.net begun.rules
+    (conflict_closes g.A.Algebra.algebra new (c.requires.desk.of_rules ∙ ap algebra_of (sym begun.rules)) path aim
+    (begun.beginning ∙ (λ i. Some (record { source = c.source.ensures i; direction = aim.direction; kind = aim.kind })))
+    begun.nothing c.conflict.result (sym c.is_some.ensures ∙ c.if-is_some.true) c.conflict.ensures.emptied))

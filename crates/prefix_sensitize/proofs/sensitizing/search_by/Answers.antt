@@ -18,8 +18,8 @@ use Rattle.prefix_sensitize.specs.Searches.{searches_of}
 use Rattle.prefix_sensitize.specs.Walks.{AreSearchablePaths}
 use Rattle.prefix_sensitize.proofs.sensitizing.search_by.Goals as goal
 
-pub engine_for-engine-requires-clause-ends : goal.engine_for-engine-requires-clause-ends
-engine_for-engine-requires-clause-ends g c =
+pub engine_for-requires-clause-ends : goal.engine_for-requires-clause-ends
+engine_for-requires-clause-ends g c =
     let net = c.args.net.now in
     let P : List LineId → Type 0 = All (λ (end : LineId). end.0 < line_count net) in
     subst P (sym c.as_slice.ensures.value) c.in_ok-ends.ensures.lines
@@ -31,7 +31,7 @@ search_on-outcomes-requires-clause-told g c =
     let engine = c.in_ok-engine.engine in
     let made = c.in_ok-engine.ensures in
     let are : engine.ends ≡ Some (told_ends (ends_of net c.args.paths.now) made.near) =
-    made.ends ∙ ap (λ (lines : List LineId). Some (told_ends lines made.near)) (c.as_slice.ensures.value ∙ c.in_ok-ends.ensures.ends) in
+    made.told ∙ ap (λ (lines : List LineId). Some (told_ends lines made.near)) (c.as_slice.ensures.value ∙ c.in_ok-ends.ensures.ends) in
     let P : Circuit → Rules → Type 0 =
     λ n r. All (λ (route : Route). IsToldBy n (links_of r) engine.ends (end_of n route)) c.args.paths.now in
     subst₂ P (sym c.in_ok-engine.ensures.net) (sym c.in_ok-engine.ensures.own)

@@ -1,6 +1,5 @@
 -- Each turn brings the walk behind the paths from one source.
-use Rattle.std.proofs.Common.{◌≡◌, ℕ, List, length, Option, refl, sym, subst, subst₂, ◌∙◌, arith}
-use Rattle.pd_base.specs.declared.ids.LineId.{LineId}
+use Rattle.std.proofs.Common.{◌≡◌, ℕ, length, Option, refl, sym, subst, subst₂, ◌∙◌, arith}
 use Rattle.pd_base.specs.declared.rules.Rules.{Rules}
 use Rattle.netlist.specs.Circuit.{Circuit}
 use Rattle.implication.specs.Standing.{ToldEnds}

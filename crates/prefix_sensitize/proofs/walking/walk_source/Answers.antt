@@ -1,5 +1,5 @@
 -- A scope is opened at the source of the path at this place, and left behind the last path from it.
-use Rattle.std.proofs.Common.{ℕ, ◌+◌, ◌<◌, true≢false, List, [], ◌∷◌, get_or, IfOk, Option, Some, sym, ap, subst, subst₂, ◌∙◌, arith}
+use Rattle.std.proofs.Common.{ℕ, ◌+◌, ◌<◌, true≢false, [], ◌∷◌, get_or, IfOk, Option, Some, sym, ap, subst, subst₂, ◌∙◌, arith}
 use Rattle.std.proofs.lemmas.Result.{IfOk-weaker}
 use Rattle.pd_base.specs.Links.{links_of}
 use Rattle.netlist.specs.Paths.{end_of, prefix_of}

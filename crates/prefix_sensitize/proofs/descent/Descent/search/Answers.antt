@@ -7,7 +7,7 @@ use Rattle.implication.specs.Scopes.{IsSameScope, standing}
 use Rattle.implication.proofs.Restoring.{same_scope_twice}
 use Rattle.justify.specs.Desks.{IsDeskFor}
 use Rattle.prefix_sensitize.specs.Entering.{CountsPins, IsSameBeginning}
-use Rattle.prefix_sensitize.proofs.Anew.{entered_again}
+use Rattle.prefix_sensitize.proofs.SearchedAnew.{entered_again}
 use Rattle.prefix_sensitize.proofs.Descents.{closed_ends, counts_pins, has_gone, leads_along, moved_on, moved_to_end, same_restored, same_twice, search_ends, starts_search, still_along, still_closes}
 use Rattle.prefix_sensitize.proofs.descent.Descent.search.Given.{Over}
 use Rattle.prefix_sensitize.proofs.descent.Descent.search.Goals.{After-go_on}
