@@ -45,6 +45,18 @@ pub record Standing : Type 0 where
   pub conflict : Option LineId
   pub closings : ℕ
 
+-- how an engine stands on which no scope is open
+abbrev pub idle_on : Circuit → Rules → Option ToldEnds → Standing
+idle_on net rules ends = record {
+  net = net;
+  rules = rules;
+  ends = ends;
+  beginning = None;
+  assumptions = [];
+  conflict = None;
+  closings = 0;
+}
+
 -- A line is told where all are, and otherwise where it is a source without a link, or behind one of the ends over links that are followed.
 abbrev pub IsToldBy : Circuit → LinkList → Option ToldEnds → ℕ → Type 0
 IsToldBy c links None line = ⊤

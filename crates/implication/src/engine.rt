@@ -12,7 +12,7 @@ ghost use Rattle.netlist.specs.Paths.{Connects, line_after};
 ghost use Rattle.netlist.specs.Pins.{IsPinOn};
 ghost use Rattle.state_sets.specs.States.{AreWithin};
 ghost use Rattle.state_sets.specs.FourStates.{four_states};
-ghost use Rattle.implication.specs.Standing.{told_ends, IsIdle, IsFree, IsLabels, IsTold, TellsLabels, IsEmptiedIn, IsOpenIn, end_of_scope};
+ghost use Rattle.implication.specs.Standing.{idle_on, told_ends, IsIdle, IsFree, IsLabels, IsTold, TellsLabels, IsEmptiedIn, IsOpenIn, end_of_scope};
 ghost use Rattle.implication.specs.Moves.{with_entered, with_assumed, grown, closed_at, back_at, left_behind, idle_again, HasBegun};
 ghost use Rattle.implication.specs.Clients.{ExtendsStanding};
 ghost use Rattle.implication.specs.FirstStates.{HasFirstValues};
@@ -93,15 +93,7 @@ impl<A: Algebra, S: Setting> Engine<A, S> {
     /// only where memory runs out.
     pub fn new(alloc: Global, setting: S) -> Result<Engine<A, S>, OutOfMemory>
         requires fit { FitRules (S.circuit setting) (S.rules setting) }
-        ensures { IfOk result (λ engine. engine ≡ record {
-          net = S.circuit setting;
-          rules = S.rules setting;
-          ends = None;
-          beginning = None;
-          assumptions = [];
-          conflict = None;
-          closings = 0;
-        }) }
+        ensures { IfOk result (λ engine. engine ≡ idle_on (S.circuit setting) (S.rules setting) None) }
     {
         let cone = all_of(alloc, setting.netlist(), setting.rules())?;
         Engine::with_cone(alloc, setting, None, cone)
@@ -112,15 +104,7 @@ impl<A: Algebra, S: Setting> Engine<A, S> {
     pub fn within(alloc: Global, setting: S, ends: &[LineId]) -> Result<Engine<A, S>, OutOfMemory>
         requires ends { All (λ end. end.0 < line_count (S.circuit setting)) ends.now }
         requires fit { FitRules (S.circuit setting) (S.rules setting) }
-        ensures { IfOk result (λ engine. engine ≡ record {
-          net = S.circuit setting;
-          rules = S.rules setting;
-          ends = Some (told_ends ends.now false);
-          beginning = None;
-          assumptions = [];
-          conflict = None;
-          closings = 0;
-        }) }
+        ensures { IfOk result (λ engine. engine ≡ idle_on (S.circuit setting) (S.rules setting) (Some (told_ends ends.now false))) }
     {
         // narrowing at these gates and along these links alone is enough for the lines that are told
         let cone = cone_of(alloc, setting.netlist(), setting.rules().links(), ends)?;
@@ -136,15 +120,7 @@ impl<A: Algebra, S: Setting> Engine<A, S> {
         requires first { HasFirstValues A.algebra }
         requires ends { All (λ end. end.0 < line_count (S.circuit setting)) ends.now }
         requires fit { FitRules (S.circuit setting) (S.rules setting) }
-        ensures { IfOk result (λ engine. engine ≡ record {
-          net = S.circuit setting;
-          rules = S.rules setting;
-          ends = Some (told_ends ends.now true);
-          beginning = None;
-          assumptions = [];
-          conflict = None;
-          closings = 0;
-        }) }
+        ensures { IfOk result (λ engine. engine ≡ idle_on (S.circuit setting) (S.rules setting) (Some (told_ends ends.now true))) }
     {
         // what is behind these links is asked for its first values alone, and closes nothing
         let cone = near_cone(alloc, setting.netlist(), setting.rules().links(), ends)?;
@@ -166,15 +142,7 @@ impl<A: Algebra, S: Setting> Engine<A, S> {
         requires of { AreLinksOf (S.circuit setting) cone.links.items }
         requires lines { AreToldLines (S.circuit setting) (links_of (S.rules setting)) (option_map (λ v. told_ends v.lines.items v.near) ends) cone.told.items }
         requires fit { FitRules (S.circuit setting) (S.rules setting) }
-        ensures { IfOk result (λ engine. engine ≡ record {
-          net = S.circuit setting;
-          rules = S.rules setting;
-          ends = option_map (λ v. told_ends v.lines.items v.near) ends;
-          beginning = None;
-          assumptions = [];
-          conflict = None;
-          closings = 0;
-        }) }
+        ensures { IfOk result (λ engine. engine ≡ idle_on (S.circuit setting) (S.rules setting) (option_map (λ v. told_ends v.lines.items v.near) ends)) }
     {
         let lists = Lists::new::<A>(alloc, setting.netlist())?;
         let EngineCone {

@@ -89,7 +89,6 @@ pub(crate) fn near_cone(
     requires of { AreLinksOf net.now links.now }
     ensures told { IfOk result (λ cone. AreNearGates net.now links.now (Some (told_ends ends.now true)) cone.inside.items cone.links.items) }
     ensures one_each { IfOk result (λ cone. length cone.inside.items ≡ gate_count net.now) }
-    ensures of { IfOk result (λ cone. AreLinksOf net.now cone.links.items) }
     ensures lines { IfOk result (λ cone. AreToldLines net.now links.now (Some (told_ends ends.now true)) cone.told.items) }
 {
     let sources = net.sources() as usize;

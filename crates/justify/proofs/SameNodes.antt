@@ -1,5 +1,5 @@
 -- A scope that is restored stands at the same node: what holds of the one standing holds of the other.
-use Rattle.std.proofs.Common.{◌≡◌, ℕ, List, Option, Some, None, Result, Ok, Err, refl, sym, ap, ◌∙◌, subst}
+use Rattle.std.proofs.Common.{◌≡◌, List, Option, Some, None, Result, Ok, Err, refl, sym, ap, ◌∙◌, subst}
 use Rattle.std.specs.Prelude.{IfOk}
 use Rattle.pd_base.specs.Pair.{Vectors}
 use Rattle.pd_base.specs.Target.{Target}
@@ -8,9 +8,8 @@ use Rattle.netlist.specs.Circuit.{Circuit}
 use Rattle.state_sets.specs.declared.state.State.{State}
 use Rattle.state_sets.specs.declared.state.StateSet.{StateSet}
 use Rattle.state_sets.specs.StateAlgebra.{StateAlgebra}
-use Rattle.state_sets.specs.Labellings.{label_at}
 use Rattle.state_laws.specs.declared.half.Half.{Half}
-use Rattle.trees.specs.Spent.{IsInSupport, IsOpen}
+use Rattle.trees.specs.Spent.{IsOpen}
 use Rattle.implication.specs.declared.assumption.Beginning.{Beginning}
 use Rattle.implication.specs.declared.assumption.Assumption.{Assumption}
 use Rattle.implication.specs.Assumptions.{entered_pins}
@@ -19,7 +18,7 @@ use Rattle.implication.specs.Standing.{Standing, IsHullFrom, IsLabels, IsOpenFro
 use Rattle.implication.specs.NodeScopes.{StandsAtNode, AllowAsNode}
 use Rattle.justify.specs.Scoping.{IsStart}
 use Rattle.justify.specs.Tests.{IsFitTest}
-use Rattle.justify.specs.Trying.{HasFailed, IsTrialOf, HasLeast, IsSingle}
+use Rattle.justify.specs.Trying.{HasFailed, IsTrialOf, HasLeast}
 use Rattle.implication.proofs.ScopeLabels.{there_too}
 use Rattle.implication.specs.Settings.{IsSameSetting}
 use Rattle.justify.proofs.Suiting.{told_in_support_after}

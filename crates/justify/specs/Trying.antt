@@ -22,11 +22,13 @@ use Rattle.implication.specs.declared.assumption.Assumption.{Assumption}
 use Rattle.implication.specs.Assumptions.{entered_pins, MayUnder, ClosesUnder}
 use Rattle.implication.specs.Moves.{risen}
 use Rattle.implication.specs.Standing.{Standing, IsLabels, IsOpenIn, IsTold}
+use Rattle.justify.specs.declared.desk.Desk.{Desk}
 use Rattle.justify.specs.declared.trial.Tried.{Tried}
 use Rattle.implication.specs.NodeScopes.{beginning_of, AllowAsNode}
 use Rattle.pair_judging.specs.ConeStates.{state_in, HasLinkedStates}
 use Rattle.pair_judging.specs.LeastStates.{IsTakenOf}
 use Rattle.cones.specs.FoundLines.{HasMark}
+use Rattle.justify.specs.Desks.{AreInSupport}
 use Rattle.justify.specs.Scoping.{IsToldInSupport}
 use Rattle.justify.specs.Tests.{IsFitTest}
 
@@ -136,3 +138,8 @@ pub record AreTriedIn (standing : Standing) (sources : List LineId) (states : Li
 abbrev pub HasLeast : StateAlgebra → Target → Standing → List State → Type 0
 HasLeast a target standing states = (source : ℕ) → IsToldInSupport target standing source
     → (labels : List StateSet) → IsLabels a standing labels → IsTakenOf a.count (label_at labels source) (state_in states source)
+
+-- the desk has the least states at the sources of the support that are told, and blames sources of the support for the failure of their pair
+pub record BlamesLeast (a : StateAlgebra) (target : Target) (standing : Standing) (desk : Desk) : Type 0 where
+  pub least : HasLeast a target standing desk.states.items
+  pub blamed : AreInSupport standing.net standing.rules target.path desk.blame.sources

@@ -11,7 +11,7 @@ ghost use Rattle.justify.specs.Answers.{IsFound, CountsConflicts, IsOutcomeOf};
 ghost use Rattle.justify.specs.Desks.{IsDeskFor, IsDesk};
 ghost use Rattle.justify.specs.Ends.{is_spent};
 ghost use Rattle.justify.specs.Scoping.{CanBegin, IsStart, SuitsRules, MayEndBy};
-ghost use Rattle.justify.specs.Searches.{IsAtRoot, IsSearching, SearchGoesOn, LeavesSearch, EndsSearch, IsGrowthOf};
+ghost use Rattle.justify.specs.Searches.{IsAtRoot, IsSearching, SearchGoesOn, EndsSearch, IsGrowthOf};
 ghost use Rattle.pair_judging.specs.Targets.{seen_target};
 ghost use Rattle.justify.specs.Tests.{IsFitTest};
 ghost use Rattle.trees.specs.Unlinked.{IsUnlinked};
@@ -47,10 +47,7 @@ pub fn search<S: Setting>(
     kind: Kind,
     budget: u32,
 ) -> Result<Found, OutOfMemory>
-    requires prefix { IsPrefix (standing scope.old).net path.now }
-    requires start { IsStart (target_of path.now dir kind) (standing scope.old) }
-    requires some_budget { 1 ≤ budget }
-    requires budget { budget ≤ MOST_BUDGET }
+    requires can { CanBegin (target_of path.now dir kind) budget (standing scope.old) }
     requires unlinked { IsUnlinked (standing scope.old).rules }
     ensures found { IfOk result (IsFound (standing scope.old).net (standing scope.old).rules (target_of path.now dir kind) budget) }
     ensures counted { IfOk result (λ found. CountsConflicts budget found (standing scope.old) (standing scope.new)) }
@@ -81,10 +78,7 @@ pub fn search_linked<S: Setting>(
     kind: Kind,
     budget: u32,
 ) -> Result<Found, Unfinished>
-    requires prefix { IsPrefix (standing scope.old).net path.now }
-    requires start { IsStart (target_of path.now dir kind) (standing scope.old) }
-    requires some_budget { 1 ≤ budget }
-    requires budget { budget ≤ MOST_BUDGET }
+    requires can { CanBegin (target_of path.now dir kind) budget (standing scope.old) }
     requires rules { SuitsRules six_states (standing scope.old) }
     ensures found { IfOk result (IsFound (standing scope.old).net (standing scope.old).rules (target_of path.now dir kind) budget) }
     ensures counted { IfOk result (λ found. CountsConflicts budget found (standing scope.old) (standing scope.new)) }
@@ -146,10 +140,7 @@ fn find<A: Algebra, S: Setting>(
     requires budget { task.now.budget ≤ MOST_BUDGET }
     requires desk { IsDeskFor A.algebra (standing scope.old).net (standing scope.old).rules desk.old }
     ensures scope { IsSameScope scope.old scope.new }
-    ensures left { LeavesSearch A.algebra task.now (standing scope.old) (standing scope.new) desk.new }
-    ensures found { IfOk result (IsFound (standing scope.old).net (standing scope.old).rules (seen_target task.now.target) task.now.budget) }
-    ensures counted { IfOk result (λ found. CountsConflicts task.now.budget found (standing scope.old) (standing scope.new)) }
-    ensures unfinished { IfErr result (MayEndBy (seen_target task.now.target) (standing scope.old)) }
+    ensures ends { EndsSearch A.algebra task.now task.now.budget (standing scope.old) (standing scope.new) desk.new result }
 {
     desk.cone.set_end(scope.net(), scope.last_line());
     match propose(alloc, scope, &task.target, desk)? {

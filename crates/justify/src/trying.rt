@@ -12,7 +12,7 @@ ghost use Rattle.pair_judging.specs.Targets.{seen_target};
 ghost use Rattle.implication.specs.NodeScopes.{StandsAtNode};
 ghost use Rattle.justify.specs.Desks.{IsDesk, AreInSupport};
 ghost use Rattle.justify.specs.Tests.{IsFitTest};
-ghost use Rattle.justify.specs.Trying.{CanTry, HasLeastLabel, AreTriedIn, HasLeast, FailsAtNode, IsTrialOf};
+ghost use Rattle.justify.specs.Trying.{CanTry, HasLeastLabel, AreTriedIn, HasLeast, BlamesLeast, FailsAtNode, IsTrialOf};
 
 use crate::Unfinished;
 use crate::desk::Desk;
@@ -131,8 +131,7 @@ fn try_blamed<A: Algebra, S: Setting>(
     requires suits { SuitsSearch A.algebra (seen_target target.now) (standing scope.old) }
     requires node { StandsAtNode A.algebra (seen_target target.now) (standing scope.old) }
     requires desk { IsDesk A.algebra (standing scope.old).net (standing scope.old).rules target.now.path.now desk.old }
-    requires least { HasLeast A.algebra (seen_target target.now) (standing scope.old) desk.old.states.items }
-    requires blamed { AreInSupport (standing scope.old).net (standing scope.old).rules target.now.path.now desk.old.blame.sources }
+    requires blames { BlamesLeast A.algebra (seen_target target.now) (standing scope.old) desk.old }
     ensures desk { IsDesk A.algebra (standing scope.old).net (standing scope.old).rules target.now.path.now desk.new }
     ensures scope { IsSameScope scope.old scope.new }
     ensures restored { IsRestored (standing scope.old) (standing scope.new) }

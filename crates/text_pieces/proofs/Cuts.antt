@@ -1,11 +1,13 @@
 -- Where a text is cut, and which texts its pieces join.
-use Rattle.std.proofs.Common.{◌≡◌, ◌≢◌, ◌==◌, ◌<◌, ◌≤◌, ◌+◌, ℕ, true, false, List, [], ◌∷◌, ◌++◌, Option, Some, None, IfSome, take, drop, length, get_or, refl, sym, ap, ◌∙◌, append_assoc, append-nil, take-append-drop, arith, flat_map}
-use Rattle.std.specs.List.{AllByRecursion, join_with_byte}
+use Rattle.std.proofs.Common.{◌≡◌, ◌≢◌, ◌==◌, ◌<◌, ◌≤◌, ◌+◌, ℕ, true, false, List, [], ◌∷◌, ◌++◌, Option, Some, None, IfSome, take, take_all, drop, length, get_or, zero, suc, refl, sym, ap, ◌∙◌, append_assoc, append-nil, take-append-drop, arith, flat_map, subst}
+use Rattle.std.specs.List.{All, AllByRecursion, join_with_byte}
+use Rattle.std.proofs.lemmas.Bool.{false_from_ne_true}
 use Rattle.std.proofs.lemmas.Bool.Decides.{nat_tests}
 use Rattle.std.proofs.lemmas.List.{drop_more, append_cancel_left}
-use Rattle.std.proofs.lemmas.List.Elements.{All-from_recursion}
+use Rattle.std.proofs.lemmas.List.Elements.{All-from_recursion, recursion_from_All, All-nil, All-more}
 use Rattle.std.proofs.lemmas.List.Splits.{slice_split_none, slice_split_at, join_with_byte-slice_split, length-slice_split}
 use Rattle.std.proofs.lemmas.List.Sums.{count_by-le-length}
+use Rattle.memchr.specs.Find.{NoneBefore, Nowhere, Passes, is_byte}
 use Rattle.text_pieces.specs.Tokens.{line, line_feed}
 use Rattle.text_pieces.specs.Cuts.{ArePieces, Lacks, line_at_front, pieces}
 use Rattle.text_pieces.specs.Reads.{Reads}
@@ -23,12 +25,38 @@ first_piece byte front back lacks =
     slice_split_at (λ other. other == byte) front byte back (All-from_recursion _ front lacks) (same_byte byte)
 
 -- the same, by the place of that byte
-pub cut_at : (byte : ℕ) (text : List ℕ) (i : ℕ) → i < length text → get_or text i 0 ≡ byte → Lacks byte (take i text)
+cut_at : (byte : ℕ) (text : List ℕ) (i : ℕ) → i < length text → get_or text i 0 ≡ byte → Lacks byte (take i text)
     → pieces byte text ≡ take i text ∷ pieces byte (drop (i + 1) text)
 cut_at byte text i within is lacks =
     let parts : text ≡ take i text ++ byte ∷ drop (i + 1) text =
     sym (take-append-drop i text) ∙ ap (λ rest. take i text ++ rest) (drop_more text i 0 within ∙ ap (λ first. first ∷ drop (i + 1) text) is) in
     ap (pieces byte) parts ∙ first_piece byte (take i text) (drop (i + 1) text) lacks
+
+-- a text lacks a byte before a place if it stands at none there
+lacks_before : (byte : ℕ) (text : List ℕ) (i : ℕ) → i ≤ length text → Nowhere (Passes (is_byte byte) text) 0 i → Lacks byte (take i text)
+lacks_before byte text i within nowhere = recursion_from_All (λ other. (other == byte) ≡ false) (take i text) (so_far i within nowhere)
+  where
+    so_far : (i : ℕ) → i ≤ length text → Nowhere (Passes (is_byte byte) text) 0 i → All (λ other. (other == byte) ≡ false) (take i text)
+    so_far zero within nowhere = All-nil (λ other. (other == byte) ≡ false)
+    so_far (suc i) within nowhere =
+        let before = so_far i (omega arith) (λ k low high. nowhere k low (omega arith)) in
+        let here = false_from_ne_true (get_or text i 0 == byte) (nowhere i (omega arith) (omega arith)) in
+        let next : i + 1 ≡ suc i = omega arith in
+        subst (λ n. All (λ other. (other == byte) ≡ false) (take n text)) next
+        (All-more (λ other. (other == byte) ≡ false) text i 0 (omega arith) before here)
+
+-- the same where it stands at none
+pub lacks_all : (byte : ℕ) (text : List ℕ) → Nowhere (Passes (is_byte byte) text) 0 (length text) → Lacks byte text
+lacks_all byte text nowhere = subst (Lacks byte) (take_all (length text) text (omega arith)) (lacks_before byte text (length text) (omega arith) nowhere)
+
+module _ (byte : ℕ) (text : List ℕ) (i : ℕ) (first : NoneBefore (Passes (is_byte byte) text) 0 (length text) i × Passes (is_byte byte) text i) where
+  -- a text lacks the byte before the first place where it stands
+  pub lacks_first : Lacks byte (take i text)
+  lacks_first = lacks_before byte text i (let high = first.0.high in omega (arith, high)) first.0.before
+
+  -- and is cut there
+  pub cut_at_first : pieces byte text ≡ take i text ∷ pieces byte (drop (i + 1) text)
+  cut_at_first = cut_at byte text i first.0.high (let is = first.1 in grind (arith, nat_tests, is)) lacks_first
 
 -- a text has at most one piece more than bytes
 pub few_pieces : (byte : ℕ) (text : List ℕ) → length (pieces byte text) ≤ length text + 1

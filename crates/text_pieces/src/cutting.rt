@@ -4,6 +4,8 @@ ghost use Rattle.text_pieces.specs.Tokens.{line_feed};
 ghost use Rattle.text_pieces.specs.Cuts.{Lacks, lent_text, lent_texts, line_at_front, pieces, pieces_left, words_left};
 ghost use Rattle.text_pieces.specs.Reads.{Reads};
 
+use memchr::memchr;
+
 /// What stands before the first byte of this kind, and what stands behind it if there is one.
 pub fn cut(byte: u8, text: &[u8]) -> (&[u8], Option<&[u8]>)
     ensures pieces { pieces byte text.now ≡ result.0.now ∷ pieces_left byte result.1 }
@@ -11,12 +13,10 @@ pub fn cut(byte: u8, text: &[u8]) -> (&[u8], Option<&[u8]>)
     ensures lacks { Lacks byte result.0.now }
     ensures shorter { IfSome result.1 (λ rest. length rest.now < length text.now) }
 {
-    for (index, other) in text.iter().enumerate() {
-        if *other == byte {
-            return (&text[..index], Some(&text[index + 1..]));
-        }
+    match memchr(byte, text) {
+        Some(index) => (&text[..index], Some(&text[index + 1..])),
+        None => (text, None),
     }
-    (text, None)
 }
 
 /// What stands before the last byte of this kind, and what stands behind it. None where there is no such byte.

@@ -4,12 +4,11 @@ use Rattle.std.specs.List.{All}
 use Rattle.pd_base.specs.declared.ids.LineId.{LineId}
 use Rattle.pd_base.specs.Links.{LinkList}
 use Rattle.netlist.specs.Circuit.{source_count, line_count}
-use Rattle.netlist.specs.LinkedPairs.{AreLinksOf}
 use Rattle.cones.specs.FoundLines.{FoundSet}
 use Rattle.implication.specs.Inside.{AreFlagged}
 use Rattle.implication.specs.Standing.{told_ends}
 use Rattle.implication.specs.Kept.{AreNearGates}
-use Rattle.implication.proofs.Inside.{AreMarks, inner, lines_of, all_ends_within, marks_after, flags_after, near_told, inner_of, flagged_told}
+use Rattle.implication.proofs.Inside.{AreMarks, inner, lines_of, all_ends_within, marks_after, flags_after, near_told, flagged_told}
 use Rattle.implication.proofs.engine_cone.near_cone.Goals as goal
 
 pub find_back-requires-2-clause-ends : goal.find_back-requires-2-clause-ends
@@ -40,10 +39,6 @@ returns-clause-told c =
     (subst (λ (ls : LinkList). AreNearGates net links (Some (told_ends ends true)) (drop (source_count net) more) ls) (sym c.in_ok-inner.ensures)
     (near_told net links c.requires.of ends c.sources-sources.ensures.circuit marks marked more
     (subst (λ (lines : List LineId). AreMarks net [] lines more) are marked_more)))
-
-pub returns-clause-of : goal.returns-clause-of
-returns-clause-of c =
-    subst (AreLinksOf c.args.net.now) (sym c.in_ok-inner.ensures) (inner_of c.args.net.now c.args.links.now c.requires.of c.marks-near.result.now)
 
 pub returns-clause-lines : goal.returns-clause-lines
 returns-clause-lines c =

@@ -10,7 +10,6 @@ use Rattle.pd_base.specs.declared.ids.LineId.{LineId}
 use Rattle.implication.specs.Scopes.{standing}
 use Rattle.implication.specs.Standing.{IsTold}
 use Rattle.justify.specs.Choices.{IsSingleAt}
-use Rattle.pair_judging.specs.Targets.{seen_target}
 use Rattle.justify.proofs.TriedSources.{read_in_support, support_in_cone}
 use Rattle.justify.proofs.Visits.{from_none}
 use Rattle.justify.proofs.choosing.choose.Goals as goal

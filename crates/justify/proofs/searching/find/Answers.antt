@@ -40,31 +40,26 @@ split_in_turns-requires g c = record {
   };
 }
 
-pub returns-in-Some-clause-left : goal.returns-in-Some-clause-left
-returns-in-Some-clause-left g c = record {
-  restored = restored_itself (standing c.args.scope.now);
-  serves =
-      kept_desk g.A.Algebra.algebra (standing c.args.scope.now).net (standing c.args.scope.now).rules c.args.task.now.target.path.now c.propose.new.desk _
-      (record { cone = refl; states = refl; blame = refl; liked = refl; justifier = c.learn_tree.ensures; judge = refl }) c.propose.ensures.desk;
+pub returns-in-Some-clause-ends : goal.returns-in-Some-clause-ends
+returns-in-Some-clause-ends g c = record {
+  left = record {
+    restored = restored_itself (standing c.args.scope.now);
+    serves =
+        kept_desk g.A.Algebra.algebra (standing c.args.scope.now).net (standing c.args.scope.now).rules c.args.task.now.target.path.now c.propose.new.desk _
+        (record { cone = refl; states = refl; blame = refl; liked = refl; justifier = c.learn_tree.ensures; judge = refl }) c.propose.ensures.desk;
+  };
+  found = grind (arith, common_steps);
+  counted = tt;
+  unfinished = tt;
 }
 
-pub returns-in_err-pair-clause-left : goal.returns-in_err-pair-clause-left
-returns-in_err-pair-clause-left g c = record {
-  restored = restored_itself (standing c.args.scope.now);
-  serves = c.propose.ensures.desk;
+pub returns-in_err-pair-clause-ends : goal.returns-in_err-pair-clause-ends
+returns-in_err-pair-clause-ends g c = record {
+  left = record { restored = restored_itself (standing c.args.scope.now); serves = c.propose.ensures.desk };
+  found = grind (arith, common_steps);
+  counted = grind (arith, common_steps);
+  unfinished = grind (arith, common_steps);
 }
 
-pub returns-in-Some-clause-found : goal.returns-in-Some-clause-found
-returns-in-Some-clause-found g c = grind (arith, common_steps)
-
-pub returns-in-None-clause-left : goal.returns-in-None-clause-left
-returns-in-None-clause-left g c = c.split_in_turns.ensures.ends.left
-
-pub returns-in-None-clause-found : goal.returns-in-None-clause-found
-returns-in-None-clause-found g c = c.split_in_turns.ensures.ends.found
-
-pub returns-in-None-clause-counted : goal.returns-in-None-clause-counted
-returns-in-None-clause-counted g c = c.split_in_turns.ensures.ends.counted
-
-pub returns-in-None-clause-unfinished : goal.returns-in-None-clause-unfinished
-returns-in-None-clause-unfinished g c = c.split_in_turns.ensures.ends.unfinished
+pub returns-in-None-clause-ends : goal.returns-in-None-clause-ends
+returns-in-None-clause-ends g c = c.split_in_turns.ensures.ends

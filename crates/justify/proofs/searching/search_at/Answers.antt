@@ -15,37 +15,37 @@ use Rattle.justify.proofs.searching.search_at.Goals as goal
 pub conclude-requires-clause-prefix : goal.conclude-requires-clause-prefix
 conclude-requires-clause-prefix g c =
     let P : Circuit → Type 0 = λ n. IsPrefix n c.args.target.now.path.now in
-    subst P (sym c.find-ended.ensures.left.restored.net) c.requires.can.prefix
+    subst P (sym c.find-ended.ensures.ends.left.restored.net) c.requires.can.prefix
 
 pub conclude-requires-clause-desk : goal.conclude-requires-clause-desk
 conclude-requires-clause-desk g c =
-    let left = c.find-ended.ensures.left in
+    let left = c.find-ended.ensures.ends.left in
     let P : Circuit → Rules → Type 0 = λ n r. IsDesk g.A.Algebra.algebra n r c.args.target.now.path.now c.find-ended.new.desk in
     there_too P (standing c.args.scope.now).net (standing c.find-ended.new.scope).net (standing c.args.scope.now).rules
     (standing c.find-ended.new.scope).rules (sym left.restored.net) (sym left.restored.rules) left.serves
 
 pub returns-clause-desk : goal.returns-clause-desk
 returns-clause-desk g c =
-    let left = c.find-ended.ensures.left in
+    let left = c.find-ended.ensures.ends.left in
     let P : Circuit → Rules → Type 0 = λ n r. IsDeskFor g.A.Algebra.algebra n r c.conclude.new.desk in
     there_too P (standing c.find-ended.new.scope).net (standing c.args.scope.now).net (standing c.find-ended.new.scope).rules
     (standing c.args.scope.now).rules left.restored.net left.restored.rules c.conclude.ensures.desk.made
 
 pub returns-clause-found : goal.returns-clause-found
 returns-clause-found g c =
-    let left = c.find-ended.ensures.left in
+    let left = c.find-ended.ensures.ends.left in
     concluded_found (standing c.args.scope.now).net (standing c.args.scope.now).rules (seen_target c.args.target.now) c.args.budget
     (standing c.find-ended.new.scope).net (standing c.find-ended.new.scope).rules left.restored.net left.restored.rules
-    c.find-ended.result c.find-ended.ensures.found c.conclude.result c.conclude.ensures.found
+    c.find-ended.result c.find-ended.ensures.ends.found c.conclude.result c.conclude.ensures.found
 
 pub returns-clause-counted : goal.returns-clause-counted
 returns-clause-counted g c =
     concluded_counts (standing c.find-ended.new.scope).net (standing c.find-ended.new.scope).rules (seen_target c.args.target.now) c.args.budget
     (standing c.args.scope.now) (standing c.find-ended.new.scope) (standing c.find-ended.new.scope) refl
-    c.find-ended.result c.find-ended.ensures.counted c.conclude.result c.conclude.ensures.found
+    c.find-ended.result c.find-ended.ensures.ends.counted c.conclude.result c.conclude.ensures.found
 
 pub returns-clause-restored : goal.returns-clause-restored
-returns-clause-restored g c = c.find-ended.ensures.left.restored
+returns-clause-restored g c = c.find-ended.ensures.ends.left.restored
 
 pub find-ended-requires-clause-left_open : goal.find-ended-requires-clause-left_open
 find-ended-requires-clause-left_open g c = grind (arith, common_steps)
@@ -62,11 +62,11 @@ find-ended-requires-clause-budget g c = c.requires.can.within
 pub conclude-requires-clause-ended : goal.conclude-requires-clause-ended
 conclude-requires-clause-ended g c =
     let first = standing c.args.scope.now in let last = standing c.find-ended.new.scope in
-    ended_before (seen_target c.args.target.now) last first (setting_back first last (setting_restored first last c.find-ended.ensures.left.restored))
-    c.find-ended.result c.find-ended.ensures.unfinished
+    ended_before (seen_target c.args.target.now) last first (setting_back first last (setting_restored first last c.find-ended.ensures.ends.left.restored))
+    c.find-ended.result c.find-ended.ensures.ends.unfinished
 
 pub returns-clause-unfinished : goal.returns-clause-unfinished
 returns-clause-unfinished g c =
     let first = standing c.args.scope.now in let last = standing c.find-ended.new.scope in
-    ended_before (seen_target c.args.target.now) first last (setting_restored first last c.find-ended.ensures.left.restored)
+    ended_before (seen_target c.args.target.now) first last (setting_restored first last c.find-ended.ensures.ends.left.restored)
     c.conclude.result c.conclude.ensures.unfinished

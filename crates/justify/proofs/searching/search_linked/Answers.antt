@@ -21,9 +21,4 @@ search_at-requires-clause-desk g c =
     there_too P _ _ _ _ c.net.ensures c.rules.ensures c.in_ok-desk.ensures
 
 pub search_at-requires-clause-can : goal.search_at-requires-clause-can
-search_at-requires-clause-can g c = record {
-  prefix = c.requires.prefix;
-  start = c.requires.start;
-  positive = c.requires.some_budget;
-  within = c.requires.budget;
-}
+search_at-requires-clause-can g c = c.requires.can

@@ -1,5 +1,5 @@
 -- The tree by weights is the answer where it did not spend fewer splits than the budget; else the scope is as it was, and another tree grows.
-use Rattle.std.proofs.Common.{refl, sym, arith}
+use Rattle.std.proofs.Common.{refl, sym}
 use Rattle.std.specs.Prelude.{IfOk}
 use Rattle.netlist.specs.Circuit.{Circuit}
 use Rattle.pd_base.specs.declared.rules.Rules.{Rules}

@@ -1,5 +1,5 @@
 -- All are told where none is left; and one that is not told shows that not all are.
-use Rattle.std.proofs.Common.{true, false, refl, sym, ◌∙◌, subst, List}
+use Rattle.std.proofs.Common.{refl, sym, ◌∙◌, subst, List}
 use Rattle.std.specs.List.{All}
 use Rattle.std.proofs.lemmas.Bool.{false≢true}
 use Rattle.std.proofs.lemmas.List.{take_all}

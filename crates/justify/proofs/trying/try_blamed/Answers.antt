@@ -23,7 +23,7 @@ collect-requires-clause-lines g c =
     let net = (standing c.args.scope.now).net in
     let S : List LineId → Type 0 = λ xs. AreInSupport net (standing c.args.scope.now).rules c.args.target.now.path.now xs in
     support_within net (standing c.args.scope.now).rules c.args.target.now.path.now c.sources.result.now (length c.as_slice.result.now)
-    (ap length c.as_slice.ensures.value ∙ c.requires.desk.made.states) (subst S (sym c.sources.ensures) c.requires.blamed)
+    (ap length c.as_slice.ensures.value ∙ c.requires.desk.made.states) (subst S (sym c.sources.ensures) c.requires.blames.blamed)
 
 pub collect-requires-clause-states : goal.collect-requires-clause-states
 collect-requires-clause-states g c = ap length c.as_slice.ensures.value ∙ c.requires.desk.made.states
@@ -68,8 +68,8 @@ closes-requires-clause-tried g c =
     let same = sym c.as_slice.ensures.value in
     subst P (sym c.as_slice-2.ensures.value)
     (all_tried g.A.Algebra.algebra target now c.sources.result.now c.as_slice.result.now c.collect.new.tried.items c.in_ok-collect.ensures
-    (subst S (sym c.sources.ensures) c.requires.blamed)
-    (subst Q same c.requires.least) (subst R same c.requires.desk.made.within)
+    (subst S (sym c.sources.ensures) c.requires.blames.blamed)
+    (subst Q same c.requires.blames.least) (subst R same c.requires.desk.made.within)
     (ap length c.as_slice.ensures.value ∙ c.requires.desk.made.states))
 
 pub try_all-requires-clause-least : goal.try_all-requires-clause-least
@@ -77,7 +77,7 @@ try_all-requires-clause-least g c =
     let now = standing c.args.scope.now in
     least_stays g.A.Algebra.algebra (seen_target c.args.target.now) now (standing c.closes.new.scope)
     (same_restored now (standing c.closes.new.scope) c.closes.ensures.restored)
-    c.args.desk.now.states.items c.requires.least
+    c.args.desk.now.states.items c.requires.blames.least
 
 pub returns-clause-answer : goal.returns-clause-answer
 returns-clause-answer g c =
