@@ -2,7 +2,7 @@
 use Rattle.std.proofs.Common.{◌≡◌, ◌≢◌, ℕ, zero, suc, ◌+◌, ◌*◌, ◌<◌, ◌≤◌, ◌⊎◌, inl, inr, ⊎_elim, Bool, true, false, List, [], ◌∷◌, ◌++◌, length, replicate, Some, Option, None, refl, sym, ap, ap₂, ◌∙◌, subst, arith, lit<}
 use Rattle.std.proofs.Math.Nat.{mul-le-mul_right}
 use Rattle.std.specs.List.{All, Contains}
-use Rattle.std.specs.Option.{IfSome}
+use Rattle.std.specs.Option.{IfSome, IfNone, MatchOption}
 use Rattle.std.proofs.lemmas.Bool.{cases_eq, eqb-true, eq-eqb, false≢true}
 use Rattle.std.proofs.Math.Dec.{eqb}
 use Rattle.std.proofs.lemmas.List.{length-replicate, get_or_default}
@@ -272,7 +272,7 @@ module _ (a : StateAlgebra) (c : Circuit) (kind : Kind) (steps : List PinRef) wh
         follows = shrunk.follows;
       }
 
-      pub conflict_at_own : label_at new.labels (gate_line c gate) ≡ no_states → IsConflict a c kind steps old new (gate_line c gate)
+      conflict_at_own : label_at new.labels (gate_line c gate) ≡ no_states → IsConflict a c kind steps old new (gate_line c gate)
       conflict_at_own none = record { narrowed = narrowed; in_circuit = omega arith; none = none }
 
       -- the gate itself waits, or rests
@@ -280,7 +280,7 @@ module _ (a : StateAlgebra) (c : Circuit) (kind : Kind) (steps : List PinRef) wh
       awake_here = passed_awake a c kind steps circuit gate within passed is_passed old.labels new.labels is_narrowing new.waiting
           (λ away. shrunk.wakes.woken gate within here away)
 
-      pub turn_done : IsAwakeBut a c kind steps gate old → label_at new.labels (gate_line c gate) ≢ no_states → IsTurn a c kind steps old new
+      turn_done : IsAwakeBut a c kind steps gate old → label_at new.labels (gate_line c gate) ≢ no_states → IsTurn a c kind steps old new
       turn_done awake left =
           let awake_but = awake_on gate passed (passed_is c gate passed is_passed) old new shrunk.inside shrunk.links shrunk.wakes awake in
           record {
@@ -295,6 +295,13 @@ module _ (a : StateAlgebra) (c : Circuit) (kind : Kind) (steps : List PinRef) wh
             some = some_left c passed a.count (gate_line c gate) given mid new own pins.some left;
             falls = shrunk.falls;
           }
+
+      pub turn_ends : (told : Option LineId) → IsAwakeBut a c kind steps gate old → IfNone told (label_at new.labels (gate_line c gate) ≢ no_states)
+          → IfSome told (λ line. (line.0 ≡ gate_line c gate) × (label_at new.labels line.0 ≡ no_states))
+          → MatchOption told (IsTurn a c kind steps old new) (λ line. IsConflict a c kind steps old new line.0)
+      turn_ends None awake left emptied = turn_done awake left
+      turn_ends (Some line) awake left emptied = subst (IsConflict a c kind steps old new) (sym emptied.0)
+          (conflict_at_own (ap (label_at new.labels) (sym emptied.0) ∙ emptied.1))
 
 -- what falls while a board settles: the states of all lines, and then what waits
 abbrev pub work_left : ℕ → OnBoard → ℕ

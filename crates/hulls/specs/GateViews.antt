@@ -1,11 +1,12 @@
 -- The sets that are seen at a gate, and what choices out of them keep there (this project's own).
-use Rattle.std.specs.Prelude.{ℕ, ◌<◌, List, length, map, Option}
+use Rattle.std.specs.Prelude.{ℕ, ◌<◌, List, [], ◌∷◌, length, map, Option, None}
 use Rattle.state_sets.specs.declared.state.StateSet.{StateSet}
 use Rattle.state_sets.specs.declared.condition.Condition.{Condition}
 use Rattle.state_sets.specs.StateAlgebra.{StateAlgebra}
 use Rattle.state_sets.specs.Labellings.{label_at}
 use Rattle.state_sets.specs.Narrowing.{GateSets, GivesAtGate, GivesAtPin}
 use Rattle.hulls.specs.declared.view.GateView.{GateView}
+use Rattle.hulls.specs.declared.few.KeptAtTwo.{KeptAtTwo}
 use Rattle.hulls.specs.Sets.{Means, set_at}
 
 -- the sets of the lines that the pins read, pin by pin
@@ -24,3 +25,13 @@ AreKeptAtPins a gate condition kept =
 -- the set has the states that allowed choices give at the gate's line
 abbrev pub IsGivenAtGate : StateAlgebra → GateView → Option Condition → StateSet → Type 0
 IsGivenAtGate a gate condition given = Means a.count given (GivesAtGate a (sets_seen gate) condition)
+
+-- the states that choices have at two pins, without a condition, and those that they give at the gate's line
+pub record IsKeptAtTwo (a : StateAlgebra) (sets : GateSets) (kept : KeptAtTwo) : Type 0 where
+  pub first : Means a.count kept.first (GivesAtPin a sets None 0)
+  pub second : Means a.count kept.second (GivesAtPin a sets None 1)
+  pub given : Means a.count kept.given (GivesAtGate a sets None)
+
+-- what is kept at the pins, pin by pin
+abbrev pub pins_kept : KeptAtTwo → List StateSet
+pins_kept kept = kept.first ∷ kept.second ∷ []

@@ -1,5 +1,5 @@
 -- What cuts and narrowings do to a board (this project's own).
-use Rattle.std.specs.Prelude.{◌≡◌, ◌≢◌, ℕ, ◌<◌, ◌≤◌, ◌⊎◌, Bool, true, List, length, slice_set, slice_get, Option, Some, IfSome, All, Contains}
+use Rattle.std.specs.Prelude.{◌≡◌, ◌≢◌, ℕ, ◌<◌, ◌≤◌, ◌⊎◌, Bool, true, List, length, slice_set, slice_get, Option, Some, IfSome, MatchOption, All, Contains}
 use Rattle.pd_base.specs.Links.{LinkList}
 use Rattle.pd_base.specs.declared.ids.GateId.{GateId}
 use Rattle.pd_base.specs.declared.ids.LineId.{LineId}
@@ -15,6 +15,7 @@ use Rattle.state_sets.specs.Hulls.{condition_at, HasNoEmptySet}
 use Rattle.state_laws.specs.Cones.{IsNarrowingIn}
 use Rattle.state_laws.specs.Sweeps.{KeepsRests}
 use Rattle.hulls.specs.Changes.{HasPinsKept}
+use Rattle.hulls.specs.Conditions.{Entered, IsEnteredOn}
 use Rattle.hulls.specs.declared.turn.Turn.{Turn}
 use Rattle.hulls.specs.Awaiting.{is_inside, gate_turn}
 use Rattle.hulls.specs.Boards.{OnBoard, IsBoardOf, Follows, link_turn}
@@ -78,6 +79,16 @@ pub record MaySettle (a : StateAlgebra) (c : Circuit) (kind : Kind) (steps : Lis
   pub labelling : IsLabelling a.count c board.labels
   pub some : HasNoEmptySet c board.labels
   pub awake : IsAwake a c kind steps board
+
+-- what a gate inside is narrowed from: each line has some state, and each other gate inside and each link waits, or rests
+pub record MayNarrow (a : StateAlgebra) (c : Circuit) (on : Entered) (gate : ℕ) (board : OnBoard) : Type 0 where
+  pub of : IsBoardOf c board
+  pub within : AreWithin a.count board.labels
+  pub some : HasNoEmptySet c board.labels
+  pub conditions : IsEnteredOn c on
+  pub in_circuit : gate < gate_count c
+  pub inside : is_inside board.inside gate ≡ true
+  pub awake : IsAwakeBut a c on.kind on.steps gate board
 
 -- no two of these lines are the same
 abbrev pub AllDiffer : List LineId → Type 0
@@ -155,3 +166,8 @@ pub record IsConflict (a : StateAlgebra) (c : Circuit) (kind : Kind) (steps : Li
   pub narrowed : IsNarrowed a c kind steps old new
   pub in_circuit : line < line_count c
   pub none : label_at new.labels line ≡ no_states
+
+-- it left each line some state, or else no state at the line that is told
+abbrev pub EndsTurn : StateAlgebra → Circuit → Entered → OnBoard → OnBoard → Option LineId → Type 0
+EndsTurn a c on old new told =
+    MatchOption told (IsTurn a c on.kind on.steps old new) (λ line. IsConflict a c on.kind on.steps old new line.0)

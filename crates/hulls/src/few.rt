@@ -5,12 +5,20 @@ ghost use Rattle.netlist.specs.Gates.{op_of};
 ghost use Rattle.state_sets.specs.States.{IsWithin};
 ghost use Rattle.hulls.specs.Sets.{Means};
 ghost use Rattle.hulls.specs.Passes.{PassFolds, PassSupports};
-ghost use Rattle.hulls.specs.GateViews.{pin_sets, AreKeptAtPins, IsGivenAtGate};
+ghost use Rattle.hulls.specs.GateViews.{pin_sets, sets_seen, AreKeptAtPins, IsGivenAtGate, IsKeptAtTwo};
 
 use crate::inverting::uninverted;
 use crate::limits::{Limits, limits_of, no_limits};
 use crate::view::GateView;
 use state_sets::{Algebra, Condition, StateSet};
+
+// The states that allowed choices have at two pins, and those that they give at the gate's line.
+#[derive(Clone, Copy)]
+pub(crate) struct KeptAtTwo {
+    pub(crate) first: StateSet,
+    pub(crate) second: StateSet,
+    pub(crate) given: StateSet,
+}
 
 // The states that the choices of a pass have at two pins, and those to which they join.
 #[derive(Clone, Copy)]
@@ -69,11 +77,26 @@ fn two_freely<A: Algebra>(gate: &GateView, kept: &mut [StateSet]) -> StateSet
     ensures at_pins { AreKeptAtPins A.algebra gate.now None kept.new }
     ensures at_gate { IsGivenAtGate A.algebra gate.now None result }
 {
+    let found = kept_freely::<A>(gate);
+    kept[0] = found.first;
+    kept[1] = found.second;
+    found.given
+}
+
+// What choices have at the two pins and give at the gate's line, without a condition.
+#[inline(always)]
+pub(crate) fn kept_freely<A: Algebra>(gate: &GateView) -> KeptAtTwo
+    requires lines { All (λ line. line.0 < length gate.now.labels.now) gate.now.pins.now }
+    requires two { length gate.now.pins.now ≡ 2 }
+    ensures { IsKeptAtTwo A.algebra (sets_seen gate.now) result }
+{
     let target = uninverted::<A>(gate.kind, gate.own);
     let pass = pass_two::<A>(gate, no_limits::<A>(), target);
-    kept[0] = pass.first;
-    kept[1] = pass.second;
-    uninverted::<A>(gate.kind, pass.joined)
+    KeptAtTwo {
+        first: pass.first,
+        second: pass.second,
+        given: uninverted::<A>(gate.kind, pass.joined),
+    }
 }
 
 // The same with the condition of a step: a pass for each final value of the on-path pin.
@@ -96,6 +119,7 @@ fn two_at_step<A: Algebra>(gate: &GateView, step: Condition, kept: &mut [StateSe
 }
 
 // What choices within the limits that join into the target have at the two pins, and join to.
+#[inline(always)]
 fn pass_two<A: Algebra>(gate: &GateView, limits: Limits, target: StateSet) -> Pass
     requires lines { All (λ line. line.0 < length gate.now.labels.now) gate.now.pins.now }
     requires two { length gate.now.pins.now ≡ 2 }

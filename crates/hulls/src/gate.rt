@@ -1,5 +1,5 @@
 // Narrowing at one gate: all kept sets are collected from the labels as they are, and only then are labels cut. Most gates have two pins
-// and no condition: what leads to them is inlined, so that no call is made for them where narrowing runs in a loop.
+// and no condition: what is kept there is given apart, and found without a call where narrowing runs in a loop.
 ghost use Rattle.std.specs.Prelude.{◌≡◌, ◌<◌, ◌≤◌, ℕ, length, All, IfSome};
 ghost use Rattle.netlist.specs.declared.limits.TheConstants.{MOST_FAN_IN};
 ghost use Rattle.netlist.specs.Circuit.{gate_count, line_count, pins_at};
@@ -7,11 +7,11 @@ ghost use Rattle.state_sets.specs.States.{AreWithin};
 ghost use Rattle.state_sets.specs.Labellings.{TellsOfNarrowing};
 ghost use Rattle.state_sets.specs.Narrowing.{IsNarrowing, KeepsAgreeing, GivesAtGate, GivesAtPin, gate_lines, gate_sets};
 ghost use Rattle.hulls.specs.Sets.{Means, set_at};
-ghost use Rattle.hulls.specs.GateViews.{AreKeptAtPins, IsGivenAtGate};
+ghost use Rattle.hulls.specs.GateViews.{AreKeptAtPins, IsGivenAtGate, IsKeptAtTwo};
 
 use crate::collecting::keep_at_all;
 use crate::cutting::{cut_line, cut_pins, told};
-use crate::few::{keep_at_one, keep_at_two};
+use crate::few::{KeptAtTwo, keep_at_one, keep_at_two, kept_freely};
 use crate::scratch::NarrowScratch;
 use crate::three::keep_at_three;
 use crate::view::GateView;
@@ -68,7 +68,6 @@ fn narrow_sets<A: Algebra>(
 
 /// The states that narrowing at a gate keeps, with no label written: those at each pin stand in the scratch, and those at the gate's
 /// line are given. With a condition, its pin is the on-path pin of the gate, and its kind is that of the test. Takes no memory.
-#[inline(always)]
 pub fn kept_at<A: Algebra>(
     net: &Netlist,
     labels: &[StateSet],
@@ -93,8 +92,24 @@ pub fn kept_at<A: Algebra>(
     keep::<A>(&view, condition, scratch)
 }
 
-// The same of what is seen at a gate.
+// The same at a gate with two pins and no condition, with all that is kept given. Inlined, since it is asked in a loop.
 #[inline(always)]
+pub(crate) fn kept_at_two<A: Algebra>(net: &Netlist, labels: &[StateSet], gate: GateId) -> KeptAtTwo
+    requires lines { length labels.now ≡ line_count net.now }
+    requires gate { gate.0 < gate_count net.now }
+    requires two { length (pins_at net.now gate.0) ≡ 2 }
+    ensures { IsKeptAtTwo A.algebra (gate_sets net.now gate.0 labels.now) result }
+{
+    let own = LineId(net.sources() + gate.0);
+    kept_freely::<A>(&GateView {
+        kind: net.kind(gate),
+        pins: net.pins(gate),
+        labels,
+        own: labels[own.0 as usize],
+    })
+}
+
+// The same of what is seen at a gate.
 fn keep<A: Algebra>(
     gate: &GateView,
     condition: Option<Condition>,

@@ -1,6 +1,6 @@
 // A board settles: one gate or link after another is narrowed, as long as one waits and each line has some state.
 ghost use Rattle.std.specs.Prelude.{◌≡◌, ◌≢◌, ◌<◌, ◌+◌, ◌↔◌, [], true, length, Contains, IfSome, IfNone, IsTrue, MatchOption};
-ghost use Rattle.netlist.specs.Circuit.{gate_count, line_count};
+ghost use Rattle.netlist.specs.Circuit.{gate_count, gate_line, line_count, pins_at};
 ghost use Rattle.netlist.specs.Lawful.{IsCircuit};
 ghost use Rattle.state_sets.specs.States.{AreWithin, no_states};
 ghost use Rattle.state_sets.specs.Labellings.{label_at};
@@ -9,8 +9,11 @@ ghost use Rattle.state_laws.specs.Cones.{IsNarrowingIn};
 ghost use Rattle.hulls.specs.Conditions.{IsEnteredOn};
 ghost use Rattle.hulls.specs.Awaiting.{is_inside};
 ghost use Rattle.hulls.specs.Boards.{IsBoardOf, link_turn};
-ghost use Rattle.hulls.specs.Settling.{MaySettle, IsAwakeBut, AllDiffer, IsNarrowed, IsPassed, AreAllPinsCut, IsPinEmptied, IsTurn, IsConflict};
+ghost use Rattle.hulls.specs.GateViews.{pins_kept};
+ghost use Rattle.hulls.specs.Settling.{MaySettle, IsAwakeBut, AllDiffer, IsNarrowed, IsPassed, AreAllPinsCut, IsPinEmptied, IsCutTo, MayNarrow, EndsTurn};
 
+use crate::few::KeptAtTwo;
+use crate::gate::kept_at_two;
 use crate::link::{linked_lines, linked_sources};
 use crate::{Board, Conditions, NarrowScratch, Turn, kept_at};
 use netlist::Netlist;
@@ -93,8 +96,7 @@ impl<A: Algebra> Board<A> {
         requires conditions { IsEnteredOn net.now conditions.now }
         requires inside { is_inside self.old.inside turn.0 ≡ true }
         requires awake { IsAwakeBut A.algebra net.now conditions.now.kind conditions.now.steps turn.0 self.old }
-        ensures turn { MatchOption result (IsTurn A.algebra net.now conditions.now.kind conditions.now.steps self.old self.new)
-            (λ line. IsConflict A.algebra net.now conditions.now.kind conditions.now.steps self.old self.new line.0) }
+        ensures turn { EndsTurn A.algebra net.now conditions.now self.old self.new result }
     {
         if turn.0 < net.gates() {
             self.narrow_at(net, conditions, GateId(turn.0), scratch)
@@ -111,8 +113,7 @@ impl<A: Algebra> Board<A> {
         requires some { HasNoEmptySet net.now self.old.labels }
         requires link { link < length self.old.links }
         requires awake { IsAwakeBut A.algebra net.now conditions.now.kind conditions.now.steps (link_turn net.now link).0 self.old }
-        ensures turn { MatchOption result (IsTurn A.algebra net.now conditions.now.kind conditions.now.steps self.old self.new)
-            (λ line. IsConflict A.algebra net.now conditions.now.kind conditions.now.steps self.old self.new line.0) }
+        ensures turn { EndsTurn A.algebra net.now conditions.now self.old self.new result }
     {
         let (source, line) = self.link(link);
         let at_source = linked_sources::<A>(self.get(line));
@@ -126,7 +127,8 @@ impl<A: Algebra> Board<A> {
         None
     }
 
-    // Narrows at one gate.
+    // Narrows at one gate. Most gates have two pins and no condition: what is kept there stands in no list.
+    #[inline(always)]
     fn narrow_at(
         &mut self,
         net: &Netlist,
@@ -134,24 +136,74 @@ impl<A: Algebra> Board<A> {
         gate: GateId,
         scratch: &mut NarrowScratch,
     ) -> Option<LineId>
-        requires of { IsBoardOf net.now self.old }
-        requires within { AreWithin A.algebra.count self.old.labels }
-        requires some { HasNoEmptySet net.now self.old.labels }
-        requires conditions { IsEnteredOn net.now conditions.now }
-        requires gate { gate.0 < gate_count net.now }
-        requires inside { is_inside self.old.inside gate.0 ≡ true }
-        requires awake { IsAwakeBut A.algebra net.now conditions.now.kind conditions.now.steps gate.0 self.old }
-        ensures turn { MatchOption result (IsTurn A.algebra net.now conditions.now.kind conditions.now.steps self.old self.new)
-            (λ line. IsConflict A.algebra net.now conditions.now.kind conditions.now.steps self.old self.new line.0) }
+        requires may { MayNarrow A.algebra net.now conditions.now gate.0 self.old }
+        ensures turn { EndsTurn A.algebra net.now conditions.now self.old self.new result }
     {
-        let own = LineId(net.sources() + gate.0);
-        let given = kept_at::<A>(net, self.labels(), gate, conditions.at(gate), scratch);
+        // a netlist knows itself as a circuit
+        let _ = net.sources();
         let passed = passed_by(net, gate);
+        let condition = conditions.at(gate);
+        if condition.is_none() && net.pins(gate).len() == 2 {
+            let kept = kept_at_two::<A>(net, self.labels(), gate);
+            if let Some(line) = self.cut_two(net, gate, kept, passed) {
+                return Some(line);
+            }
+            return self.cut_own(net, gate, kept.given, passed);
+        }
+        let given = kept_at::<A>(net, self.labels(), gate, condition, scratch);
         if let Some(line) = self.cut_pins(net, gate, scratch, passed) {
             return Some(line);
         }
-        if self.cut_in(net, own, given, passed) == StateSet::EMPTY {
-            return Some(own);
+        self.cut_own(net, gate, given, passed)
+    }
+
+    // Cuts the line of a gate down to a set. The line, if it has no state left.
+    #[inline(always)]
+    fn cut_own(
+        &mut self,
+        net: &Netlist,
+        gate: GateId,
+        to: StateSet,
+        passed: Option<GateId>,
+    ) -> Option<LineId>
+        requires of { IsBoardOf net.now self.old }
+        requires gate { gate.0 < gate_count net.now }
+        ensures cut { IsCutTo A.algebra.count net.now passed (gate_line net.now gate.0) to self.old self.new }
+        ensures some { IfNone result (label_at self.new.labels (gate_line net.now gate.0) ≢ no_states) }
+        ensures emptied { IfSome result (λ line. (line.0 ≡ gate_line net.now gate.0) × (label_at self.new.labels line.0 ≡ no_states)) }
+    {
+        let line = net.line_of(gate);
+        if self.cut_in(net, line, to, passed) == StateSet::EMPTY {
+            Some(line)
+        } else {
+            None
+        }
+    }
+
+    // Cuts the lines of the two pins of a gate down to what is kept there, up to a line that has no state left.
+    #[inline(always)]
+    fn cut_two(
+        &mut self,
+        net: &Netlist,
+        gate: GateId,
+        kept: KeptAtTwo,
+        passed: Option<GateId>,
+    ) -> Option<LineId>
+        requires of { IsBoardOf net.now self.old }
+        requires within { AreWithin A.algebra.count self.old.labels }
+        requires some { HasNoEmptySet net.now self.old.labels }
+        requires circuit { IsCircuit net.now }
+        requires gate { gate.0 < gate_count net.now }
+        requires two { length (pins_at net.now gate.0) ≡ 2 }
+        ensures cut { MatchOption result (AreAllPinsCut A.algebra.count net.now passed gate.0 (pins_kept kept) self.old self.new)
+            (λ line. IsPinEmptied A.algebra.count net.now passed gate.0 (pins_kept kept) self.old self.new line.0) }
+    {
+        let pins = net.pins(gate);
+        if self.cut_in(net, pins[0], kept.first, passed) == StateSet::EMPTY {
+            return Some(pins[0]);
+        }
+        if self.cut_in(net, pins[1], kept.second, passed) == StateSet::EMPTY {
+            return Some(pins[1]);
         }
         None
     }

@@ -11,8 +11,7 @@ use Rattle.netlist.specs.Levels.{greatest_level}
 use Rattle.state_sets.specs.declared.state.StateSet.{StateSet}
 use Rattle.state_sets.specs.States.{all_states, no_states}
 use Rattle.state_sets.specs.Labellings.{label_at}
-use Rattle.state_sets.specs.StateAlgebra.{StateAlgebra}
-use Rattle.state_sets.specs.FourStates.{four_states}
+use Rattle.state_sets.specs.StateAlgebra.{StateAlgebra, HasLaws}
 use Rattle.state_sets.specs.Starts.{MayStart}
 use Rattle.state_sets.specs.Hulls.{IsHull, IsEmptied, HasNoEmptySet}
 use Rattle.state_laws.specs.Cones.{IsNarrowingIn}
@@ -111,11 +110,11 @@ module _ (a : StateAlgebra) {standing : Standing} {kept : Kept} {room befores_ro
         (labels_at_start a (from seen kept.board.inside seen_rules) steps.kind (ap (λ (s : Steps). s.kind) stepped) board.labels answer
         hull none_empty emptied))
 
-    -- with the four states no conflict stands then
-    pub free_begun : links_of standing.rules ≡ [] → a ≡ four_states → answer ≡ None
-    free_begun unlinked four =
-        free_at_start a (from standing.net kept.board.inside standing.rules) board.labels answer keeps.circuit
-        (links_among a standing.net (links_of standing.rules) standing.ends kept.board.inside kept.board.links keeps.cone) source under unlinked four
+    -- without links no conflict stands then
+    pub free_begun : HasLaws a → links_of standing.rules ≡ [] → answer ≡ None
+    free_begun laws unlinked =
+        free_at_start a laws (from standing.net kept.board.inside standing.rules) board.labels answer keeps.circuit
+        (links_among a standing.net (links_of standing.rules) standing.ends kept.board.inside kept.board.links keeps.cone) source under unlinked
 
     abbrev new : Kept
     new = record { board = board; idle = idling; befores = kept.befores; left = kept.left; steps = steps }

@@ -1,5 +1,5 @@
--- A start never closes for the four states: some pair of vectors launches the transition and
--- holds all other sources steady, and no pair is lost.
+-- Under rules without links a start never closes: some pair of vectors launches the transition and holds all other sources steady, and
+-- no pair is lost.
 use Rattle.std.proofs.Common.{arith}
 use Rattle.std.proofs.Common.{ℕ}
 use Rattle.std.proofs.Common.{sym}
@@ -15,21 +15,20 @@ use Rattle.netlist.specs.Lawful.{IsCircuit}
 use Rattle.netlist.specs.Conditions.{Meets, final_bit}
 use Rattle.netlist.specs.Paths.{IsPrefix}
 use Rattle.state_sets.specs.declared.state.StateSet.{StateSet}
-use Rattle.state_sets.specs.StateAlgebra.{StateAlgebra}
-use Rattle.state_sets.specs.FourStates.{four_states}
+use Rattle.state_sets.specs.StateAlgebra.{StateAlgebra, HasLaws}
 use Rattle.state_laws.specs.Steadied.{steadied}
 use Rattle.state_laws.proofs.Pairs.{never_closes, pair_may_start}
 use Rattle.state_laws.proofs.Steadied.{steadied_keeps, steadied_meets}
 use Rattle.pd_base.specs.Links.{LinkList, links_of, IsLink}
 use Rattle.netlist.specs.LinkedPairs.{AreLinksOf, FitRules, IsOfRules}
-use Rattle.state_sets.specs.FourLaws.{four_laws}
 use Rattle.state_laws.proofs.Linked.{none_linked}
 use Rattle.implication.specs.declared.assumption.Beginning.{Beginning}
 use Rattle.implication.specs.Assumptions.{MayUnder, IsLetBy, ClosesUnder}
 use Rattle.implication.specs.Kept.{Outset, AreLabelsUnder}
 use Rattle.implication.proofs.Wholes.{emptied_under}
 
-module _ (c : Circuit) (circuit : IsCircuit c) (rules : Rules) (unlinked : links_of rules ≡ []) (begun : Beginning) (within : begun.source.0 < source_count c) where
+module _ (a : StateAlgebra) (laws : HasLaws a) (c : Circuit) (circuit : IsCircuit c) (rules : Rules) (unlinked : links_of rules ≡ [])
+    (begun : Beginning) (within : begun.source.0 < source_count c) where
   -- all sources change as the transition has it
   abbrev launching : Vectors
   launching = record {
@@ -75,25 +74,25 @@ module _ (c : Circuit) (circuit : IsCircuit c) (rules : Rules) (unlinked : links
   })
 
   -- so no line is emptied at the start
-  pub start_never_closes : ClosesUnder four_states c rules begun [] → ⊥
+  pub start_never_closes : ClosesUnder a c rules begun [] → ⊥
   start_never_closes =
-      never_closes four_states four_laws c circuit held start.kind start.path starts (links_of rules) fit keeps held_meets.sides
-      (MayUnder four_states c rules begun [])
+      never_closes a laws c circuit held start.kind start.path starts (links_of rules) fit keeps held_meets.sides
+      (MayUnder a c rules begun [])
       (λ line in_circuit. record {
-        start = pair_may_start four_states four_laws c circuit rules fit start starts held keeps held_meets
-            (steadied_keeps c begun.source.0 launching four_states four_laws rules) line;
-        assumed = All-nil (IsLetBy four_states.count line _);
+        start = pair_may_start a laws c circuit rules fit start starts held keeps held_meets
+            (steadied_keeps c begun.source.0 launching a laws rules) line;
+        assumed = All-nil (IsLetBy a.count line _);
       })
 
 -- and no conflict stands there
-pub free_at_start : (a : StateAlgebra) (from : Outset) (labels : List StateSet) (answer : Option LineId) → IsCircuit from.net
-    → ((source line : ℕ) → IsLink from.inner source line → IsLink (links_of from.rules) source line) → from.begun.source.0 < source_count from.net → AreLabelsUnder a from [] labels answer → links_of from.rules ≡ [] → a ≡ four_states → answer ≡ None
-free_at_start a from labels None circuit among within under unlinked four = refl
-free_at_start a from labels (Some line) circuit among within under unlinked four =
+pub free_at_start : (a : StateAlgebra) (laws : HasLaws a) (from : Outset) (labels : List StateSet) (answer : Option LineId) → IsCircuit from.net
+    → ((source line : ℕ) → IsLink from.inner source line → IsLink (links_of from.rules) source line) → from.begun.source.0 < source_count from.net
+    → AreLabelsUnder a from [] labels answer → links_of from.rules ≡ [] → answer ≡ None
+free_at_start a laws from labels None circuit among within under unlinked = refl
+free_at_start a laws from labels (Some line) circuit among within under unlinked =
     let emptied = emptied_under a from [] among line.0 under in
-    let P : StateAlgebra → Type 0 = λ x. ClosesUnder x from.net from.rules from.begun [] in
-    absurd (start_never_closes from.net circuit from.rules unlinked from.begun within (subst P four (record {
+    absurd (start_never_closes a laws from.net circuit from.rules unlinked from.begun within (record {
       line = line.0;
       in_circuit = emptied.0;
       emptied = emptied.1;
-    })))
+    }))

@@ -11,7 +11,6 @@ ghost use Rattle.hulls.specs.Awaiting.{is_inside};
 ghost use Rattle.netlist.specs.Paths.{Connects, line_after};
 ghost use Rattle.netlist.specs.Pins.{IsPinOn};
 ghost use Rattle.state_sets.specs.States.{AreWithin};
-ghost use Rattle.state_sets.specs.FourStates.{four_states};
 ghost use Rattle.implication.specs.Standing.{idle_on, told_ends, IsIdle, IsFree, IsLabels, IsTold, TellsLabels, IsEmptiedIn, IsOpenIn, end_of_scope};
 ghost use Rattle.implication.specs.Moves.{with_entered, with_assumed, grown, closed_at, back_at, left_behind, idle_again, HasBegun};
 ghost use Rattle.implication.specs.Clients.{ExtendsStanding};
@@ -212,7 +211,7 @@ impl<A: Algebra, S: Setting> Engine<A, S> {
         ensures idle { IsIdle self.old }
         ensures open { IfNone self.new.conflict (IsOpenIn A.algebra self.new) }
         ensures emptied { IfSome self.new.conflict (λ line. IsEmptiedIn A.algebra self.new line.0) }
-        ensures four_states { links_of self.old.rules ≡ [] → A.algebra ≡ four_states → self.new.conflict ≡ None }
+        ensures free { links_of self.old.rules ≡ [] → self.new.conflict ≡ None }
     {
         self.parts.conditions.set_kind(begun.kind);
         self.beginning = Some(begun);

@@ -5,7 +5,6 @@ ghost use Rattle.pd_base.specs.Links.{links_of};
 ghost use Rattle.netlist.specs.Circuit.{source_count, line_count, gate_line};
 ghost use Rattle.netlist.specs.Pins.{IsPinOn};
 ghost use Rattle.state_sets.specs.States.{IsWithin, AreWithin};
-ghost use Rattle.state_sets.specs.FourStates.{four_states};
 ghost use Rattle.implication.specs.Standing.{Standing, IsIdle, IsFree, IsLabels, IsTold, TellsLabel, TellsLabels, IsEmptiedIn, IsOpenIn, end_of_scope};
 ghost use Rattle.implication.specs.Moves.{with_entered, with_assumed, grown, closed_at, back_at, left_behind, HasBegun, start_at};
 ghost use Rattle.implication.specs.Clients.{ExtendsStanding, IsRestored, TellsOfConflict, TellsOfMore};
@@ -66,8 +65,8 @@ impl<'e, A: Algebra, S: Setting> Scope<'e, A, S> {
         ensures origin { result.origin ≡ Origin.Begun }
         ensures tells { TellsOfConflict A.algebra (standing result) }
 
-        // with the four states and no links none does
-        ensures four_states { links_of engine.old.rules ≡ [] → A.algebra ≡ four_states → (standing result).conflict ≡ None }
+        // without links none does
+        ensures free { links_of engine.old.rules ≡ [] → (standing result).conflict ≡ None }
     {
         engine.begin(Beginning {
             source,

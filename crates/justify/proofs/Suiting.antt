@@ -23,9 +23,16 @@ use Rattle.state_sets.specs.States.{Has}
 use Rattle.implication.proofs.Told.{free_told}
 use Rattle.state_laws.proofs.Linked.{none_linked}
 use Rattle.trees.specs.Unlinked.{IsUnlinked}
+use Rattle.justify.specs.Desks.{IsDeskFor}
+use Rattle.justify.specs.declared.desk.Desk.{Desk}
 use Rattle.justify.specs.Scoping.{SuitsSearch, IsToldInSupport, TellsSupport, MayEndBy}
 use Rattle.justify.specs.declared.answer.Unfinished.{Unfinished}
 use Rattle.justify.specs.declared.answer.Unfinished.TheVariants.{NoMemory, Undecided}
+
+-- a desk that is made for a netlist and rules is made for what they are known to be
+pub made_for : {a : StateAlgebra} {c seen : Circuit} {rules seen_rules : Rules} {desk : Desk} → c ≡ seen → rules ≡ seen_rules
+    → IsDeskFor a c rules desk → IsDeskFor a seen seen_rules desk
+made_for {a} {c} {seen} {rules} {seen_rules} {desk} = there_too (λ n r. IsDeskFor a n r desk) c seen rules seen_rules
 
 -- a line that is told is told as long as the setting stays
 pub told_after : (first last : Standing) → IsSameSetting first last → (line : ℕ) → IsTold first line → IsTold last line

@@ -17,7 +17,7 @@ ghost use Rattle.justify.specs.Trying.{CanTry, HasLeastLabel, AreTriedIn, HasLea
 use crate::Unfinished;
 use crate::desk::Desk;
 use crate::judging::{are_source_states, judge_proposal, judge_states};
-use crate::trial::{Tried, closes};
+use crate::trial::{Tried, bring_forward, closes, closes_at};
 use implication::{Scope, Setting};
 use pair_judging::{Target, least, read_test, take_least};
 use pd_base::{LineId, OutOfMemory, Pair};
@@ -51,15 +51,17 @@ pub(crate) fn try_node<A: Algebra, S: Setting>(
     }
 }
 
-// Whether the node's trial closes by the sources that were tried last, where they still have the same least states.
+// Whether the node's trial closes by the sources that were tried last, where they still have the same least states. The desk then has that
+// first at which it closed.
 fn closes_again<A: Algebra, S: Setting>(
     scope: &mut Scope<A, S>,
     target: &Target,
-    desk: &Desk,
+    desk: &mut Desk,
 ) -> bool
     requires suits { SuitsSearch A.algebra (seen_target target.now) (standing scope.old) }
     requires node { StandsAtNode A.algebra (seen_target target.now) (standing scope.old) }
-    requires desk { IsDesk A.algebra (standing scope.old).net (standing scope.old).rules target.now.path.now desk.now }
+    requires desk { IsDesk A.algebra (standing scope.old).net (standing scope.old).rules target.now.path.now desk.old }
+    ensures desk { IsDesk A.algebra (standing scope.old).net (standing scope.old).rules target.now.path.now desk.new }
     ensures scope { IsSameScope scope.old scope.new }
     ensures restored { IsRestored (standing scope.old) (standing scope.new) }
     ensures failed { IsTrue result → FailsAtNode A.algebra (seen_target target.now) (standing scope.old) (standing scope.new) }
@@ -67,7 +69,13 @@ fn closes_again<A: Algebra, S: Setting>(
     if !can_try_again(scope, target, desk) {
         return false;
     }
-    closes(scope, target, desk.tried.as_slice())
+    match closes_at(scope, target, desk.tried.as_slice()) {
+        Some(place) => {
+            bring_forward(desk.tried.as_mut_slice(), place);
+            true
+        }
+        None => false,
+    }
 }
 
 // Judges the pair that has the least states of the labels at the sources of the cone, and leaves these states at the desk.

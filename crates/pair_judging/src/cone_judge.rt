@@ -4,7 +4,6 @@ ghost use Rattle.std.specs.Prelude.{◌≡◌, ◌↔◌, length, IfOk, IsTrue};
 ghost use Rattle.netlist.specs.Circuit.{source_count};
 ghost use Rattle.netlist.specs.Conditions.{Meets};
 ghost use Rattle.netlist.specs.Paths.{IsPrefix, end_of};
-ghost use Rattle.state_sets.specs.FourStates.{four_states};
 ghost use Rattle.pair_judging.specs.ConeStates.{HasConeStates};
 ghost use Rattle.pair_judging.specs.Judges.{IsJudgeOf};
 ghost use Rattle.pair_judging.specs.Targets.{seen_target};
@@ -17,7 +16,7 @@ use crate::target::Target;
 use cones::Cone;
 use netlist::Netlist;
 use pd_base::{OutOfMemory, Pair, Path};
-use state_sets::{FourStates, State};
+use state_sets::{Algebra, FourStates, State};
 use std::alloc::Global;
 use std::marker::Model;
 
@@ -57,7 +56,7 @@ impl ConeJudge {
         ensures judge { IsJudgeOf 4 net.now self.new }
         ensures meets { IsTrue result ↔ Meets net.now (seen_target target.now) pair.now }
     {
-        self.take_states(net, target.path, pair);
+        self.take_states::<FourStates>(net, target.path, pair);
         match judge_steps::<FourStates>(net, target, self.states.as_slice()) {
             Judgement::IsTest => true,
             Judgement::FailsAt(_, _) => false,
@@ -65,18 +64,18 @@ impl ConeJudge {
     }
 
     // Puts the lines of the cone of a path's end into their states under a pair.
-    fn take_states(&mut self, net: &Netlist, path: &Path, pair: &Pair)
-        requires judge { IsJudgeOf 4 net.now self.old }
+    fn take_states<A: Algebra>(&mut self, net: &Netlist, path: &Path, pair: &Pair)
+        requires judge { IsJudgeOf A.algebra.count net.now self.old }
         requires prefix { IsPrefix net.now path.now }
         requires bits { length pair.now.first ≡ source_count net.now }
-        ensures judge { IsJudgeOf 4 net.now self.new }
-        ensures states { HasConeStates four_states net.now (end_of net.now path.now) self.new.states pair.now }
+        ensures judge { IsJudgeOf A.algebra.count net.now self.new }
+        ensures states { HasConeStates A.algebra net.now (end_of net.now path.now) self.new.states pair.now }
     {
         let end = end_of(net, path);
         self.cone.set_end(net, end);
         let ConeJudge { cone, states } = self;
         let states = states.as_mut_slice();
-        take_pair::<FourStates>(cone.sources(), pair, states);
-        compute_all::<FourStates>(net, cone.gates(), states);
+        take_pair::<A>(cone.sources(), pair, states);
+        compute_all::<A>(net, cone.gates(), states);
     }
 }

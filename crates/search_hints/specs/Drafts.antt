@@ -8,6 +8,7 @@ use Rattle.netlist.specs.Lawful.{IsCircuit}
 use Rattle.netlist.specs.Levels.{greatest_level}
 use Rattle.hulls.specs.Conditions.{Entered}
 use Rattle.cones.specs.KeptCones.{KeptCone}
+use Rattle.search_hints.specs.declared.draft.GateOfTwo.{GateOfTwo}
 use Rattle.search_hints.specs.declared.decisions.Decision.{Decision}
 use Rattle.search_hints.specs.declared.decisions.Next.{Next}
 use Rattle.search_hints.specs.declared.decisions.Next.TheVariants.{Nothing, Decide, GiveUp}
@@ -21,6 +22,12 @@ pub record Sizes : Type 0 where
 pub record IsSizedFor (c : Circuit) (sizes : Sizes) : Type 0 where
   pub lines : sizes.lines ≡ line_count c
   pub gates : sizes.gates ≡ gate_count c
+
+-- a gate of the circuit, and lines of it
+pub record IsGateOfTwo (c : Circuit) (at : GateOfTwo) : Type 0 where
+  pub gate : at.gate.0 < gate_count c
+  pub first : at.first.0 < line_count c
+  pub second : at.second.0 < line_count c
 
 -- what is kept beside the labels is of these lines and gates
 pub record AreKept (sizes : Sizes) (decisions : List Decision) (marks : ℕ) (gates : List GateId) : Type 0 where
@@ -40,10 +47,10 @@ pub record AreFramesAlike (lines : ℕ) (others : List ℕ) (links : LinkList) :
   pub unlinked : links ≡ []
 
 -- what is kept beside the decisions is of as many lines
-pub record AreBeside (lines grounds frames firsts : ℕ) : Type 0 where
+pub record AreBeside (lines grounds frames completed : ℕ) : Type 0 where
   pub of_grounds : grounds ≡ lines
   pub of_frames : frames ≡ lines
-  pub of_firsts : firsts ≡ lines
+  pub of_completed : completed ≡ lines
 
 -- what is decided next is on a line of the circuit
 abbrev pub IsNextIn : Circuit → Next → Type 0

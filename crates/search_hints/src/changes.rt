@@ -28,10 +28,22 @@ impl Cause {
     }
 }
 
-// A cut of a line: what stood there before, and why it was cut.
+// A cut of a line: what stood there before, and why it was cut. Where narrowing at the line's own gate left it no less than the gate
+// makes of its pins, what was left: as long as that is its label, the line is justified.
 #[derive(Clone, Copy)]
 pub(crate) struct Change {
     pub(crate) line: LineId,
     pub(crate) old: StateSet,
+    pub(crate) justified: Option<StateSet>,
     pub(crate) cause: Cause,
+}
+
+impl Change {
+    // Whether the line is known to be justified, if this is its label.
+    pub(crate) fn is_justified_at(&self, label: StateSet) -> bool {
+        match self.justified {
+            Some(left) => left == label,
+            None => false,
+        }
+    }
 }

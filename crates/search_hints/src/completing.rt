@@ -15,35 +15,48 @@ use state_sets::{Algebra, State, StateSet, count_states};
 use std::alloc::Global;
 use std::marker::Model;
 
-// The values of the lines under a first vector, of which as much is computed anew as comes of other values at sources. Contracts see for
-// how many lines there is room.
+// The pair that is completed: the values of the lines under its first vector, and their states in the second frame, of which as much is
+// computed anew as comes of others at sources. Contracts see for how many lines there is room.
 #[derive(Drop)]
-pub(crate) struct Firsts {
+pub(crate) struct Completed {
     // by line
     values: Vec<bool>,
-    // by gate, whether a line that it reads has changed since its own value was computed
+    // by gate, whether a line that it reads has changed its value since its own one was computed
     is_due: Vec<bool>,
+    // by line
+    states: Vec<StateSet>,
+    // by gate, whether a line that it reads has changed its state since its own one was computed
+    is_state_due: Vec<bool>,
 }
 
-impl Model for Firsts {
-    ghost use Rattle.std.specs.Prelude.{ℕ, length};
+impl Model for Completed {
+    ghost use Rattle.std.specs.Prelude.{◌≡◌, ℕ, length};
 
     ghost Value = { ℕ };
 
-    ghost view = { λ f. length f.values.items };
+    ghost view = { λ c. length c.values.items };
+
+    ghost invariant = { λ c. length c.states.items ≡ length c.values.items };
 }
 
-impl Firsts {
+impl Completed {
     // Nothing is computed yet.
-    pub(crate) fn new(alloc: Global, net: &Netlist) -> Result<Firsts, OutOfMemory>
-        ensures { IfOk result (λ firsts. firsts ≡ line_count net.now) }
+    pub(crate) fn new(alloc: Global, net: &Netlist) -> Result<Completed, OutOfMemory>
+        ensures { IfOk result (λ completed. completed ≡ line_count net.now) }
     {
         let is_due = vec![in alloc; true; net.gates() as usize]?;
+        let is_state_due = vec![in alloc; true; net.gates() as usize]?;
         let values = vec![in alloc; false; net.lines() as usize]?;
-        Ok(Firsts { values, is_due })
+        let states = vec![in alloc; StateSet::EMPTY; net.lines() as usize]?;
+        Ok(Completed {
+            values,
+            is_due,
+            states,
+            is_state_due,
+        })
     }
 
-    // The values, by line number.
+    // The values under the first vector, by line number.
     pub(crate) fn values(&self) -> &[bool]
         ensures { length result.now ≡ self.now }
     {
@@ -99,6 +112,95 @@ impl Firsts {
             }
         }
     }
+
+    // Gives a line a state, and lets the gates that read it be computed anew if that is another one.
+    fn put_state(&mut self, net: &Netlist, line: LineId, state: StateSet)
+        requires of { self.old ≡ line_count net.now }
+        requires line { line.0 < line_count net.now }
+        ensures { self.new ≡ self.old }
+    {
+        let at = line.0 as usize;
+        if self.states[at] != state {
+            self.states[at] = state;
+            let due = self.is_state_due.as_mut_slice();
+            for reader in net.fanout(line) {
+                ask(due, reader.gate);
+            }
+        }
+    }
+
+    // Computes the state of a gate's line, if it is due, and gives it.
+    fn compute_state<A: Algebra>(&mut self, net: &Netlist, gate: GateId) -> StateSet
+        requires of { self.old ≡ line_count net.now }
+        requires gate { gate.0 < gate_count net.now }
+        ensures { self.new ≡ self.old }
+    {
+        let line = net.line_of(gate);
+        let at = gate.0 as usize;
+        if at < self.is_state_due.len() && self.is_state_due[at] {
+            self.is_state_due[at] = false;
+            let kind = net.kind(gate);
+            let joined = join_all::<A>(self.states.as_slice(), kind.operation(), net.pins(gate));
+            self.put_state(net, line, uninverted::<A>(kind, joined));
+        }
+        self.states[line.0 as usize]
+    }
+
+    // Writes at each of these sources the state that it has in the pair: of a linked one that which begins at its value and ends at that of
+    // its line, of another one the least of its label. Whether each of them is in the label that it is seen with.
+    pub(crate) fn complete_sources<A: Algebra>(
+        &mut self,
+        decisions: &mut Decisions,
+        links: &LinkEnds,
+        sight: &Sight,
+        sources: &[LineId],
+    ) -> bool
+        requires of { self.old ≡ line_count sight.now.net.now }
+        requires sizes { IsSizedFor sight.now.net.now decisions.old }
+        requires sources { HasLines sight.now.net.now sources.now }
+        ensures same { self.new ≡ self.old }
+        ensures decisions { decisions.new ≡ decisions.old }
+    {
+        for source in sources {
+            let at = source.0 as usize;
+            let state = match linked_state::<A>(links, self.values.as_slice(), *source) {
+                Some(state) => StateSet::only(state),
+                None => least_of(decisions.labels()[at]),
+            };
+            decisions.write(*source, state);
+            self.put_state(sight.net, *source, state);
+            if state.intersect(sight.labels[at]) == StateSet::EMPTY {
+                return false;
+            }
+        }
+        true
+    }
+
+    // Writes at the lines of these gates, one after another, what the gates make of the states at their pins. Whether each of them has
+    // something of the label that it is seen with.
+    pub(crate) fn complete_gates<A: Algebra>(
+        &mut self,
+        decisions: &mut Decisions,
+        sight: &Sight,
+        gates: &[GateId],
+    ) -> bool
+        requires of { self.old ≡ line_count sight.now.net.now }
+        requires sizes { IsSizedFor sight.now.net.now decisions.old }
+        ensures same { self.new ≡ self.old }
+        ensures decisions { decisions.new ≡ decisions.old }
+    {
+        for gate in gates {
+            if gate.0 < sight.net.gates() {
+                let line = sight.net.line_of(*gate);
+                let made = self.compute_state::<A>(sight.net, *gate);
+                decisions.write(line, made);
+                if made.intersect(sight.labels[line.0 as usize]) == StateSet::EMPTY {
+                    return false;
+                }
+            }
+        }
+        true
+    }
 }
 
 // Lets a gate be computed anew.
@@ -152,61 +254,9 @@ fn is_odd(lines: &[LineId], values: &[bool]) -> bool
     odd
 }
 
-// Writes at each of these sources the state that it has in the pair: of a linked one that which begins at its value and ends at that of
-// its line, of another one the least of its label. Whether each of them is in the label that it is seen with.
-pub(crate) fn complete_sources<A: Algebra>(
-    decisions: &mut Decisions,
-    links: &LinkEnds,
-    firsts: &[bool],
-    sight: &Sight,
-    sources: &[LineId],
-) -> bool
-    requires sizes { IsSizedFor sight.now.net.now decisions.old }
-    requires sources { HasLines sight.now.net.now sources.now }
-    ensures { decisions.new ≡ decisions.old }
-{
-    for source in sources {
-        let at = source.0 as usize;
-        let state = match linked_state::<A>(links, firsts, *source) {
-            Some(state) => StateSet::only(state),
-            None => least_of(decisions.labels()[at]),
-        };
-        decisions.write(*source, state);
-        if state.intersect(sight.labels[at]) == StateSet::EMPTY {
-            return false;
-        }
-    }
-    true
-}
-
 // The least state of a set, as a set.
 fn least_of(set: StateSet) -> StateSet {
     StateSet(set.0 & set.0.wrapping_neg())
-}
-
-// Writes at the lines of these gates, one after another, what the gates make of what stands at their pins. Whether each of them has
-// something of the label that it is seen with.
-pub(crate) fn complete_gates<A: Algebra>(
-    decisions: &mut Decisions,
-    sight: &Sight,
-    gates: &[GateId],
-) -> bool
-    requires sizes { IsSizedFor sight.now.net.now decisions.old }
-    ensures { decisions.new ≡ decisions.old }
-{
-    for gate in gates {
-        if gate.0 < sight.net.gates() {
-            let line = sight.net.line_of(*gate);
-            let kind = sight.net.kind(*gate);
-            let joined = join_all::<A>(decisions.labels(), kind.operation(), sight.net.pins(*gate));
-            let made = uninverted::<A>(kind, joined);
-            decisions.write(line, made);
-            if made.intersect(sight.labels[line.0 as usize]) == StateSet::EMPTY {
-                return false;
-            }
-        }
-    }
-    true
 }
 
 // From now on these lines are liked to begin at these values.

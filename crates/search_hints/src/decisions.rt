@@ -189,6 +189,7 @@ impl Decisions {
         self.draft.undo_to(0);
         self.made.clear();
         self.reasons.clear();
+        self.activity.forget_closed();
         self.cursor = at_start();
     }
 
@@ -221,13 +222,16 @@ impl Decisions {
     }
 
     // The most active line of late conflicts that is open, where the order goes by that.
-    fn next_active<A: Algebra>(&self, region: &Region, order: Order) -> Option<LineId>
-        requires { IsSizedFor region.now.net.now self.now }
-        ensures { IfSome result (λ line. line.0 < line_count region.now.net.now) }
+    fn next_active<A: Algebra>(&mut self, region: &Region, order: Order) -> Option<LineId>
+        requires { IsSizedFor region.now.net.now self.old }
+        ensures same { self.new ≡ self.old }
+        ensures line { IfSome result (λ line. line.0 < line_count region.now.net.now) }
     {
         match order {
             Order::MostActiveFirst => {
-                most_active::<A>(region, self.draft.labels(), &self.activity)
+                let changes = self.draft.mark();
+                let labels = self.draft.labels();
+                self.activity.most_active::<A>(region, labels, changes)
             }
             Order::LowestFirst | Order::HighestFirst => None,
         }
@@ -394,6 +398,7 @@ impl Decisions {
         ensures { self.new ≡ self.old }
     {
         self.cursor = decision.cursor;
+        self.activity.go_back(decision.mark);
         let cut = Cut {
             line: decision.line,
             to: decision.second,
@@ -454,8 +459,10 @@ fn next_changed<A: Algebra>(region: &Region, draft: &Draft, place: &mut usize) -
 {
     let changes = draft.changes();
     for at in *place..changes.len() {
-        let line = changes[at].line;
-        if is_open::<A>(region, draft.labels(), line) {
+        let change = &changes[at];
+        let line = change.line;
+        let labels = draft.labels();
+        if !change.is_justified_at(labels[line.0 as usize]) && is_open::<A>(region, labels, line) {
             return Some(line);
         }
         *place = at + 1;
@@ -477,32 +484,8 @@ fn is_open<A: Algebra>(region: &Region, labels: &[StateSet], line: LineId) -> bo
     }
 }
 
-// The most active of the lines on which late conflicts rested that is in the cone and open.
-fn most_active<A: Algebra>(
-    region: &Region,
-    labels: &[StateSet],
-    activity: &Activity,
-) -> Option<LineId>
-    requires { length labels.now ≡ line_count region.now.net.now }
-    ensures { IfSome result (λ line. line.0 < line_count region.now.net.now) }
-{
-    let mut best = None;
-    let mut most = 0;
-    for line in activity.late() {
-        let weight = activity.of(*line);
-        if weight > most
-            && line.0 < region.net.lines()
-            && is_open_inside::<A>(region, labels, *line)
-        {
-            most = weight;
-            best = Some(*line);
-        }
-    }
-    best
-}
-
 // Whether a line is in the cone and open.
-fn is_open_inside<A: Algebra>(region: &Region, labels: &[StateSet], line: LineId) -> bool
+pub(crate) fn is_open_inside<A: Algebra>(region: &Region, labels: &[StateSet], line: LineId) -> bool
     requires labels { length labels.now ≡ line_count region.now.net.now }
     requires line { line.0 < line_count region.now.net.now }
 {

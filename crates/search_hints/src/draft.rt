@@ -3,10 +3,10 @@
 ghost use Rattle.std.specs.Prelude.{◌≡◌, ◌<◌, length, All, IfOk, IfSome};
 ghost use Rattle.netlist.specs.Circuit.{gate_count, line_count};
 ghost use Rattle.netlist.specs.Lawful.{IsCircuit};
-ghost use Rattle.search_hints.specs.Drafts.{IsSizedFor};
+ghost use Rattle.search_hints.specs.Drafts.{IsSizedFor, IsGateOfTwo};
 
 use crate::changes::{Cause, Change};
-use crate::open_lines::join_all;
+use crate::open_lines::{join_all, join_two};
 use crate::picking::{uninverted, without};
 use crate::region::{Region, condition_of, is_first_alone, is_inside, linked_line};
 use hulls::{NarrowScratch, Turn, Waiting, kept_at};
@@ -28,6 +28,14 @@ pub(crate) enum Settled {
     Conflict(Cause),
     // It took too long.
     Unknown,
+}
+
+// A gate of two pins, and the lines that these read.
+#[derive(Clone, Copy)]
+struct GateOfTwo {
+    gate: GateId,
+    first: LineId,
+    second: LineId,
 }
 
 // Labels, with the trail of their changes, and the gates and links that have to be narrowed again. Contracts see how many lines and gates
@@ -128,7 +136,9 @@ impl Draft {
         }
     }
 
-    // Cuts a label, notes that, and lets the gates of the cone wait that have the line among theirs. Gives what is left.
+    // Cuts a label, notes that, and lets the gates of the cone wait that have the line among theirs. Gives what is left. Most cuts take
+    // nothing away: these are inlined.
+    #[inline(always)]
     pub(crate) fn cut(
         &mut self,
         region: &Region,
@@ -142,23 +152,68 @@ impl Draft {
     {
         let old = self.labels[line.0 as usize];
         let left = old.intersect(to);
-        if left == old {
-            return Ok(left);
+        if left != old {
+            let justified = None;
+            let change = Change {
+                line,
+                old,
+                justified,
+                cause,
+            };
+            self.change(region, change, left)?;
         }
-        self.changes.push(Change { line, old, cause })?;
-        self.labels[line.0 as usize] = left;
-        self.wake(region, line, cause);
-        self.wake_links(region, line, cause)?;
         Ok(left)
+    }
+
+    // The same of the line of a gate, at that gate; whether that leaves it no less than the gate makes of its pins.
+    #[inline(always)]
+    fn cut_own(
+        &mut self,
+        region: &Region,
+        gate: GateId,
+        to: StateSet,
+        is_justified: bool,
+    ) -> Result<StateSet, OutOfMemory>
+        requires sized { IsSizedFor region.now.net.now self.old }
+        requires gate { gate.0 < gate_count region.now.net.now }
+        ensures { self.new ≡ self.old }
+    {
+        let line = LineId(region.net.sources() + gate.0);
+        let old = self.labels[line.0 as usize];
+        let left = old.intersect(to);
+        if left != old {
+            let justified = if is_justified { Some(left) } else { None };
+            let cause = Cause::Gate(gate);
+            let change = Change {
+                line,
+                old,
+                justified,
+                cause,
+            };
+            self.change(region, change, left)?;
+        }
+        Ok(left)
+    }
+
+    // Gives a line another label, notes that, and lets the gates of the cone wait that have the line among theirs.
+    fn change(&mut self, region: &Region, change: Change, left: StateSet) -> Result<(), OutOfMemory>
+        requires sized { IsSizedFor region.now.net.now self.old }
+        requires line { change.line.0 < line_count region.now.net.now }
+        ensures { self.new ≡ self.old }
+    {
+        self.changes.push(change)?;
+        self.labels[change.line.0 as usize] = left;
+        self.wake(region, change.line, change.cause);
+        if region.links.touch(change.line) {
+            self.wake_links(region, change.line, change.cause)?;
+        }
+        Ok(())
     }
 
     // Lets the links wait that count and have this line among their two, but not the one that is being narrowed.
     fn wake_links(&mut self, region: &Region, line: LineId, cause: Cause) -> Result<(), OutOfMemory>
         ensures { self.new ≡ self.old }
     {
-        if region.links.is_empty() {
-            return Ok(());
-        }
         self.ask_link(region, line, cause)?;
         let mut linked = region.links.source_of(line);
         for _ in 0..region.net.sources() {
@@ -187,8 +242,14 @@ impl Draft {
         requires line { line.0 < line_count region.now.net.now }
         ensures { self.new ≡ self.old }
     {
+        // read once, since most lines have several readers
+        let sources = region.net.sources();
+        let inside = region.inside;
         for reader in region.net.fanout(line) {
-            self.ask(region, reader.gate, cause);
+            let own = sources + reader.gate.0;
+            if inside[own as usize] && !cause.is_gate(reader.gate) {
+                self.add(reader.gate);
+            }
         }
         if let Some(driver) = region.net.gate_of(line) {
             self.ask(region, driver, cause);
@@ -202,49 +263,51 @@ impl Draft {
         ensures { self.new ≡ self.old }
     {
         if is_inside(region, gate) && !cause.is_gate(gate) {
-            self.waiting.add(Turn::of_gate(gate));
+            self.add(gate);
         }
     }
 
-    // Narrows at the gates and links that wait, until none does or a line has no state left.
+    // Lets a gate wait.
+    fn add(&mut self, gate: GateId)
+        requires { gate.0 < self.old.gates }
+        ensures { self.new ≡ self.old }
+    {
+        self.waiting.add(Turn::of_gate(gate));
+    }
+
+    // Narrows at the gates and links that wait, until none does or a line has no state left. Gates come before links.
     pub(crate) fn settle<A: Algebra>(&mut self, region: &Region) -> Result<Settled, OutOfMemory>
         requires { IsSizedFor region.now.net.now self.old }
         ensures { self.new ≡ self.old }
     {
         for _ in 0..MOST_NARROWINGS {
-            let Some(cause) = self.next_turn() else {
+            if let Some(gate) = self.next() {
+                if !self.narrow_at::<A>(region, gate)? {
+                    return Ok(Settled::Conflict(Cause::Gate(gate)));
+                }
+            } else if let Some(source) = self.due.pop() {
+                if !self.narrow_linked::<A>(region, source)? {
+                    return Ok(Settled::Conflict(Cause::Link(source)));
+                }
+            } else {
                 return Ok(Settled::AtRest);
-            };
-            if !self.narrow_for::<A>(region, cause)? {
-                return Ok(Settled::Conflict(cause));
             }
         }
         Ok(Settled::Unknown)
     }
 
-    // Takes the first gate that waits, or where none does the first link, if one waits.
-    fn next_turn(&mut self) -> Option<Cause>
-        ensures { self.new ≡ self.old }
-    {
-        if let Some(gate) = self.next() {
-            return Some(Cause::Gate(gate));
-        }
-        let source = self.due.pop()?;
-        Some(Cause::Link(source))
-    }
-
-    // Narrows at a gate or along a link. Whether each of its lines has a state left.
-    fn narrow_for<A: Algebra>(&mut self, region: &Region, cause: Cause) -> Result<bool, OutOfMemory>
+    // Narrows along the link of a source, if it has one that counts. Whether each of its lines has a state left.
+    fn narrow_linked<A: Algebra>(
+        &mut self,
+        region: &Region,
+        source: LineId,
+    ) -> Result<bool, OutOfMemory>
         requires { IsSizedFor region.now.net.now self.old }
         ensures { self.new ≡ self.old }
     {
-        match cause {
-            Cause::Gate(gate) if gate.0 < region.net.gates() => self.narrow_at::<A>(region, gate),
-            Cause::Link(source) => match linked_line(region, source) {
-                Some(line) => self.narrow_link::<A>(region, source, line),
-                None => Ok(true),
-            },
-            _ => Ok(true),
+        match linked_line(region, source) {
+            Some(line) => self.narrow_link::<A>(region, source, line),
+            None => Ok(true),
         }
     }
 
@@ -270,6 +333,7 @@ impl Draft {
     }
 
     // Takes the first gate that waits, if one does.
+    #[inline(always)]
     fn next(&mut self) -> Option<GateId>
         ensures same { self.new ≡ self.old }
         ensures gate { IfSome result (λ gate. gate.0 < self.old.gates) }
@@ -280,20 +344,103 @@ impl Draft {
 
     // Narrows at a gate. Whether each of its lines has a state left. Where no condition stands there, and all that the gate makes of its
     // pins is in the label of its line, the pins keep what they have.
+    #[inline(always)]
     fn narrow_at<A: Algebra>(&mut self, region: &Region, gate: GateId) -> Result<bool, OutOfMemory>
+        requires sized { IsSizedFor region.now.net.now self.old }
+        requires gate { gate.0 < gate_count region.now.net.now }
+        ensures { self.new ≡ self.old }
+    {
+        if condition_of(region, gate).is_some() {
+            return self.narrow_all::<A>(region, gate);
+        }
+        if let [first, second] = region.net.pins(gate) {
+            let at = GateOfTwo {
+                gate,
+                first: *first,
+                second: *second,
+            };
+            return self.narrow_two::<A>(region, at);
+        }
+        self.narrow_freely::<A>(region, gate)
+    }
+
+    // The same at a gate without a condition.
+    fn narrow_freely<A: Algebra>(
+        &mut self,
+        region: &Region,
+        gate: GateId,
+    ) -> Result<bool, OutOfMemory>
         requires sized { IsSizedFor region.now.net.now self.old }
         requires gate { gate.0 < gate_count region.now.net.now }
         ensures { self.new ≡ self.old }
     {
         let own = LineId(region.net.sources() + gate.0);
         let made = made_at::<A>(region, self.labels.as_slice(), gate);
-        if without(made, self.labels[own.0 as usize]) == StateSet::EMPTY
-            && condition_of(region, gate).is_none()
-        {
-            let left = self.cut(region, own, made, Cause::Gate(gate))?;
+        if without(made, self.labels[own.0 as usize]) == StateSet::EMPTY {
+            let left = self.cut_own(region, gate, made, true)?;
             return Ok(left != StateSet::EMPTY);
         }
         self.narrow_all::<A>(region, gate)
+    }
+
+    // The same at a gate of two pins without a condition, as most gates are.
+    #[inline(always)]
+    fn narrow_two<A: Algebra>(
+        &mut self,
+        region: &Region,
+        at: GateOfTwo,
+    ) -> Result<bool, OutOfMemory>
+        requires sized { IsSizedFor region.now.net.now self.old }
+        requires at { IsGateOfTwo region.now.net.now at }
+        ensures { self.new ≡ self.old }
+    {
+        let own = LineId(region.net.sources() + at.gate.0);
+        let label = self.labels[own.0 as usize];
+        let kind = region.net.kind(at.gate);
+        let joined = join_two::<A>(
+            self.labels.as_slice(),
+            kind.operation(),
+            at.first,
+            at.second,
+        );
+        let made = uninverted::<A>(kind, joined);
+        let is_justified = without(made, label) == StateSet::EMPTY;
+        if !is_justified && !self.cut_two::<A>(region, at)? {
+            return Ok(false);
+        }
+        // the line loses nothing where the gate may make all of its label
+        if without(label, made) == StateSet::EMPTY {
+            return Ok(label != StateSet::EMPTY);
+        }
+        let given = if is_first_alone(region, own) {
+            region.values.spread(made.intersect(label))
+        } else {
+            made
+        };
+        let left = self.cut_own(region, at.gate, given, is_justified)?;
+        Ok(left != StateSet::EMPTY)
+    }
+
+    // Cuts the lines that the two pins of a gate read to what choices have there that join into the label of its line. Whether each of
+    // them has a state left.
+    #[inline(always)]
+    fn cut_two<A: Algebra>(&mut self, region: &Region, at: GateOfTwo) -> Result<bool, OutOfMemory>
+        requires sized { IsSizedFor region.now.net.now self.old }
+        requires at { IsGateOfTwo region.now.net.now at }
+        ensures { self.new ≡ self.old }
+    {
+        let own = LineId(region.net.sources() + at.gate.0);
+        let kind = region.net.kind(at.gate);
+        let op = kind.operation();
+        let target = uninverted::<A>(kind, self.labels[own.0 as usize]);
+        let at_first = self.labels[at.first.0 as usize].intersect(every_state::<A>());
+        let at_second = self.labels[at.second.0 as usize].intersect(every_state::<A>());
+        let kept = A::supporting(op, at_second, target);
+        if self.cut(region, at.first, kept, Cause::Gate(at.gate))? == StateSet::EMPTY {
+            return Ok(false);
+        }
+        let kept = A::supporting(op, at_first, target);
+        Ok(self.cut(region, at.second, kept, Cause::Gate(at.gate))? != StateSet::EMPTY)
     }
 
     // The same at any gate.

@@ -13,7 +13,7 @@ ghost use Rattle.hulls.specs.Conditions.{IsEnteredOn};
 ghost use Rattle.cones.specs.KeptCones.{IsConeFor, IsConeAt};
 ghost use Rattle.search_hints.specs.Drafts.{IsJustifierOf, IsSizedFor, IsConeIn};
 
-use crate::completing::{Firsts, complete_gates, complete_sources, like_firsts, like_states};
+use crate::completing::{Completed, like_firsts, like_states};
 use crate::decisions::{Decisions, Ended, Order};
 use crate::first_values::FirstValues;
 use crate::frames::Frames;
@@ -74,8 +74,7 @@ pub struct Justifier {
     links: LinkEnds,
     values: FirstValues,
     frames: Frames,
-    // the values under the first vector of the pair that is completed
-    firsts: Firsts,
+    completed: Completed,
 }
 
 impl Model for Justifier {
@@ -85,7 +84,7 @@ impl Model for Justifier {
 
     ghost view = { λ j. record { entered = j.conditions; sizes = j.decisions } };
 
-    ghost invariant = { λ j. AreBeside j.decisions.lines j.grounds j.frames j.firsts };
+    ghost invariant = { λ j. AreBeside j.decisions.lines j.grounds j.frames j.completed };
 }
 
 impl Justifier {
@@ -105,7 +104,7 @@ impl Justifier {
         let links = LinkEnds::new(alloc, net, links)?;
         let decisions = Decisions::new::<A>(alloc, net, links.room())?;
         let frames = Frames::new(alloc, net)?;
-        let firsts = Firsts::new(alloc, net)?;
+        let completed = Completed::new(alloc, net)?;
         Ok(Justifier {
             conditions,
             decisions,
@@ -117,7 +116,7 @@ impl Justifier {
             links,
             values: FirstValues::new::<A>(),
             frames,
-            firsts,
+            completed,
         })
     }
 
@@ -394,19 +393,19 @@ impl Justifier {
             links,
             values,
             frames,
-            firsts,
+            completed,
             ..
         } = self;
-        firsts.take(sight.net, frames.sources(), decisions.labels(), *values);
-        firsts.take(
+        completed.take(sight.net, frames.sources(), decisions.labels(), *values);
+        completed.take(
             sight.net,
             frames.first_sources(),
             decisions.labels(),
             *values,
         );
-        firsts.compute(sight.net, frames.first_gates());
-        complete_sources::<A>(decisions, links, firsts.values(), sight, frames.sources())
-            && complete_gates::<A>(decisions, sight, frames.second_gates())
+        completed.compute(sight.net, frames.first_gates());
+        completed.complete_sources::<A>(decisions, links, sight, frames.sources())
+            && completed.complete_gates::<A>(decisions, sight, frames.second_gates())
     }
 
     /// From now on the lines of the two frames are liked to be as the pair has them that was completed last.
@@ -415,7 +414,7 @@ impl Justifier {
     {
         like_firsts(
             self.frames.lines(),
-            self.firsts.values(),
+            self.completed.values(),
             self.values,
             liked,
         );
@@ -475,12 +474,15 @@ fn write_liked(
         let at = source.0 as usize;
         let label = sight.labels[at];
         let liked = sight.liked[at];
-        let near = match links.line_of(*source) {
-            Some(_) => or_else(label.intersect(values.spread(liked)), label),
-            None => label,
+        let exact = label.intersect(liked);
+        let near = if exact != StateSet::EMPTY {
+            exact
+        } else if links.line_of(*source).is_some() {
+            or_else(label.intersect(values.spread(liked)), label)
+        } else {
+            label
         };
-        let exact = or_else(label.intersect(liked), near);
-        decisions.write(*source, exact);
+        decisions.write(*source, near);
     }
 }
 

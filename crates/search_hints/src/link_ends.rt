@@ -4,15 +4,21 @@ use netlist::Netlist;
 use pd_base::{LineId, OutOfMemory};
 use std::alloc::Global;
 
+// What is kept of a line.
+#[derive(Clone, Copy)]
+struct LinkEnd {
+    // of a source: one more than the number of the line to which it is linked, or 0
+    line: u32,
+    // one more than the number of the last source that is linked to the line, or 0
+    head: u32,
+    // of a source: one more than the number of the one before it at the same line, or 0
+    next: u32,
+}
+
 /// The links of a netlist, none of whose sources has two.
 #[derive(Drop)]
 pub(crate) struct LinkEnds {
-    // by source: one more than the number of the line to which it is linked, or 0
-    lines: Vec<u32>,
-    // by line: one more than the number of the last source that is linked to it, or 0
-    heads: Vec<u32>,
-    // by source: one more than the number of the one before it at the same line, or 0
-    nexts: Vec<u32>,
+    ends: Vec<LinkEnd>,
 }
 
 impl LinkEnds {
@@ -27,10 +33,13 @@ impl LinkEnds {
         } else {
             net.lines() as usize
         };
+        let no_end = LinkEnd {
+            line: 0,
+            head: 0,
+            next: 0,
+        };
         let mut ends = LinkEnds {
-            lines: vec![in alloc; 0u32; room]?,
-            heads: vec![in alloc; 0u32; room]?,
-            nexts: vec![in alloc; 0u32; room]?,
+            ends: vec![in alloc; no_end; room]?,
         };
         for link in links {
             ends.add(link.0, link.1);
@@ -42,44 +51,63 @@ impl LinkEnds {
     fn add(&mut self, source: LineId, line: LineId) {
         let from = source.0 as usize;
         let to = line.0 as usize;
-        if from < self.lines.len() && from < self.nexts.len() && to < self.heads.len() {
-            self.lines[from] = line.0.wrapping_add(1);
-            self.nexts[from] = self.heads[to];
-            self.heads[to] = source.0.wrapping_add(1);
+        if from < self.ends.len() && to < self.ends.len() {
+            self.ends[from].line = line.0.wrapping_add(1);
+            self.ends[from].next = self.ends[to].head;
+            self.ends[to].head = source.0.wrapping_add(1);
         }
     }
 
     // Whether there is no link.
     pub(crate) fn is_empty(&self) -> bool {
-        self.lines.is_empty()
+        self.ends.is_empty()
     }
 
     // For how many lines something is kept: for all, or for none where there is no link.
     pub(crate) fn room(&self) -> usize {
-        self.lines.len()
+        self.ends.len()
+    }
+
+    // Whether a link has this line among its two.
+    pub(crate) fn touch(&self, line: LineId) -> bool {
+        let at = line.0 as usize;
+        at < self.ends.len() && (self.ends[at].line != 0 || self.ends[at].head != 0)
     }
 
     // The line to which a source is linked, if it is.
     pub(crate) fn line_of(&self, source: LineId) -> Option<LineId> {
-        line_at(self.lines.as_slice(), source)
+        let end = self.at(source)?;
+        line_below(end.line)
     }
 
     // The last source that is linked to a line, if one is.
     pub(crate) fn source_of(&self, line: LineId) -> Option<LineId> {
-        line_at(self.heads.as_slice(), line)
+        let end = self.at(line)?;
+        line_below(end.head)
     }
 
     // The source before another one that is linked to the same line.
     pub(crate) fn source_before(&self, source: LineId) -> Option<LineId> {
-        line_at(self.nexts.as_slice(), source)
+        let end = self.at(source)?;
+        line_below(end.next)
+    }
+
+    // What is kept of a line, if anything is.
+    fn at(&self, line: LineId) -> Option<LinkEnd> {
+        let at = line.0 as usize;
+        if at < self.ends.len() {
+            Some(self.ends[at])
+        } else {
+            None
+        }
     }
 }
 
-// The line of which a list has one more than the number at a place, if it has.
-fn line_at(list: &[u32], place: LineId) -> Option<LineId> {
-    let at = place.0 as usize;
-    if at >= list.len() || list[at] == 0 {
-        return None;
+// The line whose number is one less, if there is one.
+fn line_below(number: u32) -> Option<LineId> {
+    if number == 0 {
+        None
+    } else {
+        Some(LineId(number - 1))
     }
-    Some(LineId(list[at] - 1))
 }

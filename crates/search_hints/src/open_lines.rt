@@ -22,15 +22,37 @@ pub(crate) fn is_justified<A: Algebra>(net: &Netlist, labels: &[StateSet], gate:
     without(made, uninverted::<A>(kind, wanted)) == StateSet::EMPTY
 }
 
-// What an operation makes of the states of these lines.
+// What an operation makes of the states of these lines. Most gates have two pins: that is inlined, and others are joined by a call.
+#[inline(always)]
 pub(crate) fn join_all<A: Algebra>(labels: &[StateSet], op: Op, lines: &[LineId]) -> StateSet
     requires { All (λ line. line.0 < length labels.now) lines.now }
 {
     if let [first, second] = lines {
-        let first = labels[first.0 as usize].intersect(every_state::<A>());
-        let second = labels[second.0 as usize].intersect(every_state::<A>());
-        return A::join_sets(op, first, second);
+        return join_two::<A>(labels, op, *first, *second);
     }
+    join_many::<A>(labels, op, lines)
+}
+
+// The same of two lines.
+#[inline(always)]
+pub(crate) fn join_two<A: Algebra>(
+    labels: &[StateSet],
+    op: Op,
+    first: LineId,
+    second: LineId,
+) -> StateSet
+    requires first { first.0 < length labels.now }
+    requires second { second.0 < length labels.now }
+{
+    let first = labels[first.0 as usize].intersect(every_state::<A>());
+    let second = labels[second.0 as usize].intersect(every_state::<A>());
+    A::join_sets(op, first, second)
+}
+
+// The same of any number of lines.
+fn join_many<A: Algebra>(labels: &[StateSet], op: Op, lines: &[LineId]) -> StateSet
+    requires { All (λ line. line.0 < length labels.now) lines.now }
+{
     let mut joined = StateSet::only(A::unit(op)).intersect(every_state::<A>());
     for line in lines {
         let label = labels[line.0 as usize].intersect(every_state::<A>());

@@ -2,6 +2,7 @@
 // is tried first. A hint alone: what it leads to is judged before it is taken.
 ghost use Rattle.std.specs.Prelude.{◌≡◌, ◌<◌, length, IfSome};
 ghost use Rattle.netlist.specs.Circuit.{gate_count, line_count, HasLines};
+ghost use Rattle.state_sets.specs.States.{IsWithin};
 
 use netlist::{GateKind, Netlist, Op, SideCondition};
 use pd_base::{GateId, LineId};
@@ -51,7 +52,9 @@ pub(crate) fn steady_states<A: Algebra>() -> StateSet {
 }
 
 // The states of which a gate of this kind makes those of a set.
-pub(crate) fn uninverted<A: Algebra>(kind: GateKind, set: StateSet) -> StateSet {
+pub(crate) fn uninverted<A: Algebra>(kind: GateKind, set: StateSet) -> StateSet
+    ensures { IsWithin A.algebra.count result }
+{
     let set = set.intersect(every_state::<A>());
     if kind.inverts() {
         A::invert_set(set)

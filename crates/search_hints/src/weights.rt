@@ -90,22 +90,18 @@ impl Weights {
         let mut heaviest = None;
         let mut most = 0;
         for source in sources {
-            let weight = self.weight::<A>(*source, labels);
-            if weight > most {
+            let weight = self.of(*source);
+            if weight > most && may_end_at_either::<A>(*source, labels) {
                 most = weight;
                 heaviest = Some(*source);
             }
         }
         heaviest
     }
+}
 
-    // The weight of a source that can still end at either value, and 0 of another one.
-    fn weight<A: Algebra>(&self, source: LineId, labels: &[StateSet]) -> u64 {
-        let at = source.0 as usize;
-        if at < labels.len() && has_both_values::<A>(labels[at]) {
-            self.of(source)
-        } else {
-            0
-        }
-    }
+// Whether a source can still end at either value.
+fn may_end_at_either<A: Algebra>(source: LineId, labels: &[StateSet]) -> bool {
+    let at = source.0 as usize;
+    at < labels.len() && has_both_values::<A>(labels[at])
 }

@@ -1,6 +1,6 @@
 -- A spent tree has less splits than the number of states that the rules leave a source to the power of the number of sources in the
 -- support, the path's own not counted: each leaf below a node takes one of the combinations of states that the halves leave these.
-use Rattle.std.proofs.Common.{◌≡◌, ◌≢◌, ℕ, zero, suc, ◌+◌, ◌-◌, ◌*◌, ◌^◌, ◌<◌, ◌≤◌, Bool, true, false, cond, ◌&&◌, ◌==◌, List, [], ◌∷◌, ◌++◌, length, get_or, refl, sym, ap, ◌∙◌, subst, arith, pow-suc, eq-eqb}
+use Rattle.std.proofs.Common.{◌≡◌, ◌≢◌, ℕ, zero, suc, ◌+◌, ◌-◌, ◌*◌, ◌^◌, ◌<◌, ◌≤◌, Bool, true, false, cond, ◌&&◌, ◌==◌, List, [], ◌∷◌, ◌++◌, length, refl, sym, ap, ◌∙◌, subst, arith, pow-suc, eq-eqb}
 use Rattle.std.proofs.lemmas.List.Sums.{sum_by-append}
 use Rattle.std.proofs.lemmas.Bool.{eqb-true, false≢true}
 use Rattle.pd_base.specs.Target.{Target}
@@ -26,7 +26,7 @@ use Rattle.trees.specs.Refutations.{below}
 use Rattle.trees.specs.Spent.{IsInSupport, IsDue, IsOpen, HasInHalf, IsSpentBelow, IsSpent}
 use Rattle.trees.specs.Bounds.{AreSupport, IsBelowBound, states_of_source}
 use Rattle.trees.proofs.Products.{product_by, product-pos, product_parts, product_fewer}
-use Rattle.trees.proofs.Weights.{states_left, leaves_all, as_four, as_four_below, half_as_four, cut_as_four, start_as_four, cut_passes, counted, other_stays, split_parts, in_half, in_half_passes, leaves_more}
+use Rattle.trees.proofs.Weights.{states_left, leaves_all, cut_passes, counted, other_stays, split_parts, in_half, in_half_passes, leaves_more}
 
 -- a path's source is in its support
 pub own_in_support : (c : Circuit) (rules : Rules) (path : Route) → IsPrefix c path → IsInSupport c rules path path.source.0
@@ -72,15 +72,14 @@ module _ (c : Circuit) (rules : Rules) (target : Target) where
       let a = algebra_of rules in
       let may : MayBe a c rules target halves source has.0 =
       open_here.is_hull.rest.among source has.0 has.1 in
-      let four = as_four a has.0 in
-      let in_it : in_half steadiness second four ≡ true =
-      in_half_passes steadiness second four (half_as_four a has.0 steadiness second has.2) in
-      let left : leaves_all rules halves source four ≡ true =
-      cut_passes rules halves source four (start_as_four a has.0 rules (may.start.other within apart))
-      (λ k d inside. cut_as_four a has.0 source (get_or halves k d) (may.cut k d inside)) in
-      counted four.0 (as_four_below a has.0) (leaves_all rules (below halves steadiness source second) source)
-      (leaves_more rules halves (record { source = source; steadiness = steadiness; second = second }) source four
-      ∙ both (leaves_all rules halves source four) (source == source) (in_half steadiness second four) left in_it)
+      let steady = a.steady has.0 in
+      let last = a.last has.0 in
+      let in_it : in_half steadiness second steady last ≡ true = in_half_passes a has.0 steadiness second has.2 in
+      let left : leaves_all rules halves source steady last ≡ true =
+      cut_passes a has.0 rules halves source (may.start.other within apart) may.cut in
+      counted (leaves_all rules (below halves steadiness source second) source) steady last
+      (leaves_more rules halves (record { source = source; steadiness = steadiness; second = second }) source steady last
+      ∙ both (leaves_all rules halves source steady last) (source == source) (in_half steadiness second steady last) left in_it)
     where
       both : (a b d : Bool) → a ≡ true → d ≡ true → (a && cond b d true) ≡ true
       both a true d is_a is_d = cc

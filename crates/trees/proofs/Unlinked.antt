@@ -9,8 +9,6 @@ use Rattle.netlist.specs.LinkedPairs.{AreLinksOf, FitRules, IsOfRules, IsSupport
 use Rattle.netlist.specs.LinkedPairs.IsSupported.{behind_link, in_fan_in}
 use Rattle.netlist.specs.Pins.{IsInFanIn}
 use Rattle.state_laws.proofs.Linked.{none_linked}
-use Rattle.state_sets.specs.FourStates.{four_states}
-use Rattle.trees.specs.Algebras.{algebra_of}
 use Rattle.trees.specs.Unlinked.{IsUnlinked}
 
 module _ (c : Circuit) (rules : Rules) (unlinked : links_of rules ≡ []) where
@@ -31,13 +29,8 @@ module _ (c : Circuit) (rules : Rules) (unlinked : links_of rules ≡ []) where
   supported_in_fan_in end (behind_link source line other supported link inside) =
       absurd (none_linked source line (subst (λ links. IsLink links source line) unlinked link))
 
--- rules that are not linked ones have no links, and four states
+-- rules that are not linked ones have no links
 pub no_links : (rules : Rules) → IsUnlinked rules → links_of rules ≡ []
 no_links One unlinked = refl
 no_links Two unlinked = refl
 no_links (Linked links) unlinked = absurd unlinked
-
-pub four_unlinked : (rules : Rules) → IsUnlinked rules → four_states ≡ algebra_of rules
-four_unlinked One unlinked = refl
-four_unlinked Two unlinked = refl
-four_unlinked (Linked links) unlinked = absurd unlinked

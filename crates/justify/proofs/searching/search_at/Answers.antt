@@ -7,8 +7,8 @@ use Rattle.netlist.specs.Paths.{IsPrefix}
 use Rattle.implication.specs.Scopes.{standing}
 use Rattle.pd_base.specs.declared.rules.Rules.{Rules}
 use Rattle.implication.proofs.ScopeLabels.{there_too}
-use Rattle.justify.specs.Desks.{IsDeskFor, IsDesk}
-use Rattle.justify.proofs.Suiting.{ended_before, setting_back, setting_restored}
+use Rattle.justify.specs.Desks.{IsDesk}
+use Rattle.justify.proofs.Suiting.{ended_before, made_for, setting_back, setting_restored}
 use Rattle.justify.proofs.Ended.{concluded_found, concluded_counts}
 use Rattle.justify.proofs.searching.search_at.Goals as goal
 
@@ -27,9 +27,7 @@ conclude-requires-clause-desk g c =
 pub returns-clause-desk : goal.returns-clause-desk
 returns-clause-desk g c =
     let left = c.find-ended.ensures.ends.left in
-    let P : Circuit → Rules → Type 0 = λ n r. IsDeskFor g.A.Algebra.algebra n r c.conclude.new.desk in
-    there_too P (standing c.find-ended.new.scope).net (standing c.args.scope.now).net (standing c.find-ended.new.scope).rules
-    (standing c.args.scope.now).rules left.restored.net left.restored.rules c.conclude.ensures.desk.made
+    made_for left.restored.net left.restored.rules c.conclude.ensures.desk.made
 
 pub returns-clause-found : goal.returns-clause-found
 returns-clause-found g c =

@@ -1,12 +1,8 @@
--- The desk is made for the scope's netlist and rules, which are linked, and six states.
+-- The desk is made for the scope's netlist and rules, which are linked.
 use Rattle.std.proofs.Common.{sym, ap, subst₂, ◌∙◌}
-use Rattle.netlist.specs.Circuit.{Circuit}
 use Rattle.netlist.specs.LinkedPairs.{FitRules}
-use Rattle.pd_base.specs.declared.rules.Rules.{Rules}
-use Rattle.state_sets.specs.SixStates.{six_states}
 use Rattle.trees.specs.Algebras.{algebra_of}
-use Rattle.implication.proofs.ScopeLabels.{there_too}
-use Rattle.justify.specs.Desks.{IsDeskFor}
+use Rattle.justify.proofs.Suiting.{made_for}
 use Rattle.justify.proofs.searching.search_linked.Goals as goal
 
 pub new-requires-clause-states : goal.new-requires-clause-states
@@ -16,9 +12,7 @@ pub new-requires-clause-fit : goal.new-requires-clause-fit
 new-requires-clause-fit g c = subst₂ FitRules (sym c.net.ensures) (sym c.rules.ensures) c.requires.rules.fit
 
 pub search_at-requires-clause-desk : goal.search_at-requires-clause-desk
-search_at-requires-clause-desk g c =
-    let P : Circuit → Rules → Type 0 = λ n r. IsDeskFor six_states n r c.in_ok-desk.desk in
-    there_too P _ _ _ _ c.net.ensures c.rules.ensures c.in_ok-desk.ensures
+search_at-requires-clause-desk g c = made_for c.net.ensures c.rules.ensures c.in_ok-desk.ensures
 
 pub search_at-requires-clause-can : goal.search_at-requires-clause-can
 search_at-requires-clause-can g c = c.requires.can

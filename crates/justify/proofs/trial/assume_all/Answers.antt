@@ -19,20 +19,20 @@ use Rattle.justify.proofs.trial.assume_all.Goals as goal
 
 pub returns-in-Err-clause-trial : goal.returns-in-Err-clause-trial
 returns-in-Err-clause-trial g c =
-    let first = standing c.args.scope.now in let now = standing c.loop-entry.scope in
+    let first = standing c.args.scope.now in let now = standing c.loop-place.scope in
     let free : IsFree now = record {
-      begun = ap is_some (c.loop-entry.invariant.extends.beginning ∙ c.requires.node.beginning);
-      free = c.loop-entry.invariant.held.free;
+      begun = ap is_some (c.loop-place.invariant.extends.beginning ∙ c.requires.node.beginning);
+      free = c.loop-place.invariant.held.free;
     } in
     within_more g.A.Algebra.algebra (seen_target c.args.target.now) first c.requires.node now (standing c.assume.new.self) _
-    (c.requires.tried c.loop-entry.entry-index _ c.loop-entry-test.true) c.only.result c.only.ensures
-    (closed_list g.A.Algebra.algebra.count now (standing c.assume.new.self) _ c.only.result _ (c.in-Err.ensures.tells.err free)) c.loop-entry.invariant.trial
+    (c.requires.tried c.loop-place.place _ c.loop-place-test.true) c.only.result c.only.ensures
+    (closed_list g.A.Algebra.algebra.count now (standing c.assume.new.self) _ c.only.result _ (c.in-Err.ensures.tells.err free)) c.loop-place.invariant.trial
 
 pub returns-in-Err-clause-ends : goal.returns-in-Err-clause-ends
 returns-in-Err-clause-ends g c =
-    let first = standing c.args.scope.now in let now = standing c.loop-entry.scope in let new = standing c.assume.new.self in
-    let before = c.loop-entry.invariant.extends in
-    let free : IsFree now = record { begun = ap is_some (before.beginning ∙ c.requires.node.beginning); free = c.loop-entry.invariant.held.free } in
+    let first = standing c.args.scope.now in let now = standing c.loop-place.scope in let new = standing c.assume.new.self in
+    let before = c.loop-place.invariant.extends in
+    let free : IsFree now = record { begun = ap is_some (before.beginning ∙ c.requires.node.beginning); free = c.loop-place.invariant.held.free } in
     record {
       closes = closes_there g.A.Algebra.algebra first new (beginning_of (seen_target c.args.target.now)) (c.assume.ensures.extends.net ∙ before.net)
           (c.assume.ensures.extends.rules ∙ before.rules) (c.assume.ensures.extends.beginning ∙ before.beginning ∙ c.requires.node.beginning)
@@ -41,13 +41,13 @@ returns-in-Err-clause-ends g c =
           (closed_count g.A.Algebra.algebra.count now new _ c.only.result _ (c.in-Err.ensures.tells.err free));
     }
 
-pub loop-entry-preserved : goal.loop-entry-preserved
-loop-entry-preserved g c =
-    let first = standing c.args.scope.now in let now = standing c.loop-entry.scope in let new = standing c.assume.new.self in
+pub loop-place-preserved : goal.loop-place-preserved
+loop-place-preserved g c =
+    let first = standing c.args.scope.now in let now = standing c.loop-place.scope in let new = standing c.assume.new.self in
     let target = seen_target c.args.target.now in
-    let before = c.loop-entry.invariant in
+    let before = c.loop-place.invariant in
     let more = grown_list g.A.Algebra.algebra.count now new _ c.only.result c.in-Ok.ensures.tells.ok in
-    let is = c.requires.tried c.loop-entry.entry-index _ c.loop-entry-test.true in
+    let is = c.requires.tried c.loop-place.place _ c.loop-place-test.true in
     record {
       scope = same_scope_twice before.scope c.assume.ensures.scope;
       extends = extends_trans first now new before.extends c.assume.ensures.extends;
@@ -55,23 +55,23 @@ loop-entry-preserved g c =
       held = record {
         free = grown_conflict g.A.Algebra.algebra.count now new _ c.only.result c.in-Ok.ensures.tells.ok ∙ before.held.free;
         left_open = c.in-Ok.ensures.tells.left_open;
-        held = All-more (IsHeldIn g.A.Algebra.algebra target first new) c.args.tried.now c.loop-entry.entry-index _ c.loop-entry-test.true
-            (held_before g.A.Algebra.algebra target first c.requires.node now new _ is c.only.result c.only.ensures more (take c.loop-entry.entry-index c.args.tried.now) before.held.held)
+        held = All-more (IsHeldIn g.A.Algebra.algebra target first new) c.args.tried.now c.loop-place.place _ c.loop-place-test.true
+            (held_before g.A.Algebra.algebra target first c.requires.node now new _ is c.only.result c.only.ensures more (take c.loop-place.place c.args.tried.now) before.held.held)
             (held_here g.A.Algebra.algebra target first c.requires.node now new _ is c.only.result c.only.ensures more);
       };
     }
 
 pub returns-clause-ends : goal.returns-clause-ends
 returns-clause-ends g c =
-    let P : _ → Type 0 = λ xs. All (IsHeldIn g.A.Algebra.algebra (seen_target c.args.target.now) (standing c.args.scope.now) (standing c.loop-entry.scope)) xs in
+    let P : _ → Type 0 = λ xs. All (IsHeldIn g.A.Algebra.algebra (seen_target c.args.target.now) (standing c.args.scope.now) (standing c.loop-place.scope)) xs in
     record {
-      free = c.loop-entry.invariant.held.free;
-      left_open = c.loop-entry.invariant.held.left_open;
-      held = subst P (take_all c.loop-entry.entry-index c.args.tried.now c.loop-entry-test.false) c.loop-entry.invariant.held.held;
+      free = c.loop-place.invariant.held.free;
+      left_open = c.loop-place.invariant.held.left_open;
+      held = subst P (take_all c.loop-place.place c.args.tried.now c.loop-place-test.false) c.loop-place.invariant.held.held;
     }
 
-pub loop-entry-init : goal.loop-entry-init
-loop-entry-init g c =
+pub loop-place-init : goal.loop-place-init
+loop-place-init g c =
     let first = standing c.args.scope.now in
     record {
       scope = record { engine = refl; origin = refl };
@@ -82,28 +82,28 @@ loop-entry-init g c =
 
 pub assume-requires-clause-source : goal.assume-requires-clause-source
 assume-requires-clause-source g c =
-    rw c.loop-entry.invariant.extends.net (c.requires.tried c.loop-entry.entry-index _ c.loop-entry-test.true).source.in_support.is_source
+    rw c.loop-place.invariant.extends.net (c.requires.tried c.loop-place.place _ c.loop-place-test.true).source.in_support.is_source
 
 pub assume-requires-clause-told : goal.assume-requires-clause-told
 assume-requires-clause-told g c =
-    let first = standing c.args.scope.now in let now = standing c.loop-entry.scope in
-    let extends = c.loop-entry.invariant.extends in
+    let first = standing c.args.scope.now in let now = standing c.loop-place.scope in
+    let extends = c.loop-place.invariant.extends in
     told_after first now (record { net = extends.net; rules = extends.rules; ends = extends.ends }) _
-    (c.requires.tried c.loop-entry.entry-index _ c.loop-entry-test.true).source.told
+    (c.requires.tried c.loop-place.place _ c.loop-place-test.true).source.told
 
 pub returns-in-Err-clause-scope : goal.returns-in-Err-clause-scope
-returns-in-Err-clause-scope g c = same_scope_twice c.loop-entry.invariant.scope c.assume.ensures.scope
+returns-in-Err-clause-scope g c = same_scope_twice c.loop-place.invariant.scope c.assume.ensures.scope
 
 pub returns-in-Err-clause-extends : goal.returns-in-Err-clause-extends
 returns-in-Err-clause-extends g c =
-    extends_trans (standing c.args.scope.now) (standing c.loop-entry.scope) (standing c.assume.new.self)
-    c.loop-entry.invariant.extends c.assume.ensures.extends
+    extends_trans (standing c.args.scope.now) (standing c.loop-place.scope) (standing c.assume.new.self)
+    c.loop-place.invariant.extends c.assume.ensures.extends
 
 pub returns-clause-scope : goal.returns-clause-scope
-returns-clause-scope g c = c.loop-entry.invariant.scope
+returns-clause-scope g c = c.loop-place.invariant.scope
 
 pub returns-clause-extends : goal.returns-clause-extends
-returns-clause-extends g c = c.loop-entry.invariant.extends
+returns-clause-extends g c = c.loop-place.invariant.extends
 
 pub returns-clause-trial : goal.returns-clause-trial
-returns-clause-trial g c = c.loop-entry.invariant.trial
+returns-clause-trial g c = c.loop-place.invariant.trial

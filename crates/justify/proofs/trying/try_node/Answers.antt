@@ -29,10 +29,10 @@ judge_least-requires-clause-suits g c =
 
 pub judge_least-requires-clause-desk : goal.judge_least-requires-clause-desk
 judge_least-requires-clause-desk g c =
-    let P : Circuit → Rules → Type 0 = λ n r. IsDesk g.A.Algebra.algebra n r c.args.target.now.path.now c.args.desk.now in
+    let P : Circuit → Rules → Type 0 = λ n r. IsDesk g.A.Algebra.algebra n r c.args.target.now.path.now c.closes_again.new.desk in
     there_too P (standing c.args.scope.now).net (standing c.closes_again.new.scope).net (standing c.args.scope.now).rules
     (standing c.closes_again.new.scope).rules (sym c.closes_again.ensures.restored.net) (sym c.closes_again.ensures.restored.rules)
-    c.requires.desk
+    c.closes_again.ensures.desk
 
 pub returns-in_err-pair-clause-desk : goal.returns-in_err-pair-clause-desk
 returns-in_err-pair-clause-desk g c =

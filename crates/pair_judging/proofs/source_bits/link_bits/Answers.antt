@@ -1,5 +1,5 @@
 -- The sources with marks are those of the cone.
-use Rattle.std.proofs.Common.{refl, subst₂, List, Bool, subst}
+use Rattle.std.proofs.Common.{refl, subst}
 use Rattle.std.specs.Prelude.{Contains}
 use Rattle.pd_base.specs.Links.{LinkList}
 use Rattle.netlist.specs.Values.{value}

@@ -32,10 +32,10 @@ pub returns-clause-emptied : goal.returns-clause-emptied
 returns-clause-emptied g c =
     emptied_of g.A.Algebra.algebra g.met.A.Algebra.laws (invariant_of-self g c).0 _ refl c.begin-self-inside.result refl
 
-pub returns-clause-four_states : goal.returns-clause-four_states
-returns-clause-four_states g c = λ unlinked.
+pub returns-clause-free : goal.returns-clause-free
+returns-clause-free g c = λ unlinked.
     let call = c.begin-self-inside in
     free_begun g.A.Algebra.algebra c.self.invariant.0 c.args.self.now c.self.view_is c.requires.idle c.args.begun c.requires.source c.requires.told
     call.new.board call.new.self call.ensures.board.inside call.ensures.board.links call.ensures.board.lines call.ensures.board.at_rest c.set_kind.new.self c.set_kind.ensures
     c.netlist.result.now c.netlist.ensures c.rules.result.now c.rules.ensures call.result call.ensures.start.hull call.ensures.start.none_empty
-    call.ensures.start.emptied call.ensures.stands (ap (λ (s : Standing). links_of s.rules) c.self.view_is ∙ unlinked)
+    call.ensures.start.emptied call.ensures.stands g.met.A.Algebra.laws (ap (λ (s : Standing). links_of s.rules) c.self.view_is ∙ unlinked)

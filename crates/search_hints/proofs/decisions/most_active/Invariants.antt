@@ -1,7 +1,0 @@
--- The best line so far is a line of the circuit.
-use Rattle.std.proofs.Common.{◌<◌, IfSome}
-use Rattle.netlist.specs.Circuit.{line_count}
-use Rattle.search_hints.proofs.decisions.most_active.Given as goal
-
-abbrev pub invariant-loop-line : goal.invariant-loop-line
-invariant-loop-line g l = IfSome l.best (λ line. line.0 < line_count l.region.net.now)
