@@ -16,13 +16,17 @@ use Rattle.cones.specs.KeptCones.{ranked_gate, AreRanks, IsRankAmong, AreConeSou
 use Rattle.cones.proofs.Images.{image_has, image_only, image_pairs}
 use Rattle.cones.proofs.RankedCones.{cone_gates}
 
--- no gate of an order stands there twice
-pub ranked_apart : (c : Circuit) (order : List GateId) → IsRankOrder c order → AllPairs (λ a b. a.0 ≢ b.0) order
-ranked_apart c order ranked i j d less inside same = apart (get_or order i d) (get_or order j d) same (ranked.rising i j d less inside)
+-- no gate of a list in rank order stands there twice
+pub gates_apart : (c : Circuit) (gates : List GateId) → AllPairs (IsRankedBefore c) gates → AllPairs (λ a b. a.0 ≢ b.0) gates
+gates_apart c gates rising i j d less inside same = apart (get_or gates i d) (get_or gates j d) same (rising i j d less inside)
   where
     apart : (a b : GateId) → a.0 ≡ b.0 → IsRankedBefore c a b → ⊥
     apart a b same (lower_level below) = omega (arith, ap (λ n. level c (gate_line c n)) same)
     apart a b same (lesser_number even less) = omega arith
+
+-- nor of the order of all
+pub ranked_apart : (c : Circuit) (order : List GateId) → IsRankOrder c order → AllPairs (λ a b. a.0 ≢ b.0) order
+ranked_apart c order ranked = gates_apart c order ranked.rising
 
 -- a source by its number
 abbrev pub source_of : ℕ → LineId

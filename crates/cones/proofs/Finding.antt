@@ -1,5 +1,5 @@
 -- Lines that are found: the marks that tell of them, and one line more.
-use Rattle.std.proofs.Common.{◌≡◌, ◌≢◌, ℕ, zero, suc, ◌+◌, ◌<◌, ◌≤◌, ⊎_elim, inl, inr, ◌⊎◌, Bool, true, false, List, [], ◌∷◌, ◌++◌, length, get_or, take, drop, set, refl, sym, ap, ◌∙◌, subst, arith}
+use Rattle.std.proofs.Common.{◌≡◌, ◌≢◌, ℕ, zero, suc, ◌+◌, ◌<◌, ◌≤◌, ◌↔◌, ⊎_elim, inl, inr, ◌⊎◌, Bool, true, false, List, [], ◌∷◌, ◌++◌, length, get_or, take, drop, set, refl, sym, ap, ◌∙◌, subst, arith}
 use Rattle.std.specs.List.{All, Contains}
 use Rattle.std.proofs.lemmas.Bool.{cases_eq, cases_lt, false≢true}
 use Rattle.std.proofs.lemmas.List.{append-nil, append_assoc, length-set, length_push, get_or-set_same, get_or-set_other, get_or_past, take_more, drop_more, drop_all}
@@ -81,6 +81,24 @@ finds_next lines place next old middle new inside is first second = record {
         (λ (this : next ≡ id). (second.exactly line).1 (inr (subst (Contains (next ∷ [])) this (one_there next))))
         (Contains-push_cases (take place lines) next id (subst (λ ls. Contains ls id) longer among)))
         either
+
+-- where none was found, what is found is what was looked for
+pub finds_both : (lines others : List LineId) (old middle new : FoundSet) → old.lines ≡ [] → FindsMore lines old middle → FindsMore others middle new
+    → (line : ℕ) → Contains new.lines (record { 0 = line }) ↔ (Contains lines (record { 0 = line }) ⊎ Contains others (record { 0 = line }))
+finds_both lines others old middle new none first second line = (
+  λ has. ⊎_elim
+      (λ (before : Contains middle.lines (record { 0 = line })). ⊎_elim
+      (λ (was : Contains old.lines (record { 0 = line })).
+      let never = subst (λ ls. Contains ls (record { 0 = line })) none was in absurd (omega (arith, never.1)))
+      (λ (one : Contains lines (record { 0 = line })). inl one)
+      ((first.exactly line).0 before))
+      (λ (other : Contains others (record { 0 = line })). inr other)
+      ((second.exactly line).0 has),
+  λ either. ⊎_elim
+      (λ (one : Contains lines (record { 0 = line })). (second.exactly line).1 (inl ((first.exactly line).1 (inr one))))
+      (λ (other : Contains others (record { 0 = line })). (second.exactly line).1 (inr other))
+      either,
+)
 
 module _ (marks : List Bool) (lines : List LineId) (capacity : ℕ) (is : AreMarked marks lines capacity) where
   abbrev before : FoundSet

@@ -1,4 +1,5 @@
 mod Images
+mod Storing
 pub mod Finding
 pub mod Spreading
 pub mod SourceHeads
@@ -6,5 +7,6 @@ mod Numbers
 pub mod RankedCones
 mod ConeLists
 mod ConeScans
+mod Keeping
 mod Marking
 mod Sweep

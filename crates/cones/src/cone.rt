@@ -1,6 +1,6 @@
 // The cone of a line: the lines of its support under links, with the sources and the gates among them in order. One cone is kept at a
 // time, and the next one costs those two and not the circuit, but where it is a good part of that. How they are listed stands in
-// cone_lists.rt.
+// cone_lists.rt. The lists of cones that were found are stored (stored_cones.rt), and such a cone is put back by them (restoring.rt).
 ghost use Rattle.std.specs.Prelude.{◌≡◌, ◌<◌, ◌↔◌, ℕ, length, Some, IfOk, IsTrue, Contains};
 ghost use Rattle.netlist.specs.Circuit.{line_count};
 ghost use Rattle.netlist.specs.LinkedPairs.{AreLinksOf, IsSupported};
@@ -12,7 +12,9 @@ use crate::cone_lists::{
     list_gates, list_sources, number_sources, rank_gates, ranks_of, scan_gates, scan_sources,
 };
 use crate::found_lines::FoundLines;
+use crate::restoring::{find_listed, replace_items};
 use crate::source_links::SourceLinks;
+use crate::stored_cones::StoredCones;
 use netlist::Netlist;
 use pd_base::{GateId, LineId, OutOfMemory};
 use std::alloc::Global;
@@ -33,6 +35,7 @@ pub struct Cone {
     order: Vec<GateId>,
     ranks: Vec<usize>,
     numbers: Vec<usize>,
+    stored: StoredCones,
 }
 
 impl Model for Cone {
@@ -41,7 +44,7 @@ impl Model for Cone {
 
     ghost Value = { KeptCone };
 
-    ghost view = { λ c. record { end = c.end; found = c.found; sources = c.sources.items; gates = c.gates.items; links = c.links; order = c.order.items; ranks = c.ranks.items } };
+    ghost view = { λ c. record { end = c.end; found = c.found; sources = c.sources.items; gates = c.gates.items; links = c.links; order = c.order.items; ranks = c.ranks.items; stored = c.stored } };
 
     ghost invariant = { λ c. HasRoomFor c.found (vec_capacity c.sources) (vec_capacity c.gates) (vec_capacity c.numbers) };
 }
@@ -86,10 +89,12 @@ impl Cone {
             order,
             ranks,
             numbers,
+            stored: StoredCones::new(alloc, lines)?,
         })
     }
 
-    /// Keeps the cone of this line, and no longer that of the line before. Takes no memory, and no time where it is kept already.
+    /// Keeps the cone of this line, and no longer that of the line before. Takes no memory, and no time where it is kept already; where it
+    /// was kept not long ago, it costs its lines alone and no search.
     pub fn set_end(&mut self, net: &Netlist, end: LineId)
         requires made { IsConeFor net.now self.old }
         requires end { end.0 < line_count net.now }
@@ -97,10 +102,12 @@ impl Cone {
         ensures links { self.new.links ≡ self.old.links }
         ensures cone { IsConeAt net.now end.0 self.new }
     {
-        if self.keeps(end) {
+        if self.keeps(end) || self.restore(net, end) {
             return;
         }
         self.find(net, end);
+        self.stored
+            .store(end, self.sources.as_slice(), self.gates.as_slice());
     }
 
     // Whether the cone that is kept is that of this line.
@@ -111,6 +118,27 @@ impl Cone {
             Some(kept) => kept.0 == end.0,
             None => false,
         }
+    }
+
+    // Puts the cone of a line back, if it is stored. Tells whether it is.
+    fn restore(&mut self, net: &Netlist, end: LineId) -> bool
+        requires made { IsConeFor net.now self.old }
+        requires end { end.0 < line_count net.now }
+        ensures made { IsConeFor net.now self.new }
+        ensures links { self.new.links ≡ self.old.links }
+        ensures cone { IsTrue result → IsConeAt net.now end.0 self.new }
+    {
+        let Some(cone) = self.stored.cone_of(end) else {
+            return false;
+        };
+        // A netlist knows itself as a circuit.
+        let has_room = self.found.marks().len() == net.lines() as usize;
+        prove!(has_room);
+        find_listed(net, cone.sources, cone.gates, &mut self.found);
+        replace_items(&mut self.sources, cone.sources);
+        replace_items(&mut self.gates, cone.gates);
+        self.end = Some(end);
+        true
     }
 
     // Finds the cone of a line.

@@ -54,5 +54,6 @@ returns-clause-made c =
       ordered = made.ordered;
       one_each = made.one_each;
       places = made.places;
+      stored = made.stored;
       kept = returns-clause-cone c;
     }
