@@ -6,3 +6,5 @@ mod StepStates
 pub mod Judged
 pub mod Taking
 mod ConeJudging
+mod StaleGates
+mod PinsJoined

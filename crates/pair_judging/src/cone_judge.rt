@@ -1,19 +1,26 @@
 // The judging of finished pairs of vectors, one path at a time: on the cone of the path's end alone, the states of its sources are read off
-// the pair, those of its other lines computed, and the conditions read on them. The cone of the last end is kept.
-ghost use Rattle.std.specs.Prelude.{◌≡◌, ◌↔◌, length, IfOk, IsTrue};
-ghost use Rattle.netlist.specs.Circuit.{source_count};
+// the pair, those of its other lines computed, and the conditions read on them. The cone of the last end is kept. And the pairs that keep
+// links, whose second bits are read off values of lines: those under the last first vector are kept.
+ghost use Rattle.std.specs.Prelude.{◌≡◌, ◌↔◌, ◌<◌, ℕ, length, All, IfOk, IsTrue, []};
+ghost use Rattle.cones.specs.FoundLines.{HasMark};
+ghost use Rattle.cones.specs.KeptCones.{IsConeFor, IsConeAt};
+ghost use Rattle.netlist.specs.Circuit.{source_count, line_count};
 ghost use Rattle.netlist.specs.Conditions.{Meets};
+ghost use Rattle.netlist.specs.LinkedPairs.{AreLinksOf};
 ghost use Rattle.netlist.specs.Paths.{IsPrefix, end_of};
-ghost use Rattle.pair_judging.specs.ConeStates.{HasConeStates};
+ghost use Rattle.netlist.specs.Values.{value};
+ghost use Rattle.pair_judging.specs.ConeStates.{AreSourceStates, HasConeStates, IsLinkedFrom};
 ghost use Rattle.pair_judging.specs.Judges.{IsJudgeOf};
+ghost use Rattle.pair_judging.specs.SourceBits.{AreLinkBits};
 ghost use Rattle.pair_judging.specs.Targets.{seen_target};
 
 use crate::judging::{Judgement, compute_all};
+use crate::line_values::LineValues;
 use crate::path_ends::end_of;
 use crate::path_states::judge_steps;
-use crate::source_bits::take_pair;
+use crate::source_bits::{are_sources, take_pair, write_bits, write_links};
 use crate::target::Target;
-use cones::Cone;
+use cones::{Cone, SourceLinks};
 use netlist::Netlist;
 use pd_base::{OutOfMemory, Pair, Path};
 use state_sets::{Algebra, FourStates, State};
@@ -26,6 +33,8 @@ pub struct ConeJudge {
     cone: Cone,
     // by line; those of the cone are the ones under the pair that was judged last
     states: Vec<State>,
+    // under the first vector of the pair that was read last, if the links asked for them
+    values: LineValues,
 }
 
 impl Model for ConeJudge {
@@ -33,7 +42,7 @@ impl Model for ConeJudge {
 
     ghost Value = { KeptJudge };
 
-    ghost view = { λ j. record { cone = j.cone; states = j.states.items } };
+    ghost view = { λ j. record { cone = j.cone; states = j.states.items; values = j.values } };
 }
 
 impl ConeJudge {
@@ -42,8 +51,13 @@ impl ConeJudge {
         ensures { IfOk result (IsJudgeOf 4 net.now) }
     {
         let states = vec![in alloc; State(0); net.lines() as usize]?;
+        let values = LineValues::new(alloc, net)?;
         let cone = Cone::new(alloc, net, &[])?;
-        Ok(ConeJudge { cone, states })
+        Ok(ConeJudge {
+            cone,
+            states,
+            values,
+        })
     }
 
     /// Whether the pair is a test for this target. The pair has one bit per
@@ -73,9 +87,66 @@ impl ConeJudge {
     {
         let end = end_of(net, path);
         self.cone.set_end(net, end);
-        let ConeJudge { cone, states } = self;
+        let ConeJudge { cone, states, .. } = self;
         let states = states.as_mut_slice();
         take_pair::<A>(cone.sources(), pair, states);
         compute_all::<A>(net, cone.gates(), states);
+    }
+
+    /// The pair that has the first values of these states at the sources of a cone, and keeps the links; a source of the cone without a
+    /// link has the last value of its state too. At the other sources its first vector is 0, and the second where no link tells its bit.
+    /// The cone is another than the one that the judge keeps. The one error is that memory ran out, and the judge serves any further call
+    /// then too.
+    pub fn read_linked<A: Algebra>(
+        &mut self,
+        alloc: Global,
+        net: &Netlist,
+        cone: &Cone,
+        states: &[State],
+    ) -> Result<Pair, OutOfMemory>
+        requires judge { IsJudgeOf 4 net.now self.old }
+        requires made { IsConeFor net.now cone.now }
+        requires sources { All (λ source. source.0 < source_count net.now) cone.now.sources }
+        requires places { length states.now ≡ line_count net.now }
+        requires states { AreSourceStates A.algebra cone.now.sources states.now }
+        ensures judge { IsJudgeOf 4 net.now self.new }
+        ensures linked { IfOk result (λ pair. (end : ℕ) → IsConeAt net.now end cone.now → IsLinkedFrom net.now cone.now.links end pair) }
+    {
+        let places = net.sources() as usize;
+        let mut first = vec![in alloc; false; places]?;
+        let mut second = vec![in alloc; false; places]?;
+        write_bits::<A>(
+            cone.sources(),
+            states,
+            first.as_mut_slice(),
+            second.as_mut_slice(),
+        );
+        self.give_link_bits(net, cone.links(), first.as_slice(), second.as_mut_slice());
+        Ok(Pair::new(first, second))
+    }
+
+    // Gives each linked source the first value of its line as its second bit. Where each source is linked to a source, that value stands
+    // in the first vector; else lines are put to their values under it.
+    fn give_link_bits(
+        &mut self,
+        net: &Netlist,
+        links: &SourceLinks,
+        first: &[bool],
+        second: &mut [bool],
+    )
+        requires judge { IsJudgeOf 4 net.now self.old }
+        requires links { AreLinksOf net.now links.now }
+        requires first { length first.now ≡ source_count net.now }
+        requires second { length second.old ≡ source_count net.now }
+        ensures judge { IsJudgeOf 4 net.now self.new }
+        ensures places { length second.new ≡ length second.old }
+        ensures linked { AreLinkBits (value net.now first.now) links.now (HasMark []) second.old second.new }
+    {
+        if are_sources(links.pairs(), net.sources()) {
+            write_links(links.pairs(), &[], first, second);
+            return;
+        }
+        self.values.set(net, first);
+        write_links(links.pairs(), &[], self.values.values(), second);
     }
 }

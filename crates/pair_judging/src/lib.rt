@@ -1,13 +1,14 @@
 //! Pairs of vectors that are judged within the cone of a path's end: the states of the lines in the cone, and whether these meet the
 //! conditions of a test for the path. Stands on netlist, logic_values, state_laws and cones.
-//! The layers above use, of states at the sources of a cone, `take_least`, `take_preferred`, `judge`, `read_test` and `read_linked`; `gate_state`,
-//! `failing_link` and `judge_steps`, its parts; of finished pairs `ConeJudge`.
+//! The layers above use, of states at the sources of a cone, `take_least`, `take_preferred`, `judge` and `read_test`; `gate_state`,
+//! `failing_link` and `judge_steps`, its parts; of finished pairs `ConeJudge`, which also reads those off states that keep links.
 #![tactic(auto)]
 
 mod cone_judge;
 mod gate_states;
 mod judging;
 mod least_states;
+mod line_values;
 mod path_ends;
 mod path_states;
 mod read_states;
@@ -21,5 +22,5 @@ pub use least_states::least;
 pub use path_ends::{end_of, ends_of};
 pub use path_states::judge_steps;
 pub use read_states::{take_least, take_preferred};
-pub use source_bits::{read_linked, read_test};
+pub use source_bits::read_test;
 pub use target::Target;

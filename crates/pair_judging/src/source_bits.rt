@@ -4,7 +4,7 @@ ghost use Rattle.std.specs.Prelude.{◌≡◌, ◌≢◌, ◌<◌, ℕ, false, l
 ghost use Rattle.netlist.specs.Circuit.{source_count, line_count};
 ghost use Rattle.netlist.specs.Values.{value};
 ghost use Rattle.state_sets.specs.StateAlgebra.{same_bit};
-ghost use Rattle.pair_judging.specs.ConeStates.{state_in, AreStates, AreSourceStates, IsReadFrom, IsLinkedFrom};
+ghost use Rattle.pair_judging.specs.ConeStates.{state_in, AreStates, AreSourceStates, IsReadFrom};
 ghost use Rattle.pair_judging.specs.SourceBits.{first_bit, HasBitsAt, AreLinkBits, AreTakenOf};
 ghost use Rattle.netlist.specs.LinkedPairs.{AreLinksOf};
 ghost use Rattle.cones.specs.FoundLines.{HasMark};
@@ -42,41 +42,6 @@ pub fn read_test<A: Algebra>(
         second.as_mut_slice(),
     );
     link_bits(alloc, net, cone, first.as_slice(), second.as_mut_slice())?;
-    Ok(Pair::new(first, second))
-}
-
-/// The pair that has the first values of these states at the sources of a cone, and keeps the links; a source of the cone without a link
-/// has the last value of its state too. At the other sources its first vector is 0, and the second where no link tells its bit. The one
-/// error is that memory ran out.
-pub fn read_linked<A: Algebra>(
-    alloc: Global,
-    net: &Netlist,
-    cone: &Cone,
-    states: &[State],
-) -> Result<Pair, OutOfMemory>
-    requires made { IsConeFor net.now cone.now }
-    requires sources { All (λ source. source.0 < source_count net.now) cone.now.sources }
-    requires places { length states.now ≡ line_count net.now }
-    requires states { AreSourceStates A.algebra cone.now.sources states.now }
-    ensures { IfOk result (λ pair. (end : ℕ) → IsConeAt net.now end cone.now → IsLinkedFrom net.now cone.now.links end pair) }
-{
-    let places = net.sources() as usize;
-    let mut first = vec![in alloc; false; places]?;
-    let mut second = vec![in alloc; false; places]?;
-    write_bits::<A>(
-        cone.sources(),
-        states,
-        first.as_mut_slice(),
-        second.as_mut_slice(),
-    );
-    give_bits(
-        alloc,
-        net,
-        cone.links(),
-        &[],
-        first.as_slice(),
-        second.as_mut_slice(),
-    )?;
     Ok(Pair::new(first, second))
 }
 
@@ -125,7 +90,7 @@ fn give_bits(
 }
 
 // Whether each source is linked to a source.
-fn are_sources(links: &[(LineId, LineId)], sources: u32) -> bool
+pub(crate) fn are_sources(links: &[(LineId, LineId)], sources: u32) -> bool
     ensures { IsTrue result → All (λ link. link.1.0 < sources) links.now }
 {
     for link in links {
@@ -137,7 +102,12 @@ fn are_sources(links: &[(LineId, LineId)], sources: u32) -> bool
 }
 
 // Gives each linked source without a mark the value of its line.
-fn write_links(links: &[(LineId, LineId)], marks: &[bool], values: &[bool], second: &mut [bool])
+pub(crate) fn write_links(
+    links: &[(LineId, LineId)],
+    marks: &[bool],
+    values: &[bool],
+    second: &mut [bool],
+)
     requires values { All (λ link. link.1.0 < length values.now) links.now }
     requires second { All (λ link. link.0.0 < length second.old) links.now }
     requires once { AllPairs (λ a b. a.0 ≢ b.0) links.now }
@@ -165,7 +135,7 @@ fn is_marked(marks: &[bool], place: usize) -> bool
 }
 
 // Writes the bits of these sources into the two vectors, which stay as they are at the others.
-fn write_bits<A: Algebra>(
+pub(crate) fn write_bits<A: Algebra>(
     sources: &[LineId],
     states: &[State],
     first: &mut [bool],

@@ -11,6 +11,7 @@ use Rattle.state_sets.specs.declared.state.State.{State}
 use Rattle.pair_judging.specs.ConeStates.{AreStates, AreLineStates, HasConeStates}
 use Rattle.pair_judging.specs.Judged.{AreComputed}
 use Rattle.pair_judging.specs.Judges.{KeptJudge}
+use Rattle.pair_judging.specs.LineValues.{AreLineValues}
 use Rattle.cones.specs.KeptCones.{IsConeAt, IsConeFor, AreConeSources, AreConeGates}
 use Rattle.pair_judging.specs.SourceBits.{AreTakenOf}
 use Rattle.pair_judging.proofs.ConeJudging.{gates_inside, sources_below, under_pair}
@@ -45,6 +46,7 @@ returns-clause-judge g c =
           (sym (with_items_is c.self.inside.states c.compute_all.new.states
           (c.compute_all.ensures.states.places ∙ sym long ∙ sym c.self.inside.states.ok.0)))
           c.compute_all.ensures.states;
+      values = subst (λ (j : KeptJudge). AreLineValues c.args.net.now j.values) (sym c.self.view_is) c.requires.judge.values;
     }
 
 pub take_pair-requires-clause-bits : goal.take_pair-requires-clause-bits

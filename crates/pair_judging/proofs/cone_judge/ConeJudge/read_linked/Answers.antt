@@ -10,10 +10,10 @@ use Rattle.netlist.specs.Values.{value}
 use Rattle.pair_judging.specs.ConeStates.{state_in}
 use Rattle.pair_judging.specs.SourceBits.{first_bit, HasBitsAt, AreLinkBits}
 use Rattle.pair_judging.proofs.Taking.{linked_is}
-use Rattle.pair_judging.proofs.source_bits.read_linked.Goals as goal
+use Rattle.pair_judging.proofs.cone_judge.ConeJudge.read_linked.Goals as goal
 
-pub returns : goal.returns
-returns g c = λ end is.
+pub returns-clause-linked : goal.returns-clause-linked
+returns-clause-linked g c = λ end is.
     let a = g.A.Algebra.algebra in
     let net = c.args.net.now in
     let states = c.args.states.now in
@@ -33,17 +33,17 @@ returns g c = λ end is.
     (subst (λ (start : List Bool). HasBitsAt before c.sources.result.now start c.write_bits.new.first) first_start c.write_bits.ensures.first) in
     let read_second = subst (λ (ls : List LineId). HasBitsAt after ls (zeros (source_count net)) c.write_bits.new.second) c.sources.ensures
     (subst (λ (start : List Bool). HasBitsAt after c.sources.result.now start c.write_bits.new.second) second_start c.write_bits.ensures.second) in
-    let second_end = c.new.ensures.second ∙ with_items_is (with_items second c.write_bits.new.second) c.give_bits.new.second
-    (c.give_bits.ensures.places ∙ ap length second_is ∙ second_long) in
-    let linked : AreLinkBits (value net c.write_bits.new.first) cone.links Kept c.write_bits.new.second c.give_bits.new.second =
-    subst (λ (links : LinkList). AreLinkBits (value net c.write_bits.new.first) links Kept c.write_bits.new.second c.give_bits.new.second)
+    let second_end = c.new.ensures.second ∙ with_items_is (with_items second c.write_bits.new.second) c.give_link_bits.new.second
+    (c.give_link_bits.ensures.places ∙ ap length second_is ∙ second_long) in
+    let linked : AreLinkBits (value net c.write_bits.new.first) cone.links Kept c.write_bits.new.second c.give_link_bits.new.second =
+    subst (λ (links : LinkList). AreLinkBits (value net c.write_bits.new.first) links Kept c.write_bits.new.second c.give_link_bits.new.second)
     c.links.ensures
-    (subst₂ (λ (bits old : List Bool). AreLinkBits (value net bits) c.links.result.now Kept old c.give_bits.new.second)
-    (c.as_slice.ensures.value ∙ first_is) second_is c.in_ok-give_bits.ensures.linked) in
+    (subst₂ (λ (bits old : List Bool). AreLinkBits (value net bits) c.links.result.now Kept old c.give_link_bits.new.second)
+    (c.as_slice.ensures.value ∙ first_is) second_is c.give_link_bits.ensures.linked) in
     linked_is net cone before after c.new.result c.write_bits.new.second
     (subst (HasBitsAt before cone.sources (zeros (source_count net))) (sym (c.new.ensures.first ∙ first_is)) read_first)
     read_second
-    (ap length second_end ∙ c.give_bits.ensures.places ∙ ap length second_is)
+    (ap length second_end ∙ c.give_link_bits.ensures.places ∙ ap length second_is)
     (subst₂ (λ (bits new : List Bool). AreLinkBits (value net bits) cone.links Kept c.write_bits.new.second new)
     (sym (c.new.ensures.first ∙ first_is)) (sym second_end) linked)
     end is
