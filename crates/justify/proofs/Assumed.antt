@@ -1,7 +1,11 @@
 -- What it changes of a standing that a set is assumed of a source, and what it leaves.
-use Rattle.std.proofs.Common.{◌≡◌, ℕ, ap}
+use Rattle.std.proofs.Common.{◌≡◌, ℕ, Result, Ok, Err, true, ap}
+use Rattle.std.specs.Prelude.{⊤, IfErr}
+use Rattle.std.specs.Result.{is_err}
+use Rattle.std.proofs.lemmas.Bool.{false≢true}
 use Rattle.pd_base.specs.declared.ids.LineId.{LineId}
 use Rattle.state_sets.specs.declared.state.StateSet.{StateSet}
+use Rattle.implication.specs.declared.assumption.Conflict.{Conflict}
 use Rattle.implication.specs.Moves.{with_assumed, grown, closed_at, risen}
 use Rattle.implication.specs.Standing.{Standing}
 
@@ -21,3 +25,9 @@ module _ (count : ℕ) (old new : Standing) (source : LineId) (set : StateSet) w
 
     pub closed_count : new.closings ≡ risen old.closings
     closed_count = ap (λ (s : Standing). s.closings) is
+
+  pub error_counted : (answer : Result ⊤ Conflict) → is_err answer ≡ true
+      → IfErr answer (λ conflict. new ≡ closed_at old (with_assumed count old.assumptions source set) conflict.0)
+      → new.closings ≡ risen old.closings
+  error_counted (Ok done) some closed = absurd (false≢true some)
+  error_counted (Err conflict) some closed = closed_count conflict.0 closed

@@ -21,8 +21,7 @@ use Rattle.justify.specs.declared.growing.Place.{Place}
 use Rattle.justify.specs.declared.task.Task.{Task}
 use Rattle.justify.specs.Choices.{AreSingle}
 use Rattle.justify.specs.Desks.{IsDesk}
-use Rattle.justify.specs.Growths.{IsEntered, IsShut, IsExtended, AreToldPlaces}
-use Rattle.implication.specs.NodeScopes.{StandsAtNode}
+use Rattle.justify.specs.Growths.{IsEntered, IsShut, IsExtended, StandsAtPlace, AreToldPlaces}
 use Rattle.justify.specs.Searches.{IsSearching, SearchGoesOn, AddsNode, AddsClosed, IsNodeVisit, IsVisit, IsGrowthOf}
 use Rattle.pair_judging.specs.Targets.{seen_target}
 use Rattle.justify.specs.Tests.{IsFitTest}
@@ -34,7 +33,7 @@ use Rattle.justify.proofs.SameNodes.{same_restored, failed_stays}
 use Rattle.justify.specs.Scoping.{SuitsSearch}
 use Rattle.justify.proofs.Suiting.{told_after, setting_restored, suits_after}
 use Rattle.justify.proofs.Placing.{IsNext, next_place}
-use Rattle.justify.proofs.Visits.{reverse_push, growing_same, shut_under_way, shut_growing, entered_at_node, last_under_way, extended_growing}
+use Rattle.justify.proofs.Visits.{reverse_push, growing_same, shut_under_way, shut_growing, entered_at_place, last_under_way, extended_growing}
 use Rattle.justify.proofs.Visits.{extended_by_one, extended_left, extended_told}
 
 -- the search goes on with another desk that serves
@@ -142,9 +141,9 @@ module _ (a : StateAlgebra) (task : Task) (old : Standing) (desk : Desk) (growth
     same_net : new.net ≡ old.net
     same_net = ap (λ (s : Standing). s.net) entered.now
 
-    pub entered_node : StandsAtNode a target new
-    entered_node =
-        entered_at_node a target task.budget old searching.suits.of_rules searching.under_way place (reverse growth.places.items) growth.nodes.items growth.splits
+    pub entered_place : StandsAtPlace a target new place
+    entered_place =
+        entered_at_place a target task.budget old searching.suits.of_rules searching.under_way place (reverse growth.places.items) growth.nodes.items growth.splits
         next new entered
 
     same_rules : new.rules ≡ old.rules
@@ -199,7 +198,7 @@ module _ (a : StateAlgebra) (task : Task) (old : Standing) (desk : Desk) (growth
           let P : Circuit → Rules → Type 0 = λ c rules. IsFitTest c rules target pair in
           there_too P new.net old.net new.rules old.rules same_net same_rules fit
       node_visited after (Ok None) adds =
-          failed_adds (failed_stays a target new last (same_restored new last restored) adds.fails.failed) adds.fails.counted after
+          failed_adds (failed_stays a target new last (same_restored new last restored) adds.failed) adds.counted after
           adds.extended
 
 -- a visit that added a node goes on with the search

@@ -1,5 +1,5 @@
 -- The places of a tree that grows on a scope: the next one is gone to, and a node there makes places of its halves.
-use Rattle.std.proofs.Common.{◌≡◌, ℕ, ◌+◌, ◌<◌, ◌≤◌, ◌↔◌, ⊎_elim, Bool, true, false, suc, List, [], ◌∷◌, ◌++◌, length, take, drop, map, get_or, sym, ap, ◌∙◌, subst, arith}
+use Rattle.std.proofs.Common.{◌≡◌, ℕ, ◌+◌, ◌<◌, ◌≤◌, ◌↔◌, ⊎_elim, Bool, true, false, suc, List, [], ◌∷◌, ◌++◌, length, take, drop, map, get_or, Option, sym, ap, ◌∙◌, subst, arith}
 use Rattle.std.specs.List.{Contains}
 use Rattle.std.proofs.lemmas.List.Kept.{AllPairs-cons}
 use Rattle.std.proofs.lemmas.List.{take-take, take_all, length_push, length-take}
@@ -36,7 +36,10 @@ use Rattle.implication.specs.Moves.{with_assumed}
 use Rattle.implication.specs.NodeScopes.{beginning_of, AllowAsNode}
 use Rattle.implication.proofs.MoreAssumed.{may_assumed, entered_assumed, assumed_cases}
 use Rattle.justify.specs.declared.choosing.Split.{Split}
+use Rattle.justify.specs.declared.closers.Closers.{Closers}
 use Rattle.justify.specs.declared.growing.Place.{Place}
+use Rattle.justify.specs.Closers.{ClosesByKept}
+use Rattle.justify.proofs.Closing.{kept_with_more}
 use Rattle.justify.specs.Growths.{IsHalfPlace, AllowAsNodeWith, IsPlace, DueTree, AreStacked, IsGrowing}
 
 -- a set assumed of a source is what the place says
@@ -186,6 +189,10 @@ module _ (a : StateAlgebra) (c : Circuit) (rules : Rules) (target : Target) wher
     pub next_entered : entered_pins at_node ≡ target.path.steps
     next_entered = entered_assumed a.count before place.source place.set ∙ next.here.entered
 
+    -- what closed the trial of the node above closes that of this one
+    pub next_closes : ClosesByKept a c rules target at_node place.closers
+    next_closes = kept_with_more a c rules target before place.source place.set place.closers next.here.closes
+
     pub next_node : AllowAsNode a c rules target at_node next.halves
     next_node = node_assumed a c rules target before place.source place.set next.halves next.here.node
 
@@ -226,7 +233,7 @@ module _ (a : StateAlgebra) (c : Circuit) (rules : Rules) (target : Target) wher
       module _ (left_open : ClosesUnder a c rules begun at_node → ⊥) (split : Split) (same : a ≡ algebra_of rules)
           (in_support : IsInSupport c rules target.path split.source.0)
           (in_half : (second : Bool) → HasInHalf a (label_at hull split.source.0) split.steadiness second) (mark : ScopeMark)
-          (at_end : mark.at ≡ length at_node) where
+          (at_end : mark.at ≡ length at_node) (closers : Option Closers) (closes : ClosesByKept a c rules target at_node closers) where
         due : IsDue c rules target next.halves split.steadiness split.source.0
         due =
             let P : Bool → StateAlgebra → Type 0 = λ second x. HasInHalf x (label_at hull split.source.0) split.steadiness second in
@@ -238,7 +245,7 @@ module _ (a : StateAlgebra) (c : Circuit) (rules : Rules) (target : Target) wher
               in_second = subst (P true) same (in_half true);
             }
 
-        half_at : (half_place : Place) (half : Bool) → IsHalfPlace a split mark half half_place
+        half_at : (half_place : Place) (half : Bool) → IsHalfPlace a split mark closers half half_place
             → IsPlace a c rules target at_node half_place (below next.halves split.steadiness split.source.0 half)
         half_at half_place half is = record {
           longer = let one = next.here.longer in let two = assumed_longer a.count before place.source place.set in omega (arith, one, two);
@@ -248,9 +255,10 @@ module _ (a : StateAlgebra) (c : Circuit) (rules : Rules) (target : Target) wher
           within = is.within;
           node = node_half a c rules target at_node next.halves (record { source = split.source.0; steadiness = split.steadiness; second = half })
               half_place.source half_place.set (ap (λ (l : LineId). l.0) is.at_source) is.means next_node;
+          closes = subst (ClosesByKept a c rules target at_node) (sym is.keeps) closes;
         }
 
-        pub growing_split : (first second : Place) → IsHalfPlace a split mark false first → IsHalfPlace a split mark true second → splits < budget
+        pub growing_split : (first second : Place) → IsHalfPlace a split mark closers false first → IsHalfPlace a split mark closers true second → splits < budget
             → IsGrowing a c rules target budget at_node (first ∷ second ∷ places)
             (nodes ++ split_node split.steadiness split.source.0 ∷ []) (splits + 1)
         growing_split first second in_first in_second less =

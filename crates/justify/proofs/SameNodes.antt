@@ -18,6 +18,8 @@ use Rattle.implication.specs.Standing.{Standing, IsHullFrom, IsLabels, IsOpenFro
 use Rattle.implication.specs.NodeScopes.{StandsAtNode, AllowAsNode}
 use Rattle.justify.specs.Scoping.{IsStart}
 use Rattle.justify.specs.Tests.{IsFitTest}
+use Rattle.justify.specs.declared.closers.Closers.{Closers}
+use Rattle.justify.specs.Closers.{ClosesByKept}
 use Rattle.justify.specs.Trying.{HasFailed, IsTrialOf, HasLeast}
 use Rattle.implication.proofs.ScopeLabels.{there_too}
 use Rattle.implication.specs.Settings.{IsSameSetting}
@@ -126,6 +128,14 @@ module _ (a : StateAlgebra) (target : Target) (first last : Standing) (same : Is
         single source (told_in_support_after target first last (same_setting first last same) source told));
   }
 
+  -- what closes with the sources that are kept still does
+  pub kept_stays : (closers : Option Closers) → ClosesByKept a first.net first.rules target first.assumptions closers
+      → ClosesByKept a last.net last.rules target last.assumptions closers
+  kept_stays closers closes =
+      let P : Circuit → Rules → Type 0 = λ c rules. ClosesByKept a c rules target first.assumptions closers in
+      let R : List Assumption → Type 0 = λ list. ClosesByKept a last.net last.rules target list closers in
+      subst R (sym same.assumptions) (there_too P first.net last.net first.rules last.rules (sym same.net) (sym same.rules) closes)
+
   -- and the scope stands at the node
   pub stays_at_node : StandsAtNode a target first → StandsAtNode a target last
   stays_at_node node = record {
@@ -143,17 +153,19 @@ least_stays a target first last same states least source told labels is =
     least source (told_in_support_after target last first back source told) labels (same_labels a target last first (same_back first last same) labels is)
 
 -- what is found after a scope was restored is found of what stood before
-pub answer_before : (a : StateAlgebra) (target : Target) (first middle last : Standing) → IsRestored first middle → (answer : Option Vectors)
-    → IsTrialOf a target middle last answer → IsTrialOf a target first last answer
-answer_before a target first middle last restored (Some pair) fit =
+pub answer_before : (a : StateAlgebra) (target : Target) (first middle last : Standing) → IsRestored first middle
+    → (closers : Option Closers) (answer : Option Vectors) → IsTrialOf a target middle last closers answer → IsTrialOf a target first last closers answer
+answer_before a target first middle last restored closers (Some pair) fit =
     let P : Circuit → Rules → Type 0 = λ c rules. IsFitTest c rules target pair in
     there_too P middle.net first.net middle.rules first.rules restored.net restored.rules fit
-answer_before a target first middle last restored None fails = record {
+answer_before a target first middle last restored closers None fails = record {
   failed = failed_stays a target middle first (same_back first middle (same_restored first middle restored)) fails.failed;
   counted = counted_before first.closings middle.closings last.closings restored.later fails.counted;
+  closes = kept_stays a target middle first (same_back first middle (same_restored first middle restored)) closers fails.closes;
 }
 
-pub ok_answer : {E : Type 0} (a : StateAlgebra) (target : Target) (first middle last : Standing) → IsRestored first middle → (answer : Result (Option Vectors) E)
-    → IfOk answer (IsTrialOf a target middle last) → IfOk answer (IsTrialOf a target first last)
-ok_answer a target first middle last restored (Ok answer) is = answer_before a target first middle last restored answer is
-ok_answer a target first middle last restored (Err error) is = tt
+pub ok_answer : {E : Type 0} (a : StateAlgebra) (target : Target) (first middle last : Standing) → IsRestored first middle
+    → (closers : Option Closers) (answer : Result (Option Vectors) E) → IfOk answer (IsTrialOf a target middle last closers)
+    → IfOk answer (IsTrialOf a target first last closers)
+ok_answer a target first middle last restored closers (Ok answer) is = answer_before a target first middle last restored closers answer is
+ok_answer a target first middle last restored closers (Err error) is = tt

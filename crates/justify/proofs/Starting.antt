@@ -136,6 +136,7 @@ module _ (target : Target) (standing : Standing) (start : IsStart target standin
         in_support = own_in_support standing.net standing.rules target.path is;
         within = all_within a.count;
         node = root_node;
+        closes = tt;
       }
 
       root_growing : IsGrowing a standing.net standing.rules target budget standing.assumptions (root ∷ []) [] 0

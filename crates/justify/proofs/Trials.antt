@@ -1,8 +1,12 @@
 -- What follows where sources of the support are assumed to be in the least states of their labels: a conflict shows that the trial of
 -- the node closes, and where none comes of all of them, the pair of these states is a test.
-use Rattle.std.proofs.Common.{◌≡◌, ℕ, ◌<◌, ◌≤◌, ◌^◌, List, None, Bool, true, false, refl, sym, ap, ◌∙◌, subst, arith}
+use Rattle.std.proofs.Common.{◌≡◌, ℕ, ◌+◌, ◌<◌, ◌≤◌, ◌^◌, List, [], ◌∷◌, ◌++◌, length, take, get_or}
+use Rattle.std.proofs.Common.{Option, Some, None, Bool, true, false, refl, sym, ap, ◌∙◌, subst, arith}
+use Rattle.std.specs.Prelude.{IfSome, is_some}
 use Rattle.std.specs.List.{All}
-use Rattle.std.proofs.lemmas.List.Elements.{All-weaker, All-contains}
+use Rattle.std.proofs.lemmas.Bool.{false≢true}
+use Rattle.std.proofs.lemmas.List.{take_more}
+use Rattle.std.proofs.lemmas.List.Elements.{All-more, All-pop, All-take, All-weaker, All-contains}
 use Rattle.pd_base.specs.Links.{links_of}
 use Rattle.pd_base.specs.Pair.{Vectors}
 use Rattle.pd_base.specs.Target.{Target}
@@ -21,7 +25,7 @@ use Rattle.state_sets.specs.StateAlgebra.{StateAlgebra, HasLaws}
 use Rattle.state_sets.specs.Labellings.{label_at}
 use Rattle.state_sets.specs.LineStates.{state_under}
 use Rattle.state_sets.specs.Starts.{IsLeast}
-use Rattle.state_sets.specs.Hulls.{Narrowing, IsNarrowingOf, IsRestAmong, HasNoEmptySet, Closes}
+use Rattle.state_sets.specs.Hulls.{IsNarrowingOf, IsRestAmong, HasNoEmptySet, Closes}
 use Rattle.state_laws.specs.declared.half.Half.{Half}
 use Rattle.state_laws.proofs.Deciding.{rest_decides}
 use Rattle.state_laws.proofs.LinkedTrials.{closes_unless_linked}
@@ -40,10 +44,17 @@ use Rattle.implication.specs.NodeScopes.{beginning_of, StandsAtNode, AllowAsNode
 use Rattle.pair_judging.specs.ConeStates.{HasLinkedStates}
 use Rattle.pair_judging.proofs.Taking.{least_is_taken}
 use Rattle.justify.specs.Scoping.{IsToldInSupport}
+use Rattle.justify.specs.declared.closers.Closers.{Closers}
+use Rattle.justify.specs.Closers.{kept_of, IsAsTried, ClosesBy}
 use Rattle.justify.specs.Trying.{CanTry, IsWithinTrial, IsHeldIn, EndsTrial, HasFailed, IsSingle, IsTriedAs, GivesTest}
+use Rattle.justify.specs.Trying.{tried_until, EndsAtNode, FailsAtNode, FailsByKept}
 use Rattle.implication.proofs.MoreAssumed.{may_assumed, entered_assumed}
 use Rattle.implication.proofs.NodeScopes.{hull_at_node}
 use Rattle.implication.proofs.ScopeLabels.{there_too, labels_under, open_under}
+
+-- the line is in the state of an entry, if it is its source
+abbrev IsInStateOf : ℕ → State → Tried → Type 0
+IsInStateOf line state entry = line ≡ entry.source.0 → state ≡ entry.state
 
 -- what is true unless it is false
 linked_unless : (bit : Bool) → (bit ≡ false → ⊥) → bit ≡ true
@@ -55,85 +66,126 @@ module _ (a : StateAlgebra) (target : Target) (first : Standing) where
   begun = beginning_of target
 
   -- before anything is assumed
-  pub within_itself : IsWithinTrial a target first first
-  within_itself = record { entered = refl; lets = λ labels is line state in_range may least. may }
+  pub within_itself : (tried : List Tried) → IsWithinTrial a target first first tried
+  within_itself tried = record { entered = refl; lets = λ line state in_range may as_tried. may }
 
-  module _ (node : StandsAtNode a target first) (now new : Standing) (tried : Tried) (is : CanTry a target first tried) (set : StateSet)
-      (only : set.0 ≡ 2 ^ tried.state.0) (more : new.assumptions ≡ with_assumed a.count now.assumptions tried.source set) where
+  -- one source more
+  module _ (now new : Standing) (tried : List Tried) (place : ℕ) (d : Tried) (inside : place < length tried)
+      (is : CanTry a target first (get_or tried place d)) (set : StateSet) (only : set.0 ≡ 2 ^ (get_or tried place d).state.0)
+      (more : new.assumptions ≡ with_assumed a.count now.assumptions (get_or tried place d).source set) where
+    abbrev entry : Tried
+    entry = get_or tried place d
+
     abbrev later : List Assumption
-    later = with_assumed a.count now.assumptions tried.source set
+    later = with_assumed a.count now.assumptions entry.source set
 
-    -- one source more
-    pub within_more : IsWithinTrial a target first now → IsWithinTrial a target first new
+    entry_in : (state : State) → state ≡ entry.state → Has a.count set state
+    entry_in state same = subst (λ s. Has a.count set s) (sym same) (only_has a.count set entry.state only is.in_range)
+
+    more_lets : IsWithinTrial a target first now (take place tried) → (line : ℕ) (state : State) → state.0 < a.count
+        → MayUnder a first.net first.rules begun first.assumptions line state → IsAsTried (take place tried ++ entry ∷ []) line state
+        → MayUnder a first.net first.rules begun new.assumptions line state
+    more_lets before line state in_range may as_tried =
+        let P : List Assumption → Type 0 = λ list. MayUnder a first.net first.rules begun list line state in
+        let front = take place tried in
+        let parts = All-pop (IsInStateOf line state) (front ++ entry ∷ []) front (Some entry) refl as_tried in
+        subst P (sym more)
+        ((may_assumed a first.net first.rules begun now.assumptions entry.source set line state in_range).1
+        (before.lets line state in_range may parts.0, λ here. entry_in state (parts.1 here)))
+
+    pub within_more : IsWithinTrial a target first now (take place tried) → IsWithinTrial a target first new (take (place + 1) tried)
     within_more before = record {
-      entered = ap entered_pins more ∙ entered_assumed a.count now.assumptions tried.source set ∙ before.entered;
-      lets = λ labels is_labels line state in_range may least.
-          let P : List Assumption → Type 0 = λ list. MayUnder a first.net first.rules begun list line state in
-          let in_set : line ≡ tried.source.0 → Has a.count set state =
-          λ here.
-          let Q : ℕ → Type 0 = λ l. IsToldInSupport target first l → IsLeast a.count (label_at labels l) state in
-          let at_source : Q tried.source.0 = subst Q here least in
-          let same = least_is_taken a.count (label_at labels tried.source.0) state tried.state (at_source is.source) (is.least labels is_labels) in
-          let R : State → Type 0 = λ s. Has a.count set s in
-          subst R (sym same) (only_has a.count set tried.state only is.in_range) in
-          subst P (sym more)
-          ((may_assumed a first.net first.rules begun now.assumptions tried.source set line state in_range).1
-          (before.lets labels is_labels line state in_range may least, in_set));
+      entered = ap entered_pins more ∙ entered_assumed a.count now.assumptions entry.source set ∙ before.entered;
+      lets = λ line state in_range may as_tried.
+          let P : List Tried → Type 0 = λ list. IsAsTried list line state in
+          more_lets before line state in_range may (subst P (take_more tried place d inside) as_tried);
     }
 
     may_before : (line : ℕ) (state : State) → state.0 < a.count → MayUnder a first.net first.rules begun new.assumptions line state
-        → MayUnder a first.net first.rules begun now.assumptions line state × (line ≡ tried.source.0 → Has a.count set state)
+        → MayUnder a first.net first.rules begun now.assumptions line state × (line ≡ entry.source.0 → Has a.count set state)
     may_before line state in_range may =
         let P : List Assumption → Type 0 = λ list. MayUnder a first.net first.rules begun list line state in
-        (may_assumed a first.net first.rules begun now.assumptions tried.source set line state in_range).0 (subst P more may)
+        (may_assumed a first.net first.rules begun now.assumptions entry.source set line state in_range).0 (subst P more may)
 
     -- it is held, and those before still are
-    pub held_here : IsHeldIn a target first new tried
-    held_here state in_range may = only_this a.count set tried.state state only ((may_before tried.source.0 state in_range may).1 refl)
+    held_here : IsHeldIn a target first new entry
+    held_here state in_range may = only_this a.count set entry.state state only ((may_before entry.source.0 state in_range may).1 refl)
 
-    pub held_before : (list : List Tried) → All (IsHeldIn a target first now) list → All (IsHeldIn a target first new) list
-    held_before list held = All-weaker (IsHeldIn a target first now) (IsHeldIn a target first new)
-        (λ entry holds state in_range may. holds state in_range (may_before entry.source.0 state in_range may).0) list held
+    pub held_more : All (IsHeldIn a target first now) (take place tried) → All (IsHeldIn a target first new) (take (place + 1) tried)
+    held_more held =
+        All-more (IsHeldIn a target first new) tried place d inside
+        (All-weaker (IsHeldIn a target first now) (IsHeldIn a target first new)
+        (λ before holds state in_range may. holds state in_range (may_before before.source.0 state in_range may).0) (take place tried) held)
+        held_here
 
-module _ (a : StateAlgebra) (target : Target) (first : Standing) (node : StandsAtNode a target first) (hull : List StateSet)
-    (labels : IsLabels a first hull) (last : Standing) (trial : IsWithinTrial a target first last) where
+module _ (a : StateAlgebra) (target : Target) (first : Standing) (node : StandsAtNode a target first) where
   abbrev start : Beginning
   start = beginning_of target
 
-  under : IsHullUnder a first.net first.rules start first.assumptions hull
-  under = labels_under a first start hull node.beginning labels
-
-  none_empty : HasNoEmptySet first.net hull
-  none_empty line within empty =
-      open_under a first start node.beginning node.left_open (record {
-        line = line;
-        in_circuit = within;
-        emptied = emptied_if_empty a first.net (IsNarrowingOf first.net (links_of first.rules) start.kind (entered_pins first.assumptions))
-            (MayUnder a first.net first.rules start first.assumptions) hull under line empty;
-      })
-
-  -- where each source of the support that is told had one state only, the hull would lie within what was assumed
-  two : ClosesUnder a first.net first.rules start last.assumptions
-      → ¬ ((source : ℕ) → IsToldInSupport target first source → IsSingle a.count (label_at hull source))
-  two closes singles =
+  -- a conflict of what was assumed is one of the states tried
+  pub closes_by : (last : Standing) (tried : List Tried) → IsWithinTrial a target first last tried
+      → ClosesUnder a first.net first.rules start last.assumptions
+      → ClosesBy a first.net first.rules target first.assumptions tried
+  closes_by last tried trial closes =
+      let Narrowings = IsNarrowingOf first.net (links_of first.rules) target.kind target.path.steps in
       let Might = MayUnder a first.net first.rules start last.assumptions in
-      let Narrowings : List PinRef → Narrowing → Type 0 = λ steps. IsNarrowingOf first.net (links_of first.rules) start.kind steps in
-      let P : List PinRef → Type 0 = λ steps. IsRestAmong a first.net (Narrowings steps) Might hull in
-      let among : IsRestAmong a first.net (Narrowings (entered_pins first.assumptions)) Might hull = record {
-        labelling = under.rest.labelling;
-        rest = under.rest.rest;
-        among = λ line state has. trial.lets hull labels line state has.in_range (under.rest.among line state has)
-            (λ told. record {
-              has = has;
-              least = λ other in_other.
-                  let same = ap (λ (s : State). s.0) (singles line told state other has in_other) in omega (arith, same);
-            });
-      } in
-      none_empty closes.line closes.in_circuit (closes.emptied hull (subst P (sym trial.entered) among))
+      let May : ℕ → State → Type 0 = λ line state. MayUnder a first.net first.rules start first.assumptions line state
+      × IsAsTried tried line state in
+      let P : List PinRef → Type 0 = λ steps. Closes a first.net (IsNarrowingOf first.net (links_of first.rules) target.kind steps) Might in
+      closes_if_wider a first.net Narrowings Narrowings May Might
+      (widens_by_states a first.net Narrowings May Might (λ line state in_circuit in_range may. trial.lets line state in_range may.0 may.1))
+      (subst P (trial.entered ∙ node.entered) closes)
+
+  module _ (hull : List StateSet) (labels : IsLabels a first hull) where
+    under : IsHullUnder a first.net first.rules start first.assumptions hull
+    under = labels_under a first start hull node.beginning labels
+
+    none_empty : HasNoEmptySet first.net hull
+    none_empty line within empty =
+        open_under a first start node.beginning node.left_open (record {
+          line = line;
+          in_circuit = within;
+          emptied =
+              emptied_if_empty a first.net (IsNarrowingOf first.net (links_of first.rules) start.kind (entered_pins first.assumptions))
+              (MayUnder a first.net first.rules start first.assumptions) hull under line empty;
+        })
+
+    module _ (tried : List Tried) (can : All (CanTry a target first) tried) where
+      -- a line that is in the least state of its label, where it is a source of the support that is told, is in the state tried
+      least_as_tried : (line : ℕ) (state : State) → (IsToldInSupport target first line → IsLeast a.count (label_at hull line) state)
+          → IsAsTried tried line state
+      least_as_tried line state least k d inside = λ here.
+          let entry = get_or tried k d in
+          let is = can k d inside in
+          let Q : ℕ → Type 0 = λ l. IsToldInSupport target first l → IsLeast a.count (label_at hull l) state in
+          least_is_taken a.count (label_at hull entry.source.0) state entry.state (subst Q here least is.source) (is.least hull labels)
+
+      -- where each source of the support that is told had one state only, the hull would lie within what was assumed
+      two : ClosesBy a first.net first.rules target first.assumptions tried
+          → ¬ ((source : ℕ) → IsToldInSupport target first source → IsSingle a.count (label_at hull source))
+      two closes singles =
+          let Might : ℕ → State → Type 0 = λ line state. MayUnder a first.net first.rules start first.assumptions line state
+          × IsAsTried tried line state in
+          let P : List PinRef → Type 0 = λ steps.
+          IsRestAmong a first.net (IsNarrowingOf first.net (links_of first.rules) start.kind steps) Might hull in
+          let among : P (entered_pins first.assumptions) = record {
+            labelling = under.rest.labelling;
+            rest = under.rest.rest;
+            among = λ line state has. (
+              under.rest.among line state has,
+              least_as_tried line state (λ told. record {
+                has = has;
+                least = λ other in_other.
+                    let same = ap (λ (s : State). s.0) (singles line told state other has in_other) in omega (arith, same);
+              }),
+            );
+          } in
+          none_empty closes.line closes.in_circuit (closes.emptied hull (subst P node.entered among))
 
   -- where no conflict came of all sources of the support, the pair with their states keeps links there, and meets the conditions
   module _ (laws : HasLaws a) (circuit : IsCircuit first.net) (fit : FitRules first.net first.rules) (is : IsPrefix first.net target.path)
-      (tried : List Tried) (held : All (IsHeldIn a target first last) tried)
+      (last : Standing) (tried : List Tried) (trial : IsWithinTrial a target first last tried)
+      (held : All (IsHeldIn a target first last) tried)
       (left_open : ClosesUnder a first.net first.rules start last.assumptions → ⊥) (rest : List StateSet)
       (at_rest : IsHullUnder a first.net first.rules start last.assumptions rest) where
     abbrev Might : ℕ → State → Type 0
@@ -196,75 +248,106 @@ module _ (target : Target) (first : Standing) where
   abbrev own : StateAlgebra
   own = algebra_of first.rules
 
-  own_open : (node : StandsAtNode own target first) (hull : List StateSet) (labels : IsLabels own first hull) (last : Standing)
-      (trial : IsWithinTrial own target first last) → ClosesUnder own first.net first.rules (beginning_of target) last.assumptions
-      → (halves : List Half) → AllowAsNode own first.net first.rules target first.assumptions halves
-      → IsOpen first.net first.rules target halves hull
-  own_open node hull labels last trial closes halves at = record {
-    is_hull = hull_at_node own first.net first.rules target first.assumptions node.entered halves at hull
-        (labels_under own first (beginning_of target) hull node.beginning labels);
-    none_empty = none_empty own target first node hull labels last trial;
-    trial =
-        let Narrowings = IsNarrowingOf first.net (links_of first.rules) target.kind target.path.steps in
-        let Might = MayUnder own first.net first.rules (beginning_of target) last.assumptions in
-        let May = MayTry first.net first.rules target halves hull in
-        let P : List PinRef → Type 0 = λ steps.
-        Closes own first.net (IsNarrowingOf first.net (links_of first.rules) target.kind steps) Might in
-        closes_if_wider own first.net Narrowings Narrowings May Might
-        (widens_by_states own first.net Narrowings May Might
-        (λ line state in_circuit in_range may.
-        trial.lets hull labels line state in_range ((at line state in_circuit in_range).1 may.at_node)
-        (λ told. may.least told.in_support)))
-        (subst P (trial.entered ∙ node.entered) closes);
-  }
+  module _ (node : StandsAtNode own target first) (hull : List StateSet) (labels : IsLabels own first hull) (tried : List Tried)
+      (can : All (CanTry own target first) tried) (closes : ClosesBy own first.net first.rules target first.assumptions tried) where
+    own_open : (halves : List Half) → AllowAsNode own first.net first.rules target first.assumptions halves
+        → IsOpen first.net first.rules target halves hull
+    own_open halves at = record {
+      is_hull = hull_at_node own first.net first.rules target first.assumptions node.entered halves at hull
+          (labels_under own first (beginning_of target) hull node.beginning labels);
+      none_empty = none_empty own target first node hull labels;
+      trial =
+          let Narrowings = IsNarrowingOf first.net (links_of first.rules) target.kind target.path.steps in
+          let Might : ℕ → State → Type 0 = λ line state.
+          MayUnder own first.net first.rules (beginning_of target) first.assumptions line state × IsAsTried tried line state in
+          let May = MayTry first.net first.rules target halves hull in
+          closes_if_wider own first.net Narrowings Narrowings May Might
+          (widens_by_states own first.net Narrowings May Might
+          (λ line state in_circuit in_range may. (
+            (at line state in_circuit in_range).1 may.at_node,
+            least_as_tried own target first node hull labels tried can line state (λ told. may.least told.in_support),
+          )))
+          closes;
+    }
 
-  own_failed : StandsAtNode own target first → (hull : List StateSet) → IsLabels own first hull → (last : Standing)
-      → IsWithinTrial own target first last → ClosesUnder own first.net first.rules (beginning_of target) last.assumptions
-      → HasFailed own target first
-  own_failed node hull labels last trial closes = record {
-    hull = hull;
-    labels = labels;
-    is_open = own_open node hull labels last trial closes;
-    two = two own target first node hull labels last trial closes;
-  }
+    own_failed : HasFailed own target first
+    own_failed = record {
+      hull = hull;
+      labels = labels;
+      is_open = own_open;
+      two = two own target first node hull labels tried can closes;
+    }
 
   pub trial_failed : (a : StateAlgebra) → a ≡ own → StandsAtNode a target first → (hull : List StateSet) → IsLabels a first hull
-      → (last : Standing) → IsWithinTrial a target first last
-      → ClosesUnder a first.net first.rules (beginning_of target) last.assumptions → HasFailed a target first
+      → (tried : List Tried) → All (CanTry a target first) tried → ClosesBy a first.net first.rules target first.assumptions tried
+      → HasFailed a target first
   trial_failed a same =
       let P : StateAlgebra → Type 0 = λ x. StandsAtNode x target first → (hull : List StateSet) → IsLabels x first hull
-      → (last : Standing) → IsWithinTrial x target first last
-      → ClosesUnder x first.net first.rules (beginning_of target) last.assumptions → HasFailed x target first in
+      → (tried : List Tried) → All (CanTry x target first) tried → ClosesBy x first.net first.rules target first.assumptions tried
+      → HasFailed x target first in
       subst P (sym same) own_failed
 
--- what comes of trying sources where a conflict came
-pub ends_failed : (a : StateAlgebra) (target : Target) (first : Standing) → a ≡ algebra_of first.rules → (node : StandsAtNode a target first)
-    (hull : List StateSet) → IsLabels a first hull → (last : Standing) → IsWithinTrial a target first last → (tried : List Tried) (b : Bool)
-    → b ≡ true → EndsTrial a target first last tried b → HasFailed a target first × (risen first.closings ≤ last.closings)
-ends_failed a target first same node hull labels last trial tried b is ends =
-    let P : Bool → Type 0 = λ x. EndsTrial a target first last tried x in
-    let closed = subst P is ends in
-    (trial_failed target first a same node hull labels last trial closed.closes, closed.counted)
+-- a trial that closes by sources fails at the node, once a conflict is counted
+pub fails_once_counted : (a : StateAlgebra) (target : Target) (first : Standing) → a ≡ algebra_of first.rules → StandsAtNode a target first
+    → (hull : List StateSet) → IsLabels a first hull → (tried : List Tried) → All (CanTry a target first) tried
+    → ClosesBy a first.net first.rules target first.assumptions tried → (new : Standing) → risen first.closings ≤ new.closings
+    → FailsAtNode a target first new tried
+fails_once_counted a target first same node hull labels tried can closes new counted = record {
+  failed = trial_failed target first a same node hull labels tried can closes;
+  counted = counted;
+  closes = closes;
+}
+
+-- what comes of trying sources where a conflict came, and the scope has gone back
+pub ends_failed : (a : StateAlgebra) (target : Target) (first : Standing) → a ≡ algebra_of first.rules → StandsAtNode a target first
+    → (hull : List StateSet) → IsLabels a first hull → (tried : List Tried) → All (CanTry a target first) tried → (last new : Standing)
+    → new.closings ≡ last.closings → (place : Option ℕ) → is_some place ≡ true
+    → IsWithinTrial a target first last (tried_until tried place) → EndsTrial a target first last tried (is_some place)
+    → EndsAtNode a target first new tried place
+ends_failed a target first same node hull labels tried can last new counted None some trial ends = absurd (false≢true some)
+ends_failed a target first same node hull labels tried can last new counted (Some place) some trial ends =
+    let P : ℕ → Type 0 = λ n. risen first.closings ≤ n in
+    let front = take (place + 1) tried in
+    fails_once_counted a target first same node hull labels front (All-take (CanTry a target first) (place + 1) tried can)
+    (closes_by a target first node last front trial ends.closes) new (subst P (sym counted) ends.counted)
 
 -- and where none came
-pub ends_open : (a : StateAlgebra) → HasLaws a → (target : Target) (first : Standing) (node : StandsAtNode a target first) → (hull : List StateSet)
-    → IsLabels a first hull → IsCircuit first.net → FitRules first.net first.rules → IsPrefix first.net target.path → (last : Standing)
-    → IsWithinTrial a target first last → ExtendsStanding first last → (rest : List StateSet) → IsLabels a last rest
-    → (tried : List Tried) (b : Bool) → b ≡ false → EndsTrial a target first last tried b → GivesTest a first.net first.rules target tried
-ends_open a laws target first node hull labels circuit fit is last trial extends rest rest_is tried b none ends =
-    let P : Bool → Type 0 = λ x. EndsTrial a target first last tried x in
-    let held = subst P none ends in
+pub ends_open : (a : StateAlgebra) → HasLaws a → (target : Target) (first : Standing) → StandsAtNode a target first → IsCircuit first.net
+    → FitRules first.net first.rules → IsPrefix first.net target.path → (last : Standing) → ExtendsStanding first last → (rest : List StateSet)
+    → IsLabels a last rest → (tried : List Tried) (place : Option ℕ) → is_some place ≡ false
+    → IsWithinTrial a target first last (tried_until tried place) → EndsTrial a target first last tried (is_some place)
+    → GivesTest a first.net first.rules target tried
+ends_open a laws target first node circuit fit is last extends rest rest_is tried None none trial held =
     let begun = beginning_of target in
     let Q : Circuit → Rules → Type 0 = λ c rules. ¬ ClosesUnder a c rules begun last.assumptions in
     let R : Circuit → Rules → Type 0 = λ c rules. IsHullUnder a c rules begun last.assumptions rest in
-    held_gives_test a target first node hull labels last trial laws circuit fit is tried held.held
+    held_gives_test a target first node laws circuit fit is last tried trial held.held
     (there_too Q last.net first.net last.rules first.rules extends.net extends.rules
     (open_under a last begun (extends.beginning ∙ node.beginning) held.left_open))
     rest
     (there_too R last.net first.net last.rules first.rules extends.net extends.rules
     (labels_under a last begun rest (extends.beginning ∙ node.beginning) rest_is))
+ends_open a laws target first node circuit fit is last extends rest rest_is tried (Some place) none trial held =
+    absurd (false≢true (sym none))
 
 pub ends_free : (a : StateAlgebra) (target : Target) (first last : Standing) (tried : List Tried) (b : Bool) → b ≡ false
     → EndsTrial a target first last tried b → last.conflict ≡ None
 ends_free a target first last tried b none ends =
     let P : Bool → Type 0 = λ x. EndsTrial a target first last tried x in (subst P none ends).free
+
+-- a trial that fails by the first of some sources fails by those that are kept, which are these, if any are
+pub fails_by_kept : (a : StateAlgebra) (target : Target) (old new : Standing) (tried read : List Tried) → tried ≡ read → (count : ℕ)
+    → FailsAtNode a target old new (take count tried) → (closers : Option Closers) → IfSome closers (λ kept. kept_of kept ≡ take count read)
+    → FailsByKept a target old new closers
+fails_by_kept a target old new tried read same count fails None kept = record {
+  failed = fails.failed;
+  counted = fails.counted;
+  closes = tt;
+}
+fails_by_kept a target old new tried read same count fails (Some closers) kept =
+    let P : List Tried → Type 0 = λ list. ClosesBy a old.net old.rules target old.assumptions list in
+    record {
+      failed = fails.failed;
+      counted = fails.counted;
+      closes = subst P (ap (take count) same ∙ sym kept) fails.closes;
+    }

@@ -1,8 +1,7 @@
 -- A visit of the next place on a scope: how the scope stands there, and how the tree grows by what was found.
 use Rattle.std.proofs.Common.{◌≡◌, ℕ, ◌+◌, ◌*◌, ◌-◌, ◌<◌, ◌≤◌, Bool, true, false, List, [], ◌∷◌, ◌++◌, length, take, reverse, Option, Some}
 use Rattle.std.proofs.Common.{None, nat_lt, if◌then◌else◌, refl, sym, ap, ◌∙◌, subst, arith}
-use Rattle.std.specs.Prelude.{is_some, IfNone}
-use Rattle.std.proofs.lemmas.Bool.{false≢true}
+use Rattle.std.specs.Prelude.{IfNone}
 use Rattle.std.proofs.lemmas.List.{take-take, length-take, length_push, reverse-append}
 use Rattle.std.proofs.lemmas.List.Elements.{All-cons}
 use Rattle.pd_base.specs.Target.{Target}
@@ -26,14 +25,16 @@ use Rattle.implication.specs.NodeScopes.{beginning_of, StandsAtNode, AllowAsNode
 use Rattle.implication.proofs.NodeScopes.{closes_at_node}
 use Rattle.implication.proofs.ScopeLabels.{there_too, open_under}
 use Rattle.justify.specs.declared.choosing.Split.{Split}
+use Rattle.justify.specs.declared.closers.Closers.{Closers}
 use Rattle.justify.specs.declared.growing.Growth.{Growth}
 use Rattle.justify.specs.declared.growing.Place.{Place}
-use Rattle.justify.specs.Growths.{IsEntered, IsShut, IsGrowing, IsExtended, IsSplitAt, AreToldPlaces}
+use Rattle.justify.specs.Growths.{IsEntered, IsShut, IsGrowing, IsExtended, IsSplitAt, StandsAtPlace, AreToldPlaces}
 use Rattle.justify.specs.Growths.IsExtended.{waits, splits}
 use Rattle.justify.specs.Choices.{IsUsefulSplit}
+use Rattle.justify.specs.Closers.{ClosesByKept}
 use Rattle.justify.specs.Trying.{HasFailed}
 use Rattle.justify.specs.UnderWay.{entered_steps, IsUnderWay}
-use Rattle.justify.proofs.Placing.{IsNext, next_entered, next_node, assumed_front, assumed_longer, growing_closed, growing_waiting}
+use Rattle.justify.proofs.Placing.{IsNext, next_entered, next_node, next_closes, assumed_front, assumed_longer, growing_closed, growing_waiting}
 use Rattle.justify.proofs.Placing.{growing_split}
 
 -- no conflict stands either where the scope goes back
@@ -44,19 +45,20 @@ free_at standing mark free = by (nat_lt mark (length standing.assumptions))
     by true = refl
     by false = free
 
--- what holds where there is no value
-pub from_none : {T : Type 0} {X : Type 0} (value : Option T) → is_some value ≡ false → IfNone value X → X
-from_none None none holds = holds
-from_none (Some value) none holds = absurd (false≢true (sym none))
+-- what follows from what holds where there is no value
+pub none_after : {T : Type 0} (X Y : Type 0) (value : Option T) → (X → Y) → IfNone value X → IfNone value Y
+none_after X Y None gives holds = gives holds
+none_after X Y (Some value) gives holds = tt
 
 -- the places, the last one first
 pub reverse_push : {X : Type 0} (xs ys : List X) (x : X) → ys ≡ xs ++ x ∷ [] → reverse ys ≡ x ∷ reverse xs
 reverse_push xs ys x is = ap reverse is ∙ reverse-append xs (x ∷ [])
 
 -- after a split the places of its halves are the next ones
-places_split : (a : StateAlgebra) (split : Split) (mark : ScopeMark) (before_it after_it : Growth) (at : IsSplitAt a split mark before_it after_it)
+places_split : (a : StateAlgebra) (split : Split) (mark : ScopeMark) (closers : Option Closers) (before_it after_it : Growth)
+    (at : IsSplitAt a split mark closers before_it after_it)
     → reverse after_it.places.items ≡ at.first_place ∷ at.second_place ∷ reverse before_it.places.items
-places_split a split mark before_it after_it at =
+places_split a split mark closers before_it after_it at =
     let first = at.first_place in let second = at.second_place in
     reverse_push (before_it.places.items ++ second ∷ []) after_it.places.items first at.places
     ∙ ap (λ (ps : List Place). first ∷ ps) (reverse_push before_it.places.items (before_it.places.items ++ second ∷ []) second refl)
@@ -136,6 +138,15 @@ module _ (a : StateAlgebra) (target : Target) (budget : ℕ) (old : Standing) (s
       left_open = entered.left_open;
     }
 
+    pub entered_at_place : StandsAtPlace a target new place
+    entered_at_place = record {
+      node = entered_at_node;
+      closes =
+          let P : Standing → Type 0 = λ s. ClosesByKept a s.net s.rules target s.assumptions place.closers in
+          subst P (sym entered.now)
+          (next_closes a old.net old.rules target budget old.assumptions place places nodes splits_before next);
+    }
+
     pub entered_under_way : IsUnderWay target new
     entered_under_way =
         let P : Standing → Type 0 = λ s. IsUnderWay target s in
@@ -199,17 +210,19 @@ module _ (a : StateAlgebra) (target : Target) (budget : ℕ) (old : Standing) (s
             (growing_waiting a old.net old.rules target budget old.assumptions place places nodes splits_before next failed.hull open_there
             spent)
 
-        split_growing : (split : Split) (mark : ScopeMark) → mark.at ≡ length last.assumptions → IsUsefulSplit a target last split
-            → splits_before < budget
-            → (before_it after_it : Growth) → IsSplitAt a split mark before_it after_it → reverse before_it.places.items ≡ places
+        split_growing : (split : Split) (mark : ScopeMark) (closers : Option Closers) → mark.at ≡ length last.assumptions
+            → IsUsefulSplit a target last split → ClosesByKept a last.net last.rules target last.assumptions closers → splits_before < budget
+            → (before_it after_it : Growth) → IsSplitAt a split mark closers before_it after_it → reverse before_it.places.items ≡ places
             → before_it.nodes.items ≡ nodes → before_it.splits ≡ splits_before
             → IsGrowing a last.net last.rules target budget last.assumptions (reverse after_it.places.items) after_it.nodes.items
             after_it.splits
-        split_growing split mark at_end choice less before_it after_it at same_places same_nodes same_count =
+        split_growing split mark closers at_end choice closes less before_it after_it at same_places same_nodes same_count =
             let first = at.first_place in let second = at.second_place in
             let P : Circuit → Rules → Type 0 = λ c rules. IsInSupport c rules target.path split.source.0 in
+            let Q : List Assumption → Type 0 = λ list. ClosesByKept a old.net old.rules target list closers in
+            let R : Circuit → Rules → Type 0 = λ c rules. ClosesByKept a c rules target last.assumptions closers in
             let turned : reverse after_it.places.items ≡ first ∷ second ∷ places =
-            places_split a split mark before_it after_it at ∙ ap (λ (ps : List Place). first ∷ second ∷ ps) same_places in
+            places_split a split mark closers before_it after_it at ∙ ap (λ (ps : List Place). first ∷ second ∷ ps) same_places in
             growing_same a old.net last.net old.rules last.rules target budget at_node last.assumptions (first ∷ second ∷ places)
             (reverse after_it.places.items) (nodes ++ split_node split.steadiness split.source.0 ∷ []) after_it.nodes.items
             (splits_before + 1) after_it.splits last_net last_rules (sym same_list) (sym turned)
@@ -218,7 +231,8 @@ module _ (a : StateAlgebra) (target : Target) (budget : ℕ) (old : Standing) (s
             (growing_split a old.net old.rules target budget old.assumptions place places nodes splits_before next failed.hull open_there
             node_left_open split same_states
             (there_too P last.net old.net last.rules old.rules (sym last_net) (sym last_rules) choice.source.in_support) (choice.splits.in_half failed.hull failed.labels)
-            mark (at_end ∙ ap length same_list) first second at.in_first at.in_second less)
+            mark (at_end ∙ ap length same_list) closers
+            (subst Q same_list (there_too R last.net old.net last.rules old.rules (sym last_net) (sym last_rules) closes)) first second at.in_first at.in_second less)
 
 -- so it does after a trial that failed
 pub extended_growing : (a : StateAlgebra) (target : Target) (budget : ℕ) (old : Standing) (same_states : a ≡ algebra_of old.rules) (way : IsUnderWay target old)
@@ -231,9 +245,9 @@ extended_growing a target budget old same_states way place first after next new 
     waiting_growing a target budget old same_states way place (reverse first.places.items) first.nodes.items first.splits next new entered
     last restored failed after.nodes.items (reverse after.places.items) after.splits at.nodes
     (ap reverse at.places) at.counted spent
-extended_growing a target budget old same_states way place first after next new entered last restored failed (splits split mark at_end choice less at) =
+extended_growing a target budget old same_states way place first after next new entered last restored failed (splits split mark closers at_end choice closes less at) =
     split_growing a target budget old same_states way place (reverse first.places.items) first.nodes.items first.splits next new entered
-    last restored failed split mark at_end choice less first after at refl refl refl
+    last restored failed split mark closers at_end choice closes less first after at refl refl refl
 
 -- and its places are at sources that are told
 pub extended_told : (a : StateAlgebra) (target : Target) (last : Standing) (budget : ℕ) (before_it after_it : Growth)
@@ -241,12 +255,12 @@ pub extended_told : (a : StateAlgebra) (target : Target) (last : Standing) (budg
     → AreToldPlaces last (reverse after_it.places.items)
 extended_told a target last budget before_it after_it (waits spent at) told =
     let P : List Place → Type 0 = λ places. AreToldPlaces last (reverse places) in subst P (sym at.places) told
-extended_told a target last budget before_it after_it (splits split mark at_end choice less at) told =
+extended_told a target last budget before_it after_it (splits split mark closers at_end choice closes less at) told =
     let Told : Place → Type 0 = λ place. IsTold last place.source.0 in
     let At : LineId → Type 0 = λ source. IsTold last source.0 in
     let P : List Place → Type 0 = λ places. AreToldPlaces last places in
     let rest = reverse before_it.places.items in
-    subst P (sym (places_split a split mark before_it after_it at))
+    subst P (sym (places_split a split mark closers before_it after_it at))
     (All-cons Told at.first_place (at.second_place ∷ rest) (subst At (sym at.in_first.at_source) choice.source.told)
     (All-cons Told at.second_place rest (subst At (sym at.in_second.at_source) choice.source.told) told))
 
@@ -255,7 +269,7 @@ pub extended_by_one : (a : StateAlgebra) (target : Target) (last : Standing) (bu
     → IsExtended a target last budget before_it after_it → length after_it.nodes.items ≡ length before_it.nodes.items + 1
 extended_by_one a target last budget before_it after_it (waits spent at) =
     ap length at.nodes ∙ length_push before_it.nodes.items Waiting
-extended_by_one a target last budget before_it after_it (splits split mark at_end choice less at) =
+extended_by_one a target last budget before_it after_it (splits split mark closers at_end choice closes less at) =
     ap length at.nodes ∙ length_push before_it.nodes.items (split_node split.steadiness split.source.0)
 
 pub extended_left : (a : StateAlgebra) (target : Target) (last : Standing) (budget : ℕ) (before_it after_it : Growth)
@@ -263,7 +277,7 @@ pub extended_left : (a : StateAlgebra) (target : Target) (last : Standing) (budg
     → 2 * (budget - after_it.splits) + length after_it.places.items ≤ 2 * (budget - before_it.splits) + length before_it.places.items
 extended_left a target last budget before_it after_it (waits spent at) =
     let e = at.counted in let f = ap length at.places in omega (arith, e, f)
-extended_left a target last budget before_it after_it (splits split mark at_end choice less at) =
+extended_left a target last budget before_it after_it (splits split mark closers at_end choice closes less at) =
     let e = at.counted in let f = ap length at.places in
     let one = length_push (before_it.places.items ++ at.second_place ∷ []) at.first_place in
     let two = length_push before_it.places.items at.second_place in omega (arith, e, f, one, two, less)

@@ -1,12 +1,12 @@
 -- Which splits of the cases may be chosen, in words that are spoken inside this crate alone (this project's own).
-use Rattle.std.specs.Prelude.{◌≡◌, ℕ, Bool, List}
+use Rattle.std.specs.Prelude.{◌≡◌, ℕ, Bool, List, All}
 use Rattle.pd_base.specs.Target.{Target}
 use Rattle.pd_base.specs.declared.ids.LineId.{LineId}
 use Rattle.state_sets.specs.declared.state.StateSet.{StateSet}
 use Rattle.state_sets.specs.StateAlgebra.{StateAlgebra}
 use Rattle.state_sets.specs.Labellings.{label_at}
 use Rattle.trees.specs.Spent.{HasInHalf}
-use Rattle.implication.specs.Standing.{Standing, IsLabels}
+use Rattle.implication.specs.Standing.{Standing, IsTold, IsLabels}
 use Rattle.justify.specs.declared.choosing.Split.{Split}
 use Rattle.justify.specs.Scoping.{IsToldInSupport}
 use Rattle.justify.specs.Trying.{IsSingle}
@@ -18,6 +18,10 @@ IsSingleAt a standing source = (labels : List StateSet) → IsLabels a standing 
 -- so has that of each source in the support of the path that is told
 abbrev pub AreSingle : StateAlgebra → Target → Standing → Type 0
 AreSingle a target standing = (source : ℕ) → IsToldInSupport target standing source → IsSingleAt a standing source
+
+-- so has that of each of these sources that is told
+abbrev pub AreSingleAmong : StateAlgebra → Standing → List LineId → Type 0
+AreSingleAmong a standing sources = All (λ source. IsTold standing source.0 → IsSingleAt a standing source.0) sources
 
 -- the split is at this source, whose label has a state in each half
 pub record SplitsAt (a : StateAlgebra) (standing : Standing) (source : LineId) (split : Split) : Type 0 where

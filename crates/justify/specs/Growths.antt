@@ -1,5 +1,5 @@
 -- The growth of a tree on a scope, in words that are spoken inside this crate alone (this project's own).
-use Rattle.std.specs.Prelude.{◌≡◌, ℕ, ◌+◌, ◌<◌, ◌≤◌, ◌↔◌, Bool, true, false, List, [], ◌∷◌, ◌++◌, length, take, map, All, AllPairs, Contains, None, IsSome}
+use Rattle.std.specs.Prelude.{◌≡◌, ℕ, ◌+◌, ◌<◌, ◌≤◌, ◌↔◌, Bool, true, false, List, [], ◌∷◌, ◌++◌, length, take, map, All, AllPairs, Contains, Option, None, IsSome}
 use Rattle.pd_base.specs.Target.{Target}
 use Rattle.pd_base.specs.declared.ids.LineId.{LineId}
 use Rattle.pd_base.specs.declared.rules.Rules.{Rules}
@@ -21,28 +21,31 @@ use Rattle.implication.specs.declared.scope.ScopeMark.{ScopeMark}
 use Rattle.implication.specs.Assumptions.{entered_pins, MayUnder, ClosesUnder}
 use Rattle.implication.specs.Standing.{Standing, IsTold, IsOpenIn, IsEmptiedIn}
 use Rattle.implication.specs.Moves.{with_assumed, grown, back_at, risen}
-use Rattle.implication.specs.NodeScopes.{beginning_of, AllowSame}
+use Rattle.implication.specs.NodeScopes.{beginning_of, AllowSame, StandsAtNode}
 use Rattle.justify.specs.declared.choosing.Split.{Split}
+use Rattle.justify.specs.declared.closers.Closers.{Closers}
 use Rattle.justify.specs.declared.growing.Growth.{Growth}
 use Rattle.justify.specs.declared.growing.Place.{Place}
 use Rattle.justify.specs.Choices.{IsUsefulSplit}
+use Rattle.justify.specs.Closers.{ClosesByKept}
 
--- the place of a half of a split: the states of that half are assumed of its source
-pub record IsHalfPlace (a : StateAlgebra) (split : Split) (mark : ScopeMark) (second : Bool) (place : Place) : Type 0 where
+-- the place of a half of a split: the states of that half are assumed of its source, and what closed the trial above is kept
+pub record IsHalfPlace (a : StateAlgebra) (split : Split) (mark : ScopeMark) (closers : Option Closers) (second : Bool) (place : Place) : Type 0 where
   pub at_mark : place.mark ≡ mark
   pub at_source : place.source ≡ split.source
+  pub keeps : place.closers ≡ closers
   pub within : IsWithin a.count place.set
   pub means : (state : State) → Has a.count place.set state ↔ ((state.0 < a.count) × IsInHalf a split.steadiness second state)
 
 -- a split is one node more, and the places of its halves, the first half last
-pub record IsSplitAt (a : StateAlgebra) (split : Split) (mark : ScopeMark) (old new : Growth) : Type 0 where
+pub record IsSplitAt (a : StateAlgebra) (split : Split) (mark : ScopeMark) (closers : Option Closers) (old new : Growth) : Type 0 where
   pub first_place : Place
   pub second_place : Place
   pub nodes : new.nodes.items ≡ old.nodes.items ++ split_node split.steadiness split.source.0 ∷ []
   pub places : new.places.items ≡ (old.places.items ++ second_place ∷ []) ++ first_place ∷ []
   pub counted : new.splits ≡ old.splits + 1
-  pub in_first : IsHalfPlace a split mark false first_place
-  pub in_second : IsHalfPlace a split mark true second_place
+  pub in_first : IsHalfPlace a split mark closers false first_place
+  pub in_second : IsHalfPlace a split mark closers true second_place
 
 -- a leaf that waits is one node more
 pub record IsWaitingAt (old new : Growth) : Type 0 where
@@ -53,8 +56,9 @@ pub record IsWaitingAt (old new : Growth) : Type 0 where
 -- an open node becomes a leaf that waits where the budget is spent, and else a split that may be chosen
 pub data IsExtended (a : StateAlgebra) (target : Target) (standing : Standing) (budget : ℕ) (old new : Growth) : Type 0 where
   waits : old.splits ≡ budget → IsWaitingAt old new → IsExtended a target standing budget old new
-  splits : (split : Split) (mark : ScopeMark) → mark.at ≡ length standing.assumptions → IsUsefulSplit a target standing split
-      → old.splits < budget → IsSplitAt a split mark old new → IsExtended a target standing budget old new
+  splits : (split : Split) (mark : ScopeMark) (closers : Option Closers) → mark.at ≡ length standing.assumptions
+      → IsUsefulSplit a target standing split → ClosesByKept a standing.net standing.rules target standing.assumptions closers
+      → old.splits < budget → IsSplitAt a split mark closers old new → IsExtended a target standing budget old new
 
 -- the place of the root: nothing is assumed there
 abbrev pub root_place : ℕ → ScopeMark → LineId → Place
@@ -62,7 +66,8 @@ root_place count mark source = record {
   mark = mark;
   source = source;
   set = all_states count;
-  frontier = record { steps = 0; begun_lines = 0; changes = 0 };
+  sought = record { frontier = record { steps = 0; begun_lines = 0; changes = 0 }; sources = 0 };
+  closers = None;
 }
 
 -- with this set assumed of a source, the assumptions leave lines the same states as the node of a tree below these halves
@@ -73,7 +78,8 @@ AllowAsNodeWith a c rules target assumptions source set halves =
     (MayBe a c rules target halves)
 
 -- At this place a tree is due below these halves: with the place's set assumed, the assumptions at its mark leave lines the states
--- that the node there has. They are the path's pins and sets of sources, and close nothing.
+-- that the node there has. They are the path's pins and sets of sources, and close nothing; and the sources that are kept close the trial of
+-- the node above.
 pub record IsPlace (a : StateAlgebra) (c : Circuit) (rules : Rules) (target : Target) (assumptions : List Assumption) (place : Place) (halves : List Half) : Type 0 where
   pub longer : length target.path.steps ≤ length assumptions
   pub entered : entered_pins assumptions ≡ target.path.steps
@@ -81,6 +87,12 @@ pub record IsPlace (a : StateAlgebra) (c : Circuit) (rules : Rules) (target : Ta
   pub in_support : IsInSupport c rules target.path place.source.0
   pub within : IsWithin a.count place.set
   pub node : AllowAsNodeWith a c rules target assumptions place.source place.set halves
+  pub closes : ClosesByKept a c rules target assumptions place.closers
+
+-- the scope stands at the node of a place, where the trial closes by the sources that are kept as long as they have their states
+pub record StandsAtPlace (a : StateAlgebra) (target : Target) (standing : Standing) (place : Place) : Type 0 where
+  pub node : StandsAtNode a target standing
+  pub closes : ClosesByKept a standing.net standing.rules target standing.assumptions place.closers
 
 -- the sources of these places are told
 abbrev pub AreToldPlaces : Standing → List Place → Type 0

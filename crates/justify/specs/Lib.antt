@@ -1,4 +1,5 @@
 pub mod Tests
+pub mod Closers
 pub mod Trying
 pub mod Choices
 pub mod Desks

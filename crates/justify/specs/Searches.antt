@@ -20,7 +20,7 @@ use Rattle.justify.specs.Scoping.{IsStart, SuitsSearch, MayEndBy}
 use Rattle.justify.specs.Growths.{IsGrowing, IsExtended, AreToldPlaces}
 use Rattle.pair_judging.specs.Targets.{seen_target}
 use Rattle.justify.specs.Tests.{IsFitTest}
-use Rattle.justify.specs.Trying.{FailsAtNode}
+use Rattle.justify.specs.Trying.{HasFailed}
 use Rattle.implication.specs.Settings.{IsSameSetting}
 use Rattle.justify.specs.UnderWay.{IsUnderWay}
 
@@ -79,7 +79,8 @@ pub record AddsClosed (before after : Growth) (test : Option Vectors) : Type 0 w
 
 -- no pair that was tried at an open node is a test, and it became a leaf that waits, or a split
 pub record ExtendsTree (a : StateAlgebra) (task : Task) (old new : Standing) (before after : Growth) : Type 0 where
-  pub fails : FailsAtNode a (seen_target task.target) old new
+  pub failed : HasFailed a (seen_target task.target) old
+  pub counted : risen old.closings ≤ new.closings
   pub extended : IsExtended a (seen_target task.target) new task.budget before after
 
 -- what a visit of an open node finds: a test, or none

@@ -1,6 +1,6 @@
 -- The trial of a node through its scope: sources of the path's support that are told are assumed to be in the least states of their
 -- labels, one after another, until a conflict comes. Its words are spoken inside this crate alone (this project's own).
-use Rattle.std.specs.Prelude.{◌≡◌, ℕ, ◌<◌, ◌≤◌, Bool, true, false, List, Option, Some, None, All, Contains}
+use Rattle.std.specs.Prelude.{◌≡◌, ℕ, ◌+◌, ◌<◌, ◌≤◌, Bool, true, false, List, take, Option, Some, None, All, Contains}
 use Rattle.pd_base.specs.Links.{links_of}
 use Rattle.pd_base.specs.Pair.{Vectors}
 use Rattle.pd_base.specs.Target.{Target}
@@ -15,19 +15,19 @@ use Rattle.state_sets.specs.States.{Has}
 use Rattle.state_sets.specs.StateAlgebra.{StateAlgebra}
 use Rattle.state_sets.specs.Labellings.{label_at}
 use Rattle.state_sets.specs.LineStates.{state_under}
-use Rattle.state_sets.specs.Starts.{IsLeast}
 use Rattle.state_laws.specs.declared.half.Half.{Half}
 use Rattle.trees.specs.Spent.{IsInSupport, IsOpen}
-use Rattle.implication.specs.declared.assumption.Assumption.{Assumption}
 use Rattle.implication.specs.Assumptions.{entered_pins, MayUnder, ClosesUnder}
 use Rattle.implication.specs.Moves.{risen}
 use Rattle.implication.specs.Standing.{Standing, IsLabels, IsOpenIn, IsTold}
 use Rattle.justify.specs.declared.desk.Desk.{Desk}
+use Rattle.justify.specs.declared.closers.Closers.{Closers}
 use Rattle.justify.specs.declared.trial.Tried.{Tried}
 use Rattle.implication.specs.NodeScopes.{beginning_of, AllowAsNode}
 use Rattle.pair_judging.specs.ConeStates.{state_in, HasLinkedStates}
 use Rattle.pair_judging.specs.LeastStates.{IsTakenOf}
 use Rattle.cones.specs.FoundLines.{HasMark}
+use Rattle.justify.specs.Closers.{IsAsTried, ClosesBy, ClosesByKept}
 use Rattle.justify.specs.Desks.{AreInSupport}
 use Rattle.justify.specs.Scoping.{IsToldInSupport}
 use Rattle.justify.specs.Tests.{IsFitTest}
@@ -38,18 +38,17 @@ pub record CanTry (a : StateAlgebra) (target : Target) (standing : Standing) (tr
   pub in_range : tried.state.0 < a.count
   pub least : (labels : List StateSet) → IsLabels a standing labels → IsTakenOf a.count (label_at labels tried.source.0) tried.state
 
--- what lines may be in as the scope stands, and sources of the support that are told only in the least states of these labels, they may
--- be in under the later assumptions too
-abbrev pub LetsTrial : StateAlgebra → Target → Standing → List StateSet → List Assumption → Type 0
-LetsTrial a target standing labels later = (line : ℕ) (state : State) → state.0 < a.count
-    → MayUnder a standing.net standing.rules (beginning_of target) standing.assumptions line state
-    → (IsToldInSupport target standing line → IsLeast a.count (label_at labels line) state)
-    → MayUnder a standing.net standing.rules (beginning_of target) later line state
-
--- no pin more was entered, and all that was assumed more is what the trial assumes
-pub record IsWithinTrial (a : StateAlgebra) (target : Target) (old new : Standing) : Type 0 where
+-- No pin more was entered, and all that was assumed more is that these sources are in the states tried.
+pub record IsWithinTrial (a : StateAlgebra) (target : Target) (old new : Standing) (tried : List Tried) : Type 0 where
   pub entered : entered_pins new.assumptions ≡ entered_pins old.assumptions
-  pub lets : (labels : List StateSet) → IsLabels a old labels → LetsTrial a target old labels new.assumptions
+  pub lets : (line : ℕ) (state : State) → state.0 < a.count
+      → MayUnder a old.net old.rules (beginning_of target) old.assumptions line state → IsAsTried tried line state
+      → MayUnder a old.net old.rules (beginning_of target) new.assumptions line state
+
+-- those that were tried until a conflict came: up to the one at this place, or all
+abbrev pub tried_until : List Tried → Option ℕ → List Tried
+tried_until tried None = tried
+tried_until tried (Some place) = take (place + 1) tried
 
 -- the source may only be in the state that was tried
 abbrev pub IsHeldIn : StateAlgebra → Target → Standing → Standing → Tried → Type 0
@@ -99,20 +98,27 @@ GivesTest a c rules target tried = (pair : Vectors)
     → ((source : ℕ) → IsInSupport c rules target.path source → IsTriedAs a c pair tried source)
     → HasLinkedStates a c (links_of rules) (end_of c target.path) pair × Meets c target pair
 
--- the node's trial has failed, and a conflict was counted
-pub record FailsAtNode (a : StateAlgebra) (target : Target) (old new : Standing) : Type 0 where
+-- the node's trial has failed by these sources, and a conflict was counted
+pub record FailsAtNode (a : StateAlgebra) (target : Target) (old new : Standing) (tried : List Tried) : Type 0 where
   pub failed : HasFailed a target old
   pub counted : risen old.closings ≤ new.closings
+  pub closes : ClosesBy a old.net old.rules target old.assumptions tried
 
--- what comes of trying sources at a node: its trial fails; or no conflict came
-abbrev pub EndsAtNode : StateAlgebra → Target → Standing → Standing → List Tried → Bool → Type 0
-EndsAtNode a target old new tried true = FailsAtNode a target old new
-EndsAtNode a target old new tried false = GivesTest a old.net old.rules target tried
+-- what comes of trying sources at a node: its trial fails by those up to this place; or no conflict came
+abbrev pub EndsAtNode : StateAlgebra → Target → Standing → Standing → List Tried → Option ℕ → Type 0
+EndsAtNode a target old new tried (Some place) = FailsAtNode a target old new (take (place + 1) tried)
+EndsAtNode a target old new tried None = GivesTest a old.net old.rules target tried
 
--- what is found at a node: a test; or its trial fails
-abbrev pub IsTrialOf : StateAlgebra → Target → Standing → Standing → Option Vectors → Type 0
-IsTrialOf a target old new (Some pair) = IsFitTest old.net old.rules target pair
-IsTrialOf a target old new None = FailsAtNode a target old new
+-- the node's trial has failed, by the sources that are kept, if any are, and a conflict was counted
+pub record FailsByKept (a : StateAlgebra) (target : Target) (old new : Standing) (closers : Option Closers) : Type 0 where
+  pub failed : HasFailed a target old
+  pub counted : risen old.closings ≤ new.closings
+  pub closes : ClosesByKept a old.net old.rules target old.assumptions closers
+
+-- what is found at a node: a test; or its trial fails, by the sources that are kept
+abbrev pub IsTrialOf : StateAlgebra → Target → Standing → Standing → Option Closers → Option Vectors → Type 0
+IsTrialOf a target old new closers (Some pair) = IsFitTest old.net old.rules target pair
+IsTrialOf a target old new closers None = FailsByKept a target old new closers
 
 -- the source is marked and told, and the state is the least one of its label as the scope stands
 pub record HasLeastLabel (a : StateAlgebra) (standing : Standing) (marks : List Bool) (tried : Tried) : Type 0 where

@@ -1,14 +1,15 @@
 // The choice of a split. Any source of the support will do that is told and whose label has a state of each half: the one that is led to,
-// else the first one that can be split, by its last value if it has both.
-ghost use Rattle.std.specs.Prelude.{◌≡◌, ◌<◌, IfSome, IfNone};
+// else the first one that can be split, by its last value if it has both. Below a node none can be split that could not be split there, so
+// it is looked for first where the node above left off.
+ghost use Rattle.std.specs.Prelude.{◌≡◌, ◌<◌, IfSome, IfNone, length};
 ghost use Rattle.trees.specs.Spent.{IsInSupport};
 ghost use Rattle.implication.specs.Scopes.{standing};
 ghost use Rattle.implication.specs.Standing.{IsTold};
 ghost use Rattle.pair_judging.specs.Targets.{seen_target};
 ghost use Rattle.implication.specs.NodeScopes.{StandsAtNode};
-ghost use Rattle.justify.specs.Desks.{IsDesk};
+ghost use Rattle.justify.specs.Desks.{IsDesk, AreInSupport};
 ghost use Rattle.justify.specs.Scoping.{SuitsSearch};
-ghost use Rattle.justify.specs.Choices.{IsUsefulSplit, AreSingle, IsSingleAt};
+ghost use Rattle.justify.specs.Choices.{IsUsefulSplit, AreSingle, AreSingleAmong, IsSingleAt};
 
 use crate::desk::Desk;
 use crate::halves::way_to_split;
@@ -24,31 +25,75 @@ pub(crate) struct Split {
     pub(crate) steadiness: bool,
 }
 
-// A split at a source of the support that is told, of which each half has a state in the source's label: at the lead, if that can be split.
-// There is none where each such source has less than two states.
+// A split that was chosen, and the place among the cone's sources from which on to look below it.
+#[derive(Clone, Copy)]
+pub(crate) struct Chosen {
+    pub(crate) split: Split,
+    pub(crate) place: usize,
+}
+
+// A split at a source of the support that is told, of which each half has a state in the source's label: at the lead, if that can be split,
+// else at a source of the cone, looked for from this place on first. There is none where each such source has less than two states.
 pub(crate) fn choose<A: Algebra, S: Setting>(
     scope: &Scope<A, S>,
     target: &Target,
     desk: &Desk,
     lead: Option<LineId>,
-) -> Option<Split>
+    from: usize,
+) -> Option<Chosen>
     requires suits { SuitsSearch A.algebra (seen_target target.now) (standing scope.now) }
     requires node { StandsAtNode A.algebra (seen_target target.now) (standing scope.now) }
     requires desk { IsDesk A.algebra (standing scope.now).net (standing scope.now).rules target.now.path.now desk.now }
-    ensures some { IfSome result (IsUsefulSplit A.algebra (seen_target target.now) (standing scope.now)) }
+    ensures some { IfSome result (λ chosen. IsUsefulSplit A.algebra (seen_target target.now) (standing scope.now) chosen.split) }
     ensures none { IfNone result (AreSingle A.algebra (seen_target target.now) (standing scope.now)) }
 {
     if let Some(source) = lead {
-        let split = split_at_lead(scope, target, desk, source);
-        if split.is_some() {
-            return split;
+        if let Some(split) = split_at_lead(scope, target, desk, source) {
+            return Some(Chosen { split, place: from });
         }
     }
-    let sources = desk.cone.sources();
-    for source in sources {
-        let split = split_at(scope, target, *source);
-        if split.is_some() {
-            return split;
+    first_from(scope, target, desk.cone.sources(), from)
+}
+
+// The first split at one of these sources from this place on, or where there is none, at one before.
+fn first_from<A: Algebra, S: Setting>(
+    scope: &Scope<A, S>,
+    target: &Target,
+    sources: &[LineId],
+    from: usize,
+) -> Option<Chosen>
+    requires suits { SuitsSearch A.algebra (seen_target target.now) (standing scope.now) }
+    requires node { StandsAtNode A.algebra (seen_target target.now) (standing scope.now) }
+    requires sources { AreInSupport (standing scope.now).net (standing scope.now).rules target.now.path.now sources.now }
+    ensures some { IfSome result (λ chosen. IsUsefulSplit A.algebra (seen_target target.now) (standing scope.now) chosen.split) }
+    ensures none { IfNone result (AreSingleAmong A.algebra (standing scope.now) sources.now) }
+{
+    let from = from.min(sources.len());
+    match first_split(scope, target, &sources[from..]) {
+        Some(chosen) => Some(Chosen {
+            split: chosen.split,
+            place: from + chosen.place,
+        }),
+        None => first_split(scope, target, &sources[..from]),
+    }
+}
+
+// The first split at one of these sources, and its place among them.
+fn first_split<A: Algebra, S: Setting>(
+    scope: &Scope<A, S>,
+    target: &Target,
+    sources: &[LineId],
+) -> Option<Chosen>
+    requires suits { SuitsSearch A.algebra (seen_target target.now) (standing scope.now) }
+    requires node { StandsAtNode A.algebra (seen_target target.now) (standing scope.now) }
+    requires sources { AreInSupport (standing scope.now).net (standing scope.now).rules target.now.path.now sources.now }
+    ensures some { IfSome result (λ chosen. IsUsefulSplit A.algebra (seen_target target.now) (standing scope.now) chosen.split) }
+    ensures place { IfSome result (λ chosen. chosen.place < length sources.now) }
+    ensures none { IfNone result (AreSingleAmong A.algebra (standing scope.now) sources.now) }
+{
+    for (place, source) in sources.iter().enumerate() {
+        if let Some(split) = split_at(scope, target, *source) {
+            return Some(Chosen { split, place });
         }
     }
     None

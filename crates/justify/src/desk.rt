@@ -8,6 +8,7 @@ ghost use Rattle.trees.specs.Algebras.{algebra_of};
 ghost use Rattle.pair_judging.specs.ConeStates.{AreStates};
 ghost use Rattle.justify.specs.Desks.{IsDeskFor, IsSameDesk};
 
+use crate::closers::Closers;
 use crate::trial::Tried;
 use cones::Cone;
 use netlist::Netlist;
@@ -26,6 +27,8 @@ pub struct Desk {
     pub(crate) blame: Blame,
     // what was tried last through a scope
     pub(crate) tried: Vec<Tried>,
+    // what closed the last trial, if it is kept
+    pub(crate) closers: Option<Closers>,
     // by line; what it is liked to be in: the states with the last value that the last test gave it, or all
     pub(crate) liked: Vec<StateSet>,
     pub(crate) justifier: Justifier,
@@ -54,6 +57,7 @@ impl Desk {
             states,
             blame,
             tried: Vec::new(alloc),
+            closers: None,
             liked,
             justifier,
             judge,

@@ -4,6 +4,7 @@ ghost use Rattle.trees.specs.Growing.{split_node};
 ghost use Rattle.justify.specs.Growths.{root_place, IsSplitAt, IsHalfPlace};
 
 use crate::choosing::Split;
+use crate::closers::Closers;
 use hulls::half_states;
 use implication::ScopeMark;
 use pd_base::{LineId, OutOfMemory};
@@ -11,6 +12,16 @@ use search_hints::Frontier;
 use state_sets::{Algebra, StateSet, every_state};
 use std::alloc::Global;
 use trees::Node;
+
+/// How far it was looked in vain at the node above. Below it labels have no more states, so there is nothing to find there either, and it
+/// is looked first from there on. These are hints, of which nothing is proved: whatever they are, what is found is right.
+#[derive(Clone, Copy)]
+pub(crate) struct Sought {
+    /// How far nothing was open.
+    pub frontier: Frontier,
+    /// So many sources of the cone, from the first one on, could not be split.
+    pub sources: usize,
+}
 
 /// A place at which a tree is due: the scope goes back to the mark, and a set is assumed of a source.
 #[derive(Clone, Copy)]
@@ -21,8 +32,10 @@ pub(crate) struct Place {
     pub source: LineId,
     /// The states that the source may be in at this place.
     pub set: StateSet,
-    /// How far nothing was open at the node above.
-    pub frontier: Frontier,
+    /// How far nothing was found at the node above.
+    pub sought: Sought,
+    /// What closed the trial of that node, if it is kept.
+    pub closers: Option<Closers>,
 }
 
 /// The tree that a search grows.
@@ -54,11 +67,15 @@ impl Growth {
             mark,
             source,
             set: every_state::<A>(),
-            frontier: Frontier {
-                steps: 0,
-                begun_lines: 0,
-                changes: 0,
+            sought: Sought {
+                frontier: Frontier {
+                    steps: 0,
+                    begun_lines: 0,
+                    changes: 0,
+                },
+                sources: 0,
             },
+            closers: None,
         })?;
         Ok(Growth {
             nodes: Vec::new(alloc),
@@ -72,16 +89,17 @@ impl Growth {
         &mut self,
         split: Split,
         mark: ScopeMark,
-        frontier: Frontier,
+        sought: Sought,
+        closers: Option<Closers>,
     ) -> Result<(), OutOfMemory>
         requires { self.old.splits < 2 ^ 32 - 1 }
-        ensures { IfOk result (λ done. IsSplitAt A.algebra split mark self.old self.new) }
+        ensures { IfOk result (λ done. IsSplitAt A.algebra split mark closers self.old self.new) }
     {
         self.nodes.push(node_of(split))?;
         self.places
-            .push(half_place::<A>(split, mark, frontier, true))?;
+            .push(half_place::<A>(split, mark, sought, closers, true))?;
         self.places
-            .push(half_place::<A>(split, mark, frontier, false))?;
+            .push(half_place::<A>(split, mark, sought, closers, false))?;
         self.splits += 1;
         Ok(())
     }
@@ -99,13 +117,20 @@ fn node_of(split: Split) -> Node
 }
 
 // The place of a half of a split.
-fn half_place<A: Algebra>(split: Split, mark: ScopeMark, frontier: Frontier, second: bool) -> Place
-    ensures { IsHalfPlace A.algebra split mark second result }
+fn half_place<A: Algebra>(
+    split: Split,
+    mark: ScopeMark,
+    sought: Sought,
+    closers: Option<Closers>,
+    second: bool,
+) -> Place
+    ensures { IsHalfPlace A.algebra split mark closers second result }
 {
     Place {
         mark,
         source: split.source,
         set: half_states::<A>(split.steadiness, second),
-        frontier,
+        sought,
+        closers,
     }
 }

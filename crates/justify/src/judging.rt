@@ -10,7 +10,7 @@ ghost use Rattle.justify.specs.Tests.{IsFitTest};
 
 use crate::desk::Desk;
 use implication::{Scope, Setting};
-use pair_judging::{Judgement, Target, judge, read_linked, read_test};
+use pair_judging::{Judgement, Target, judge, read_test};
 use pd_base::{LineId, OutOfMemory, Pair};
 use state_sets::{Algebra, State};
 use std::alloc::Global;
@@ -93,7 +93,9 @@ fn judge_pair<A: Algebra, S: Setting>(
     ensures test { IfOk result (λ found. IfSome found (IsFitTest (standing scope.now).net (standing scope.now).rules (seen_target target.now))) }
 {
     let net = scope.net();
-    let pair = read_linked::<A>(alloc, net, &desk.cone, desk.states.as_slice())?;
+    let pair = desk
+        .judge
+        .read_linked::<A>(alloc, net, &desk.cone, desk.states.as_slice())?;
     if !desk.judge.meets(net, target, &pair) {
         return Ok(None);
     }

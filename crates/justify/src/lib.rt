@@ -6,6 +6,7 @@
 
 mod answer;
 mod choosing;
+mod closers;
 mod desk;
 mod ending;
 mod entering;

@@ -1,13 +1,13 @@
 // Trying the states of a pair through the scope: they are assumed of sources of the path's support, one after another. A conflict
 // shows that the trial of the node closes, and the scope counts it; where none comes of all sources, the pair is a test.
-ghost use Rattle.std.specs.Prelude.{◌≡◌, ◌<◌, true, false, is_some, length, IfSome, IsTrue, All};
+ghost use Rattle.std.specs.Prelude.{◌<◌, is_some, length, IfSome, IsTrue, All};
 ghost use Rattle.justify.specs.Scoping.{SuitsSearch};
-ghost use Rattle.implication.specs.Standing.{IsFree, IsOpenIn};
 ghost use Rattle.implication.specs.Scopes.{IsSameScope, standing};
 ghost use Rattle.implication.specs.Clients.{IsRestored, ExtendsStanding};
 ghost use Rattle.pair_judging.specs.Targets.{seen_target};
 ghost use Rattle.implication.specs.NodeScopes.{StandsAtNode};
-ghost use Rattle.justify.specs.Trying.{CanTry, IsWithinTrial, EndsTrial, EndsAtNode};
+ghost use Rattle.justify.specs.Closers.{ClosesBy};
+ghost use Rattle.justify.specs.Trying.{CanTry, FailsAtNode, IsWithinTrial, EndsTrial, EndsAtNode, tried_until};
 
 use implication::{Scope, Setting};
 use pair_judging::Target;
@@ -21,24 +21,9 @@ pub(crate) struct Tried {
     pub(crate) state: State,
 }
 
-// Whether the trial of the node at which the scope stands closes by these sources. Then it has failed, and a conflict was counted.
-// Where it does not, a pair is a test that has the states tried at all sources of the support. The scope is afterwards as before.
-pub(crate) fn closes<A: Algebra, S: Setting>(
-    scope: &mut Scope<A, S>,
-    target: &Target,
-    tried: &[Tried],
-) -> bool
-    requires suits { SuitsSearch A.algebra (seen_target target.now) (standing scope.old) }
-    requires node { StandsAtNode A.algebra (seen_target target.now) (standing scope.old) }
-    requires tried { All (CanTry A.algebra (seen_target target.now) (standing scope.old)) tried.now }
-    ensures scope { IsSameScope scope.old scope.new }
-    ensures restored { IsRestored (standing scope.old) (standing scope.new) }
-    ensures ends { EndsAtNode A.algebra (seen_target target.now) (standing scope.old) (standing scope.new) tried.now result }
-{
-    closes_at(scope, target, tried).is_some()
-}
-
-// The same, with the place among these sources of the one at which the conflict came.
+// Whether the trial of the node at which the scope stands closes by these sources, and then the place among them of the one at which the
+// conflict came: the trial has failed, and a conflict was counted. Where it does not close, a pair is a test that has the states tried at all
+// sources of the support. The scope is afterwards as before.
 pub(crate) fn closes_at<A: Algebra, S: Setting>(
     scope: &mut Scope<A, S>,
     target: &Target,
@@ -49,7 +34,7 @@ pub(crate) fn closes_at<A: Algebra, S: Setting>(
     requires tried { All (CanTry A.algebra (seen_target target.now) (standing scope.old)) tried.now }
     ensures scope { IsSameScope scope.old scope.new }
     ensures restored { IsRestored (standing scope.old) (standing scope.new) }
-    ensures ends { EndsAtNode A.algebra (seen_target target.now) (standing scope.old) (standing scope.new) tried.now (is_some result) }
+    ensures ends { EndsAtNode A.algebra (seen_target target.now) (standing scope.old) (standing scope.new) tried.now result }
     ensures place { IfSome result (λ place. place < length tried.now) }
 {
     // there are labels here, of a circuit; and where no conflict comes there are also then
@@ -78,7 +63,7 @@ fn assume_all<A: Algebra, S: Setting>(
     requires tried { All (CanTry A.algebra (seen_target target.now) (standing scope.old)) tried.now }
     ensures scope { IsSameScope scope.old scope.new }
     ensures extends { ExtendsStanding (standing scope.old) (standing scope.new) }
-    ensures trial { IsWithinTrial A.algebra (seen_target target.now) (standing scope.old) (standing scope.new) }
+    ensures trial { IsWithinTrial A.algebra (seen_target target.now) (standing scope.old) (standing scope.new) (tried_until tried.now result) }
     ensures ends { EndsTrial A.algebra (seen_target target.now) (standing scope.old) (standing scope.new) tried.now (is_some result) }
     ensures place { IfSome result (λ place. place < length tried.now) }
 {
@@ -89,6 +74,32 @@ fn assume_all<A: Algebra, S: Setting>(
         }
     }
     None
+}
+
+// Whether the trial of the node closes by the sources that closed the trial of a node above: it does where these have the same least states
+// here. The conflict is counted, with one of these sources left no state. The scope is afterwards as before.
+pub(crate) fn closes_as_above<A: Algebra, S: Setting>(
+    scope: &mut Scope<A, S>,
+    target: &Target,
+    tried: &[Tried],
+) -> bool
+    requires suits { SuitsSearch A.algebra (seen_target target.now) (standing scope.old) }
+    requires node { StandsAtNode A.algebra (seen_target target.now) (standing scope.old) }
+    requires tried { All (CanTry A.algebra (seen_target target.now) (standing scope.old)) tried.now }
+    requires closes { ClosesBy A.algebra (standing scope.old).net (standing scope.old).rules (seen_target target.now) (standing scope.old).assumptions tried.now }
+    ensures scope { IsSameScope scope.old scope.new }
+    ensures restored { IsRestored (standing scope.old) (standing scope.new) }
+    ensures failed { IsTrue result → FailsAtNode A.algebra (seen_target target.now) (standing scope.old) (standing scope.new) tried.now }
+{
+    // there are labels here
+    scope.label(target.path.source());
+    let Some(entry) = tried.first() else {
+        return false;
+    };
+    let mark = scope.mark();
+    let is_counted = scope.assume(entry.source, StateSet::EMPTY).is_err();
+    scope.back_to(mark);
+    is_counted
 }
 
 // Puts the source first at which a conflict came: one mostly rests on few of them, and these come to the front one after another, so that

@@ -12,12 +12,13 @@ ghost use Rattle.pair_judging.specs.Targets.{seen_target};
 ghost use Rattle.implication.specs.NodeScopes.{StandsAtNode};
 ghost use Rattle.justify.specs.Desks.{IsDesk, AreInSupport};
 ghost use Rattle.justify.specs.Tests.{IsFitTest};
-ghost use Rattle.justify.specs.Trying.{CanTry, HasLeastLabel, AreTriedIn, HasLeast, BlamesLeast, FailsAtNode, IsTrialOf};
+ghost use Rattle.justify.specs.Trying.{CanTry, HasLeastLabel, AreTriedIn, HasLeast, BlamesLeast, FailsByKept, IsTrialOf};
 
 use crate::Unfinished;
+use crate::closers::Closers;
 use crate::desk::Desk;
 use crate::judging::{are_source_states, judge_proposal, judge_states};
-use crate::trial::{Tried, bring_forward, closes, closes_at};
+use crate::trial::{Tried, bring_forward, closes_at};
 use implication::{Scope, Setting};
 use pair_judging::{Target, least, read_test, take_least};
 use pd_base::{LineId, OutOfMemory, Pair};
@@ -39,7 +40,7 @@ pub(crate) fn try_node<A: Algebra, S: Setting>(
     ensures desk { IsDesk A.algebra (standing scope.old).net (standing scope.old).rules target.now.path.now desk.new }
     ensures scope { IsSameScope scope.old scope.new }
     ensures restored { IsRestored (standing scope.old) (standing scope.new) }
-    ensures answer { IfOk result (IsTrialOf A.algebra (seen_target target.now) (standing scope.old) (standing scope.new)) }
+    ensures answer { IfOk result (IsTrialOf A.algebra (seen_target target.now) (standing scope.old) (standing scope.new) desk.new.closers) }
     ensures unfinished { IfErr result (MayEndBy (seen_target target.now) (standing scope.old)) }
 {
     if closes_again(scope, target, desk) {
@@ -64,13 +65,15 @@ fn closes_again<A: Algebra, S: Setting>(
     ensures desk { IsDesk A.algebra (standing scope.old).net (standing scope.old).rules target.now.path.now desk.new }
     ensures scope { IsSameScope scope.old scope.new }
     ensures restored { IsRestored (standing scope.old) (standing scope.new) }
-    ensures failed { IsTrue result → FailsAtNode A.algebra (seen_target target.now) (standing scope.old) (standing scope.new) }
+    ensures failed { IsTrue result → FailsByKept A.algebra (seen_target target.now) (standing scope.old) (standing scope.new) desk.new.closers }
 {
-    if !can_try_again(scope, target, desk) {
+    let tried = desk.tried.as_slice();
+    if tried.is_empty() || !can_try(scope, target, desk, tried) {
         return false;
     }
     match closes_at(scope, target, desk.tried.as_slice()) {
         Some(place) => {
+            desk.closers = Closers::of(desk.tried.as_slice(), place + 1);
             bring_forward(desk.tried.as_mut_slice(), place);
             true
         }
@@ -143,7 +146,7 @@ fn try_blamed<A: Algebra, S: Setting>(
     ensures desk { IsDesk A.algebra (standing scope.old).net (standing scope.old).rules target.now.path.now desk.new }
     ensures scope { IsSameScope scope.old scope.new }
     ensures restored { IsRestored (standing scope.old) (standing scope.new) }
-    ensures answer { IfOk result (IsTrialOf A.algebra (seen_target target.now) (standing scope.old) (standing scope.new)) }
+    ensures answer { IfOk result (IsTrialOf A.algebra (seen_target target.now) (standing scope.old) (standing scope.new) desk.new.closers) }
     ensures unfinished { IfErr result (MayEndBy (seen_target target.now) (standing scope.old)) }
 {
     collect(
@@ -152,7 +155,8 @@ fn try_blamed<A: Algebra, S: Setting>(
         desk.states.as_slice(),
         &mut desk.tried,
     )?;
-    if closes(scope, target, desk.tried.as_slice()) {
+    if let Some(place) = closes_at(scope, target, desk.tried.as_slice()) {
+        desk.closers = Closers::of(desk.tried.as_slice(), place + 1);
         return Ok(None);
     }
     try_all(alloc, scope, target, desk)
@@ -173,7 +177,7 @@ fn try_all<A: Algebra, S: Setting>(
     ensures desk { IsDesk A.algebra (standing scope.old).net (standing scope.old).rules target.now.path.now desk.new }
     ensures scope { IsSameScope scope.old scope.new }
     ensures restored { IsRestored (standing scope.old) (standing scope.new) }
-    ensures answer { IfOk result (IsTrialOf A.algebra (seen_target target.now) (standing scope.old) (standing scope.new)) }
+    ensures answer { IfOk result (IsTrialOf A.algebra (seen_target target.now) (standing scope.old) (standing scope.new) desk.new.closers) }
     ensures unfinished { IfErr result (MayEndBy (seen_target target.now) (standing scope.old)) }
 {
     // there are labels here
@@ -184,7 +188,8 @@ fn try_all<A: Algebra, S: Setting>(
         desk.states.as_slice(),
         &mut desk.tried,
     )?;
-    if closes(scope, target, desk.tried.as_slice()) {
+    if let Some(place) = closes_at(scope, target, desk.tried.as_slice()) {
+        desk.closers = Closers::of(desk.tried.as_slice(), place + 1);
         return Ok(None);
     }
     if !tells_all(scope, desk.cone.sources()) {
@@ -232,21 +237,24 @@ fn tells_all<A: Algebra, S: Setting>(scope: &Scope<A, S>, sources: &[LineId]) ->
     true
 }
 
-// Whether the sources that were tried last can be tried here in the same states: they are in the support and told, and these are their
-// least states here too.
-fn can_try_again<A: Algebra, S: Setting>(scope: &Scope<A, S>, target: &Target, desk: &Desk) -> bool
+// Whether these sources can be tried here in the same states: they are in the support and told, and these are their least states here too.
+pub(crate) fn can_try<A: Algebra, S: Setting>(
+    scope: &Scope<A, S>,
+    target: &Target,
+    desk: &Desk,
+    tried: &[Tried],
+) -> bool
     requires suits { SuitsSearch A.algebra (seen_target target.now) (standing scope.now) }
     requires node { StandsAtNode A.algebra (seen_target target.now) (standing scope.now) }
     requires desk { IsDesk A.algebra (standing scope.now).net (standing scope.now).rules target.now.path.now desk.now }
-    ensures { IsTrue result → All (CanTry A.algebra (seen_target target.now) (standing scope.now)) desk.now.tried.items }
+    ensures { IsTrue result → All (CanTry A.algebra (seen_target target.now) (standing scope.now)) tried.now }
 {
-    let tried = desk.tried.as_slice();
     for entry in tried {
         if !has_least(scope, target, desk.cone.marks(), *entry) {
             return false;
         }
     }
-    !tried.is_empty()
+    true
 }
 
 // Whether the source is marked and told, and has this state as the least one of its label.

@@ -1,5 +1,5 @@
 // A visit of the place that is due next: pairs are tried at the node there, and where none is a test the tree grows by that node.
-ghost use Rattle.std.specs.Prelude.{◌≡◌, ◌≤◌, ◌∷◌, IfOk, IfErr, length, reverse};
+ghost use Rattle.std.specs.Prelude.{◌≡◌, ◌≤◌, ◌∷◌, IfOk, IfErr, IsTrue, length, reverse};
 ghost use Rattle.netlist.specs.Circuit.{line_count};
 ghost use Rattle.justify.specs.Scoping.{SuitsSearch, MayEndBy};
 ghost use Rattle.implication.specs.Clients.{IsRestored};
@@ -7,18 +7,22 @@ ghost use Rattle.implication.specs.Moves.{start_at};
 ghost use Rattle.implication.specs.Scopes.{IsSameScope, standing};
 ghost use Rattle.justify.specs.Choices.{AreSingle};
 ghost use Rattle.justify.specs.Desks.{IsDesk};
-ghost use Rattle.justify.specs.Growths.{IsExtended};
+ghost use Rattle.justify.specs.Closers.{ClosesByKept};
+ghost use Rattle.justify.specs.Growths.{IsExtended, StandsAtPlace};
+ghost use Rattle.justify.specs.Trying.{FailsByKept};
 ghost use Rattle.implication.specs.NodeScopes.{StandsAtNode};
 ghost use Rattle.justify.specs.Searches.{IsSearching, SearchGoesOn, IsVisit, AddsClosed, IsNodeVisit};
 ghost use Rattle.pair_judging.specs.Targets.{seen_target};
 
 use crate::Unfinished;
 use crate::choosing::choose;
+use crate::closers::Closers;
 use crate::desk::Desk;
 use crate::entering::enter;
-use crate::growing::{Growth, Place};
+use crate::growing::{Growth, Place, Sought};
 use crate::task::{Splitting, Task};
-use crate::trying::try_node;
+use crate::trial::closes_as_above;
+use crate::trying::{can_try, try_node};
 use implication::{Scope, Setting};
 use pair_judging::Target;
 use pd_base::{LineId, OutOfMemory, Pair};
@@ -47,7 +51,7 @@ pub(crate) fn visit<A: Algebra, S: Setting>(
     ensures unfinished { IfErr result (MayEndBy (seen_target task.now.target) (standing scope.old)) }
 {
     if enter(scope, task, desk, place) {
-        visit_node(alloc, scope, task, desk, growth, place.frontier)
+        visit_node(alloc, scope, task, desk, growth, place)
     } else {
         Ok(add_closed(growth)?)
     }
@@ -61,17 +65,18 @@ fn add_closed(growth: &mut Growth) -> Result<Option<Pair>, OutOfMemory>
     Ok(None)
 }
 
-// Visits the open node at which the scope stands: tries pairs there, and where none is a test adds the node.
+// Visits the open node of a place, at which the scope stands: tries pairs there, and where none is a test adds the node. Nothing is tried
+// where the trial fails as that of the node above did.
 fn visit_node<A: Algebra, S: Setting>(
     alloc: Global,
     scope: &mut Scope<A, S>,
     task: &Task,
     desk: &mut Desk,
     growth: &mut Growth,
-    frontier: Frontier,
+    place: Place,
 ) -> Result<Option<Pair>, Unfinished>
     requires suits { SuitsSearch A.algebra (seen_target task.now.target) (standing scope.old) }
-    requires node { StandsAtNode A.algebra (seen_target task.now.target) (standing scope.old) }
+    requires stands { StandsAtPlace A.algebra (seen_target task.now.target) (standing scope.old) place }
     requires desk { IsDesk A.algebra (standing scope.old).net (standing scope.old).rules task.now.target.path.now desk.old }
     requires budget { growth.old.splits ≤ task.now.budget }
     ensures desk { IsDesk A.algebra (standing scope.old).net (standing scope.old).rules task.now.target.path.now desk.new }
@@ -80,14 +85,41 @@ fn visit_node<A: Algebra, S: Setting>(
     ensures answer { IfOk result (IsNodeVisit A.algebra task.now (standing scope.old) (standing scope.new) growth.old growth.new) }
     ensures unfinished { IfErr result (MayEndBy (seen_target task.now.target) (standing scope.old)) }
 {
+    if fails_as_above(scope, &task.target, desk, place.closers) {
+        extend(scope, task, desk, growth, place.sought, place.closers)?;
+        return Ok(None);
+    }
     let test = try_node(alloc, scope, &task.target, desk)?;
     match test {
         Some(pair) => Ok(Some(pair)),
         None => {
-            extend(scope, task, desk, growth, frontier)?;
+            extend(scope, task, desk, growth, place.sought, desk.closers)?;
             Ok(None)
         }
     }
+}
+
+// Whether the trial of the node at which the scope stands fails by what closed that of the node above. A conflict is then counted. The scope
+// is afterwards as before.
+fn fails_as_above<A: Algebra, S: Setting>(
+    scope: &mut Scope<A, S>,
+    target: &Target,
+    desk: &Desk,
+    closers: Option<Closers>,
+) -> bool
+    requires suits { SuitsSearch A.algebra (seen_target target.now) (standing scope.old) }
+    requires node { StandsAtNode A.algebra (seen_target target.now) (standing scope.old) }
+    requires desk { IsDesk A.algebra (standing scope.old).net (standing scope.old).rules target.now.path.now desk.now }
+    requires closes { ClosesByKept A.algebra (standing scope.old).net (standing scope.old).rules (seen_target target.now) (standing scope.old).assumptions closers }
+    ensures scope { IsSameScope scope.old scope.new }
+    ensures restored { IsRestored (standing scope.old) (standing scope.new) }
+    ensures failed { IsTrue result → FailsByKept A.algebra (seen_target target.now) (standing scope.old) (standing scope.new) closers }
+{
+    let Some(kept) = closers else {
+        return false;
+    };
+    let tried = kept.tried();
+    can_try(scope, target, desk, tried) && closes_as_above(scope, target, tried)
 }
 
 // What becomes of an open node whose trial has failed: a leaf that waits, if no split is left of the budget, else a split.
@@ -96,12 +128,14 @@ fn extend<A: Algebra, S: Setting>(
     task: &Task,
     desk: &Desk,
     growth: &mut Growth,
-    frontier: Frontier,
+    sought: Sought,
+    closers: Option<Closers>,
 ) -> Result<(), OutOfMemory>
     requires suits { SuitsSearch A.algebra (seen_target task.now.target) (standing scope.now) }
     requires node { StandsAtNode A.algebra (seen_target task.now.target) (standing scope.now) }
     requires desk { IsDesk A.algebra (standing scope.now).net (standing scope.now).rules task.now.target.path.now desk.now }
     requires two { ¬ AreSingle A.algebra (seen_target task.now.target) (standing scope.now) }
+    requires closes { ClosesByKept A.algebra (standing scope.now).net (standing scope.now).rules (seen_target task.now.target) (standing scope.now).assumptions closers }
     requires budget { growth.old.splits ≤ task.now.budget }
     ensures { IfOk result (λ done. IsExtended A.algebra (seen_target task.now.target) (standing scope.now) task.now.budget growth.old growth.new) }
 {
@@ -109,11 +143,15 @@ fn extend<A: Algebra, S: Setting>(
         growth.nodes.push(Node::Waiting)?;
         return Ok(());
     }
-    let lead = lead_at(scope, task, desk, frontier);
-    let Some(split) = choose(scope, &task.target, desk, lead.source) else {
+    let lead = lead_at(scope, task, desk, sought.frontier);
+    let Some(chosen) = choose(scope, &task.target, desk, lead.source, sought.sources) else {
         unreachable!()
     };
-    growth.split::<A>(split, scope.mark(), lead.frontier)?;
+    let sought = Sought {
+        frontier: lead.frontier,
+        sources: chosen.place,
+    };
+    growth.split::<A>(chosen.split, scope.mark(), sought, closers)?;
     Ok(())
 }
 

@@ -11,6 +11,10 @@ use Rattle.pair_judging.specs.Targets.{seen_target}
 use Rattle.justify.proofs.TriedSources.{sources_within, desk_judged, kept_desk, linked_fits}
 use Rattle.justify.proofs.judging.judge_pair.Goals as goal
 
+pub read_linked-requires-clause-judge : goal.read_linked-requires-clause-judge
+read_linked-requires-clause-judge g c =
+    let P : Circuit → Type 0 = λ n. IsJudgeOf 4 n c.args.desk.now.judge in subst P (sym c.net-net.ensures) c.requires.desk.made.judge
+
 pub read_linked-requires-clause-made : goal.read_linked-requires-clause-made
 read_linked-requires-clause-made g c =
     let P : Circuit → Type 0 = λ n. IsConeFor n c.args.desk.now.cone in subst P (sym c.net-net.ensures) c.requires.desk.made.cone
@@ -30,8 +34,7 @@ read_linked-requires-clause-states g c =
     subst Q (sym c.as_slice.ensures.value) c.requires.sources
 
 pub meets-requires-clause-judge : goal.meets-requires-clause-judge
-meets-requires-clause-judge g c =
-    let P : Circuit → Type 0 = λ n. IsJudgeOf 4 n c.args.desk.now.judge in subst P (sym c.net-net.ensures) c.requires.desk.made.judge
+meets-requires-clause-judge g c = c.in_ok-pair.ensures.judge
 
 pub meets-requires-clause-prefix : goal.meets-requires-clause-prefix
 meets-requires-clause-prefix g c =
@@ -40,7 +43,7 @@ meets-requires-clause-prefix g c =
 pub meets-requires-clause-bits : goal.meets-requires-clause-bits
 meets-requires-clause-bits g c =
     let P : Circuit → Type 0 = λ n. IsConeAt n (end_of n c.args.target.now.path.now) c.args.desk.now.cone in
-    (c.in_ok-pair.ensures (end_of c.net-net.result.now c.args.target.now.path.now) (subst P (sym c.net-net.ensures) c.requires.desk.cone)).first_fits
+    (c.in_ok-pair.ensures.linked (end_of c.net-net.result.now c.args.target.now.path.now) (subst P (sym c.net-net.ensures) c.requires.desk.cone)).first_fits
 
 pub returns-then-not-meets-clause-desk : goal.returns-then-not-meets-clause-desk
 returns-then-not-meets-clause-desk g c =
@@ -56,5 +59,5 @@ returns-clause-desk g c =
 pub returns-clause-test : goal.returns-clause-test
 returns-clause-test g c =
     linked_fits g.A.Algebra.algebra c.net-net.result.now (standing c.args.scope.now).net c.net-net.ensures (standing c.args.scope.now).rules
-    (seen_target c.args.target.now) c.args.desk.now c.requires.desk c.in_ok-pair.pair c.in_ok-pair.ensures
+    (seen_target c.args.target.now) c.args.desk.now c.requires.desk c.in_ok-pair.pair c.in_ok-pair.ensures.linked
     (c.meets.ensures.meets.0 c.if-not-meets.false)

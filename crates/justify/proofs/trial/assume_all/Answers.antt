@@ -1,20 +1,20 @@
 -- Each source more stays within the trial; a conflict closes it, and where none came all are held.
-use Rattle.std.proofs.Common.{refl, ap, ◌∙◌, subst, take, arith}
+use Rattle.std.proofs.Common.{refl, ap, ◌∙◌, subst, take}
 use Rattle.std.specs.Prelude.{is_some}
 use Rattle.std.specs.List.{All}
 use Rattle.std.proofs.lemmas.List.{take_all}
-use Rattle.std.proofs.lemmas.List.Elements.{All-more}
+use Rattle.std.proofs.lemmas.List.Elements.{All-nil}
 use Rattle.implication.specs.Scopes.{standing}
 use Rattle.implication.specs.Standing.{IsFree}
 use Rattle.implication.proofs.Restoring.{extends_itself, extends_trans, same_scope_twice}
 use Rattle.pair_judging.specs.Targets.{seen_target}
 use Rattle.implication.specs.NodeScopes.{beginning_of}
-use Rattle.justify.specs.Trying.{IsHeldIn}
+use Rattle.justify.specs.Trying.{IsWithinTrial, IsHeldIn}
 use Rattle.justify.proofs.Assumed.{grown_list, grown_conflict, closed_list, closed_count}
 use Rattle.implication.proofs.ScopeLabels.{closes_there}
 use Rattle.justify.proofs.Resting.{counted_later}
 use Rattle.justify.proofs.Suiting.{told_after}
-use Rattle.justify.proofs.Trials.{within_itself, within_more, held_here, held_before}
+use Rattle.justify.proofs.Trials.{within_itself, within_more, held_more}
 use Rattle.justify.proofs.trial.assume_all.Goals as goal
 
 pub returns-in-Err-clause-trial : goal.returns-in-Err-clause-trial
@@ -24,9 +24,10 @@ returns-in-Err-clause-trial g c =
       begun = ap is_some (c.loop-place.invariant.extends.beginning ∙ c.requires.node.beginning);
       free = c.loop-place.invariant.held.free;
     } in
-    within_more g.A.Algebra.algebra (seen_target c.args.target.now) first c.requires.node now (standing c.assume.new.self) _
-    (c.requires.tried c.loop-place.place _ c.loop-place-test.true) c.only.result c.only.ensures
-    (closed_list g.A.Algebra.algebra.count now (standing c.assume.new.self) _ c.only.result _ (c.in-Err.ensures.tells.err free)) c.loop-place.invariant.trial
+    within_more g.A.Algebra.algebra (seen_target c.args.target.now) first now (standing c.assume.new.self) c.args.tried.now c.loop-place.place _
+    c.loop-place-test.true (c.requires.tried c.loop-place.place _ c.loop-place-test.true) c.only.result c.only.ensures
+    (closed_list g.A.Algebra.algebra.count now (standing c.assume.new.self) _ c.only.result _ (c.in-Err.ensures.tells.err free))
+    c.loop-place.invariant.trial
 
 pub returns-in-Err-clause-ends : goal.returns-in-Err-clause-ends
 returns-in-Err-clause-ends g c =
@@ -51,13 +52,13 @@ loop-place-preserved g c =
     record {
       scope = same_scope_twice before.scope c.assume.ensures.scope;
       extends = extends_trans first now new before.extends c.assume.ensures.extends;
-      trial = within_more g.A.Algebra.algebra target first c.requires.node now new _ is c.only.result c.only.ensures more before.trial;
+      trial = within_more g.A.Algebra.algebra target first now new c.args.tried.now c.loop-place.place _ c.loop-place-test.true is
+          c.only.result c.only.ensures more before.trial;
       held = record {
         free = grown_conflict g.A.Algebra.algebra.count now new _ c.only.result c.in-Ok.ensures.tells.ok ∙ before.held.free;
         left_open = c.in-Ok.ensures.tells.left_open;
-        held = All-more (IsHeldIn g.A.Algebra.algebra target first new) c.args.tried.now c.loop-place.place _ c.loop-place-test.true
-            (held_before g.A.Algebra.algebra target first c.requires.node now new _ is c.only.result c.only.ensures more (take c.loop-place.place c.args.tried.now) before.held.held)
-            (held_here g.A.Algebra.algebra target first c.requires.node now new _ is c.only.result c.only.ensures more);
+        held = held_more g.A.Algebra.algebra target first now new c.args.tried.now c.loop-place.place _ c.loop-place-test.true is
+            c.only.result c.only.ensures more before.held.held;
       };
     }
 
@@ -76,8 +77,12 @@ loop-place-init g c =
     record {
       scope = record { engine = refl; origin = refl };
       extends = extends_itself first;
-      trial = within_itself g.A.Algebra.algebra (seen_target c.args.target.now) first;
-      held = record { free = c.requires.node.free; left_open = c.requires.node.left_open; held = λ k d inside. absurd (omega (arith, inside)) };
+      trial = within_itself g.A.Algebra.algebra (seen_target c.args.target.now) first (take 0 c.args.tried.now);
+      held = record {
+        free = c.requires.node.free;
+        left_open = c.requires.node.left_open;
+        held = All-nil (IsHeldIn g.A.Algebra.algebra (seen_target c.args.target.now) first first);
+      };
     }
 
 pub assume-requires-clause-source : goal.assume-requires-clause-source
@@ -106,4 +111,7 @@ pub returns-clause-extends : goal.returns-clause-extends
 returns-clause-extends g c = c.loop-place.invariant.extends
 
 pub returns-clause-trial : goal.returns-clause-trial
-returns-clause-trial g c = c.loop-place.invariant.trial
+returns-clause-trial g c =
+    let P : _ → Type 0 = λ xs.
+    IsWithinTrial g.A.Algebra.algebra (seen_target c.args.target.now) (standing c.args.scope.now) (standing c.loop-place.scope) xs in
+    subst P (take_all c.loop-place.place c.args.tried.now c.loop-place-test.false) c.loop-place.invariant.trial

@@ -1,4 +1,4 @@
--- The sources so far are held in the states tried, and no conflict came.
+-- The sources so far are held in the states tried, nothing else is assumed, and no conflict came.
 use Rattle.std.proofs.Common.{take}
 use Rattle.implication.specs.Clients.{ExtendsStanding}
 use Rattle.implication.specs.Scopes.{IsSameScope, standing}
@@ -10,6 +10,6 @@ abbrev pub invariant-loop-place : goal.invariant-loop-place
 invariant-loop-place g l = record {
   scope : IsSameScope l.initial.scope l.scope;
   extends : ExtendsStanding (standing l.initial.scope) (standing l.scope);
-  trial : IsWithinTrial g.A.Algebra.algebra (seen_target l.target) (standing l.initial.scope) (standing l.scope);
+  trial : IsWithinTrial g.A.Algebra.algebra (seen_target l.target) (standing l.initial.scope) (standing l.scope) (take l.place l.tried);
   held : AreHeld g.A.Algebra.algebra (seen_target l.target) (standing l.initial.scope) (standing l.scope) (take l.place l.tried);
 }

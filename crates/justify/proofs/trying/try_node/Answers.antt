@@ -82,7 +82,7 @@ returns-in-None-clause-restored g c =
 pub returns-in-None-clause-answer : goal.returns-in-None-clause-answer
 returns-in-None-clause-answer g c =
     ok_answer g.A.Algebra.algebra (seen_target c.args.target.now) (standing c.args.scope.now) (standing c.closes_again.new.scope) (standing c.try_blamed.new.scope)
-    c.closes_again.ensures.restored c.try_blamed.result c.try_blamed.ensures.answer
+    c.closes_again.ensures.restored c.try_blamed.new.desk.closers c.try_blamed.result c.try_blamed.ensures.answer
 
 pub returns-in-None-clause-unfinished : goal.returns-in-None-clause-unfinished
 returns-in-None-clause-unfinished g c =

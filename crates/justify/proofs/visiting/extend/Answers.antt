@@ -5,5 +5,5 @@ use Rattle.justify.proofs.visiting.extend.Goals as goal
 
 pub returns : goal.returns
 returns g c =
-    splits c.in-Some.split c.mark.result c.mark.ensures c.in-Some.ensures.some (omega (arith, c.if-growth-task.false, c.requires.budget))
-    c.in_ok-split.ensures
+    splits c.in-Some.chosen.split c.mark.result c.args.closers c.mark.ensures c.in-Some.ensures.some c.requires.closes
+    (omega (arith, c.if-growth-task.false, c.requires.budget)) c.in_ok-split.ensures

@@ -3,7 +3,7 @@ use Rattle.implication.specs.Moves.{start_at}
 use Rattle.implication.specs.Scopes.{standing}
 use Rattle.pair_judging.specs.Targets.{seen_target}
 use Rattle.justify.proofs.Suiting.{ended_before}
-use Rattle.justify.proofs.GoingOn.{next_late, next_at_mark, next_at_source, next_told, next_within, next_begun, next_open, other_desk, shut_goes_on, shut_visited, entered_node, entered_setting, entered_suits, entered_desk, entered_goes_on, node_visited}
+use Rattle.justify.proofs.GoingOn.{next_late, next_at_mark, next_at_source, next_told, next_within, next_begun, next_open, other_desk, shut_goes_on, shut_visited, entered_place, entered_setting, entered_suits, entered_desk, entered_goes_on, node_visited}
 use Rattle.justify.proofs.visiting.visit.Goals as goal
 
 pub enter-requires-clause-can : goal.enter-requires-clause-can
@@ -29,9 +29,9 @@ visit_node-requires-clause-suits g c =
     entered_suits g.A.Algebra.algebra c.args.task.now (standing c.args.scope.now) c.args.desk.now c.args.growth.now c.args.place c.requires.searching
     (standing c.enter.new.scope) (c.enter.ensures.entered c.if-enter.true)
 
-pub visit_node-requires-clause-node : goal.visit_node-requires-clause-node
-visit_node-requires-clause-node g c =
-    entered_node g.A.Algebra.algebra c.args.task.now (standing c.args.scope.now) c.args.desk.now c.args.growth.now c.args.place c.requires.searching
+pub visit_node-requires-clause-stands : goal.visit_node-requires-clause-stands
+visit_node-requires-clause-stands g c =
+    entered_place g.A.Algebra.algebra c.args.task.now (standing c.args.scope.now) c.args.desk.now c.args.growth.now c.args.place c.requires.searching
     (standing c.enter.new.scope) (c.enter.ensures.entered c.if-enter.true)
 
 pub visit_node-requires-clause-desk : goal.visit_node-requires-clause-desk

@@ -1,5 +1,5 @@
 -- Each entry that is passed over has the least state of its source; so all can be tried where none is left.
-use Rattle.std.proofs.Common.{◌∙◌, subst, List, arith}
+use Rattle.std.proofs.Common.{subst, List, arith}
 use Rattle.std.proofs.lemmas.Grind.{common_steps}
 use Rattle.std.specs.List.{All}
 use Rattle.std.proofs.lemmas.List.{take_all}
@@ -12,12 +12,12 @@ use Rattle.justify.specs.declared.trial.Tried.{Tried}
 use Rattle.pair_judging.specs.Targets.{seen_target}
 use Rattle.justify.specs.Trying.{CanTry}
 use Rattle.justify.proofs.TriedSources.{tried_again}
-use Rattle.justify.proofs.trying.can_try_again.Goals as goal
+use Rattle.justify.proofs.trying.can_try.Goals as goal
 
 pub loop-entry-preserved : goal.loop-entry-preserved
 loop-entry-preserved g c =
     let target = seen_target c.args.target.now in let now = standing c.args.scope.now in
-    All-more (CanTry g.A.Algebra.algebra target now) c.as_slice-tried.result.now c.loop-entry.entry-index _ c.loop-entry-test.true c.loop-entry.invariant
+    All-more (CanTry g.A.Algebra.algebra target now) c.args.tried.now c.loop-entry.entry-index _ c.loop-entry-test.true c.loop-entry.invariant
     (tried_again g.A.Algebra.algebra target now c.marks.result.now _
     (λ line marked.
     let P : LinkList → Type 0 = λ links. IsSupported now.net links (end_of now.net target.path) line in
@@ -25,9 +25,9 @@ loop-entry-preserved g c =
     (c.has_least.ensures c.if-not-has_least.false))
 
 pub returns : goal.returns
-returns g c = λ some.
+returns g c = λ yes.
     let P : List Tried → Type 0 = λ xs. All (CanTry g.A.Algebra.algebra (seen_target c.args.target.now) (standing c.args.scope.now)) xs in
-    subst P (take_all c.loop-entry.entry-index c.as_slice-tried.result.now c.loop-entry-test.false ∙ c.as_slice-tried.ensures.value)
+    subst P (take_all c.loop-entry.entry-index c.args.tried.now c.loop-entry-test.false)
     c.loop-entry.invariant
 
 pub has_least-requires-clause-marks : goal.has_least-requires-clause-marks
