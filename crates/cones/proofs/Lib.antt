@@ -1,5 +1,4 @@
 mod Images
-mod Storing
 pub mod Finding
 pub mod Spreading
 pub mod SourceHeads

@@ -1,6 +1,6 @@
 -- The cone of a line: the lines of its support under links, which without links are those of its transitive fan-in, with the sources and
 -- the gates among them (this project's own).
-use Rattle.std.specs.Prelude.{◌≡◌, ℕ, ◌<◌, ◌≤◌, ◌↔◌, List, [], length, map, slice_index, slice_index_or, Option, None, IfSome, All, AllPairs, Contains}
+use Rattle.std.specs.Prelude.{◌≡◌, ℕ, ◌<◌, ◌≤◌, ◌↔◌, List, length, slice_index, slice_index_or, vec_capacity, Option, None, Some, IfSome, All, AllPairs, Contains}
 use Rattle.pd_base.specs.Links.{LinkList}
 use Rattle.pd_base.specs.declared.ids.LineId.{LineId}
 use Rattle.pd_base.specs.declared.ids.GateId.{GateId}
@@ -8,10 +8,10 @@ use Rattle.netlist.specs.Circuit.{Circuit, source_count, gate_count, gate_line, 
 use Rattle.netlist.specs.Levels.{IsRankedBefore, IsRankOrder, ReadsEarlier}
 use Rattle.netlist.specs.LinkedPairs.{AreLinksOf, IsSupported}
 use Rattle.cones.specs.FoundLines.{FoundSet}
-use Rattle.cones.specs.StoredCones.{StoredCone}
+use Rattle.cones.specs.declared.end_cone.EndCone.{EndCone}
 
--- What is kept of a cone, if one is: its end, its lines, its sources and its gates. And of the circuit, whatever the cone is: the links
--- that stand, its gates in rank order, the place of each gate there, and cones that were found before.
+-- What is at hand of a cone, if one is: its end, its lines, its sources and its gates. And of the circuit, whatever the cone is: the links
+-- that stand, its gates in rank order, the place of each gate there, and cones that were at hand before.
 pub record KeptCone : Type 0 where
   pub end : Option LineId
   pub found : FoundSet
@@ -20,7 +20,7 @@ pub record KeptCone : Type 0 where
   pub links : LinkList
   pub order : List GateId
   pub ranks : List ℕ
-  pub stored : List StoredCone
+  pub others : List EndCone
 
 -- the gate at a place of a list
 abbrev pub ranked_gate : List GateId → ℕ → GateId
@@ -37,11 +37,16 @@ pub record IsRankAmong (c : Circuit) (lines : List LineId) (ranks : List ℕ) (r
   pub among : Contains lines (record { 0 = gate_line c gate })
   pub ranked : slice_index ranks gate ≡ rank
 
--- there is room for the cone of any line, and no more lines were found than there may be
-pub record HasRoomFor (found : FoundSet) (sources gates numbers : ℕ) : Type 0 where
-  pub for_sources : found.room ≤ sources
-  pub for_gates : found.room ≤ gates
-  pub for_numbers : found.room ≤ numbers
+-- there is room for the cone of any line, and no more lines were found than there may be; the numbers are room to sort in
+pub record HasRoomFor (numbers : ℕ) (cone : EndCone) : Type 0 where
+  pub for_sources : cone.found.room ≤ vec_capacity cone.sources
+  pub for_gates : cone.found.room ≤ vec_capacity cone.gates
+  pub for_numbers : cone.found.room ≤ numbers
+
+-- there is such room in the cone at hand, and in each that is kept aside
+pub record HaveRoomFor (numbers : ℕ) (current : EndCone) (others : List EndCone) : Type 0 where
+  pub here : HasRoomFor numbers current
+  pub aside : All (HasRoomFor numbers) others
 
 -- the sources of the support of an end, in rising order
 pub record AreConeSources (c : Circuit) (links : LinkList) (end : ℕ) (sources : List LineId) : Type 0 where
@@ -54,32 +59,45 @@ pub record AreConeGates (c : Circuit) (links : LinkList) (end : ℕ) (gates : Li
   pub exactly : (gate : ℕ) → Contains gates (record { 0 = gate }) ↔ ((gate < gate_count c) × IsSupported c links end (gate_line c gate))
   pub earlier : ReadsEarlier c gates
 
--- the lines of these gates
-abbrev pub lines_of_gates : Circuit → List GateId → List LineId
-lines_of_gates c gates = map (λ gate. record { 0 = gate_line c gate.0 }) gates
-
--- the cone that is stored is that of its end
-pub record IsStoredConeOf (c : Circuit) (links : LinkList) (cone : StoredCone) : Type 0 where
-  pub sources : AreConeSources c links cone.end.0 cone.sources
-  pub gates : AreConeGates c links cone.end.0 cone.gates
-
--- the cone that is kept is that of this end
+-- the cone at hand is that of this end
 pub record IsConeAt (c : Circuit) (end : ℕ) (cone : KeptCone) : Type 0 where
   pub lines : (line : ℕ) → Contains cone.found.lines (record { 0 = line }) ↔ IsSupported c cone.links end line
   pub sources : AreConeSources c cone.links end cone.sources
   pub gates : AreConeGates c cone.links end cone.gates
 
--- no cone is kept and none is stored, and there is room for that of any of so many lines, under these links, whose gates have this order
--- and these places
+-- a cone that is kept aside is that of this end, under these links
+pub record IsAsideFor (c : Circuit) (links : LinkList) (end : ℕ) (cone : EndCone) : Type 0 where
+  pub lines : (line : ℕ) → Contains cone.found.lines (record { 0 = line }) ↔ IsSupported c links end line
+  pub sources : AreConeSources c links end cone.sources.items
+  pub gates : AreConeGates c links end cone.gates.items
+
+-- it is that of its end, if it has one, and there is room for that of any line of this circuit
+pub record IsAside (c : Circuit) (links : LinkList) (cone : EndCone) : Type 0 where
+  pub room : cone.found.room ≡ line_count c
+  pub own : IfSome cone.end (λ end. IsAsideFor c links end.0 cone)
+
+-- the cone at a place of those that are kept aside is that of this end
+abbrev pub IsAsideAt : LineId → ℕ → List EndCone → Type 0
+IsAsideAt end place cones = (other : EndCone) → (slice_index_or cones place other).end ≡ Some end
+
+-- the cone of no end, with room for that of any of so many lines
+pub record IsNoCone (lines : ℕ) (cone : EndCone) : Type 0 where
+  pub none : cone.end ≡ None
+  pub room : cone.found.room ≡ lines
+  pub for_sources : lines ≤ vec_capacity cone.sources
+  pub for_gates : lines ≤ vec_capacity cone.gates
+
+-- no cone is at hand and none is kept aside, and there is room for those of any of so many lines, under these links, whose gates have this
+-- order and these places
 pub record IsConeOfNone (lines : ℕ) (links : LinkList) (order : List GateId) (ranks : List ℕ) (cone : KeptCone) : Type 0 where
   pub room : cone.found.room ≡ lines
   pub linked : cone.links ≡ links
   pub ordered : cone.order ≡ order
   pub ranked : cone.ranks ≡ ranks
   pub none : cone.end ≡ None
-  pub none_stored : cone.stored ≡ []
+  pub none_aside : All (IsNoCone lines) cone.others
 
--- cones are kept for this circuit, the one that is kept is that of its end, and so is each that is stored
+-- cones are kept for this circuit, the one at hand is that of its end, and so is each that is kept aside
 pub record IsConeFor (c : Circuit) (cone : KeptCone) : Type 0 where
   pub room : cone.found.room ≡ line_count c
   pub fit : AreLinksOf c cone.links
@@ -87,4 +105,4 @@ pub record IsConeFor (c : Circuit) (cone : KeptCone) : Type 0 where
   pub one_each : length cone.ranks ≡ gate_count c
   pub places : AreRanks cone.order cone.ranks
   pub kept : IfSome cone.end (λ end. IsConeAt c end.0 cone)
-  pub stored : All (IsStoredConeOf c cone.links) cone.stored
+  pub aside : All (IsAside c cone.links) cone.others

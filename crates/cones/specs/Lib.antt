@@ -2,5 +2,4 @@ pub mod Marks
 pub mod FoundLines
 pub mod SourceLinks
 pub mod Ends
-pub mod StoredCones
 pub mod KeptCones

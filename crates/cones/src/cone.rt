@@ -1,52 +1,51 @@
-// The cone of a line: the lines of its support under links, with the sources and the gates among them in order. One cone is kept at a
+// The cone of a line: the lines of its support under links, with the sources and the gates among them in order. One cone is at hand at a
 // time, and the next one costs those two and not the circuit, but where it is a good part of that. How they are listed stands in
-// cone_lists.rt. The lists of cones that were found are stored (stored_cones.rt), and such a cone is put back by them (restoring.rt).
+// cone_lists.rt. Those that were at hand before are kept aside (end_cone.rt), and cost nothing where they are asked for again.
 ghost use Rattle.std.specs.Prelude.{◌≡◌, ◌<◌, ◌↔◌, ℕ, length, Some, IfOk, IsTrue, Contains};
-ghost use Rattle.netlist.specs.Circuit.{line_count};
+ghost use Rattle.netlist.specs.Circuit.{Circuit, line_count};
 ghost use Rattle.netlist.specs.LinkedPairs.{AreLinksOf, IsSupported};
 ghost use Rattle.cones.specs.FoundLines.{HasMark};
-ghost use Rattle.cones.specs.KeptCones.{IsConeFor, IsConeAt, IsConeOfNone};
+ghost use Rattle.cones.specs.KeptCones.{IsConeFor, IsConeAt, IsConeOfNone, IsAsideAt};
 
 use crate::back_search::find_cone;
 use crate::cone_lists::{
     list_gates, list_sources, number_sources, rank_gates, ranks_of, scan_gates, scan_sources,
 };
-use crate::found_lines::FoundLines;
-use crate::restoring::{find_listed, replace_items};
+use crate::end_cone::{EndCone, most_others, no_cones, place_of};
 use crate::source_links::SourceLinks;
-use crate::stored_cones::StoredCones;
 use netlist::Netlist;
 use pd_base::{GateId, LineId, OutOfMemory};
 use std::alloc::Global;
 use std::marker::Model;
+use std::mem;
 
 // A cone is large where the circuit has fewer than so many gates for each of its lines: one pass over all gates then costs less than a
 // sort.
 const GATES_PER_LINE: usize = 16;
 
-/// The cone of one line at a time, with room for that of any line of the netlist that it was made for.
+/// The cone of one line at a time, with room for that of any line of the netlist that it was made for, and for those of some lines that
+/// were asked for before.
 #[derive(Drop)]
 pub struct Cone {
-    end: Option<LineId>,
-    found: FoundLines,
-    sources: Vec<LineId>,
-    gates: Vec<GateId>,
+    current: EndCone,
+    others: Vec<EndCone>,
+    // which of the others goes next
+    next: usize,
     links: SourceLinks,
     order: Vec<GateId>,
     ranks: Vec<usize>,
     numbers: Vec<usize>,
-    stored: StoredCones,
 }
 
 impl Model for Cone {
-    ghost use Rattle.std.specs.Prelude.{◌≤◌, vec_capacity};
-    ghost use Rattle.cones.specs.KeptCones.{KeptCone, HasRoomFor};
+    ghost use Rattle.std.specs.Prelude.{vec_capacity};
+    ghost use Rattle.cones.specs.KeptCones.{KeptCone, HaveRoomFor};
 
     ghost Value = { KeptCone };
 
-    ghost view = { λ c. record { end = c.end; found = c.found; sources = c.sources.items; gates = c.gates.items; links = c.links; order = c.order.items; ranks = c.ranks.items; stored = c.stored } };
+    ghost view = { λ c. record { end = c.current.end; found = c.current.found; sources = c.current.sources.items; gates = c.current.gates.items; links = c.links; order = c.order.items; ranks = c.ranks.items; others = c.others.items } };
 
-    ghost invariant = { λ c. HasRoomFor c.found (vec_capacity c.sources) (vec_capacity c.gates) (vec_capacity c.numbers) };
+    ghost invariant = { λ c. HaveRoomFor (vec_capacity c.numbers) c.current c.others.items };
 }
 
 impl Cone {
@@ -76,25 +75,21 @@ impl Cone {
     ) -> Result<Cone, OutOfMemory>
         ensures { IfOk result (IsConeOfNone lines links order.items ranks.items) }
     {
-        let sources = Vec::with_capacity(alloc, lines)?;
-        let gates = Vec::with_capacity(alloc, lines)?;
+        let others = no_cones(alloc, lines, most_others(lines))?;
         let numbers = Vec::with_capacity(alloc, lines)?;
-        let found = FoundLines::new(alloc, lines)?;
         Ok(Cone {
-            end: None,
-            found,
-            sources,
-            gates,
+            current: EndCone::new(alloc, lines)?,
+            others,
+            next: 0,
             links,
             order,
             ranks,
             numbers,
-            stored: StoredCones::new(alloc, lines)?,
         })
     }
 
-    /// Keeps the cone of this line, and no longer that of the line before. Takes no memory, and no time where it is kept already; where it
-    /// was kept not long ago, it costs its lines alone and no search.
+    /// Has the cone of this line at hand, and that of the line before no longer. Takes no memory, and no time where the cone is at hand
+    /// already or was so not long ago.
     pub fn set_end(&mut self, net: &Netlist, end: LineId)
         requires made { IsConeFor net.now self.old }
         requires end { end.0 < line_count net.now }
@@ -102,43 +97,49 @@ impl Cone {
         ensures links { self.new.links ≡ self.old.links }
         ensures cone { IsConeAt net.now end.0 self.new }
     {
-        if self.keeps(end) || self.restore(net, end) {
+        if self.is_at(end) {
             return;
         }
-        self.find(net, end);
-        self.stored
-            .store(end, self.sources.as_slice(), self.gates.as_slice());
-    }
-
-    // Whether the cone that is kept is that of this line.
-    fn keeps(&self, end: LineId) -> bool
-        ensures { IsTrue result → self.now.end ≡ Some end }
-    {
-        match self.end {
-            Some(kept) => kept.0 == end.0,
-            None => false,
+        match place_of(self.others.as_slice(), end) {
+            Some(place) => self.exchange(place),
+            None => {
+                self.put_aside();
+                self.find(net, end);
+            }
         }
     }
 
-    // Puts the cone of a line back, if it is stored. Tells whether it is.
-    fn restore(&mut self, net: &Netlist, end: LineId) -> bool
-        requires made { IsConeFor net.now self.old }
-        requires end { end.0 < line_count net.now }
-        ensures made { IsConeFor net.now self.new }
-        ensures links { self.new.links ≡ self.old.links }
-        ensures cone { IsTrue result → IsConeAt net.now end.0 self.new }
+    // Whether the cone at hand is that of this line.
+    fn is_at(&self, end: LineId) -> bool
+        ensures { IsTrue result → self.now.end ≡ Some end }
     {
-        let Some(cone) = self.stored.cone_of(end) else {
-            return false;
+        self.current.is_of(end)
+    }
+
+    // Has the cone at this place of the others at hand, and puts the one that was at hand aside there.
+    fn exchange(&mut self, place: usize)
+        requires { place < length self.old.others }
+        ensures made { (c : Circuit) → IsConeFor c self.old → IsConeFor c self.new }
+        ensures links { self.new.links ≡ self.old.links }
+        ensures cone { (c : Circuit) (end : LineId) → IsConeFor c self.old → IsAsideAt end place self.old.others → IsConeAt c end.0 self.new }
+    {
+        mem::swap(&mut self.current, &mut self.others[place]);
+    }
+
+    // Puts the cone at hand aside, in place of the one that was put there longest ago.
+    fn put_aside(&mut self)
+        ensures made { (c : Circuit) → IsConeFor c self.old → IsConeFor c self.new }
+        ensures links { self.new.links ≡ self.old.links }
+    {
+        let place = if self.next < self.others.len() {
+            self.next
+        } else {
+            0
         };
-        // A netlist knows itself as a circuit.
-        let has_room = self.found.marks().len() == net.lines() as usize;
-        prove!(has_room);
-        find_listed(net, cone.sources, cone.gates, &mut self.found);
-        replace_items(&mut self.sources, cone.sources);
-        replace_items(&mut self.gates, cone.gates);
-        self.end = Some(end);
-        true
+        if place < self.others.len() {
+            self.exchange(place);
+            self.next = place + 1;
+        }
     }
 
     // Finds the cone of a line.
@@ -149,8 +150,8 @@ impl Cone {
         ensures links { self.new.links ≡ self.old.links }
         ensures cone { IsConeAt net.now end.0 self.new }
     {
-        self.end = None;
-        find_cone(net, &self.links, end, &mut self.found);
+        self.current.end = None;
+        find_cone(net, &self.links, end, &mut self.current.found);
         if self.is_large() {
             self.list_by_marks(net, end);
         } else {
@@ -160,7 +161,7 @@ impl Cone {
 
     // Whether so many lines were found that one pass over the circuit costs less than a sort.
     fn is_large(&self) -> bool {
-        self.found.lines().len() > self.order.len() / GATES_PER_LINE
+        self.current.found.lines().len() > self.order.len() / GATES_PER_LINE
     }
 
     // Lists the sources and the gates of the lines that were found, which are the cone of this end: those that have marks.
@@ -171,14 +172,18 @@ impl Cone {
         ensures links { self.new.links ≡ self.old.links }
         ensures cone { IsConeAt net.now end.0 self.new }
     {
-        scan_sources(net.sources(), self.found.marks(), &mut self.sources);
+        scan_sources(
+            net.sources(),
+            self.current.found.marks(),
+            &mut self.current.sources,
+        );
         scan_gates(
             net.sources(),
             self.order.as_slice(),
-            self.found.marks(),
-            &mut self.gates,
+            self.current.found.marks(),
+            &mut self.current.gates,
         );
-        self.end = Some(end);
+        self.current.end = Some(end);
     }
 
     // The same by their numbers and by their places in rank order, which are sorted.
@@ -190,20 +195,20 @@ impl Cone {
         ensures links { self.new.links ≡ self.old.links }
         ensures cone { IsConeAt net.now end.0 self.new }
     {
-        number_sources(net.sources(), self.found.lines(), &mut self.numbers);
-        list_sources(self.numbers.as_slice(), &mut self.sources);
+        number_sources(net.sources(), self.current.found.lines(), &mut self.numbers);
+        list_sources(self.numbers.as_slice(), &mut self.current.sources);
         rank_gates(
             net,
-            self.found.lines(),
+            self.current.found.lines(),
             self.ranks.as_slice(),
             &mut self.numbers,
         );
         list_gates(
             self.numbers.as_slice(),
             self.order.as_slice(),
-            &mut self.gates,
+            &mut self.current.gates,
         );
-        self.end = Some(end);
+        self.current.end = Some(end);
     }
 
     /// The links that stand.
@@ -218,27 +223,27 @@ impl Cone {
         ensures places { length result.now ≡ self.now.found.room }
         ensures exactly { (line : ℕ) → HasMark result.now line ↔ Contains self.now.found.lines (record { 0 = line }) }
     {
-        self.found.marks()
+        self.current.found.marks()
     }
 
     /// The lines of the cone, in no order that matters.
     pub fn lines(&self) -> &[LineId]
         ensures { result.now ≡ self.now.found.lines }
     {
-        self.found.lines()
+        self.current.found.lines()
     }
 
     /// The sources of the cone, in rising order.
     pub fn sources(&self) -> &[LineId]
         ensures { result.now ≡ self.now.sources }
     {
-        self.sources.as_slice()
+        self.current.sources.as_slice()
     }
 
     /// The gates of the cone in rank order, so that each stands behind those whose lines it reads.
     pub fn gates(&self) -> &[GateId]
         ensures { result.now ≡ self.now.gates }
     {
-        self.gates.as_slice()
+        self.current.gates.as_slice()
     }
 }

@@ -365,7 +365,7 @@ fn split_by_weight<A: Algebra, S: Setting>(
         splitting: Splitting::ByWeight,
     };
     desk.justifier
-        .begin_tree(&desk.cone, scope.labels(), scope.changes().len());
+        .begin_tree(scope.labels(), scope.changes().len());
     split_cases(alloc, scope, &by_weight, desk)
 }
 

@@ -8,6 +8,7 @@ ghost use Rattle.netlist.specs.Circuit.{gate_count, line_count};
 use crate::culprits::add_lines;
 use crate::picking::without;
 use crate::region::{Region, condition_of, is_inside};
+use crate::source_weights::SourceWeights;
 use crate::weights::Weights;
 use cones::FoundLines;
 use hulls::{NarrowScratch, kept_at};
@@ -21,7 +22,7 @@ use undo_trail::Note;
 /// Room for going back from conflicts. Contracts see how many lines there are.
 #[derive(Drop)]
 pub(crate) struct Grounds {
-    // By line: those of the cone where the tree began, and while a conflict is traced those before the change that is looked at.
+    // By line: those where the tree began, and while a conflict is traced those before the change that is looked at.
     labels: Vec<StateSet>,
     // The lines that matter.
     matters: FoundLines,
@@ -57,13 +58,13 @@ impl Grounds {
         })
     }
 
-    // A tree begins: these lines have these labels, and so many changes were noted.
-    pub(crate) fn begin(&mut self, lines: &[LineId], labels: &[StateSet], changes: usize)
+    // A tree begins: lines have these labels, and so many changes were noted.
+    pub(crate) fn begin(&mut self, labels: &[StateSet], changes: usize)
         ensures { self.new ≡ self.old }
     {
         self.begun = changes;
-        for line in lines {
-            self.write(*line, labels);
+        if labels.len() == self.labels.len() {
+            self.labels.as_mut_slice().copy_from_slice(labels);
         }
     }
 
@@ -84,7 +85,7 @@ impl Grounds {
         region: &Region,
         labels: &[StateSet],
         changes: &[Note<StateSet>],
-        weights: &mut Weights,
+        weights: &mut SourceWeights,
         line_weights: &mut Weights,
     )
         requires lines { self.old ≡ line_count region.now.net.now }
@@ -114,7 +115,12 @@ impl Grounds {
     }
 
     // Goes back before a change, and follows it to its cause if its line matters.
-    fn follow<A: Algebra>(&mut self, region: &Region, change: Note<StateSet>, weights: &mut Weights)
+    fn follow<A: Algebra>(
+        &mut self,
+        region: &Region,
+        change: Note<StateSet>,
+        weights: &mut SourceWeights,
+    )
         requires lines { self.old ≡ line_count region.now.net.now }
         requires line { change.index < line_count region.now.net.now }
         ensures { self.new ≡ self.old }

@@ -23,6 +23,7 @@ use crate::link_ends::LinkEnds;
 use crate::patience::Patience;
 use crate::picking::Sight;
 use crate::region::{Region, is_first_alone};
+use crate::source_weights::SourceWeights;
 use crate::weights::Weights;
 use cones::Cone;
 use hulls::{Conditions, enter_all};
@@ -67,7 +68,7 @@ pub struct Justifier {
     decisions: Decisions,
     grounds: Grounds,
     // of sources that were assumed, and of all lines that mattered
-    weights: Weights,
+    weights: SourceWeights,
     line_weights: Weights,
     for_proposals: Patience,
     for_trees: Patience,
@@ -97,7 +98,7 @@ impl Justifier {
         ensures { IfOk result (IsJustifierOf net.now) }
     {
         let conditions = Conditions::new(alloc, net, Kind::Robust)?;
-        let weights = Weights::new(alloc, net.sources() as usize, GROWTH_PART)?;
+        let weights = SourceWeights::new(alloc, net.sources() as usize, GROWTH_PART)?;
         let line_weights = Weights::new(alloc, net.lines() as usize, GROWTH_PART)?;
         let grounds = Grounds::new(alloc, net)?;
         let least = least_splits(links);
@@ -139,11 +140,11 @@ impl Justifier {
         self.for_trees.limit(kind)
     }
 
-    /// A tree by weights begins: the lines of the cone have these labels, and so many changes were noted.
-    pub fn begin_tree(&mut self, cone: &Cone, labels: &[StateSet], changes: usize)
+    /// A tree by weights begins: lines have these labels, and so many changes were noted.
+    pub fn begin_tree(&mut self, labels: &[StateSet], changes: usize)
         ensures { self.new ≡ self.old }
     {
-        self.grounds.begin(cone.lines(), labels, changes);
+        self.grounds.begin(labels, changes);
     }
 
     /// Makes the sources heavier on which a conflict rests, of those that were assumed since the tree began: `changes` are all that led to
@@ -211,7 +212,7 @@ impl Justifier {
         if self.links.is_empty() {
             lead_by_weight::<A>(sight, cone, changes, &self.line_weights)
         } else {
-            self.weights.heaviest::<A>(cone.sources(), sight.labels)
+            self.weights.heaviest::<A>(cone.marks(), sight.labels)
         }
     }
 

@@ -23,6 +23,7 @@ mod open_lines;
 mod patience;
 mod picking;
 mod region;
+mod source_weights;
 mod weights;
 
 pub use blaming::Blame;

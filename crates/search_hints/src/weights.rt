@@ -1,5 +1,5 @@
 // How much past conflicts rest on each line: each conflict makes the lines heavier on which it rests, and a later one by more than an
-// earlier one, so that those of late count most. The heaviest source is split first. A hint alone.
+// earlier one, so that those of late count most. The heaviest source is split first; under links source_weights.rt finds it. A hint alone.
 use crate::picking::has_both_values;
 use pd_base::{LineId, OutOfMemory};
 use state_sets::{Algebra, StateSet};
@@ -101,7 +101,7 @@ impl Weights {
 }
 
 // Whether a source can still end at either value.
-fn may_end_at_either<A: Algebra>(source: LineId, labels: &[StateSet]) -> bool {
+pub(crate) fn may_end_at_either<A: Algebra>(source: LineId, labels: &[StateSet]) -> bool {
     let at = source.0 as usize;
     at < labels.len() && has_both_values::<A>(labels[at])
 }

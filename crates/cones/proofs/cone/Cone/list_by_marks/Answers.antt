@@ -18,7 +18,7 @@ scan_gates-requires-clause-room c =
       few_ranked net c.self.inside.order.items made.ordered,
       ap length c.as_slice.ensures.value,
       made.room,
-      c.self.invariant.for_gates,
+      c.self.invariant.here.for_gates,
     )
 
 pub returns-clause-cone : goal.returns-clause-cone
@@ -27,7 +27,7 @@ returns-clause-cone c =
     let end = c.args.end.0 in
     let order = c.self.inside.order.items in
     let made : IsConeFor net _ = subst (IsConeFor net) (sym c.self.view_is) c.requires.made in
-    let lines = c.self.inside.found.lines in
+    let lines = c.self.inside.current.found.lines in
     let found = λ (ls : List LineId). (line : ℕ) → Contains ls (record { 0 = line }) ↔ IsSupported net c.self.inside.links end line in
     let held = subst (λ (cone : KeptCone). (line : ℕ) → Contains cone.found.lines (record { 0 = line }) ↔ IsSupported net cone.links end line)
     (sym c.self.view_is) c.requires.found in
@@ -54,6 +54,6 @@ returns-clause-made c =
       ordered = made.ordered;
       one_each = made.one_each;
       places = made.places;
-      stored = made.stored;
+      aside = made.aside;
       kept = returns-clause-cone c;
     }

@@ -76,6 +76,6 @@ returns-clause-made c =
       ordered = made.ordered;
       one_each = made.one_each;
       places = made.places;
-      stored = made.stored;
+      aside = made.aside;
       kept = returns-clause-cone c;
     }

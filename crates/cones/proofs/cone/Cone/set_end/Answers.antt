@@ -1,21 +1,11 @@
--- What is stored besides what was is the cone that was found.
-use Rattle.std.proofs.Common.{sym, subst}
-use Rattle.cones.specs.StoredCones.{StoredCone}
-use Rattle.cones.specs.KeptCones.{IsConeFor, IsConeAt, AreConeSources, AreConeGates}
-use Rattle.cones.proofs.Keeping.{one_stored}
+-- The cone that was kept aside at that place is at hand.
+use Rattle.std.proofs.Common.{List, ap, subst, ◌∙◌}
+use Rattle.cones.specs.declared.end_cone.EndCone.{EndCone}
+use Rattle.cones.specs.KeptCones.{KeptCone, IsAsideAt}
 use Rattle.cones.proofs.cone.Cone.set_end.Goals as goal
 
-pub returns-clause-made : goal.returns-clause-made
-returns-clause-made c =
-    let net = c.args.net.now in
-    let links = c.self.inside.links in
-    let end = c.args.end in
-    let made : IsConeFor net _ = subst (IsConeFor net) (sym c.self.view_is) c.find.ensures.made in
-    let found : IsConeAt net end.0 _ = subst (IsConeAt net end.0) (sym c.self.view_is) c.find.ensures.cone in
-    let one : StoredCone = record { end = end; sources = c.as_slice.result.now; gates = c.as_slice-2.result.now } in
-    one_stored net _ one c.store.new.self made
-    (record {
-      sources = subst (AreConeSources net links end.0) (sym c.as_slice.ensures.value) found.sources;
-      gates = subst (AreConeGates net links end.0) (sym c.as_slice-2.ensures.value) found.gates;
-    })
-    c.store.ensures
+pub returns-in-Some-clause-cone : goal.returns-in-Some-clause-cone
+returns-in-Some-clause-cone c =
+    let there = subst (λ (cones : List EndCone). IsAsideAt c.args.end c.in-Some.place cones)
+    (c.as_slice.ensures.value ∙ ap (λ (cone : KeptCone). cone.others) c.self.view_is) c.in-Some.ensures.of in
+    c.exchange.ensures.cone c.args.net.now c.args.end c.requires.made there
