@@ -11,7 +11,7 @@ ghost use Rattle.netlist.specs.Paths.{IsPrefix, end_of};
 ghost use Rattle.netlist.specs.Values.{value};
 ghost use Rattle.pair_judging.specs.ConeStates.{AreSourceStates, HasConeStates, IsLinkedFrom};
 ghost use Rattle.pair_judging.specs.Judges.{IsJudgeOf};
-ghost use Rattle.pair_judging.specs.SourceBits.{AreLinkBits};
+ghost use Rattle.pair_judging.specs.SourceBits.{HasStateBits, AreLinkBits};
 ghost use Rattle.pair_judging.specs.Targets.{seen_target};
 
 use crate::judging::{Judgement, compute_all};
@@ -111,6 +111,7 @@ impl ConeJudge {
         requires states { AreSourceStates A.algebra cone.now.sources states.now }
         ensures judge { IsJudgeOf 4 net.now self.new }
         ensures linked { IfOk result (λ pair. (end : ℕ) → IsConeAt net.now end cone.now → IsLinkedFrom net.now cone.now.links end pair) }
+        ensures bits { IfOk result (λ pair. (end : ℕ) → IsConeAt net.now end cone.now → HasStateBits A.algebra net.now cone.now.links end states.now pair) }
     {
         let places = net.sources() as usize;
         let mut first = vec![in alloc; false; places]?;
