@@ -12,7 +12,7 @@ use Rattle.netlist.specs.Pins.{IsFanout}
 use Rattle.netlist.specs.Values.{gate_value}
 use Rattle.netlist.proofs.Evaluation.{map_agree}
 use Rattle.logic_values.specs.Known.{bit_at}
-use Rattle.pair_judging.specs.LineValues.{value_made, AreLineValues, AddsReaders}
+use Rattle.pair_judging.specs.LineValues.{value_made, AreLineValues, MakesReadersStale}
 
 -- a bit that is not 1 is 0
 zero_bit : (bit : Bool) → (bit ≡ true → ⊥) → bit ≡ false
@@ -69,7 +69,7 @@ module _ (pins : List PinRef) (place : ℕ) (inside : place < length pins) (old 
 
 -- after the last pin of a fan-out the gates that read the line are added
 pub adds_all : (c : Circuit) (line : ℕ) (pins : List PinRef) → IsFanout c line pins → (place : ℕ) → length pins ≤ place → (old new : List Bool)
-    → AddsGates (take place pins) old new → AddsReaders c line old new
+    → AddsGates (take place pins) old new → MakesReadersStale c line old new
 adds_all c line pins fanout place last old new adds = record {
   places = adds.places;
   readers = λ pin reads. adds.readers pin (subst (λ ps. Contains ps pin) (sym (take_all place pins last)) (fanout.whole pin reads));
@@ -77,7 +77,7 @@ adds_all c line pins fanout place last old new adds = record {
 }
 
 module _ (c : Circuit) (values stale : List Bool) (kept : AreLineValues c (record { values = values; stale = stale })) where
-  module _ (line : ℕ) (value : Bool) (old new : List Bool) (adds : AddsReaders c line old new) where
+  module _ (line : ℕ) (value : Bool) (old new : List Bool) (adds : MakesReadersStale c line old new) where
     -- a gate that is not stale now was not stale before
     fresh_before : (gate : ℕ) → bit_at new gate ≡ false → bit_at old gate ≡ false
     fresh_before gate fresh = zero_bit (bit_at old gate) (λ was. false≢true (sym fresh ∙ adds.stale gate was))
@@ -97,7 +97,7 @@ module _ (c : Circuit) (values stale : List Bool) (kept : AreLineValues c (recor
             }))
 
   -- the value of a source changes
-  pub source_changed : (source : ℕ) → source < source_count c → (value : Bool) (new : List Bool) → AddsReaders c source stale new
+  pub source_changed : (source : ℕ) → source < source_count c → (value : Bool) (new : List Bool) → MakesReadersStale c source stale new
       → AreLineValues c (record { values = set values source value; stale = new })
   source_changed source is value new adds = record {
     lines = length-set values source value ∙ kept.lines;
@@ -121,7 +121,7 @@ module _ (c : Circuit) (values stale : List Bool) (kept : AreLineValues c (recor
     }
 
     -- or gets it
-    pub gate_changed : (new : List Bool) → AddsReaders c (gate_line c gate) (set stale gate false) new
+    pub gate_changed : (new : List Bool) → MakesReadersStale c (gate_line c gate) (set stale gate false) new
         → AreLineValues c (record { values = set values (gate_line c gate) value; stale = new })
     gate_changed new adds = record {
       lines = length-set values (gate_line c gate) value ∙ kept.lines;

@@ -23,7 +23,7 @@ pub record AreLineValues (c : Circuit) (kept : KeptValues) : Type 0 where
       → bit_at kept.values (gate_line c gate) ≡ value_made c kept.values gate
 
 -- the gates that read a line are stale too
-pub record AddsReaders (c : Circuit) (line : ℕ) (old new : List Bool) : Type 0 where
+pub record MakesReadersStale (c : Circuit) (line : ℕ) (old new : List Bool) : Type 0 where
   pub places : length new ≡ length old
   pub readers : (pin : PinRef) → IsPinOn c pin line → bit_at new pin.gate.0 ≡ true
   pub stale : (gate : ℕ) → bit_at old gate ≡ true → bit_at new gate ≡ true

@@ -1,6 +1,5 @@
-// The judging of finished pairs of vectors, one path at a time: on the cone of the path's end alone, the states of its sources are read off
-// the pair, those of its other lines computed, and the conditions read on them. The cone of the last end is kept. And the pairs that keep
-// links, whose second bits are read off values of lines: those under the last first vector are kept.
+// Judges finished pairs of vectors, one path at a time, within the cone of the path's end: its lines are put into their states under the
+// pair, and the path's conditions are read on them. And reads off states at the sources of a cone the pair that keeps links.
 ghost use Rattle.std.specs.Prelude.{◌≡◌, ◌↔◌, ◌<◌, ℕ, length, All, IfOk, IsTrue, []};
 ghost use Rattle.cones.specs.FoundLines.{HasMark};
 ghost use Rattle.cones.specs.KeptCones.{IsConeFor, IsConeAt};
@@ -33,7 +32,7 @@ pub struct ConeJudge {
     cone: Cone,
     // by line; those of the cone are the ones under the pair that was judged last
     states: Vec<State>,
-    // under the first vector of the pair that was read last, if the links asked for them
+    // of all lines, under the first vector of the last pair that was read where a source is linked to a gate's line
     values: LineValues,
 }
 

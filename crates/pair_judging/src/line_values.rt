@@ -5,7 +5,7 @@ ghost use Rattle.netlist.specs.Circuit.{source_count, gate_count, line_count, ga
 ghost use Rattle.netlist.specs.Lawful.{IsFanIn};
 ghost use Rattle.netlist.specs.Values.{bit_of, gate_value, parity, value};
 ghost use Rattle.logic_values.specs.Known.{bit_at, HasPlaces};
-ghost use Rattle.pair_judging.specs.LineValues.{value_made, AreLineValues, AddsReaders};
+ghost use Rattle.pair_judging.specs.LineValues.{value_made, AreLineValues, MakesReadersStale};
 
 use netlist::{GateKind, Netlist, Op};
 use pd_base::{GateId, LineId, OutOfMemory};
@@ -86,7 +86,7 @@ fn set_sources(net: &Netlist, vector: &[bool], values: &mut [bool], stale: &mut 
         let at = source as usize;
         if values[at] != vector[at] {
             values[at] = vector[at];
-            add_readers(net, LineId(source), stale);
+            make_readers_stale(net, LineId(source), stale);
         }
     }
 }
@@ -109,15 +109,15 @@ fn evaluate_gate(net: &Netlist, gate: GateId, values: &mut [bool], stale: &mut [
     stale[gate.0 as usize] = false;
     if values[at] != value {
         values[at] = value;
-        add_readers(net, line, stale);
+        make_readers_stale(net, line, stale);
     }
 }
 
 // The gates that read this line are stale from now on.
-fn add_readers(net: &Netlist, line: LineId, stale: &mut [bool])
+fn make_readers_stale(net: &Netlist, line: LineId, stale: &mut [bool])
     requires line { line.0 < line_count net.now }
     requires gates { length stale.old ≡ gate_count net.now }
-    ensures { AddsReaders net.now line.0 stale.old stale.new }
+    ensures { MakesReadersStale net.now line.0 stale.old stale.new }
 {
     for pin in net.fanout(line) {
         stale[pin.gate.0 as usize] = true;

@@ -3,7 +3,7 @@ use Rattle.std.proofs.Common.{ℕ, List, false, map, set, sym, ap, ap₂, subst,
 use Rattle.pd_base.specs.declared.ids.LineId.{LineId}
 use Rattle.netlist.specs.Values.{gate_value}
 use Rattle.logic_values.specs.Known.{bit_at}
-use Rattle.pair_judging.specs.LineValues.{AreLineValues, AddsReaders}
+use Rattle.pair_judging.specs.LineValues.{AreLineValues, MakesReadersStale}
 use Rattle.pair_judging.proofs.StaleGates.{equal_bits, gate_changed, gate_unchanged}
 use Rattle.pair_judging.proofs.line_values.evaluate_gate.Goals as goal
 
@@ -13,13 +13,13 @@ returns-then-values-at-clause-kept c =
     let values = c.args.values.now in
     let gate = c.args.gate.0 in
     let value = c.gate_value-value.result in
-    let new = c.add_readers.new.stale in
+    let new = c.make_readers_stale.new.stale in
     let read = λ (lines : List LineId). map (λ (pin : LineId). bit_at values pin.0) lines in
     let line = ap (λ (l : LineId). l.0) c.line_of-line.ensures.line in
     subst (λ (n : ℕ). AreLineValues net (record { values = set values n value; stale = new })) (sym line)
     (gate_changed net values c.args.stale.now c.requires.kept gate c.requires.gate value
     (c.gate_value-value.ensures ∙ ap₂ gate_value c.kind.ensures (ap read c.pins.ensures.pins)) new
-    (subst (λ (n : ℕ). AddsReaders net n (set c.args.stale.now gate false) new) line c.add_readers.ensures))
+    (subst (λ (n : ℕ). MakesReadersStale net n (set c.args.stale.now gate false) new) line c.make_readers_stale.ensures))
 
 pub returns-else-values-at-clause-kept : goal.returns-else-values-at-clause-kept
 returns-else-values-at-clause-kept c =

@@ -22,7 +22,7 @@ loop-source-preserved c =
     elim c.if-values-at.branch [
       | then-values-at w ↦ record {
         kept = subst₂ Kept (sym w.values-is) (sym w.stale-is)
-            (source_changed net values c.loop-source.stale before.kept source below bit w.add_readers.new.stale w.add_readers.ensures);
+            (source_changed net values c.loop-source.stale before.kept source below bit w.make_readers_stale.new.stale w.make_readers_stale.ensures);
         bits = subst Has (sym w.values-is)
             (below_more (λ k. bit_at (set values source bit) k ≡ bit_of vector k) source
             (λ k earlier. get_or-set_other values source k bit false (omega (arith, earlier)) ∙ before.bits k earlier)

@@ -1,7 +1,7 @@
 -- One pin more, and its gate is stale.
 use Rattle.std.proofs.Common.{arith}
 use Rattle.pair_judging.proofs.StaleGates.{adds_none, adds_more, adds_all}
-use Rattle.pair_judging.proofs.line_values.add_readers.Goals as goal
+use Rattle.pair_judging.proofs.line_values.make_readers_stale.Goals as goal
 
 pub loop-pin-init : goal.loop-pin-init
 loop-pin-init c = adds_none c.args.stale.now
