@@ -12,6 +12,7 @@ mod least_states;
 mod line_values;
 mod path_ends;
 mod path_states;
+mod ranked_gates;
 mod read_states;
 mod source_bits;
 mod target;
