@@ -15,7 +15,7 @@ use Rattle.netlist.proofs.Evaluation.{map_agree}
 use Rattle.logic_values.specs.Known.{bit_at}
 use Rattle.cones.specs.KeptCones.{ranked_gate}
 use Rattle.logic_values.proofs.RankPass.{HasValues, one_more}
-use Rattle.pair_judging.specs.RankedGates.{RankedGates, AreRankedGates}
+use Rattle.pair_judging.specs.RankedGates.{RankedGates}
 use Rattle.pair_judging.specs.LineValues.{value_made, AreFresh, AreLineValues, MakesReadersStale}
 
 -- a bit that is not 1 is 0

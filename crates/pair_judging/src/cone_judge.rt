@@ -17,7 +17,7 @@ use crate::judging::{Judgement, compute_all};
 use crate::line_values::LineValues;
 use crate::path_ends::end_of;
 use crate::path_states::judge_steps;
-use crate::source_bits::{are_sources, take_pair, write_bits, write_links};
+use crate::source_bits::{give_first_bits, take_pair, write_bits, write_links};
 use crate::target::Target;
 use cones::{Cone, SourceLinks};
 use netlist::Netlist;
@@ -110,7 +110,8 @@ impl ConeJudge {
         requires states { AreSourceStates A.algebra cone.now.sources states.now }
         ensures judge { IsJudgeOf 4 net.now self.new }
         ensures linked { IfOk result (λ pair. (end : ℕ) → IsConeAt net.now end cone.now → IsLinkedFrom net.now cone.now.links end pair) }
-        ensures bits { IfOk result (λ pair. (end : ℕ) → IsConeAt net.now end cone.now → HasStateBits A.algebra net.now cone.now.links end states.now pair) }
+        ensures bits { IfOk result (λ pair. (end : ℕ) → IsConeAt net.now end cone.now
+            → HasStateBits A.algebra net.now cone.now.links end states.now pair) }
     {
         let places = net.sources() as usize;
         let mut first = vec![in alloc; false; places]?;
@@ -125,8 +126,8 @@ impl ConeJudge {
         Ok(Pair::new(first, second))
     }
 
-    // Gives each linked source the first value of its line as its second bit. Where each source is linked to a source, that value stands
-    // in the first vector; else lines are put to their values under it.
+    // Gives each linked source the first value of its line as its second bit: where a line is a gate's, by the values of all lines under
+    // the first vector.
     fn give_link_bits(
         &mut self,
         net: &Netlist,
@@ -142,8 +143,7 @@ impl ConeJudge {
         ensures places { length second.new ≡ length second.old }
         ensures linked { AreLinkBits (value net.now first.now) links.now (HasMark []) second.old second.new }
     {
-        if are_sources(links.pairs(), net.sources()) {
-            write_links(links.pairs(), &[], first, second);
+        if give_first_bits(net, links, &[], first, second) {
             return;
         }
         self.values.set(net, first);

@@ -64,7 +64,13 @@ impl LineValues {
             gates,
             stale,
         } = self;
-        update(net, vector, gates, values.as_mut_slice(), stale.as_mut_slice());
+        update(
+            net,
+            vector,
+            gates,
+            values.as_mut_slice(),
+            stale.as_mut_slice(),
+        );
     }
 
     /// The values, by line number.
@@ -76,7 +82,13 @@ impl LineValues {
 }
 
 // Puts the sources to their bits, and then each stale gate's line to its value, in rank order: the lines that it reads have theirs.
-fn update(net: &Netlist, vector: &[bool], gates: &RankedGates, values: &mut [bool], stale: &mut [bool])
+fn update(
+    net: &Netlist,
+    vector: &[bool],
+    gates: &RankedGates,
+    values: &mut [bool],
+    stale: &mut [bool],
+)
     requires kept { AreLineValues net.now (record { values = values.old; gates = gates.now; stale = stale.old }) }
     requires bits { length vector.now ≡ source_count net.now }
     ensures kept { AreLineValues net.now (record { values = values.new; gates = gates.now; stale = stale.new }) }
@@ -119,7 +131,13 @@ fn skip_runs(stale: &[bool], from: usize) -> usize
 }
 
 // Puts the sources to their bits. Those that read one that changes are stale from then on.
-fn set_sources(net: &Netlist, vector: &[bool], gates: &RankedGates, values: &mut [bool], stale: &mut [bool])
+fn set_sources(
+    net: &Netlist,
+    vector: &[bool],
+    gates: &RankedGates,
+    values: &mut [bool],
+    stale: &mut [bool],
+)
     requires kept { AreLineValues net.now (record { values = values.old; gates = gates.now; stale = stale.old }) }
     requires bits { length vector.now ≡ source_count net.now }
     ensures kept { AreLineValues net.now (record { values = values.new; gates = gates.now; stale = stale.new }) }
@@ -136,7 +154,13 @@ fn set_sources(net: &Netlist, vector: &[bool], gates: &RankedGates, values: &mut
 
 // Puts the line of the gate at a place to the value that the gate makes of those that it reads: the gate is no longer stale. Where that
 // changes the line, those that read it are stale from then on.
-fn evaluate_at(net: &Netlist, gates: &RankedGates, place: usize, values: &mut [bool], stale: &mut [bool])
+fn evaluate_at(
+    net: &Netlist,
+    gates: &RankedGates,
+    place: usize,
+    values: &mut [bool],
+    stale: &mut [bool],
+)
     requires place { place < length gates.now.order }
     requires kept { AreLineValues net.now (record { values = values.old; gates = gates.now; stale = stale.old }) }
     ensures kept { AreLineValues net.now (record { values = values.new; gates = gates.now; stale = stale.new }) }

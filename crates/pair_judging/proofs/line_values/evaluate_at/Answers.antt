@@ -1,8 +1,8 @@
 -- The gate's line has the value that the gate makes, whether that changes the line or not.
-use Rattle.std.proofs.Common.{◌≡◌, ℕ, List, false, map, get_or, set, sym, ap, ap₂, subst, ◌∙◌}
+use Rattle.std.proofs.Common.{ℕ, List, false, map, set, sym, ap, ap₂, subst, ◌∙◌}
 use Rattle.pd_base.specs.declared.ids.GateId.{GateId}
 use Rattle.pd_base.specs.declared.ids.LineId.{LineId}
-use Rattle.netlist.specs.Circuit.{gate_line, kind_at, pins_at}
+use Rattle.netlist.specs.Circuit.{gate_line}
 use Rattle.netlist.specs.Values.{gate_value}
 use Rattle.logic_values.specs.Known.{bit_at}
 use Rattle.cones.specs.KeptCones.{ranked_gate}

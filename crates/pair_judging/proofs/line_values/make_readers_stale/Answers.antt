@@ -1,6 +1,5 @@
 -- One pin more, and its gate is stale.
-use Rattle.std.proofs.Common.{true, ◌<◌, ℕ, Bool, List, ◌+◌, take, get_or, set, length, sym, subst, arith}
-use Rattle.pd_base.specs.declared.ids.PinRef.{PinRef}
+use Rattle.std.proofs.Common.{true, ℕ, ◌+◌, take, set, sym, subst, arith}
 use Rattle.pair_judging.proofs.RankPlaces.{place_inside}
 use Rattle.pair_judging.proofs.StaleGates.{AddsGates, adds_none, adds_more, adds_all}
 use Rattle.pair_judging.proofs.line_values.make_readers_stale.Goals as goal

@@ -1,4 +1,4 @@
-use Rattle.std.proofs.Common.{◌<◌, ◌-◌, ◌≤◌, length, ℕ}
+use Rattle.std.proofs.Common.{◌-◌, ◌≤◌, length}
 use Rattle.pair_judging.specs.LineValues.{AreFresh}
 use Rattle.pair_judging.proofs.line_values.next_stale.Given as goal
 

@@ -1,9 +1,9 @@
 -- The gates that are passed over have their values, and a stale one gets it; after the last gate all lines have theirs.
-use Rattle.std.proofs.Common.{◌≡◌, ℕ, ◌+◌, ◌-◌, ◌<◌, ◌≤◌, Bool, List, [], take, length, refl, sym, subst, arith}
+use Rattle.std.proofs.Common.{ℕ, ◌+◌, ◌-◌, Bool, List, arith}
 use Rattle.netlist.specs.Circuit.{kind_at}
 use Rattle.netlist.specs.Values.{bit_of, gate_value}
 use Rattle.logic_values.specs.Known.{bit_at}
-use Rattle.logic_values.proofs.RankPass.{HasValues, all_read, begun, one_more}
+use Rattle.logic_values.proofs.RankPass.{all_read, begun, one_more}
 use Rattle.pair_judging.proofs.StaleGates.{fresh_have}
 use Rattle.pair_judging.proofs.line_values.update.Goals as goal
 

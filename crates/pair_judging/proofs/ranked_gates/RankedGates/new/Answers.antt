@@ -1,9 +1,8 @@
 -- No gate stands twice in rank order, and each has its place.
-use Rattle.std.proofs.Common.{◌≢◌, ℕ, List, length, sym, ap, subst, ◌∙◌}
+use Rattle.std.proofs.Common.{◌≢◌, List, length, sym, ap, subst, ◌∙◌}
 use Rattle.std.specs.List.{AllPairs}
 use Rattle.std.proofs.lemmas.List.{length-replicate, with_items_is}
 use Rattle.pd_base.specs.declared.ids.GateId.{GateId}
-use Rattle.netlist.specs.Circuit.{gate_count}
 use Rattle.netlist.specs.Levels.{IsRankOrder, ReadsEarlier}
 use Rattle.cones.specs.KeptCones.{AreRanks}
 use Rattle.pair_judging.proofs.RankPlaces.{ranked_apart}
