@@ -13,9 +13,8 @@ use Rattle.netlist.specs.Pins.{IsFanout}
 use Rattle.netlist.specs.Values.{gate_value}
 use Rattle.netlist.proofs.Evaluation.{map_agree}
 use Rattle.logic_values.specs.Known.{bit_at}
-use Rattle.cones.specs.KeptCones.{ranked_gate}
 use Rattle.logic_values.proofs.RankPass.{HasValues, one_more}
-use Rattle.pair_judging.specs.RankedGates.{RankedGates}
+use Rattle.pair_judging.specs.RankedGates.{RankedGates, gate_ranked}
 use Rattle.pair_judging.specs.LineValues.{value_made, AreFresh, AreLineValues, MakesReadersStale}
 
 -- a bit that is not 1 is 0
@@ -103,11 +102,7 @@ adds_all c places line pins fanout place last old new adds = record {
 
 module _ (c : Circuit) (gates : RankedGates) (values stale : List Bool)
     (kept : AreLineValues c (record { values = values; gates = gates; stale = stale })) where
-  -- the gate at a place
-  abbrev gate_at : ℕ → ℕ
-  gate_at place = (ranked_gate gates.order place).0
-
-  gate_inside : (place : ℕ) → place < length gates.order → gate_at place < gate_count c
+  gate_inside : (place : ℕ) → place < length gates.order → gate_ranked gates place < gate_count c
   gate_inside place within = kept.ranked.ordered.in_circuit place (record { 0 = 0 }) within
 
   module _ (line : ℕ) (value : Bool) (old new : List Bool) (adds : MakesReadersStale c gates.places line old new) where
@@ -117,18 +112,18 @@ module _ (c : Circuit) (gates : RankedGates) (values stale : List Bool)
 
     -- and does not read the line, so that it makes the same
     same_made : (place : ℕ) → place < length gates.order → bit_at new place ≡ false
-        → value_made c (set values line value) (gate_at place) ≡ value_made c values (gate_at place)
+        → value_made c (set values line value) (gate_ranked gates place) ≡ value_made c values (gate_ranked gates place)
     same_made place within fresh =
-        ap (gate_value (kind_at c (gate_at place)))
-        (map_agree (λ pin. bit_at (set values line value) pin.0) (λ pin. bit_at values pin.0) (pins_at c (gate_at place))
-        (λ pin d inside. get_or-set_other values line (get_or (pins_at c (gate_at place)) pin d).0 value false (other pin d inside)))
+        ap (gate_value (kind_at c (gate_ranked gates place)))
+        (map_agree (λ pin. bit_at (set values line value) pin.0) (λ pin. bit_at values pin.0) (pins_at c (gate_ranked gates place))
+        (λ pin d inside. get_or-set_other values line (get_or (pins_at c (gate_ranked gates place)) pin d).0 value false (other pin d inside)))
       where
-        other : (pin : ℕ) → (d : _) → pin < length (pins_at c (gate_at place)) → (get_or (pins_at c (gate_at place)) pin d).0 ≢ line
+        other : (pin : ℕ) → (d : _) → pin < length (pins_at c (gate_ranked gates place)) → (get_or (pins_at c (gate_ranked gates place)) pin d).0 ≢ line
         other pin d inside same =
             false≢true (sym fresh ∙ ap (bit_at new) (sym (kept.ranked.ranks.each place within))
-            ∙ adds.readers (record { gate = record { 0 = gate_at place }; pin = pin }) (record {
+            ∙ adds.readers (record { gate = record { 0 = gate_ranked gates place }; pin = pin }) (record {
               in_circuit = gate_inside place within;
-              reads = slice_get-get_or (pins_at c (gate_at place)) pin d inside ∙ ap (λ (n : ℕ). Some (record { 0 = n })) same;
+              reads = slice_get-get_or (pins_at c (gate_ranked gates place)) pin d inside ∙ ap (λ (n : ℕ). Some (record { 0 = n })) same;
             }))
 
   -- the value of a source changes
@@ -139,54 +134,54 @@ module _ (c : Circuit) (gates : RankedGates) (values stale : List Bool)
     ranked = kept.ranked;
     marks = adds.marks ∙ kept.marks;
     made = λ place within fresh.
-        get_or-set_other values source (gate_line c (gate_at place)) value false (omega arith)
+        get_or-set_other values source (gate_line c (gate_ranked gates place)) value false (omega arith)
         ∙ kept.made place within (fresh_before source value stale new adds place fresh)
         ∙ sym (same_made source value stale new adds place within fresh);
   }
 
   -- gates of two places are two
-  apart : (place other : ℕ) → place < length gates.order → other < length gates.order → other ≢ place → gate_at other ≢ gate_at place
+  apart : (place other : ℕ) → place < length gates.order → other < length gates.order → other ≢ place → gate_ranked gates other ≢ gate_ranked gates place
   apart place other within below differs same =
       differs (sym (kept.ranked.ranks.each other below) ∙ ap (λ (n : ℕ). get_or gates.places n 0) same ∙ kept.ranked.ranks.each place within)
 
-  module _ (place : ℕ) (within : place < length gates.order) (value : Bool) (is : value ≡ value_made c values (gate_at place)) where
+  module _ (place : ℕ) (within : place < length gates.order) (value : Bool) (is : value ≡ value_made c values (gate_ranked gates place)) where
     -- a gate is stale no longer whose line has the value that it makes
-    pub gate_unchanged : bit_at values (gate_line c (gate_at place)) ≡ value
+    pub gate_unchanged : bit_at values (gate_line c (gate_ranked gates place)) ≡ value
         → AreLineValues c (record { values = values; gates = gates; stale = set stale place false })
     gate_unchanged has = record {
       lines = kept.lines;
       ranked = kept.ranked;
       marks = length-set stale place false ∙ kept.marks;
       made = λ other below fresh. ⊎_elim
-          (λ same. ap (λ n. bit_at values (gate_line c (gate_at n))) same ∙ has ∙ is ∙ ap (λ n. value_made c values (gate_at n)) (sym same))
+          (λ same. ap (λ n. bit_at values (gate_line c (gate_ranked gates n))) same ∙ has ∙ is ∙ ap (λ n. value_made c values (gate_ranked gates n)) (sym same))
           (λ differs. kept.made other below (sym (get_or-set_other stale place other false false differs) ∙ fresh))
           (cases_eq other place);
     }
 
     -- or gets it
-    pub gate_changed : (new : List Bool) → MakesReadersStale c gates.places (gate_line c (gate_at place)) (set stale place false) new
-        → AreLineValues c (record { values = set values (gate_line c (gate_at place)) value; gates = gates; stale = new })
+    pub gate_changed : (new : List Bool) → MakesReadersStale c gates.places (gate_line c (gate_ranked gates place)) (set stale place false) new
+        → AreLineValues c (record { values = set values (gate_line c (gate_ranked gates place)) value; gates = gates; stale = new })
     gate_changed new adds = record {
-      lines = length-set values (gate_line c (gate_at place)) value ∙ kept.lines;
+      lines = length-set values (gate_line c (gate_ranked gates place)) value ∙ kept.lines;
       ranked = kept.ranked;
       marks = adds.marks ∙ length-set stale place false ∙ kept.marks;
       made = λ other below fresh. at other below fresh
-          ∙ sym (same_made (gate_line c (gate_at place)) value (set stale place false) new adds other below fresh);
+          ∙ sym (same_made (gate_line c (gate_ranked gates place)) value (set stale place false) new adds other below fresh);
     }
       where
-        own : gate_line c (gate_at place) < length values
+        own : gate_line c (gate_ranked gates place) < length values
         own = omega (arith, kept.lines, gate_inside place within)
 
         at : (other : ℕ) → other < length gates.order → bit_at new other ≡ false
-            → bit_at (set values (gate_line c (gate_at place)) value) (gate_line c (gate_at other)) ≡ value_made c values (gate_at other)
+            → bit_at (set values (gate_line c (gate_ranked gates place)) value) (gate_line c (gate_ranked gates other)) ≡ value_made c values (gate_ranked gates other)
         at other below fresh = ⊎_elim
-            (λ same. ap (λ n. bit_at (set values (gate_line c (gate_at place)) value) (gate_line c (gate_at n))) same
-            ∙ get_or-set_same values (gate_line c (gate_at place)) value false own
-            ∙ is ∙ ap (λ n. value_made c values (gate_at n)) (sym same))
-            (λ differs. get_or-set_other values (gate_line c (gate_at place)) (gate_line c (gate_at other)) value false
+            (λ same. ap (λ n. bit_at (set values (gate_line c (gate_ranked gates place)) value) (gate_line c (gate_ranked gates n))) same
+            ∙ get_or-set_same values (gate_line c (gate_ranked gates place)) value false own
+            ∙ is ∙ ap (λ n. value_made c values (gate_ranked gates n)) (sym same))
+            (λ differs. get_or-set_other values (gate_line c (gate_ranked gates place)) (gate_line c (gate_ranked gates other)) value false
             (λ same. apart place other within below differs (omega (arith, same)))
             ∙ kept.made other below (sym (get_or-set_other stale place other false false differs)
-            ∙ fresh_before (gate_line c (gate_at place)) value (set stale place false) new adds other fresh))
+            ∙ fresh_before (gate_line c (gate_ranked gates place)) value (set stale place false) new adds other fresh))
             (cases_eq other place)
 
 -- Over fresh gates the values go on: each gate's line has what the gate makes, so that these gates have theirs too.

@@ -5,8 +5,7 @@ use Rattle.netlist.specs.Circuit.{Circuit, line_count, gate_line, kind_at, pins_
 use Rattle.netlist.specs.Pins.{IsPinOn}
 use Rattle.netlist.specs.Values.{gate_value}
 use Rattle.logic_values.specs.Known.{bit_at}
-use Rattle.cones.specs.KeptCones.{ranked_gate}
-use Rattle.pair_judging.specs.RankedGates.{RankedGates, AreRankedGates}
+use Rattle.pair_judging.specs.RankedGates.{RankedGates, gate_ranked, AreRankedGates}
 
 -- a value for each line, and of each gate in rank order whether it is stale
 pub record KeptValues : Type 0 where
@@ -24,7 +23,7 @@ pub record AreLineValues (c : Circuit) (kept : KeptValues) : Type 0 where
   pub ranked : AreRankedGates c kept.gates
   pub marks : length kept.stale ≡ length kept.gates.order
   pub made : (place : ℕ) → place < length kept.gates.order → bit_at kept.stale place ≡ false
-      → bit_at kept.values (gate_line c (ranked_gate kept.gates.order place).0) ≡ value_made c kept.values (ranked_gate kept.gates.order place).0
+      → bit_at kept.values (gate_line c (gate_ranked kept.gates place)) ≡ value_made c kept.values (gate_ranked kept.gates place)
 
 -- the gates that read a line are stale too, each marked at its place
 pub record MakesReadersStale (c : Circuit) (places : List ℕ) (line : ℕ) (old new : List Bool) : Type 0 where

@@ -6,9 +6,8 @@ ghost use Rattle.netlist.specs.Circuit.{source_count, line_count, gate_line};
 ghost use Rattle.netlist.specs.Lawful.{IsFanIn};
 ghost use Rattle.netlist.specs.Values.{bit_of, gate_value, parity, value};
 ghost use Rattle.logic_values.specs.Known.{bit_at, HasPlaces};
-ghost use Rattle.cones.specs.KeptCones.{ranked_gate};
 ghost use Rattle.pair_judging.specs.LineValues.{value_made, AreFresh, AreLineValues, IsNextStale, MakesReadersStale};
-ghost use Rattle.pair_judging.specs.RankedGates.{AreRankedGates};
+ghost use Rattle.pair_judging.specs.RankedGates.{gate_ranked, AreRankedGates};
 
 use crate::ranked_gates::RankedGates;
 use netlist::{GateKind, Netlist, Op};
@@ -164,9 +163,9 @@ fn evaluate_at(
     requires place { place < length gates.now.order }
     requires kept { AreLineValues net.now (record { values = values.old; gates = gates.now; stale = stale.old }) }
     ensures kept { AreLineValues net.now (record { values = values.new; gates = gates.now; stale = stale.new }) }
-    ensures own { bit_at values.new (gate_line net.now (ranked_gate gates.now.order place).0)
-        ≡ value_made net.now values.old (ranked_gate gates.now.order place).0 }
-    ensures others { (line : ℕ) → line ≢ gate_line net.now (ranked_gate gates.now.order place).0
+    ensures own { bit_at values.new (gate_line net.now (gate_ranked gates.now place))
+        ≡ value_made net.now values.old (gate_ranked gates.now place) }
+    ensures others { (line : ℕ) → line ≢ gate_line net.now (gate_ranked gates.now place)
         → bit_at values.new line ≡ bit_at values.old line }
 {
     // the gates of a circuit have as many pins as their kinds allow

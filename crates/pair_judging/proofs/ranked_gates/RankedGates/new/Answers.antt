@@ -24,5 +24,6 @@ returns c =
       earlier = subst (ReadsEarlier net) (sym c.in_ok-order.ensures.items) c.order.ensures.reads;
       one_each = ap length is ∙ long ∙ ap length (c.in_ok-places.ensures.items_if_clones_equal (λ y same. same))
           ∙ length-replicate c.gates.result 0 ∙ c.gates.ensures;
-      ranks = subst (AreRanks c.in_ok-order.order.items) (sym is) (subst (λ (gs : List GateId). AreRanks gs c.number_places.new.places) c.as_slice.ensures.value c.number_places.ensures.ranks);
+      ranks = subst (AreRanks c.in_ok-order.order.items) (sym is)
+          (subst (λ (gs : List GateId). AreRanks gs c.number_places.new.places) c.as_slice.ensures.value c.number_places.ensures.ranks);
     }
