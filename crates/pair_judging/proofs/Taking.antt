@@ -17,7 +17,7 @@ use Rattle.state_sets.specs.Starts.{IsLeast}
 use Rattle.state_laws.proofs.SourceStates.{state_read_off}
 use Rattle.pair_judging.specs.ConeStates.{state_in, IsReadFrom, IsLinkedFrom}
 use Rattle.pair_judging.specs.LeastStates.{IsTakenOf}
-use Rattle.pair_judging.specs.SourceBits.{first_bit, HasBitsAt, AreLinkBits}
+use Rattle.pair_judging.specs.SourceBits.{first_bit, HasBitsAt, HasStateBits, AreLinkBits}
 use Rattle.cones.specs.FoundLines.{HasMark}
 use Rattle.cones.specs.KeptCones.{KeptCone, IsConeAt}
 use Rattle.cones.proofs.Spreading.{no_line}
@@ -132,20 +132,28 @@ read_is a laws c states cone pair bits below first second fits linked end is = r
       ∙ get_or-replicate (source_count c) source false false within;
 }
 
--- a pair whose bits stand at the sources of a cone, and at others none but those of links, keeps the links and is 0 elsewhere
-pub linked_is : (c : Circuit) (cone : KeptCone) (before after : ℕ → Bool) (pair : Vectors) (bits : List Bool)
-    → HasBitsAt before cone.sources (replicate (source_count c) false) pair.first
-    → HasBitsAt after cone.sources (replicate (source_count c) false) bits
+-- The pair with the bits of the states at these sources, and at the others none, where each linked source has the bit of its link: it keeps
+-- the links, and has the bits of the states, where the sources are those of a cone.
+pub read_linked_is : (a : StateAlgebra) (c : Circuit) (states : List State) (cone : KeptCone) (pair : Vectors) (bits : List Bool)
+    → HasBitsAt (λ source. first_bit a (state_in states source)) cone.sources (replicate (source_count c) false) pair.first
+    → HasBitsAt (λ source. a.last (state_in states source)) cone.sources (replicate (source_count c) false) bits
     → length pair.second ≡ length bits
     → AreLinkBits (value c pair.first) cone.links (HasMark []) bits pair.second
-    → (end : ℕ) → IsConeAt c end cone → IsLinkedFrom c cone.links end pair
-linked_is c cone before after pair bits first second fits linked end is = record {
-  first_fits = first.places ∙ length-replicate (source_count c) false;
-  second_fits = fits ∙ second.places ∙ length-replicate (source_count c) false;
-  keeps = λ source line link. linked.linked source line (λ marked. false≢true marked) link;
-  first_zero = λ source within outside.
-      first.elsewhere source (λ there. outside ((is.sources.exactly source).0 there).1) ∙ get_or-replicate (source_count c) source false false within;
-  second_zero = λ source within outside none.
-      linked.free source none ∙ second.elsewhere source (λ there. outside ((is.sources.exactly source).0 there).1)
-      ∙ get_or-replicate (source_count c) source false false within;
-}
+    → (end : ℕ) → IsConeAt c end cone → IsLinkedFrom c cone.links end pair × HasStateBits a c cone.links end states pair
+read_linked_is a c states cone pair bits first second fits linked end is = (
+  record {
+    first_fits = first.places ∙ length-replicate (source_count c) false;
+    second_fits = fits ∙ second.places ∙ length-replicate (source_count c) false;
+    keeps = λ source line link. linked.linked source line (λ marked. false≢true marked) link;
+    first_zero = λ source within outside.
+        first.elsewhere source (λ there. outside ((is.sources.exactly source).0 there).1) ∙ get_or-replicate (source_count c) source false false within;
+    second_zero = λ source within outside none.
+        linked.free source none ∙ second.elsewhere source (λ there. outside ((is.sources.exactly source).0 there).1)
+        ∙ get_or-replicate (source_count c) source false false within;
+  },
+  record {
+    first = λ source within supported. first.here source ((is.sources.exactly source).1 (within, supported));
+    last = λ source within supported none.
+        linked.free source none ∙ second.here source ((is.sources.exactly source).1 (within, supported));
+  },
+)

@@ -3,6 +3,7 @@ pub mod LeastStates
 pub mod Taken
 pub mod SourceBits
 pub mod Judged
+pub mod RankedGates
 pub mod LineValues
 pub mod Judges
 pub mod PathEnds

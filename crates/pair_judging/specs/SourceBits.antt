@@ -4,6 +4,8 @@ use Rattle.pd_base.specs.Pair.{Vectors}
 use Rattle.pd_base.specs.Links.{LinkList, IsLink}
 use Rattle.pd_base.specs.declared.ids.LineId.{LineId}
 use Rattle.netlist.specs.Circuit.{Circuit, source_count}
+use Rattle.netlist.specs.LinkedPairs.{IsSupported}
+use Rattle.netlist.specs.Values.{bit_of}
 use Rattle.state_sets.specs.declared.state.State.{State}
 use Rattle.state_sets.specs.StateAlgebra.{StateAlgebra}
 use Rattle.state_sets.specs.LineStates.{state_under}
@@ -24,6 +26,13 @@ abbrev pub AreTakenOf : StateAlgebra → Vectors → List LineId → List State 
 AreTakenOf a pair sources states =
     (c : Circuit) (source : ℕ) → source < source_count c → Contains sources (record { 0 = source })
     → state_under a c pair source ≡ state_in states source
+
+-- At the sources in the support of the end the pair has the first values of these states, and at those without a link the last values too.
+pub record HasStateBits (a : StateAlgebra) (c : Circuit) (links : LinkList) (end : ℕ) (states : List State) (pair : Vectors) : Type 0 where
+  pub first : (source : ℕ) → source < source_count c → IsSupported c links end source
+      → bit_of pair.first source ≡ first_bit a (state_in states source)
+  pub last : (source : ℕ) → source < source_count c → IsSupported c links end source → ((line : ℕ) → ¬ IsLink links source line)
+      → bit_of pair.second source ≡ a.last (state_in states source)
 
 -- Each linked source but those that are kept has a bit that is due at the line to which it is linked; all others have the bits that they
 -- had.

@@ -1,6 +1,5 @@
-// The judging of finished pairs of vectors, one path at a time: on the cone of the path's end alone, the states of its sources are read off
-// the pair, those of its other lines computed, and the conditions read on them. The cone of the last end is kept. And the pairs that keep
-// links, whose second bits are read off values of lines: those under the last first vector are kept.
+// Judges finished pairs of vectors, one path at a time, within the cone of the path's end: its lines are put into their states under the
+// pair, and the path's conditions are read on them. And reads off states at the sources of a cone the pair that keeps links.
 ghost use Rattle.std.specs.Prelude.{◌≡◌, ◌↔◌, ◌<◌, ℕ, length, All, IfOk, IsTrue, []};
 ghost use Rattle.cones.specs.FoundLines.{HasMark};
 ghost use Rattle.cones.specs.KeptCones.{IsConeFor, IsConeAt};
@@ -11,14 +10,14 @@ ghost use Rattle.netlist.specs.Paths.{IsPrefix, end_of};
 ghost use Rattle.netlist.specs.Values.{value};
 ghost use Rattle.pair_judging.specs.ConeStates.{AreSourceStates, HasConeStates, IsLinkedFrom};
 ghost use Rattle.pair_judging.specs.Judges.{IsJudgeOf};
-ghost use Rattle.pair_judging.specs.SourceBits.{AreLinkBits};
+ghost use Rattle.pair_judging.specs.SourceBits.{HasStateBits, AreLinkBits};
 ghost use Rattle.pair_judging.specs.Targets.{seen_target};
 
 use crate::judging::{Judgement, compute_all};
 use crate::line_values::LineValues;
 use crate::path_ends::end_of;
 use crate::path_states::judge_steps;
-use crate::source_bits::{are_sources, take_pair, write_bits, write_links};
+use crate::source_bits::{give_first_bits, take_pair, write_bits, write_links};
 use crate::target::Target;
 use cones::{Cone, SourceLinks};
 use netlist::Netlist;
@@ -33,7 +32,7 @@ pub struct ConeJudge {
     cone: Cone,
     // by line; those of the cone are the ones under the pair that was judged last
     states: Vec<State>,
-    // under the first vector of the pair that was read last, if the links asked for them
+    // of all lines, under the first vector of the last pair that was read where a source is linked to a gate's line
     values: LineValues,
 }
 
@@ -111,6 +110,8 @@ impl ConeJudge {
         requires states { AreSourceStates A.algebra cone.now.sources states.now }
         ensures judge { IsJudgeOf 4 net.now self.new }
         ensures linked { IfOk result (λ pair. (end : ℕ) → IsConeAt net.now end cone.now → IsLinkedFrom net.now cone.now.links end pair) }
+        ensures bits { IfOk result (λ pair. (end : ℕ) → IsConeAt net.now end cone.now
+            → HasStateBits A.algebra net.now cone.now.links end states.now pair) }
     {
         let places = net.sources() as usize;
         let mut first = vec![in alloc; false; places]?;
@@ -125,8 +126,8 @@ impl ConeJudge {
         Ok(Pair::new(first, second))
     }
 
-    // Gives each linked source the first value of its line as its second bit. Where each source is linked to a source, that value stands
-    // in the first vector; else lines are put to their values under it.
+    // Gives each linked source the first value of its line as its second bit: where a line is a gate's, by the values of all lines under
+    // the first vector.
     fn give_link_bits(
         &mut self,
         net: &Netlist,
@@ -142,8 +143,7 @@ impl ConeJudge {
         ensures places { length second.new ≡ length second.old }
         ensures linked { AreLinkBits (value net.now first.now) links.now (HasMark []) second.old second.new }
     {
-        if are_sources(links.pairs(), net.sources()) {
-            write_links(links.pairs(), &[], first, second);
+        if give_first_bits(net, links, &[], first, second) {
             return;
         }
         self.values.set(net, first);

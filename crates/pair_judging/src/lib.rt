@@ -1,7 +1,8 @@
-//! Pairs of vectors that are judged within the cone of a path's end: the states of the lines in the cone, and whether these meet the
-//! conditions of a test for the path. Stands on netlist, logic_values, state_laws and cones.
-//! The layers above use, of states at the sources of a cone, `take_least`, `take_preferred`, `judge` and `read_test`; `gate_state`,
-//! `failing_link` and `judge_steps`, its parts; of finished pairs `ConeJudge`, which also reads those off states that keep links.
+//! Pairs of vectors and the states of the lines in the cone of a path's end: whether these meet the conditions of a test for the path.
+//! Stands on netlist, logic_values, state_laws and cones.
+//! The layers above take states of labels at the sources of a cone (`take_least`, `take_preferred`), judge them (`judge`, and its parts
+//! `gate_state`, `failing_link` and `judge_steps`) and read the pair off them (`read_test`). A `ConeJudge` judges finished pairs, and reads
+//! those off states that keep links.
 #![tactic(auto)]
 
 mod cone_judge;
@@ -11,6 +12,7 @@ mod least_states;
 mod line_values;
 mod path_ends;
 mod path_states;
+mod ranked_gates;
 mod read_states;
 mod source_bits;
 mod target;

@@ -63,8 +63,7 @@ fn link_bits(
     Ok(())
 }
 
-// Gives each linked source without a mark the first value of its line as its second bit. Where each source is linked to a source, that
-// value stands in the first vector; else lines are computed.
+// Gives each linked source without a mark the first value of its line as its second bit.
 fn give_bits(
     alloc: Global,
     net: &Netlist,
@@ -79,8 +78,7 @@ fn give_bits(
     ensures places { length second.new ≡ length second.old }
     ensures linked { IfOk result (λ done. AreLinkBits (value net.now first.now) links.now (HasMark marks.now) second.old second.new) }
 {
-    if are_sources(links.pairs(), net.sources()) {
-        write_links(links.pairs(), marks, first, second);
+    if give_first_bits(net, links, marks, first, second) {
         return Ok(());
     }
     let mut values = vec![in alloc; false; net.lines() as usize]?;
@@ -89,8 +87,31 @@ fn give_bits(
     Ok(())
 }
 
+// The same where each source is linked to a source, whose first value stands in the first vector. Returns whether it is so; else nothing
+// is written.
+pub(crate) fn give_first_bits(
+    net: &Netlist,
+    links: &SourceLinks,
+    marks: &[bool],
+    first: &[bool],
+    second: &mut [bool],
+) -> bool
+    requires links { AreLinksOf net.now links.now }
+    requires first { length first.now ≡ source_count net.now }
+    requires second { length second.old ≡ source_count net.now }
+    ensures places { length second.new ≡ length second.old }
+    ensures linked { IsTrue result → AreLinkBits (value net.now first.now) links.now (HasMark marks.now) second.old second.new }
+    ensures kept { result ≡ false → second.new ≡ second.old }
+{
+    if !are_sources(links.pairs(), net.sources()) {
+        return false;
+    }
+    write_links(links.pairs(), marks, first, second);
+    true
+}
+
 // Whether each source is linked to a source.
-pub(crate) fn are_sources(links: &[(LineId, LineId)], sources: u32) -> bool
+fn are_sources(links: &[(LineId, LineId)], sources: u32) -> bool
     ensures { IsTrue result → All (λ link. link.1.0 < sources) links.now }
 {
     for link in links {

@@ -17,12 +17,12 @@ loop-source-preserved c =
     let bit = get_or vector source false in
     let before = c.loop-source.invariant in
     let below : source < source_count net = omega (arith, c.loop-source-test.true, c.sources-source-end.ensures.count) in
-    let Kept : List Bool → List Bool → Type 0 = λ vs flags. AreLineValues net (record { values = vs; stale = flags }) in
+    let Kept : List Bool → List Bool → Type 0 = λ vs flags. AreLineValues net (record { values = vs; gates = c.args.gates.now; stale = flags }) in
     let Has : List Bool → Type 0 = λ vs. (k : ℕ) → k < source + 1 → bit_at vs k ≡ bit_of vector k in
     elim c.if-values-at.branch [
       | then-values-at w ↦ record {
         kept = subst₂ Kept (sym w.values-is) (sym w.stale-is)
-            (source_changed net values c.loop-source.stale before.kept source below bit w.add_readers.new.stale w.add_readers.ensures);
+            (source_changed net c.args.gates.now values c.loop-source.stale before.kept source below bit w.make_readers_stale.new.stale w.make_readers_stale.ensures);
         bits = subst Has (sym w.values-is)
             (below_more (λ k. bit_at (set values source bit) k ≡ bit_of vector k) source
             (λ k earlier. get_or-set_other values source k bit false (omega (arith, earlier)) ∙ before.bits k earlier)

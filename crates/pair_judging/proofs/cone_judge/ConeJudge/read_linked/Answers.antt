@@ -5,15 +5,21 @@ use Rattle.std.proofs.lemmas.List.{with_items_is}
 use Rattle.pd_base.specs.Links.{LinkList}
 use Rattle.pd_base.specs.declared.ids.LineId.{LineId}
 use Rattle.cones.specs.FoundLines.{HasMark}
+use Rattle.cones.specs.KeptCones.{IsConeAt}
 use Rattle.netlist.specs.Circuit.{source_count}
 use Rattle.netlist.specs.Values.{value}
-use Rattle.pair_judging.specs.ConeStates.{state_in}
-use Rattle.pair_judging.specs.SourceBits.{first_bit, HasBitsAt, AreLinkBits}
-use Rattle.pair_judging.proofs.Taking.{linked_is}
+use Rattle.pair_judging.specs.ConeStates.{state_in, IsLinkedFrom}
+use Rattle.pair_judging.specs.SourceBits.{first_bit, HasBitsAt, HasStateBits, AreLinkBits}
+use Rattle.pair_judging.proofs.Taking.{read_linked_is}
+use Rattle.pair_judging.proofs.cone_judge.ConeJudge.read_linked.Given.{Over}
+use Rattle.pair_judging.proofs.cone_judge.ConeJudge.read_linked.Goals.{After-new}
 use Rattle.pair_judging.proofs.cone_judge.ConeJudge.read_linked.Goals as goal
 
-pub returns-clause-linked : goal.returns-clause-linked
-returns-clause-linked g c = λ end is.
+-- the pair is linked, and has the bits of the states
+read : (g : Over) (c : After-new g) (end : ℕ) → IsConeAt c.args.net.now end c.args.cone.now
+    → IsLinkedFrom c.args.net.now c.args.cone.now.links end c.new.result
+    × HasStateBits g.A.Algebra.algebra c.args.net.now c.args.cone.now.links end c.args.states.now c.new.result
+read g c end is =
     let a = g.A.Algebra.algebra in
     let net = c.args.net.now in
     let states = c.args.states.now in
@@ -40,10 +46,16 @@ returns-clause-linked g c = λ end is.
     c.links.ensures
     (subst₂ (λ (bits old : List Bool). AreLinkBits (value net bits) c.links.result.now Kept old c.give_link_bits.new.second)
     (c.as_slice.ensures.value ∙ first_is) second_is c.give_link_bits.ensures.linked) in
-    linked_is net cone before after c.new.result c.write_bits.new.second
+    read_linked_is a net states cone c.new.result c.write_bits.new.second
     (subst (HasBitsAt before cone.sources (zeros (source_count net))) (sym (c.new.ensures.first ∙ first_is)) read_first)
     read_second
     (ap length second_end ∙ c.give_link_bits.ensures.places ∙ ap length second_is)
     (subst₂ (λ (bits new : List Bool). AreLinkBits (value net bits) cone.links Kept c.write_bits.new.second new)
     (sym (c.new.ensures.first ∙ first_is)) (sym second_end) linked)
     end is
+
+pub returns-clause-linked : goal.returns-clause-linked
+returns-clause-linked g c = λ end is. (read g (goal.at.returns-clause-linked g c).After-new end is).0
+
+pub returns-clause-bits : goal.returns-clause-bits
+returns-clause-bits g c = λ end is. (read g (goal.at.returns-clause-bits g c).After-new end is).1
