@@ -78,8 +78,8 @@ AllowAsNodeWith a c rules target assumptions source set halves =
     (MayBe a c rules target halves)
 
 -- At this place a tree is due below these halves: with the place's set assumed, the assumptions at its mark leave lines the states
--- that the node there has. They are the path's pins and sets of sources, and close nothing; and the sources that are kept close the trial of
--- the node above.
+-- that the node there has. They are the path's pins and sets of sources, and close nothing; and the sources that are kept close the trial
+-- of the node above.
 pub record IsPlace (a : StateAlgebra) (c : Circuit) (rules : Rules) (target : Target) (assumptions : List Assumption) (place : Place) (halves : List Half) : Type 0 where
   pub longer : length target.path.steps ≤ length assumptions
   pub entered : entered_pins assumptions ≡ target.path.steps

@@ -27,7 +27,7 @@ pub struct Desk {
     pub(crate) blame: Blame,
     // what was tried last through a scope
     pub(crate) tried: Vec<Tried>,
-    // what closed the last trial, if it is kept
+    // what closed the last trial that was gone through, if it is kept
     pub(crate) closers: Option<Closers>,
     // by line; what it is liked to be in: the states with the last value that the last test gave it, or all
     pub(crate) liked: Vec<StateSet>,

@@ -1,5 +1,6 @@
 // Trying the states of a pair through the scope: they are assumed of sources of the path's support, one after another. A conflict
-// shows that the trial of the node closes, and the scope counts it; where none comes of all sources, the pair is a test.
+// shows that the trial of the node closes, and the scope counts it; where none comes of all sources, the pair is a test. And trials that
+// close by the sources that closed that of the node above, for which nothing is narrowed. What is tried is chosen in trying.rt.
 ghost use Rattle.std.specs.Prelude.{◌<◌, is_some, length, IfSome, IsTrue, All};
 ghost use Rattle.justify.specs.Scoping.{SuitsSearch};
 ghost use Rattle.implication.specs.Scopes.{IsSameScope, standing};
@@ -22,8 +23,8 @@ pub(crate) struct Tried {
 }
 
 // Whether the trial of the node at which the scope stands closes by these sources, and then the place among them of the one at which the
-// conflict came: the trial has failed, and a conflict was counted. Where it does not close, a pair is a test that has the states tried at all
-// sources of the support. The scope is afterwards as before.
+// conflict came: the trial has failed, and a conflict was counted. Where it does not close, a pair is a test that has the states tried at
+// all sources of the support. The scope is afterwards as before.
 pub(crate) fn closes_at<A: Algebra, S: Setting>(
     scope: &mut Scope<A, S>,
     target: &Target,

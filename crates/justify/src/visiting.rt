@@ -1,4 +1,5 @@
-// A visit of the place that is due next: pairs are tried at the node there, and where none is a test the tree grows by that node.
+// A visit of the place that is due next: pairs are tried at the node there, unless its trial fails as that of the node above did; and where
+// none is a test the tree grows by that node. How pairs are tried stands in trying.rt, where to split in choosing.rt.
 ghost use Rattle.std.specs.Prelude.{◌≡◌, ◌≤◌, ◌∷◌, IfOk, IfErr, IsTrue, length, reverse};
 ghost use Rattle.netlist.specs.Circuit.{line_count};
 ghost use Rattle.justify.specs.Scoping.{SuitsSearch, MayEndBy};
@@ -99,8 +100,8 @@ fn visit_node<A: Algebra, S: Setting>(
     }
 }
 
-// Whether the trial of the node at which the scope stands fails by what closed that of the node above. A conflict is then counted. The scope
-// is afterwards as before.
+// Whether the trial of the node at which the scope stands fails by what closed that of the node above. A conflict is then counted. The
+// scope is afterwards as before.
 fn fails_as_above<A: Algebra, S: Setting>(
     scope: &mut Scope<A, S>,
     target: &Target,
