@@ -1,7 +1,7 @@
 mod Checking
 mod Closing
+mod FailingSteps
 mod Judging
-mod LowLines
 mod NodeLabels
 mod Roots
 mod SameSettings
@@ -9,6 +9,7 @@ mod Spending
 mod SplitEnds
 mod SupportDeciding
 mod Telling
+mod Tracing
 mod TrialStates
 mod Trying
 mod Walking
