@@ -212,18 +212,19 @@ module _ (a : StateAlgebra) (laws : HasLaws a) where
               (all_as_in pair sources failure.second.0 fails.second traced.has_second);
         }
 
-    -- where each pair fails, all sources of the cone are to blame
-    pub sources_blamed : (links : LinkList) (target : Target) (sources lines : List LineId) → AreConeSources c links (end_of c target.path) sources
-        → ((source : ℕ) → Contains lines (record { 0 = source }) ↔ Contains sources (record { 0 = source }))
-        → EachFails a c links target states → IsBlamed a c links target states lines
-    sources_blamed links target sources lines are exactly each = record {
-      supported = λ line has. ((are.exactly line).0 ((exactly line).0 has)).1;
-      fails = λ labels pair has.
-          each labels pair (λ source within supported. has source within ((exactly source).1 ((are.exactly source).1 (within, supported))));
-    }
-
 -- a line of a cone that has its mark is in the support
 pub marked_supported : (c : Circuit) (end : ℕ) (cone : KeptCone) (marks : List Bool) (line : ℕ) → IsConeAt c end cone
     → ((other : ℕ) → HasMark marks other ↔ Contains cone.found.lines (record { 0 = other })) → slice_index_or marks line false ≡ true
     → IsSupported c cone.links end line
 marked_supported c end cone marks line at exactly marked = (at.lines line).0 ((exactly line).0 marked)
+
+-- where each pair fails, all sources of the cone are to blame
+pub sources_blamed : (a : StateAlgebra) (c : Circuit) (states : List State) (links : LinkList) (target : Target) (sources lines : List LineId) → AreConeSources c links (end_of c target.path) sources
+    → ((source : ℕ) → Contains lines (record { 0 = source }) ↔ Contains sources (record { 0 = source }))
+    → EachFails a c links target states → IsBlamed a c links target states lines
+sources_blamed a c states links target sources lines are exactly each = record {
+  supported = λ line has. ((are.exactly line).0 ((exactly line).0 has)).1;
+  fails = λ labels pair has.
+      each labels pair (λ source within supported. has source within ((exactly source).1 ((are.exactly source).1 (within, supported))));
+}
+
