@@ -1,7 +1,7 @@
 -- The trial of a node at which a scope stands without a conflict, below halves of sources of the support: a pair of vectors that has at
 -- each source of the support the least state of the hull. Where it is one of the rules and meets the conditions, the trial does not close,
 -- and where it fails, the trial closes.
-use Rattle.std.proofs.Common.{◌≡◌, ℕ, ◌<◌, ◌↔◌, Bool, true, false, List, get_or, None, sym, refl, subst, arith}
+use Rattle.std.proofs.Common.{◌≡◌, ℕ, ◌<◌, ◌↔◌, Bool, false, List, get_or, None, sym, subst, arith}
 use Rattle.std.specs.List.{All, Contains}
 use Rattle.std.specs.Prelude.{IsTrue}
 use Rattle.std.proofs.lemmas.Bool.{false≢true}
@@ -33,7 +33,6 @@ use Rattle.implication.specs.Standing.{Standing, IsLabels, IsSupportTold, IsTold
 use Rattle.pair_judging.specs.ConeStates.{state_in, HasSourceStates}
 use Rattle.cones.specs.KeptCones.{AreConeSources}
 use Rattle.pair_judging.specs.LeastStates.{IsTakenOf}
-use Rattle.pair_judging.specs.Taken.{AreLeast}
 use Rattle.pair_judging.proofs.Taking.{least_is_taken}
 use Rattle.refutation_check.specs.Blames.{IsAsIn, IsBlamed}
 use Rattle.refutation_check.specs.Trials.{AreLeastOf, AreLeastAmong, EachIsTest, IsScopeInSupport, Shows}

@@ -1,5 +1,5 @@
 -- What was found is what the cone has.
-use Rattle.std.proofs.Common.{◌≡◌, ⊎_elim, inr, List, [], ap, sym, subst, ◌∙◌, arith}
+use Rattle.std.proofs.Common.{◌≡◌, ⊎_elim, inr, List, [], ap, sym, subst, arith}
 use Rattle.std.specs.List.{Contains}
 use Rattle.pd_base.specs.declared.ids.LineId.{LineId}
 use Rattle.cones.specs.FoundLines.{FoundSet}

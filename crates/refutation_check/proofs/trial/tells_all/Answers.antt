@@ -1,5 +1,5 @@
 -- One line more is told.
-use Rattle.std.proofs.Common.{List, get_or, refl, sym, subst, take_all, ◌∙◌}
+use Rattle.std.proofs.Common.{List, refl, sym, subst, take_all, ◌∙◌}
 use Rattle.std.specs.List.{All}
 use Rattle.std.proofs.lemmas.Bool.{false≢true}
 use Rattle.std.proofs.lemmas.List.Elements.{All-more}
