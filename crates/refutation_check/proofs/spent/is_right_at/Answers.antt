@@ -1,6 +1,5 @@
 -- What is asked of each kind of node.
-use Rattle.std.proofs.Common.{◌↔◌, Bool, List, sym, subst}
-use Rattle.std.specs.Prelude.{IsTrue}
+use Rattle.std.proofs.Common.{Bool, List, sym, subst}
 use Rattle.pd_base.specs.Target.{Target}
 use Rattle.state_sets.specs.StateAlgebra.{StateAlgebra}
 use Rattle.state_laws.specs.declared.half.Half.{Half}

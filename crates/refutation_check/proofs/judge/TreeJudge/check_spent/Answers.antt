@@ -55,12 +55,14 @@ spends-requires-clause-room g c = c.self.invariant.room
 pub returns-clause-tells : goal.returns-clause-tells
 returns-clause-tells g c =
     let i = c.self.inside in let target = target_of c.args.path.now c.args.dir c.args.kind in let tree = c.args.tree.now in
+    let told = spends-requires-clause-told g c in
     let P : MadeFor → Type 0 = λ m. IfOk c.spends.result (TellsOfSpent m.net m.rules target c.args.budget tree) in
     subst P c.self.view_is
-    (IfOk-weaker c.spends.result (TellsOfNodes (IsRightInSpent i.engine.net i.engine.rules target) tree)
+    (IfOk-weaker c.spends.result (TellsIf (IsSupportTold i.engine (end_of i.engine.net target.path)) (IsRightInSpent i.engine.net i.engine.rules target) tree)
     (TellsOfSpent i.engine.net i.engine.rules target c.args.budget tree)
     (λ check nodes. spent_of_nodes i.engine.net i.engine.rules target c.args.budget tree (sym c.splits.ensures ∙ c.if-splits-budget.false)
-    (subst (λ (all : List Node). Contains all Waiting) c.nodes.ensures.nodes (c.has_open.ensures.0 c.if-not-has_open.false)) check nodes)
+    (subst (λ (all : List Node). Contains all Waiting) c.nodes.ensures.nodes (c.has_open.ensures.0 c.if-not-has_open.false)) check
+    (tells_of_told (IsRightInSpent i.engine.net i.engine.rules target) tree told check nodes))
     c.spends.ensures.tells)
 
 pub returns-clause-exactly : goal.returns-clause-exactly
