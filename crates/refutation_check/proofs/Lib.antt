@@ -2,6 +2,7 @@ mod Checking
 mod Closing
 mod FailingSteps
 mod Judging
+mod NearEngines
 mod NodeLabels
 mod Roots
 mod SameSettings

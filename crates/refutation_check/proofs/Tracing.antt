@@ -227,4 +227,3 @@ sources_blamed a c states links target sources lines are exactly each = record {
   fails = λ labels pair has.
       each labels pair (λ source within supported. has source within ((exactly source).1 ((are.exactly source).1 (within, supported))));
 }
-

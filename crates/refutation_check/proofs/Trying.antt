@@ -106,7 +106,7 @@ module _ (target : Target) (halves : List Half) (standing : Standing) (free : st
         → IsOpen standing.net standing.rules target halves other → ⊥
     not_open told least each other open_there =
         let has_states : (pair : Vectors) → TakesLeast standing.net standing.rules target.path labels pair
-            → HasSourceStates a standing.net links end states pair =
+        → HasSourceStates a standing.net links end states pair =
         λ pair takes source within supported.
         has_state pair takes source within supported (told source supported) (least source within supported) in
         let same : labels ≡ other =

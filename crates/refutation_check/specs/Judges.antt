@@ -19,8 +19,8 @@ pub record IsReadyBeside (engine near : Standing) : Type 0 where
   pub net : near.net ≡ engine.net
   pub rules : near.rules ≡ engine.rules
 
--- No scope is open on its engine, which tells the whole support of its ends, nor on that of near gates, if there is one; and there is room for
--- trials, with states of the kind that the rules choose.
+-- No scope is open on its engine, which tells the whole support of its ends, nor on that of near gates, if there is one; and there is room
+-- for trials, with states of the kind that the rules choose.
 pub record IsJudgeReady (a : StateAlgebra) (engine : Standing) (beside : Option Standing) (trials : TrialRoom) : Type 0 where
   pub idle : engine.beginning ≡ None
   pub follows : FollowsLinks engine.ends

@@ -26,8 +26,8 @@ pub(crate) struct Failure {
     pub(crate) second: LineId,
 }
 
-// Finds the lines of a cone on whose states a failure rests, back to the sources. False tells nothing: one of them is no line of the cone, or
-// the line of a gate that has to be evaluated first. This costs what is found.
+// Finds the lines of a cone on whose states a failure rests, back to the sources. False tells nothing: one of them is no line of the
+// cone, or the line of a gate that has to be evaluated first. This costs what is found.
 pub(crate) fn traces<A: Algebra>(
     net: &Netlist,
     target: &Target,

@@ -37,7 +37,7 @@ pub(crate) fn is_due<A: Algebra, S: Setting>(
     ensures told { IsTrue result → (split.source < source_count (standing scope.now).net) × IsTold (standing scope.now) split.source }
     ensures due { (halves : List Half) → IsScopeInSupport A.algebra (seen_target target.now) halves (standing scope.now)
         → Shows (IsSupportTold (standing scope.now) (end_of (standing scope.now).net target.now.path.now)) result
-            (IsDue (standing scope.now).net (standing scope.now).rules (seen_target target.now) halves split.steadiness split.source) }
+        (IsDue (standing scope.now).net (standing scope.now).rules (seen_target target.now) halves split.steadiness split.source) }
 {
     let Split { source, steadiness } = split;
     if source >= scope.net().sources() || !room.cone.marks()[source as usize] {

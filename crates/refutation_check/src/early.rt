@@ -129,7 +129,8 @@ fn failure_at<A: Algebra>(
     let gate = net.kind(step.gate);
     let last = A::last(states[line.0 as usize]);
     let condition = side_condition(kind, gate, last);
-    let Some(side) = failing_side::<A>(net, condition, net.pins(step.gate), step.pin, level, states) else {
+    let Some(side) = failing_side::<A>(net, condition, net.pins(step.gate), step.pin, level, states)
+    else {
         return None;
     };
     let state = states[side.0 as usize];

@@ -92,7 +92,7 @@ fn is_right_at<A: Algebra, S: Setting>(
     ensures told { IsTrue result → IsOnTold (standing scope.now) node }
     ensures right { (halves : List Half) → IsScopeInSupport A.algebra (seen_target target.now) halves (standing scope.now)
         → Shows (IsSupportTold (standing scope.now) (end_of (standing scope.now).net target.now.path.now)) result
-            (IsRightInSpent (standing scope.now).net (standing scope.now).rules (seen_target target.now) halves node) }
+        (IsRightInSpent (standing scope.now).net (standing scope.now).rules (seen_target target.now) halves node) }
 {
     match node {
         Node::Closed => scope.conflict().is_some(),

@@ -76,7 +76,7 @@ pub(crate) fn is_open<A: Algebra, S: Setting>(
     ensures room { IsTrialRoomAt A.algebra (standing scope.now).net (standing scope.now).rules (seen_target target.now) room.new }
     ensures open { (halves : List Half) → IsScopeInSupport A.algebra (seen_target target.now) halves (standing scope.now)
         → Shows (IsSupportTold (standing scope.now) (end_of (standing scope.now).net target.now.path.now)) result
-            ((hull : List StateSet) × IsOpen (standing scope.now).net (standing scope.now).rules (seen_target target.now) halves hull) }
+        ((hull : List StateSet) × IsOpen (standing scope.now).net (standing scope.now).rules (seen_target target.now) halves hull) }
 {
     // a netlist knows itself as a circuit
     let net = scope.net();
@@ -123,7 +123,13 @@ fn fails_again<A: Algebra>(net: &Netlist, room: &TrialRoom, labels: &[StateSet])
     ensures least { IsTrue result
         → AreLeastAmong A.algebra.count net.now room.now.blamed.lines labels.now room.now.kept.states.items }
 {
-    room.failed && are_least::<A>(net, room.blamed.lines(), labels, room.kept.states.as_slice())
+    room.failed
+        && are_least::<A>(
+            net,
+            room.blamed.lines(),
+            labels,
+            room.kept.states.as_slice(),
+        )
 }
 
 // Whether each source among these lines is in the least state of its label.

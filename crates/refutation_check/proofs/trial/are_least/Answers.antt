@@ -29,6 +29,6 @@ pub returns : goal.returns
 returns g c = λ told source within among.
     let lines = c.args.lines.now in
     let P : LineId → Type 0 = λ l. l.0 < source_count c.args.net.now
-        → IsTakenOf g.A.Algebra.algebra.count (label_at c.args.labels.now l.0) (state_in c.args.states.now l.0) in
+    → IsTakenOf g.A.Algebra.algebra.count (label_at c.args.labels.now l.0) (state_in c.args.states.now l.0) in
     All-contains P lines (record { 0 = source })
     (subst (λ (ls : List LineId). All P ls) (take_all c.loop-line.line-index lines c.loop-line-test.false) c.loop-line.invariant) among within
