@@ -32,11 +32,11 @@ use Rattle.implication.proofs.Told.{end_told}
 use Rattle.refutation_check.specs.declared.answer.TreeCheck.{TreeCheck}
 use Rattle.refutation_check.specs.declared.answer.TreeCheck.TheVariants.{Yes, No}
 use Rattle.refutation_check.specs.declared.walk.Pending.{Pending}
-use Rattle.refutation_check.specs.Answers.{TellsOfNodes, TellsOfRefutation, TellsOfSpent}
+use Rattle.refutation_check.specs.Answers.{TellsIf, TellsOfNodes, TellsOfRefutation, TellsOfSpent}
 use Rattle.refutation_check.specs.Judges.{MadeFor}
-use Rattle.refutation_check.specs.Trials.{IsScopeInSupport}
+use Rattle.refutation_check.specs.Trials.{IsScopeInSupport, Shows}
 use Rattle.refutation_check.specs.Walks.{IsScopeAt, ArePending, WalksAt, IsWalk, IsOnTold, IsToldAt, GoesOnTo, PassesOn}
-use Rattle.refutation_check.proofs.SameSettings.{source_there, told_there}
+use Rattle.refutation_check.proofs.SameSettings.{source_there, support_told_there, told_there}
 
 -- the halves from the root down are of the same sources as from the deepest up
 on_halves : (On : ℕ → Type 0) (above : List Half) → All (λ half. On half.source) above → All (λ half. On half.source) (halves_of above)
@@ -192,13 +192,16 @@ module _ (a : StateAlgebra) where
 
   pub spends_there : (before now : Standing) → IsSameSetting before now → (node : Node) (r : Bool) (target : Target) (halves : List Half)
       → All (λ half. IsInSupport before.net before.rules target.path half.source) halves
-      → ((some : List Half) → IsScopeInSupport a target some now → IsTrue r ↔ IsRightInSpent now.net now.rules target some node)
-      → IsScopeAt a target halves now → IsTrue r ↔ IsRightInSpent before.net before.rules target halves node
+      → ((some : List Half) → IsScopeInSupport a target some now
+      → Shows (IsSupportTold now (end_of now.net target.path)) r (IsRightInSpent now.net now.rules target some node)) → IsScopeAt a target halves now
+      → Shows (IsSupportTold before (end_of before.net target.path)) r (IsRightInSpent before.net before.rules target halves node)
   spends_there before now setting node r target halves on tells at =
-      let P : Circuit → Rules → Type 0 = λ c rules. IsTrue r ↔ IsRightInSpent c rules target halves node in
+      let R : Circuit → Rules → Type 0 = λ c rules. IsRightInSpent c rules target halves node in
       let Q : Circuit → Rules → Type 0 = λ c rules. All (λ half. IsInSupport c rules target.path half.source) halves in
-      subst₂ P setting.net setting.rules
-      (tells halves (record { at = at; in_support = subst₂ Q (sym setting.net) (sym setting.rules) on }))
+      let shows = tells halves (record { at = at; in_support = subst₂ Q (sym setting.net) (sym setting.rules) on }) in (
+        λ yes. subst₂ R setting.net setting.rules (shows.0 yes),
+        λ told right. shows.1 (support_told_there before now setting target.path told) (subst₂ R (sym setting.net) (sym setting.rules) right),
+      )
 
   -- a split that is right in a refutation is on a source, and told where each such split is
   pub refutation_on : (standing : Standing) (target : Target) (halves : List Half) (node : Node)
@@ -222,16 +225,6 @@ spent_splits_on c rules target halves Closed right = tt
 spent_splits_on c rules target halves Waiting right = tt
 spent_splits_on c rules target halves (Value source) right = right.in_support
 spent_splits_on c rules target halves (Steadiness source) right = right.in_support
-
--- which is told where the end of the path is
-pub supported_on : (standing : Standing) (target : Target) → IsSupportTold standing (end_of standing.net target.path) → (node : Node)
-    → SplitsOn (IsInSupport standing.net standing.rules target.path) node → IsOnTold standing node
-supported_on standing target told Closed on = tt
-supported_on standing target told Waiting on = tt
-supported_on standing target told (Value source) on =
-    (on.is_source, told source on.supported)
-supported_on standing target told (Steadiness source) on =
-    (on.is_source, told source on.supported)
 
 -- a split on a told source is one under the same setting
 pub on_there : (before now : Standing) → IsSameSetting before now → (node : Node) → IsOnTold before node → IsOnTold now node
@@ -279,3 +272,15 @@ told_at_end made c rules end path is at_end =
     let P : MadeFor → Type 0 = λ m. IsToldBy m.net (links_of m.rules) m.ends (end_of m.net path) in
     let Q : LineId → Type 0 = λ line. IsToldBy c (links_of rules) (Some (told_ends (end ∷ []) false)) line.0 in
     subst P (sym is) (subst Q at_end (end_told c (links_of rules) (told_ends (end ∷ []) false) end (Contains-get_or (end ∷ []) 0 end (omega arith))))
+
+-- what is told where this is, is so where that is from which it follows
+pub tells_if_by : {Told Other : Type 0} (IsRight : List Half → Node → Type 0) (nodes : List Node) → (Other → Told) → (check : TreeCheck)
+    → TellsIf Told IsRight nodes check → TellsIf Other IsRight nodes check
+tells_if_by IsRight nodes from Yes tells = tells
+tells_if_by IsRight nodes from (No place) tells = λ other. tells (from other)
+
+-- and where it is told, it is so
+pub tells_of_told : {Told : Type 0} (IsRight : List Half → Node → Type 0) (nodes : List Node) → Told → (check : TreeCheck)
+    → TellsIf Told IsRight nodes check → TellsOfNodes IsRight nodes check
+tells_of_told IsRight nodes told Yes tells = tells
+tells_of_told IsRight nodes told (No place) tells = tells told

@@ -1,11 +1,11 @@
 -- What is told of the pairs that have the states which are kept at the sources of a cone, once no gate of the cone is stale.
-use Rattle.std.proofs.Common.{◌≡◌, false, List, [], Option, refl, subst}
+use Rattle.std.proofs.Common.{◌≡◌, ◌<◌, false, List, [], Option, refl, sym, subst, subst₂, arith}
 use Rattle.std.specs.List.{All}
 use Rattle.pd_base.specs.Links.{LinkList}
 use Rattle.pd_base.specs.Target.{Target}
 use Rattle.pd_base.specs.declared.ids.GateId.{GateId}
 use Rattle.pd_base.specs.declared.ids.LineId.{LineId}
-use Rattle.netlist.specs.Circuit.{Circuit}
+use Rattle.netlist.specs.Circuit.{Circuit, line_count}
 use Rattle.netlist.specs.Lawful.{IsCircuit}
 use Rattle.netlist.specs.LinkedPairs.{AreLinksOf}
 use Rattle.netlist.specs.Paths.{IsPrefix, end_of}
@@ -17,7 +17,11 @@ use Rattle.pair_judging.specs.declared.judging.Judgement.TheVariants.{IsTest, Fa
 use Rattle.pair_judging.proofs.Judged.{judged_at, link_fails}
 use Rattle.refutation_check.specs.declared.trial_states.TrialStates.{TrialStates}
 use Rattle.refutation_check.specs.TrialStates.{is_stale, AreTrialStates}
+use Rattle.refutation_check.specs.Blames.{IsFailure}
 use Rattle.refutation_check.specs.Trials.{EachIsTest, EachFails}
+use Rattle.path_laws.proofs.StepCounts.{line_after_in_circuit}
+use Rattle.state_laws.specs.FailedTrials.FailsTrial.{at_link}
+use Rattle.state_laws.proofs.Supports.{linked_supported, supported_in_circuit}
 use Rattle.refutation_check.proofs.TrialStates.{are_computed}
 
 -- what is told of links, sources and states is told of the same ones
@@ -57,3 +61,21 @@ module _ (a : StateAlgebra) (laws : HasLaws a) (c : Circuit) (circuit : IsCircui
   each_breaks_link source line broken labels pair has =
       link_fails a c circuit links fit target is gates gates_are states states (λ source within. refl) computed pair has sources sources_are labels
       source line broken
+
+-- where the states along a link may not be linked, each pair with these two fails
+pub link_failure : (a : StateAlgebra) (c : Circuit) → IsCircuit c → (links : LinkList) → AreLinksOf c links → (target : Target)
+    → IsPrefix c target.path → (sources : List LineId) → AreConeSources c links (end_of c target.path) sources → (states : List State)
+    → (source line : LineId) → IsFailingLink a links sources states source line
+    → IsFailure a c links target states (record { first = source; second = line })
+link_failure a c circuit links fit target is sources are states source line broken =
+    let own = (are.exactly source.0).0 broken.among in
+    let there = linked_supported c links (end_of c target.path) source.0 line.0 own.1 broken.link in
+    let within : end_of c target.path < line_count c =
+    line_after_in_circuit c circuit target.path.source.0 target.path.steps (let s = is.source in omega (arith, s)) is.connects in
+    record {
+      first = supported_in_circuit c links (end_of c target.path) circuit.reads_lines fit within source.0 own.1;
+      second = supported_in_circuit c links (end_of c target.path) circuit.reads_lines fit within line.0 there;
+      fails = λ labels pair here behind.
+          at_link source.0 line.0 own.1 broken.link
+          (subst₂ (λ s l. a.link s l ≡ false) (sym here) (sym behind) broken.fails);
+    }

@@ -1,7 +1,8 @@
 mod Checking
 mod Closing
+mod FailingSteps
 mod Judging
-mod LowLines
+mod NearEngines
 mod NodeLabels
 mod Roots
 mod SameSettings
@@ -9,6 +10,7 @@ mod Spending
 mod SplitEnds
 mod SupportDeciding
 mod Telling
+mod Tracing
 mod TrialStates
 mod Trying
 mod Walking

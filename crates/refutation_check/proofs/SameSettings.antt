@@ -5,8 +5,6 @@ use Rattle.pd_base.specs.Route.{Route}
 use Rattle.pd_base.specs.declared.rules.Rules.{Rules}
 use Rattle.netlist.specs.Circuit.{Circuit, source_count}
 use Rattle.netlist.specs.LinkedPairs.{IsSupported}
-use Rattle.netlist.specs.LinkedPairs.IsSupported.{in_fan_in}
-use Rattle.netlist.specs.Pins.IsInFanIn.{end_itself}
 use Rattle.netlist.specs.Paths.{IsPrefix, end_of}
 use Rattle.state_laws.proofs.FanIns.{leads_in_fan_in}
 use Rattle.trees.specs.declared.tree.Node.{Node}
@@ -59,10 +57,6 @@ pub own_told : (standing : Standing) (path : Route) → IsPrefix standing.net pa
 own_told standing path is told =
     told_in_fan_in standing.net (links_of standing.rules) standing.ends (end_of standing.net path) path.source.0 told
     (leads_in_fan_in standing.net path.source.0 path.steps is.connects)
-
--- an end is told where its support is
-pub told_itself : (standing : Standing) (end : ℕ) → IsSupportTold standing end → IsTold standing end
-told_itself standing end told = told end (in_fan_in end end_itself)
 
 -- where no ends are given, all lines are told
 pub all_are_told : (standing : Standing) → standing.ends ≡ None → (line : ℕ) → IsTold standing line

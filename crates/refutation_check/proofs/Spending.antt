@@ -21,9 +21,10 @@ use Rattle.state_laws.proofs.Hulls.{hull_once, not_closing}
 use Rattle.trees.specs.Algebras.{algebra_of}
 use Rattle.trees.specs.Spent.{IsInSupport, IsOpen, IsDue, HasInHalf}
 use Rattle.implication.specs.declared.assumption.Conflict.{Conflict}
-use Rattle.implication.specs.Standing.{Standing, IsLabels}
+use Rattle.implication.specs.Standing.{Standing, IsLabels, IsSupportTold, IsTold}
 use Rattle.cones.specs.FoundLines.{HasMark}
 use Rattle.cones.specs.KeptCones.{KeptCone, IsConeAt}
+use Rattle.refutation_check.specs.Trials.{Shows}
 use Rattle.refutation_check.specs.Walks.{IsScopeAt, IsNodeBy}
 use Rattle.refutation_check.proofs.Closing.{closes_at_some}
 use Rattle.refutation_check.proofs.NodeLabels.{node_of, hull_of}
@@ -67,6 +68,15 @@ module _ (target : Target) (halves : List Half) (standing : Standing) (steadines
   abbrev a : StateAlgebra
   a = algebra_of standing.rules
 
+  abbrev Told : Type 0
+  Told = IsSupportTold standing (end_of standing.net target.path)
+
+  abbrev Due : Type 0
+  Due = IsDue standing.net standing.rules target halves steadiness source
+
+  abbrev OpenThere : Type 0
+  OpenThere = (hull : List StateSet) × IsOpen standing.net standing.rules target halves hull
+
   -- a split is not due at a node that closes
   closing_not_open : (line : LineId) → standing.conflict ≡ Some line → IsScopeAt a target halves standing → (hull : List StateSet)
       → IsOpen standing.net standing.rules target halves hull → ⊥
@@ -76,17 +86,20 @@ module _ (target : Target) (halves : List Half) (standing : Standing) (steadines
       (closes_at_some a standing.net standing.rules target halves line (subst (IsNodeBy a target halves standing) stands at.is_node))
 
   pub closing_not_due : (line : LineId) → standing.conflict ≡ Some line → (b : StateAlgebra) → b ≡ a → IsScopeAt b target halves standing
-      → IsTrue false ↔ IsDue standing.net standing.rules target halves steadiness source
+      → Shows Told false Due
   closing_not_due line stands b chosen at =
       let P : StateAlgebra → Type 0 = λ k. IsScopeAt k target halves standing in (
         λ never. absurd (false≢true never),
-        λ due. absurd (closing_not_open line stands (subst P chosen at) due.hull due.is_open),
+        λ told due. absurd (closing_not_open line stands (subst P chosen at) due.hull due.is_open),
       )
 
   -- nor is one that is not on a source of the support
-  pub outside_not_due : (IsInSupport standing.net standing.rules target.path source → ⊥)
-      → IsTrue false ↔ IsDue standing.net standing.rules target halves steadiness source
-  outside_not_due outside = (λ never. absurd (false≢true never), λ due. absurd (outside due.in_support))
+  pub outside_not_due : (IsInSupport standing.net standing.rules target.path source → ⊥) → Shows Told false Due
+  outside_not_due outside = (λ never. absurd (false≢true never), λ told due. absurd (outside due.in_support))
+
+  -- nor is there one, where the whole support is told, on a source that is not
+  pub untold_not_due : (IsTold standing source → ⊥) → Shows Told false Due
+  untold_not_due untold = (λ never. absurd (false≢true never), λ told due. absurd (untold (told source due.in_support.supported)))
 
   -- what is known where the scope has labels: of the set of the source, whether it has a state of each half
   pub record IsSeenAt (b : StateAlgebra) (labels : List StateSet) (set : StateSet) (both : Bool) : Type 0 where
@@ -106,10 +119,10 @@ module _ (target : Target) (halves : List Half) (standing : Standing) (steadines
         (MayBe a standing.net standing.rules target halves) hull open_here.is_hull labels own)
         ∙ sym is.seen
 
-    lacking : IsSeenAt a labels set both → both ≡ false → IsTrue false ↔ IsDue standing.net standing.rules target halves steadiness source
+    lacking : IsSeenAt a labels set both → both ≡ false → Shows Told false Due
     lacking is lacks = (
       λ never. absurd (false≢true never),
-      λ due.
+      λ told due.
           let same = same_set is due.hull due.is_open in
           let first = subst (λ (s : StateSet). HasInHalf a s steadiness false) same due.in_first in
           let second = subst (λ (s : StateSet). HasInHalf a s steadiness true) same due.in_second in
@@ -117,8 +130,7 @@ module _ (target : Target) (halves : List Half) (standing : Standing) (steadines
     )
 
     having : IsSeenAt a labels set both → both ≡ true → IsInSupport standing.net standing.rules target.path source → (tried : Bool)
-        → IsTrue tried ↔ ((hull : List StateSet) × IsOpen standing.net standing.rules target halves hull)
-        → IsTrue tried ↔ IsDue standing.net standing.rules target halves steadiness source
+        → Shows Told tried OpenThere → Shows Told tried Due
     having is has support tried open_tells = (
       λ yes.
           let parts = is.tells.0 has in
@@ -131,19 +143,17 @@ module _ (target : Target) (halves : List Half) (standing : Standing) (steadines
             in_first = subst (λ (s : StateSet). HasInHalf a s steadiness false) (sym same) parts.0;
             in_second = subst (λ (s : StateSet). HasInHalf a s steadiness true) (sym same) parts.1;
           },
-      λ due. open_tells.1 (due.hull, due.is_open),
+      λ told due. open_tells.1 told (due.hull, due.is_open),
     )
 
     -- one whose source lacks a half in the hull is not due
-    pub lacking_not_due : (b : StateAlgebra) → b ≡ a → IsSeenAt b labels set both → both ≡ false
-        → IsTrue false ↔ IsDue standing.net standing.rules target halves steadiness source
+    pub lacking_not_due : (b : StateAlgebra) → b ≡ a → IsSeenAt b labels set both → both ≡ false → Shows Told false Due
     lacking_not_due b chosen is = let P : StateAlgebra → Type 0 = λ k. IsSeenAt k labels set both in lacking (subst P chosen is)
 
     -- with both it is due, on a source of the support, just where the node is open
     pub open_due : (b : StateAlgebra) → b ≡ a → IsSeenAt b labels set both → both ≡ true
         → IsInSupport standing.net standing.rules target.path source → (tried : Bool)
-        → IsTrue tried ↔ ((hull : List StateSet) × IsOpen standing.net standing.rules target halves hull)
-        → IsTrue tried ↔ IsDue standing.net standing.rules target halves steadiness source
+        → Shows Told tried OpenThere → Shows Told tried Due
     open_due b chosen is = let P : StateAlgebra → Type 0 = λ k. IsSeenAt k labels set both in having (subst P chosen is)
 
 -- whether the node closes, with the kind of states of the rules

@@ -19,6 +19,11 @@ abbrev pub TellsOfNodes : (List Half → Node → Type 0) → List Node → Tree
 TellsOfNodes IsRight nodes Yes = (cases : Cases) × (nodes ≡ preorder cases) × AreRight IsRight [] cases
 TellsOfNodes IsRight nodes (No place) = IsFirstFaultOf IsRight nodes place
 
+-- the same, but that it is not right is said only where that is told which it takes
+abbrev pub TellsIf : Type 0 → (List Half → Node → Type 0) → List Node → TreeCheck → Type 0
+TellsIf told IsRight nodes Yes = TellsOfNodes IsRight nodes Yes
+TellsIf told IsRight nodes (No place) = told → TellsOfNodes IsRight nodes (No place)
+
 -- the tree refutes, or this is the first node at which it does not
 abbrev pub TellsOfRefutation : Circuit → Rules → Target → List Node → TreeCheck → Type 0
 TellsOfRefutation c rules target nodes Yes = IsRefutation c rules target nodes

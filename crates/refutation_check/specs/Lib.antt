@@ -1,7 +1,7 @@
 pub mod Walks
 pub mod Entering
 pub mod TrialStates
-pub mod Early
+pub mod Blames
 pub mod Trials
 pub mod Judges
 pub mod Answers

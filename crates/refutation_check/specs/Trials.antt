@@ -1,10 +1,11 @@
 -- The room for the trials of nodes, spoken of inside this crate alone (this project's own).
-use Rattle.std.specs.Prelude.{◌≡◌, ℕ, ◌<◌, List, All, IsTrue}
+use Rattle.std.specs.Prelude.{◌≡◌, ℕ, ◌<◌, Bool, List, All, Contains, IsTrue}
 use Rattle.pd_base.specs.Links.{LinkList, links_of}
 use Rattle.pd_base.specs.Pair.{Vectors}
 use Rattle.pd_base.specs.Target.{Target}
+use Rattle.pd_base.specs.declared.ids.LineId.{LineId}
 use Rattle.pd_base.specs.declared.rules.Rules.{Rules}
-use Rattle.netlist.specs.Circuit.{Circuit, source_count}
+use Rattle.netlist.specs.Circuit.{Circuit, source_count, line_count}
 use Rattle.netlist.specs.Conditions.{Meets}
 use Rattle.netlist.specs.LinkedPairs.{IsSupported}
 use Rattle.netlist.specs.Paths.{end_of}
@@ -21,6 +22,7 @@ use Rattle.pair_judging.specs.ConeStates.{state_in, HasSourceStates, HasLinkedSt
 use Rattle.cones.specs.KeptCones.{IsConeFor, IsConeAt}
 use Rattle.pair_judging.specs.LeastStates.{IsTakenOf}
 use Rattle.refutation_check.specs.declared.trial.TrialRoom.{TrialRoom}
+use Rattle.refutation_check.specs.Blames.{IsBlamed}
 use Rattle.refutation_check.specs.TrialStates.{AreTrialStates}
 use Rattle.refutation_check.specs.Walks.{IsScopeAt}
 
@@ -30,6 +32,7 @@ pub record IsTrialRoomFor (a : StateAlgebra) (c : Circuit) (rules : Rules) (room
   pub cone : IsConeFor c room.cone
   pub linked : room.cone.links ≡ links_of rules
   pub kept : AreTrialStates a c room.kept
+  pub found : room.blamed.room ≡ line_count c
 
 -- under each pair that has these states at the sources of the support, the states along its links may be linked, and the pair is a test
 abbrev pub EachIsTest : StateAlgebra → Circuit → LinkList → Target → List State → Type 0
@@ -41,16 +44,26 @@ abbrev pub EachFails : StateAlgebra → Circuit → LinkList → Target → List
 EachFails a c links target states = (labels : List StateSet) (pair : Vectors)
     → HasSourceStates a c links (end_of c target.path) states pair → FailsTrial a c links target labels pair
 
--- and its cone is that of the end of the target's path; where it says that the last pair failed, that is so of the states that it has
+-- and its cone is that of the end of the target's path; where it says that the last pair failed, these lines are to blame in the states that
+-- it has
 pub record IsTrialRoomAt (a : StateAlgebra) (c : Circuit) (rules : Rules) (target : Target) (room : TrialRoom) : Type 0 where
   pub made : IsTrialRoomFor a c rules room
   pub cone : IsConeAt c (end_of c target.path) room.cone
-  pub failed : IsTrue room.failed → EachFails a c (links_of rules) target room.kept.states.items
+  pub failed : IsTrue room.failed → IsBlamed a c (links_of rules) target room.kept.states.items room.blamed.lines
 
 -- each source in the support of the end is in the state that is taken of its label
 abbrev pub AreLeastOf : ℕ → Circuit → LinkList → ℕ → List StateSet → List State → Type 0
 AreLeastOf count c links end labels states = (source : ℕ) → source < source_count c → IsSupported c links end source
     → IsTakenOf count (label_at labels source) (state_in states source)
+
+-- each source among these lines is
+abbrev pub AreLeastAmong : ℕ → Circuit → List LineId → List StateSet → List State → Type 0
+AreLeastAmong count c lines labels states = (source : ℕ) → source < source_count c → Contains lines (record { 0 = source })
+    → IsTakenOf count (label_at labels source) (state_in states source)
+
+-- true shows the fact; and where that is told which it takes, false shows that it does not hold
+abbrev pub Shows : Type 0 → Bool → Type 0 → Type 0
+Shows told answer fact = (IsTrue answer → fact) × (told → fact → IsTrue answer)
 
 -- the scope is at the node of a tree for this target below these halves, which are of sources of the support
 pub record IsScopeInSupport (a : StateAlgebra) (target : Target) (halves : List Half) (standing : Standing) : Type 0 where

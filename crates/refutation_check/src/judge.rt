@@ -13,7 +13,7 @@ ghost use Rattle.state_laws.specs.Steadied.{steadied};
 ghost use Rattle.implication.specs.Standing.{told_ends, IsToldBy};
 ghost use Rattle.trees.specs.declared.tree.Node.{Node};
 ghost use Rattle.trees.specs.Algebras.{algebra_of};
-ghost use Rattle.trees.specs.Faults.{IsRightInRefutation};
+ghost use Rattle.trees.specs.Faults.{IsRightInRefutation, IsRightInSpent};
 ghost use Rattle.trees.specs.Refutations.{IsRefutation};
 ghost use Rattle.trees.specs.Spent.{IsSpent};
 ghost use Rattle.trees.specs.Bounds.{IsBelowBound};
@@ -22,6 +22,7 @@ ghost use Rattle.pair_judging.specs.Targets.{seen_target};
 
 use crate::TreeCheck;
 use crate::dropping::drop_engine;
+use crate::near::{near_engine, spends_near};
 use crate::refutation::refutes;
 use crate::spent::spends;
 use crate::split_ends::{refutes_apart, tells_splits};
@@ -47,6 +48,8 @@ use trees::{Node, Tree};
 pub struct TreeJudge<'n, A: Algebra> {
     alloc: Global,
     engine: Engine<A, RuledNetlist<'n>>,
+    // one of near gates, under links where these are few
+    near: Option<Engine<A, RuledNetlist<'n>>>,
     // the second halves that the walk over a tree has put off
     pending: Vec<Pending>,
     room: TrialRoom,
@@ -59,7 +62,7 @@ impl<'n, A: Algebra> Model for TreeJudge<'n, A> {
 
     ghost view = { λ j. record { net = j.engine.net; rules = j.engine.rules; ends = j.engine.ends } };
 
-    ghost invariant = { λ j. IsJudgeReady A.algebra j.engine j.room };
+    ghost invariant = { λ j. IsJudgeReady A.algebra j.engine j.near j.room };
 }
 
 impl<'n, A: Algebra> TreeJudge<'n, A> {
@@ -77,10 +80,13 @@ impl<'n, A: Algebra> TreeJudge<'n, A> {
         ensures { IfOk result (λ judge. judge ≡ record { net = net.now; rules = rules.now; ends = Some (told_ends ends.now false) }) }
     {
         let room = TrialRoom::new::<A>(alloc, net, rules)?;
-        let engine = Engine::within(alloc, RuledNetlist { net, rules }, ends)?;
+        let setting = RuledNetlist { net, rules };
+        let near = near_engine(alloc, setting, ends)?;
+        let engine = Engine::within(alloc, setting, ends)?;
         Ok(TreeJudge {
             alloc,
             engine,
+            near,
             pending: Vec::new(alloc),
             room,
         })
@@ -171,6 +177,9 @@ impl<'n, A: Algebra> TreeJudge<'n, A> {
             direction: dir,
             kind,
         };
+        if self.spends_near(&target, tree)? {
+            return Ok(TreeCheck::Yes);
+        }
         spends(
             &mut self.engine,
             &mut self.pending,
@@ -178,6 +187,20 @@ impl<'n, A: Algebra> TreeJudge<'n, A> {
             &target,
             tree,
         )
+    }
+
+    // Whether each node of a tree is as a tree asks that spent its budget, as far as the engine of near gates shows it, if there is one.
+    // False tells nothing.
+    fn spends_near(&mut self, target: &Target, tree: &Tree) -> Result<bool, OutOfMemory>
+        requires prefix { IsPrefix self.old.net target.now.path.now }
+        ensures same { self.new ≡ self.old }
+        ensures right { IfOk result (λ right. IsTrue right
+            → TellsOfNodes (IsRightInSpent self.old.net self.old.rules (seen_target target.now)) tree.now TreeCheck.Yes) }
+    {
+        match &mut self.near {
+            Some(near) => spends_near(near, &mut self.pending, &mut self.room, target, tree),
+            None => Ok(false),
+        }
     }
 
     // Drops the judge.

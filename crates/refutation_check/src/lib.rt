@@ -5,12 +5,14 @@
 #![tactic(auto)]
 
 mod answer;
+mod blaming;
 mod dropping;
 mod due;
 mod early;
 mod entering;
 mod halves;
 mod judge;
+mod near;
 mod node_hull;
 mod refutation;
 mod single;

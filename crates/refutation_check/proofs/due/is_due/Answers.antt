@@ -1,10 +1,11 @@
 -- A split is due on a source of the support that has both halves in the hull, at a node that is open.
-use Rattle.std.proofs.Common.{◌<◌, sym, subst, arith}
+use Rattle.std.proofs.Common.{◌<◌, sym, ◌∙◌, subst, arith}
+use Rattle.std.proofs.lemmas.Bool.{false≢true}
 use Rattle.netlist.specs.Circuit.{Circuit, source_count}
 use Rattle.netlist.specs.Paths.{end_of}
 use Rattle.implication.specs.Scopes.{standing}
 use Rattle.pair_judging.specs.Targets.{seen_target}
-use Rattle.refutation_check.proofs.Spending.{conflict_stands, none_stands, marked_in_support, unmarked_outside, cone_under, closing_not_due, outside_not_due, lacking_not_due, open_due}
+use Rattle.refutation_check.proofs.Spending.{conflict_stands, none_stands, marked_in_support, unmarked_outside, cone_under, closing_not_due, outside_not_due, untold_not_due, lacking_not_due, open_due}
 use Rattle.refutation_check.proofs.due.is_due.Goals as goal
 use Rattle.refutation_check.proofs.due.is_due.Goals.{then-source-sources-via-then-source-sources, then-source-sources-via-else-source-sources+then-not-marks-source}
 
@@ -26,6 +27,14 @@ returns-then-source-sources-clause-due g c = λ halves within.
 pub returns-then-source-sources-clause-room : goal.returns-then-source-sources-clause-room
 returns-then-source-sources-clause-room g c = c.requires.room
 
+pub returns-then-not-tells-clause-room : goal.returns-then-not-tells-clause-room
+returns-then-not-tells-clause-room g c = c.requires.room
+
+pub returns-then-not-tells-clause-due : goal.returns-then-not-tells-clause-due
+returns-then-not-tells-clause-due g c = λ halves within.
+    untold_not_due (seen_target c.args.target.now) halves (standing c.args.scope.now) c.args.split.steadiness c.args.split.source
+    (λ told. false≢true (sym c.if-not-tells.true ∙ c.tells.ensures.1 told))
+
 pub returns-then-is_some-clause-room : goal.returns-then-is_some-clause-room
 returns-then-is_some-clause-room g c = c.requires.room
 
@@ -34,9 +43,6 @@ returns-then-not-has_both_halves-clause-room g c = c.requires.room
 
 pub is_open-requires-clause-prefix : goal.is_open-requires-clause-prefix
 is_open-requires-clause-prefix g c = c.requires.prefix
-
-pub is_open-requires-clause-told : goal.is_open-requires-clause-told
-is_open-requires-clause-told g c = c.requires.told
 
 pub is_open-requires-clause-free : goal.is_open-requires-clause-free
 is_open-requires-clause-free g c =
@@ -71,7 +77,7 @@ returns-then-not-has_both_halves-clause-due g c = λ halves at.
     (record {
       at = at.at;
       labelled = labels.1;
-      seen = labels.2.told (c.requires.told split.source support.supported);
+      seen = labels.2.told (c.tells.ensures.0 c.if-not-tells.false);
       tells = c.has_both_halves.ensures;
     })
     c.if-not-has_both_halves.true
@@ -92,7 +98,7 @@ returns-clause-due g c = λ halves at.
     (record {
       at = at.at;
       labelled = labels.1;
-      seen = labels.2.told (c.requires.told split.source support.supported);
+      seen = labels.2.told (c.tells.ensures.0 c.if-not-tells.false);
       tells = c.has_both_halves.ensures;
     })
     c.if-not-has_both_halves.false support c.is_open.result (c.is_open.ensures.open halves at)

@@ -16,8 +16,7 @@ use Rattle.pair_judging.specs.Targets.{seen_target}
 use Rattle.refutation_check.specs.declared.answer.TreeCheck.TheVariants.{Yes}
 use Rattle.refutation_check.specs.Answers.{TellsOfNodes}
 use Rattle.refutation_check.specs.Trials.{IsTrialRoomAt}
-use Rattle.refutation_check.proofs.Checking.{checked_none, checked_walk, checked_on, checked_fault, checked_more, checked_all, spends_there, spent_splits_on, supported_on, on_there}
-use Rattle.refutation_check.proofs.SameSettings.{support_told_there}
+use Rattle.refutation_check.proofs.Checking.{checked_none, checked_walk, checked_on, checked_fault, checked_more, checked_all, spends_there, spent_splits_on}
 use Rattle.implication.proofs.Settings.{same_itself, same_twice}
 use Rattle.refutation_check.proofs.spent.walk_spent.Goals as goal
 
@@ -75,7 +74,7 @@ pub returns-clause-room : goal.returns-clause-room
 returns-clause-room g c = c.loop-place.invariant.room
 
 pub returns-then-not-is_right_at-clause-tells : goal.returns-then-not-is_right_at-clause-tells
-returns-then-not-is_right_at-clause-tells g c =
+returns-then-not-is_right_at-clause-tells g c = λ told.
     let old = standing c.args.scope.now in let now = standing c.loop-place.scope in
     let items = c.nodes-node-items.result.now in let place = c.loop-place.place in let inv = c.loop-place.invariant in
     let target = seen_target c.args.target.now in let Is = IsRightInSpent old.net old.rules target in
@@ -85,18 +84,13 @@ returns-then-not-is_right_at-clause-tells g c =
     (checked_fault g.A.Algebra.algebra Is On target items place now c.loop-place.pending.items checked node Closed c.loop-place-test.true refl
     (λ right. false≢true (sym c.if-not-is_right_at.true
     ∙ (spends_there g.A.Algebra.algebra old now inv.setting node c.is_right_at.result target (halves_of checked.above)
-    (checked_on g.A.Algebra.algebra Is On target items place now c.loop-place.pending.items checked) c.is_right_at.ensures.right checked.walks.at).1 right))
+    (checked_on g.A.Algebra.algebra Is On target items place now c.loop-place.pending.items checked) c.is_right_at.ensures.right checked.walks.at).1 told right))
     (subst IsTree (sym c.nodes-node-items.ensures.nodes) c.nodes-node-items.ensures.tree))
 
 pub is_right_at-requires-clause-prefix : goal.is_right_at-requires-clause-prefix
 is_right_at-requires-clause-prefix g c =
     let P : Circuit → Type 0 = λ n. IsPrefix n c.args.target.now.path.now in
     subst P (sym c.loop-place.invariant.setting.net) c.requires.prefix
-
-pub is_right_at-requires-clause-told : goal.is_right_at-requires-clause-told
-is_right_at-requires-clause-told g c =
-    support_told_there (standing c.args.scope.now) (standing c.loop-place.scope) c.loop-place.invariant.setting c.args.target.now.path.now
-    c.requires.told
 
 pub is_right_at-requires-clause-room : goal.is_right_at-requires-clause-room
 is_right_at-requires-clause-room g c =
@@ -113,16 +107,7 @@ pass-requires-clause-walk g c =
     c.loop-place.pending.items (c.loop-place.invariant.checked)
 
 pub pass-requires-clause-split : goal.pass-requires-clause-split
-pass-requires-clause-split g c =
-    let old = standing c.args.scope.now in let now = standing c.loop-place.scope in
-    let items = c.nodes-node-items.result.now in let place = c.loop-place.place in let inv = c.loop-place.invariant in
-    let target = seen_target c.args.target.now in let Is = IsRightInSpent old.net old.rules target in
-    let On = IsInSupport old.net old.rules target.path in
-    let checked = inv.checked in let node = get_or items place Closed in
-    let right = (spends_there g.A.Algebra.algebra old now inv.setting node c.is_right_at.result target (halves_of checked.above)
-    (checked_on g.A.Algebra.algebra Is On target items place now c.loop-place.pending.items checked) c.is_right_at.ensures.right checked.walks.at).0 c.if-not-is_right_at.false in
-    on_there old now inv.setting node
-    (supported_on old target c.requires.told node (spent_splits_on old.net old.rules target (halves_of checked.above) node right))
+pass-requires-clause-split g c = c.is_right_at.ensures.told c.if-not-is_right_at.false
 
 pub loop-place-preserved : goal.loop-place-preserved
 loop-place-preserved g c =

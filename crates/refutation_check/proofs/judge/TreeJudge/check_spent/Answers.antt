@@ -6,7 +6,7 @@ use Rattle.std.proofs.lemmas.Result.{IfOk-weaker}
 use Rattle.pd_base.specs.Links.{links_of}
 use Rattle.pd_base.specs.Target.{target_of}
 use Rattle.netlist.specs.Paths.{IsPrefix, end_of}
-use Rattle.implication.specs.Standing.{IsToldBy}
+use Rattle.implication.specs.Standing.{IsSupportTold, IsToldBy}
 use Rattle.implication.proofs.Told.{told_support}
 use Rattle.trees.specs.declared.tree.Node.{Node}
 use Rattle.trees.specs.declared.tree.Node.TheVariants.{Waiting}
@@ -14,9 +14,10 @@ use Rattle.trees.specs.Faults.{IsRightInSpent}
 use Rattle.trees.specs.Faults.IsFaultOfSpent.{other_splits, none_open}
 use Rattle.trees.proofs.Bound.{spent_below_bound}
 use Rattle.trees.proofs.Faults.{fault_spent_not}
-use Rattle.refutation_check.specs.Answers.{TellsOfNodes, TellsOfSpent}
+use Rattle.refutation_check.specs.declared.answer.TreeCheck.TheVariants.{Yes}
+use Rattle.refutation_check.specs.Answers.{TellsIf, TellsOfSpent}
 use Rattle.refutation_check.specs.Judges.{MadeFor}
-use Rattle.refutation_check.proofs.Checking.{spent_of_nodes, spent_exactly}
+use Rattle.refutation_check.proofs.Checking.{spent_of_nodes, spent_exactly, tells_of_told}
 use Rattle.refutation_check.proofs.judge.TreeJudge.check_spent.Goals as goal
 use Rattle.refutation_check.proofs.judge.TreeJudge.check_spent.Goals.{then-splits-budget-via-then-splits-budget, then-splits-budget-via-else-splits-budget+then-not-has_open}
 
@@ -40,14 +41,13 @@ spends-requires-clause-idle g c = c.self.invariant.idle
 
 pub spends-requires-clause-prefix : goal.spends-requires-clause-prefix
 spends-requires-clause-prefix g c =
-    let P : MadeFor → Type 0 = λ m. IsPrefix m.net c.args.path.now in subst P (sym c.self.view_is) c.requires.prefix
+    let P : MadeFor → Type 0 = λ m. IsPrefix m.net c.args.path.now in
+    subst P (sym (c.self.view_is ∙ c.spends_near.ensures.same)) c.requires.prefix
 
 pub spends-requires-clause-told : goal.spends-requires-clause-told
 spends-requires-clause-told g c =
     let P : MadeFor → Type 0 = λ m. IsToldBy m.net (links_of m.rules) m.ends (end_of m.net c.args.path.now) in
-    let engine = c.self.inside.engine in
-    λ line supported. told_support engine.net (links_of engine.rules) engine.ends c.self.invariant.follows (end_of engine.net c.args.path.now)
-    line (subst P (sym c.self.view_is) c.requires.told) supported
+    subst P (sym (c.self.view_is ∙ c.spends_near.ensures.same)) c.requires.told
 
 pub spends-requires-clause-room : goal.spends-requires-clause-room
 spends-requires-clause-room g c = c.self.invariant.room
@@ -55,13 +55,32 @@ spends-requires-clause-room g c = c.self.invariant.room
 pub returns-clause-tells : goal.returns-clause-tells
 returns-clause-tells g c =
     let i = c.self.inside in let target = target_of c.args.path.now c.args.dir c.args.kind in let tree = c.args.tree.now in
+    let Q : MadeFor → Type 0 = λ m. IsToldBy m.net (links_of m.rules) m.ends (end_of m.net c.args.path.now) in
+    let end = end_of i.engine.net c.args.path.now in
+    let told : IsSupportTold i.engine end =
+    λ line supported. told_support i.engine.net (links_of i.engine.rules) i.engine.ends c.self.invariant.follows end line
+    (subst Q (sym (c.self.view_is ∙ c.spends_near.ensures.same)) c.requires.told) supported in
     let P : MadeFor → Type 0 = λ m. IfOk c.spends.result (TellsOfSpent m.net m.rules target c.args.budget tree) in
-    subst P c.self.view_is
-    (IfOk-weaker c.spends.result (TellsOfNodes (IsRightInSpent i.engine.net i.engine.rules target) tree)
+    subst P (c.self.view_is ∙ c.spends_near.ensures.same)
+    (IfOk-weaker c.spends.result (TellsIf (IsSupportTold i.engine end) (IsRightInSpent i.engine.net i.engine.rules target) tree)
     (TellsOfSpent i.engine.net i.engine.rules target c.args.budget tree)
     (λ check nodes. spent_of_nodes i.engine.net i.engine.rules target c.args.budget tree (sym c.splits.ensures ∙ c.if-splits-budget.false)
-    (subst (λ (all : List Node). Contains all Waiting) c.nodes.ensures.nodes (c.has_open.ensures.0 c.if-not-has_open.false)) check nodes)
+    (subst (λ (all : List Node). Contains all Waiting) c.nodes.ensures.nodes (c.has_open.ensures.0 c.if-not-has_open.false)) check
+    (tells_of_told (IsRightInSpent i.engine.net i.engine.rules target) tree told check nodes))
     c.spends.ensures.tells)
+
+pub returns-then-branch-clause-tells : goal.returns-then-branch-clause-tells
+returns-then-branch-clause-tells g c =
+    let m = c.args.self.now in let target = target_of c.args.path.now c.args.dir c.args.kind in let tree = c.args.tree.now in
+    spent_of_nodes m.net m.rules target c.args.budget tree (sym c.splits.ensures ∙ c.if-splits-budget.false)
+    (subst (λ (all : List Node). Contains all Waiting) c.nodes.ensures.nodes (c.has_open.ensures.0 c.if-not-has_open.false)) Yes
+    (c.in_ok-spends_near.ensures.right c.if-branch.true)
+
+pub returns-then-branch-clause-bound : goal.returns-then-branch-clause-bound
+returns-then-branch-clause-bound g c = λ yes.
+    let m = c.args.self.now in
+    spent_below_bound m.net m.rules (target_of c.args.path.now c.args.dir c.args.kind) c.args.budget c.args.tree.now c.requires.prefix
+    (returns-then-branch-clause-tells g c)
 
 pub returns-clause-exactly : goal.returns-clause-exactly
 returns-clause-exactly g c =

@@ -1,10 +1,11 @@
 -- The engine is idle as it is made, and the room for trials is made for its circuit and rules.
-use Rattle.std.proofs.Common.{Option, refl, sym, ap, subst, subst₂}
+use Rattle.std.proofs.Common.{false, true, Option, Some, refl, sym, ap, subst, subst₂}
 use Rattle.pd_base.specs.declared.rules.Rules.{Rules}
 use Rattle.netlist.specs.Circuit.{Circuit}
-use Rattle.implication.specs.Standing.{Standing, ToldEnds, FollowsLinks}
+use Rattle.implication.specs.Standing.{Standing, ToldEnds, FollowsLinks, told_ends}
 use Rattle.refutation_check.specs.Judges.{MadeFor}
 use Rattle.refutation_check.specs.Trials.{IsTrialRoomFor}
+use Rattle.refutation_check.proofs.NearEngines.{made_beside}
 use Rattle.refutation_check.proofs.judge.TreeJudge.new.Goals as goal
 
 pub invariant_of-result : goal.invariant_of-result
@@ -16,6 +17,8 @@ invariant_of-result g c =
       idle = ap (λ (s : Standing). s.beginning) made;
       follows = let P : Option ToldEnds → Type 0 = λ ends. FollowsLinks ends in
           subst P (sym (ap (λ (s : Standing). s.ends) made)) refl;
+      near = made_beside c.args.net.now c.args.rules.now (Some (told_ends c.args.ends.now false)) (Some (told_ends c.args.ends.now true))
+          c.in_ok-engine.engine c.in_ok-near.near made c.in_ok-near.ensures;
       room = subst₂ R (sym net) (sym rules) c.in_ok-room.ensures;
     }
 

@@ -1,6 +1,6 @@
 use Rattle.std.proofs.Common.{drop}
-use Rattle.refutation_check.proofs.LowLines.{IsOnWay}
-use Rattle.refutation_check.proofs.early.fails_below.Given as goal
+use Rattle.refutation_check.proofs.FailingSteps.{IsOnWay}
+use Rattle.refutation_check.proofs.early.failing_step.Given as goal
 
 -- the line is one of the path, and these steps are left
 abbrev pub invariant-loop-step : goal.invariant-loop-step
