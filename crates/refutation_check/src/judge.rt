@@ -80,9 +80,8 @@ impl<'n, A: Algebra> TreeJudge<'n, A> {
         ensures { IfOk result (λ judge. judge ≡ record { net = net.now; rules = rules.now; ends = Some (told_ends ends.now false) }) }
     {
         let room = TrialRoom::new::<A>(alloc, net, rules)?;
-        let setting = RuledNetlist { net, rules };
-        let near = near_engine(alloc, setting, ends)?;
-        let engine = Engine::within(alloc, setting, ends)?;
+        let near = near_engine(alloc, RuledNetlist { net, rules }, ends)?;
+        let engine = Engine::within(alloc, RuledNetlist { net, rules }, ends)?;
         Ok(TreeJudge {
             alloc,
             engine,
