@@ -1,8 +1,9 @@
-//! Answers to rows of tests, as texts: what a netlist and a delay file say, values, five values, paths, tests, waves, hulls, and what
+//! Answers to rows of tests, as texts: what a netlist and a delay file say, values, five values, cones, paths, tests, waves, hulls, and what
 //! the judge says of trees. Stands on the readers, the models, the lister, the replay and refutation_check, and is no part of
 //! the product. The program rows prints the answers; it and search_answers read netlists, paths and words of their rows by it.
 #![tactic(auto)]
 
+mod asked_cones;
 mod circuit_facts;
 mod circuits;
 mod delay_files;
@@ -21,6 +22,7 @@ mod text;
 mod texts;
 mod trouble;
 
+pub use asked_cones::cones_in_turn;
 pub use circuit_facts::{netlist_facts, netlist_text};
 pub use circuits::read;
 pub use delay_files::delays_text;

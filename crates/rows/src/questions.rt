@@ -25,6 +25,8 @@ pub fn asked(
         "steady" => row_answers::steadiness(alloc, net, row, answer),
         // which lines stand in the transitive fan-in of the line of this number
         "support" => row_answers::support_of(alloc, net, row, answer),
+        // the cones of lines that are asked for in turn: their names
+        "cones" => row_answers::cones_in_turn(alloc, net, row, answer),
         // the delays of the gates' pins, or why the delay file is refused
         "delays" => row_answers::delays_text(alloc, net, delays, answer),
         // the first paths, so many
