@@ -58,6 +58,13 @@ class CheckTests(ToolTest):
                              ("NET line 2: unknown kind MUX", "INPUT(a)\ny = MUX(a)\n")):
             self.refuse("check_tests", reason, self.write("net", text), tests, report)
 
+    def test_words_of_the_comparison_are_refused(self):
+        for status, reason, *words in ((1, "compare_with_check: [Errno 2] No such file or directory: '/none'\n", "--program", "/none"),
+                                       (2, "error: --modes are of enhanced,broadside,skewed\n", "--modes", "weak")):
+            ended = subprocess.run([sys.executable, str(TOOLS / "compare_with_check"), *words], capture_output=True, text=True)
+            self.assertEqual((ended.returncode, ended.stdout), (status, ""))
+            self.assertTrue(ended.stderr.endswith(reason), ended.stderr)
+
     @NEEDS_PROGRAM
     def test_it_agrees_with_the_program(self):
         words = [sys.executable, str(TOOLS / "compare_with_check"), "--program", PROGRAM, "--cases", "200"]
