@@ -1,4 +1,5 @@
 """check_tests, on runs worked out by hand."""
+import os
 import subprocess
 import sys
 from calling import EXAMPLES, NEEDS_PROGRAM, PROGRAM, REPORT_HEADER, TOOLS, ToolTest, hazard_files, lines
@@ -68,5 +69,6 @@ class CheckTests(ToolTest):
     @NEEDS_PROGRAM
     def test_it_agrees_with_the_program(self):
         words = [sys.executable, str(TOOLS / "compare_with_check"), "--program", PROGRAM, "--cases", "200"]
-        ended = subprocess.run(words, capture_output=True, text=True)
+        ended = subprocess.run(words, capture_output=True, text=True, env={**os.environ, "TMPDIR": str(self.folder)})
         self.assertEqual((ended.returncode, ended.stderr), (0, ""), ended.stdout)
+        self.assertEqual(list(self.folder.iterdir()), [])
