@@ -86,6 +86,11 @@ def gate_value(kind, pins):
 
 def read_circuit(file_name):
     """The circuit of a netlist file."""
+    return circuit_of(read_text(file_name))
+
+
+def circuit_of(netlist):
+    """The circuit of a netlist's text."""
     inputs, outputs, flip_flops, gates, uses = [], [], [], [], []
     defined = set()
 
@@ -94,7 +99,7 @@ def read_circuit(file_name):
             raise Refused(f"NET line {number}: twice {name}")
         defined.add(name)
 
-    for number, line in enumerate(read_text(file_name).split("\n"), 1):
+    for number, line in enumerate(netlist.split("\n"), 1):
         text = line.split("#")[0]
         port, gate = PORT.fullmatch(text), GATE.fullmatch(text)
         if gate:

@@ -2,6 +2,7 @@
 
 Written from the documents alone: it shares no code with the program."""
 from circuit import CONTROLLING
+from refusing import Refused
 
 MODES = ("enhanced", "broadside", "skewed")
 
@@ -67,3 +68,10 @@ def is_path(fault, circuit):
             return False
         line = circuit.source_count + gate
     return line in circuit.observed
+
+
+def refuse_other_than_paths(faults, circuit):
+    """Refuses the first listed path that is none of the circuit."""
+    for fault in faults:
+        if not is_path(fault, circuit):
+            raise Refused(f"path {fault.path} WrongPath")

@@ -7,12 +7,13 @@ from typing import NamedTuple
 from refusing import Refused, read_text
 
 MAP_HEADER = "what,name,line,value"
+MAP_WORDS = ("input", "output", "clock", "held", "constant", "flip_flop", "gate", "setup", "clock_to_q")
 NAME_BYTES_AT_MOST = 255
 PLAIN = set(range(33, 127)) - set(b'"#(),=%*')
 
 
 class MapRow(NamedTuple):
-    """what: input, output, clock, held, constant, flip_flop, gate, setup or clock_to_q. name: of the port or the cell, as NET spells it."""
+    """what: one of MAP_WORDS. name: of the port or the cell, as NET spells it."""
     what: str
     name: str
     line: str
@@ -21,15 +22,17 @@ class MapRow(NamedTuple):
 
 def escaped(name):
     """A name as NET and MAP spell it."""
-    text = "".join(chr(byte) if byte in PLAIN else f"%{byte:02X}" for byte in name.encode())
+    if any(ord(letter) > 255 for letter in name):
+        raise Refused(f"a name has what is no byte: {ascii(name[:40])}")
+    text = "".join(chr(byte) if byte in PLAIN else f"%{byte:02X}" for byte in name.encode("latin-1"))
     if not 1 <= len(text) <= NAME_BYTES_AT_MOST - len("%clock_to_q"):
         raise Refused(f"a name is empty or too long: {name[:40]}")
     return text
 
 
 def unescaped(name):
-    """The name of the design."""
-    return re.sub(rb"%([0-9A-F]{2})", lambda found: bytes([int(found[1], 16)]), name.encode()).decode(errors="replace")
+    """The name of the design, a letter for each byte."""
+    return re.sub("%([0-9A-F]{2})", lambda found: chr(int(found[1], 16)), name)
 
 
 def bits_of(name, wire):
@@ -70,4 +73,6 @@ def read_map(file_name):
         if line.count(",") != 3:
             raise Refused(f"MAP line {number}: not four fields")
         rows.append(MapRow(*line.split(",")))
+        if rows[-1].what not in MAP_WORDS:
+            raise Refused(f"MAP line {number}: unknown {rows[-1].what}")
     return rows

@@ -3,11 +3,12 @@
 SDF tells a delay by the transition of a gate's output, pdfgen by that of the line that the pin reads."""
 import math
 from circuit import INVERTING
+from names import unescaped
 from refusing import Refused
-from sdf import value_of
+from sdf import spelled, value_of
 
 RISE, FALL = 0, 1
-EDGES = {"POSEDGE": (RISE,), "NEGEDGE": (FALL,)}
+EDGES = {"POSEDGE": (RISE,), "NEGEDGE": (FALL,), "01": (RISE,), "10": (FALL,)}
 
 
 def condition_dropped(part):
@@ -20,7 +21,7 @@ def port_of(word):
     if isinstance(word, str):
         return word, (RISE, FALL)
     if len(word) != 2 or not all(isinstance(part, str) for part in word) or word[0].upper() not in EDGES:
-        raise Refused(f"SDF: no port: {word}")
+        raise Refused(f"no pin: {spelled(word)}")
     return word[1], EDGES[word[0].upper()]
 
 
@@ -29,7 +30,7 @@ class PinDelays:
 
     def __init__(self, circuit, rows, corner):
         self.corner = corner
-        self.cells = {row.name for row in rows}
+        self.kinds = {row.name: row.what for row in rows if row.what in ("gate", "flip_flop")}
         self.pins = {}
         for row in rows:
             if row.what in ("gate", "setup", "clock_to_q"):
@@ -41,6 +42,13 @@ class PinDelays:
         self.clocked = {(row.name, row.value) for row in rows if row.what == "clock_to_q"}
         self.gate_delays, self.wire_delays = {}, {}
 
+    def known(self, cell, pin):
+        """Refuses what MAP doesn't have: another cell, or a pin of a gate. Of a flip-flop there may be more pins, such as its reset."""
+        if cell not in self.kinds:
+            raise Refused(f"MAP has no cell {unescaped(cell)}" if cell else "no cell is named")
+        if self.kinds[cell] == "gate" and (cell, pin) not in self.pins:
+            raise Refused(f"MAP has no pin {pin} of {unescaped(cell)}")
+
     @staticmethod
     def raise_to(delays, pin, transition, value):
         if value is not None:
@@ -51,14 +59,15 @@ class PinDelays:
         """The values of rise and fall, out of one list or more."""
         values = [value_of(part, self.corner) for part in lists[:2]]
         if not values:
-            raise Refused("SDF: an entry without values")
+            raise Refused("an entry without values")
         if any(value is not None and value < 0 for value in values):
-            raise Refused("SDF: a negative delay")
+            raise Refused("a negative delay")
         return values if len(values) == 2 else values * 2
 
     def add_path(self, cell, entry):
         """An IOPATH: from an input of a cell to its output."""
         name, edges = port_of(entry[1])
+        self.known(cell, name)
         if (cell, name) not in self.pins:
             return
         pin, kind = self.pins[cell, name]
@@ -74,7 +83,9 @@ class PinDelays:
             self.raise_to(self.gate_delays, pin, transition, values[transition])
 
     def add_wire(self, cell, name, lists):
-        """An INTERCONNECT or a PORT: the wire that ends at this pin. Wires to clocks and to output ports are passed over."""
+        """An INTERCONNECT or a PORT: the wire that ends at this pin. Wires to clocks and to output ports (no cell) are passed over."""
+        if cell:
+            self.known(cell, name)
         if (cell, name) in self.pins and (cell, name) not in self.clocked:
             for transition, value in enumerate(self.read_values(lists)):
                 self.raise_to(self.wire_delays, self.pins[cell, name][0], transition, value)
@@ -82,7 +93,7 @@ class PinDelays:
     def add_setup(self, cell, entry):
         """A SETUP or a SETUPHOLD: how long before the clock's edge the data pin has to stand. A negative one counts as 0."""
         if len(entry) < 4:
-            raise Refused("SDF: an entry without values")
+            raise Refused("an entry without values")
         name, edges = port_of(condition_dropped(entry[1]))
         value = value_of(entry[3], self.corner)
         if (cell, name) in self.pins and value is not None:

@@ -27,13 +27,18 @@ def write_text(name, text):
         raise Refused(f"{name}: {fault.strerror}")
 
 
+def one_line(text):
+    """The text with each byte that is not to be printed as it is spelled in Python, such as \\r."""
+    return "".join(letter if letter.isprintable() else repr(letter)[1:-1] for letter in text)
+
+
 def run(main):
     """Runs a tool and ends with its status, or with 1 and the refusal's line. Words are refused by argparse, with 2."""
     try:
         status = main()
         sys.stdout.flush()
     except Refused as refusal:
-        print(f"{os.path.basename(sys.argv[0])}: {refusal}", file=sys.stderr)
+        print(one_line(f"{os.path.basename(sys.argv[0])}: {refusal}"), file=sys.stderr)
         status = 1
     except BrokenPipeError:
         os.dup2(os.open(os.devnull, os.O_WRONLY), sys.stdout.fileno())

@@ -5,9 +5,10 @@ import re
 from fractions import Fraction
 from refusing import Refused
 
-TOKEN = re.compile(r'\s+|//[^\n]*|/\*.*?\*/|(?P<string>"[^"]*")|(?P<mark>[()])|(?P<word>(?:\\.|[^\s()"\\])+)', re.DOTALL)
+TOKEN = re.compile(r'\s+|//[^\n]*|/\*.*?\*/|(?P<string>"[^"]*")|(?P<mark>[()])|(?P<word>(?!/\*)(?:\\.|[^\s()"\\])+)', re.DOTALL)
 PICOSECONDS = {"ps": 1, "ns": 1000, "us": 1000000}
 CORNERS = ("min", "typ", "max")
+DEEPEST = 100
 
 
 def read_lists(text):
@@ -15,7 +16,7 @@ def read_lists(text):
     lists, at = [[]], 0
     while at < len(text):
         token = TOKEN.match(text, at)
-        if not token:
+        if not token or len(lists) > DEEPEST:
             raise Refused(f"SDF line {1 + text.count(chr(10), 0, at)}: unreadable")
         at = token.end()
         if token["mark"] == "(":
@@ -30,6 +31,11 @@ def read_lists(text):
     if len(lists) != 1 or len(lists[0]) != 1 or lists[0][0][:1] != ["DELAYFILE"]:
         raise Refused("SDF: not one DELAYFILE")
     return lists[0][0]
+
+
+def spelled(part):
+    """A list as a file spells it."""
+    return part if isinstance(part, str) else f"({' '.join(map(spelled, part))})"
 
 
 def parts(of, *words):
@@ -54,6 +60,14 @@ def picoseconds_of(file):
     return int(scale[1]) * PICOSECONDS[scale[2]]
 
 
+def divider_of(file):
+    """What parts the names of an instance."""
+    text = words_of(file, "DIVIDER") or "."
+    if text not in (".", "/"):
+        raise Refused(f"SDF: DIVIDER {text}")
+    return text
+
+
 def value_of(values, corner):
     """The value of a list like (0.1:0.2:0.3) or (0.2) in a corner, or None of an empty one."""
     triple = "".join(values).split(":") if isinstance(values, list) and all(isinstance(word, str) for word in values) else ["?"]
@@ -61,11 +75,15 @@ def value_of(values, corner):
     if triple == [""]:
         return None
     if len(triple) not in (1, 3) or not re.fullmatch(r"[+-]?([0-9]+\.?[0-9]*|\.[0-9]+)([eE][+-]?[0-9]{1,2})?", text):
-        raise Refused(f"SDF: no {corner} value in ({' '.join(map(str, values))})")
+        raise Refused(f"no {corner} value in {spelled(values)}")
     return Fraction(text)
 
 
+def parts_of_name(text, divider):
+    """The parts of a name, without backslashes."""
+    return [re.sub(r"\\(.)", r"\1", part) for part in re.findall(rf"(?:\\.|[^\\{re.escape(divider)}])+", text)]
+
+
 def name_of(text, divider):
-    """The name of an instance as a flattened design has it: its parts joined by a point, without backslashes."""
-    parts_of_name = re.findall(rf"(?:\\.|[^\\{re.escape(divider)}])+", text)
-    return ".".join(re.sub(r"\\(.)", r"\1", part) for part in parts_of_name)
+    """The name of an instance as a flattened design has it: its parts joined by a point."""
+    return ".".join(parts_of_name(text, divider))

@@ -2,6 +2,7 @@
 
 Two waveform tables: slow, to shift and to settle, and at_speed, whose period is the time from launch to sample. In both the clock's active
 edge comes half a period after the cycle begins; in at_speed the inputs change, and the outputs are strobed, at this same moment."""
+import re
 from typing import NamedTuple
 from names import unescaped
 from refusing import Refused
@@ -28,8 +29,8 @@ class Chip(NamedTuple):
 
 def quoted(name):
     """A name of NET as a signal's name."""
-    if '"' in unescaped(name):
-        raise Refused(f"a name with a double quote has no place in STIL: {name}")
+    if re.search('["\x00-\x1f\x7f]', unescaped(name)):
+        raise Refused(f"a name with a double quote or a control character has no place in STIL: {name}")
     return f'"{unescaped(name)}"'
 
 

@@ -1,4 +1,5 @@
 """check_tests, on runs worked out by hand."""
+import os
 import subprocess
 import sys
 from calling import EXAMPLES, NEEDS_PROGRAM, PROGRAM, REPORT_HEADER, TOOLS, ToolTest, hazard_files, lines
@@ -58,8 +59,16 @@ class CheckTests(ToolTest):
                              ("NET line 2: unknown kind MUX", "INPUT(a)\ny = MUX(a)\n")):
             self.refuse("check_tests", reason, self.write("net", text), tests, report)
 
+    def test_words_of_the_comparison_are_refused(self):
+        for status, reason, *words in ((1, "compare_with_check: [Errno 2] No such file or directory: '/none'\n", "--program", "/none"),
+                                       (2, "error: --modes are of enhanced,broadside,skewed\n", "--modes", "weak")):
+            ended = subprocess.run([sys.executable, str(TOOLS / "compare_with_check"), *words], capture_output=True, text=True)
+            self.assertEqual((ended.returncode, ended.stdout), (status, ""))
+            self.assertTrue(ended.stderr.endswith(reason), ended.stderr)
+
     @NEEDS_PROGRAM
     def test_it_agrees_with_the_program(self):
         words = [sys.executable, str(TOOLS / "compare_with_check"), "--program", PROGRAM, "--cases", "200"]
-        ended = subprocess.run(words, capture_output=True, text=True)
+        ended = subprocess.run(words, capture_output=True, text=True, env={**os.environ, "TMPDIR": str(self.folder)})
         self.assertEqual((ended.returncode, ended.stderr), (0, ""), ended.stdout)
+        self.assertEqual(list(self.folder.iterdir()), [])

@@ -21,6 +21,14 @@ class Explain(ToolTest):
             "test 1: path 1, rise, robust, 1 units from a to y; the path isn't late by its delays",
             "  wrong at z (flip-flop q): 0, not 1; not this path's end"))
 
+    def test_another_report_is_refused(self):
+        files = [*hazard_files(self), self.write("replay", lines("1 1 differs", "2 0 same"))]
+        report = self.read("report")
+        for reason, old, new in (("path 1 WrongPath", "5,a,y:0", "5,a,y:1"), ("REPORT line 3 malformed", "1,fall", "1,rise"),
+                                 ("test 2: REPORT lists no nonrobust fault 2 rise", "y:1,nonrobust,2,3,-", "y:1,untestable,-,-,3")):
+            self.write("report", report.replace(old, new))
+            self.refuse("explain", reason, *files)
+
     def test_a_replay_of_other_tests_is_refused(self):
         files = hazard_files(self)
         for reason, text in (("REPLAY line 2: missing", "1 1 differs\n"), ("REPLAY line 1: same isn't so, by TESTS", "1 1 same\n2 0 same\n"),

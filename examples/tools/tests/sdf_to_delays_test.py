@@ -45,6 +45,13 @@ class SdfToDelays(ToolTest):
         self.assertEqual(self.delays(net, rows, text, "--rise-fall")[1], lines(
             "gate,pin,rise,fall", "*,*,1000000,1000000", "x,0,4,6", "x,1,3,3", "y,0,22,11", "y,1,40,30"))
 
+    def test_wires_end_at_pins_that_have_delays(self):
+        text = sdf(cell("", "(INTERCONNECT a core\\.u1/A (2))", "(INTERCONNECT core\\.u1/Y u2/A (3))", "(INTERCONNECT u2/Y y\\.z (9))"),
+                   cell("core\\.u1", "(IOPATH (01 A) Y (1) (2))", "(IOPATH (10 A) Y (3) (4))"), cell("u2", "(PORT A (1))", "(IOPATH A Y (7) (8))"))
+        rows = ["gate,core.u1,n,A", "gate,u2,y,A"]
+        self.assertEqual(self.delays(str(EXAMPLES / "chain.bench"), rows, text, "--rise-fall")[1], lines(
+            "gate,pin,rise,fall", "*,*,1000000,1000000", "n,0,4,5", "y,0,10,11"))
+
     def test_flip_flops(self):
         net = self.write("net", lines("INPUT(a)", "q%setup = BUFF(a)", "q%clock_to_q = BUFF(q)", "q = DFF(q%setup)", "OUTPUT(q%clock_to_q)"))
         rows = ["flip_flop,f,q,", "setup,f,q%setup,D", "clock_to_q,f,q%clock_to_q,C"]
@@ -61,11 +68,20 @@ class SdfToDelays(ToolTest):
         rows = lines(MAP_HEADER, "gate,u1,n,A", "gate,u2,y,A")
         for reason, text, map_text in (
                 ("SDF: not one DELAYFILE", "(CELL)", rows), ("SDF: not one DELAYFILE", "", rows), ("SDF line 2: a parenthesis too many", "()\n)", rows),
-                ("SDF: cell u3 is none of MAP", sdf(cell("u3")), rows), ("SDF: INCREMENT is not read", sdf(
+                ("SDF: cell u3 is none of MAP", sdf(cell("u3")), rows), ("SDF: cell u1: INCREMENT is not read", sdf(
                     "(CELL (INSTANCE u1) (DELAY (INCREMENT (IOPATH A Y (1)))))"), rows),
-                ("SDF: TIMESCALE 2ns", sdf(scale="2ns"), rows), ("SDF: a negative delay", sdf(cell("u1", "(IOPATH A Y (-1))")), rows),
-                ("SDF: no max value in (1::)", sdf(cell("u1", "(IOPATH A Y (1::))")), rows),
+                ("SDF: TIMESCALE 2ns", sdf(scale="2ns"), rows), ("SDF: cell u1: a negative delay", sdf(cell("u1", "(IOPATH A Y (-1))")), rows),
+                ("SDF: cell u1: no max value in (1::)", sdf(cell("u1", "(IOPATH A Y (1::))")), rows),
+                ("SDF: cell u1: no max value in (1:2)", sdf(cell("u1", "(IOPATH A Y (1:2))")), rows),
+                ("SDF: cell u1: no pin: (sideways A)", sdf(cell("u1", "(IOPATH (sideways A) Y (1))")), rows),
+                ("SDF: cell u1: MAP has no pin A1 of u1", sdf(cell("u1", "(IOPATH A1 Y (1))")), rows),
+                ("SDF: cell -: MAP has no cell u3", sdf(cell("", "(INTERCONNECT u1/Y u3/A (1))")), rows),
+                ("SDF: cell -: MAP has no pin A1 of u2", sdf(cell("", "(INTERCONNECT u1/Y u2/A1 (1))")), rows),
+                ("SDF: cell -: no cell is named", sdf(cell("", "(IOPATH A Y (1))")), rows), ("SDF: DIVIDER ab", lines("(DELAYFILE (DIVIDER ab))"), rows),
+                ("SDF line 3: unreadable", sdf("/* never ended"), rows), ("SDF line 1: unreadable", "(" * 100000, rows),
                 ("pin 0 of n: 2000000 units, over 1000000 (--unit)", sdf(cell("u1", "(IOPATH A Y (2))"), scale="1us"), rows),
-                ("NET: no gate m", sdf(), lines(MAP_HEADER, "gate,u1,m,A")), ("MAP line 1: not what,name,line,value", sdf(), "u1\n")):
+                ("NET: no gate m", sdf(), lines(MAP_HEADER, "gate,u1,m,A")), ("MAP line 1: not what,name,line,value", sdf(), "u1\n"),
+                ("MAP line 1: not what,name,line,value", sdf(), rows.replace("\n", "\r\n")),
+                ("MAP line 2: unknown gates", sdf(), rows.replace("gate,u1", "gates,u1")), ("NET: no gate n\\r", sdf(), rows.replace(",n,", ",n\r,"))):
             words = [self.write("sdf", text), str(EXAMPLES / "chain.bench"), self.write("map", map_text), self.path("delays")]
             self.refuse("sdf_to_delays", reason, *words)

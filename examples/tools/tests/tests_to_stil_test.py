@@ -85,9 +85,27 @@ class TestsToStil(ToolTest):
     def test_bad_chains_are_refused(self):
         files = self.skewed()
         for reason, text in (("SCAN: missing q2", "q1\n"), ("SCAN line 2: unknown d", "q1\nd\nq2\n"), ("SCAN line 2: twice q1", "q1\nq1\nq2\n"),
-                             ("SCAN line 1: unknown ", "\nq1\nq2\n"), ("SCAN line 3: unknown ", "q1\nq2\n\n"), ("SCAN line 2: no LF at its end", "q1\nq2")):
+                             ("SCAN line 1: unknown ", "\nq1\nq2\n"), ("SCAN line 3: unknown ", "q1\nq2\n\n"), ("SCAN line 2: no LF at its end", "q1\nq2"),
+                             ("SCAN line 1: unknown q1\\r", "q1\r\nq2\r\n")):
             self.write("scan", text)
             self.refuse("tests_to_stil", reason, *files, "--mode", "skewed", "--time", "5")
+
+    def test_a_bad_map_is_refused(self):
+        rows = lines("what,name,line,value", "clock,ck,,falling", "held,r,,1", "input,a,a,", "output,d,d,", "flip_flop,f,q,")
+        files = [*self.broadside(), "--mode", "broadside", "--time", "5", "--map", self.write("map", rows)]
+        self.assertEqual(self.call("tests_to_stil", *files), "tests 2 chains 1 cells 1\n")
+        for reason, old, new in (("MAP: not one clock, rising or falling", "falling", "sideways"), ("MAP: held at neither 0 nor 1", "r,,1", "r,,x"),
+                                 ("MAP line 3: unknown hold", "held", "hold"), ("MAP: its inputs or outputs aren't those of NET", "input,a,a,\n", ""),
+                                 ("MAP: its inputs or outputs aren't those of NET", "input,a,a", "input,a,d"),
+                                 ("MAP: its inputs or outputs aren't those of NET", "output,d,d,\n", ""), ("MAP line 5: not four fields", "d,d,", "d,d"),
+                                 ("a name with a double quote or a control character has no place in STIL: %0A", "input,a", "input,%0A")):
+            self.write("map", rows.replace(old, new))
+            self.refuse("tests_to_stil", reason, *files)
+
+    def test_a_bad_report_is_refused(self):
+        files = self.broadside()
+        self.write("report", self.read("report").replace("1,a,d:0", "1,q,d:0"))
+        self.refuse("tests_to_stil", "path 1 WrongPath", *files, "--mode", "broadside", "--time", "5")
 
     def test_a_netlist_without_flip_flops_is_refused(self):
         files = self.broadside()

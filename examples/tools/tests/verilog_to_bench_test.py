@@ -1,5 +1,6 @@
 """verilog_to_bench, on a design in yosys JSON written by hand, and on chip.v where yosys is at hand."""
 import json
+import re
 import subprocess
 import sys
 from calling import EXAMPLES, NEEDS_YOSYS, TOOLS, ToolTest, lines
@@ -49,9 +50,12 @@ class VerilogToBench(ToolTest):
         self.assertIn(lines("setup,ff,q%280%29%setup,D", "clock_to_q,ff,q%280%29%clock_to_q,C"), map_text)
 
     def test_names_come_back(self):
-        for name in ("a[3]", "\\weird name", "50%", "*", "a,b", 'say "x"', "ümlaut"):
+        for name in ("a[3]", "\\weird name", "50%", "*", "a,b", 'say "x"', "ümlaut", "\xff"):
             self.assertEqual(unescaped(escaped(name)), name)
             self.assertRegex(escaped(name), r'^[^"#(),= \x7f-\xff]+$')
+        text = design()
+        text["modules"]["top"]["ports"]["\xc3\xbc"] = text["modules"]["top"]["ports"].pop("y")
+        self.assertIn("OUTPUT(%C3%BC)\n", self.written(json.dumps(text, ensure_ascii=False))[0])
 
     def refused(self, reason, text):
         self.refuse("verilog_to_bench", reason, self.write("json", text), self.path("net"), self.path("map"))
@@ -59,12 +63,29 @@ class VerilogToBench(ToolTest):
 
     def test_what_a_bench_netlist_cannot_have_is_refused(self):
         self.refused("JSON: not what yosys writes", "{")
+        self.refused("JSON: not what yosys writes", "[" * 100000)
         self.refused("cell m: $_MUX_ is no gate of a .bench netlist", json.dumps(design(m=cell("$_MUX_", A=4, B=5, S=7, Y=9))))
         self.refused("cell g pin A: a constant, or not connected", json.dumps(design(g=cell("$_AND_", A="0", B=5, Y=9))))
-        self.refused("cell g: reads a constant, a clock, a reset, or a net that nothing drives",
-                     json.dumps(design(g=cell("$_AND_", A=2, B=5, Y=9))))
+        self.refused("cell g pin B: a constant, or not connected", json.dumps(design(g=cell("$_AND_", A=4, Y=9))))
+        self.refused("cell g: reads the clock clk", json.dumps(design(g=cell("$_AND_", A=2, B=5, Y=9))))
+        self.refused("cell g: reads the reset rst_n", json.dumps(design(g=cell("$_AND_", A=3, B=5, Y=9))))
+        self.refused("cell g: reads the undriven net 10", json.dumps(design(g=cell("$_AND_", A=10, B=5, Y=9))))
+        self.refused("net y is driven twice", json.dumps(design(g=cell("$_AND_", A=4, B=5, Y=6))))
+        self.refused("net in[5] is driven twice", json.dumps(design(g=cell("$_AND_", A=4, B=7, Y=5))))
         self.refused("flip-flops have several clocks, or both edges of one", json.dumps(design(f=cell("$_DFF_N_", C=2, D=5, Q=9))))
-        self.refused("a clock or a reset is no input port", json.dumps(design(ff=cell("$_DFF_P_", C=8, D=5, Q=7))))
+        self.refused("the clock $auto$9 is no input port", json.dumps(design(ff=cell("$_DFF_P_", C=8, D=5, Q=7))))
+        self.refused("the reset $auto$9 is no input port", json.dumps(design(ff=cell("$_DFF_PN0_", C=2, R=8, D=5, Q=7))))
+
+    def test_loops_are_refused(self):
+        text = design(**{"u#1": cell("$_AND_", A=4, B=8, Y=8)})
+        self.refused("NET: loop at $auto$9", json.dumps(text))
+
+    def test_names_are_bytes(self):
+        text = design()
+        text["modules"]["top"]["ports"]["\u20ac"] = text["modules"]["top"]["ports"].pop("y")
+        self.refused("a name has what is no byte: '\\u20ac'", json.dumps(text))
+        text["modules"]["top"]["ports"]["a\nb" * 100] = text["modules"]["top"]["ports"].pop("\u20ac")
+        self.refused("a name is empty or too long: " + ("a\\nb" * 14)[:53], json.dumps(text))
 
     def test_a_port_both_ways_is_refused(self):
         text = design()
@@ -77,3 +98,12 @@ class VerilogToBench(ToolTest):
         self.written(mapped.stdout)
         circuit = read_circuit(self.path("net"))
         self.assertEqual((len(circuit.inputs), len(circuit.flip_flops), len(circuit.outputs)), (25, 52, 23))
+
+    @NEEDS_YOSYS
+    def test_other_flip_flops(self):
+        self.write("other.v", lines("module chip(input clk, input rst, input d, output reg q = 0);",
+                                    "always @(negedge clk or posedge rst) if (rst) q <= 1; else q <= d ^ q;", "endmodule"))
+        script = (EXAMPLES / "chip" / "map.ys").read_text().replace("chip.v", "other.v")
+        self.write("map.ys", re.sub("dfflegalize .*", "dfflegalize -cell $_DFF_?_ 01 -cell $_DFF_???_ 01", script))
+        mapped = subprocess.run(["yosys", "-q", "-s", "map.ys"], cwd=self.folder, capture_output=True, text=True, check=True)
+        self.assertIn(lines("clock,clk,,falling", "held,rst,,0", "input,d,d,"), self.written(mapped.stdout)[1])
