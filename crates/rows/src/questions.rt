@@ -1,11 +1,12 @@
 // The rows that are questions to the last netlist.
 use crate::searches;
 use crate::subject::Subject;
+use netlist::Netlist;
 use row_answers::{Text, Trouble};
 use std::alloc::Global;
 
-/// Adds what came of a question, or of one about searches. In those about hulls and trees the word two may stand first, for rules Two, or the
-/// word linked and the links, for rules with these.
+/// Adds what came of a question. In those about cones, hulls and trees the word linked and the links may stand first, for rules with these,
+/// or in the last two the word two, for rules Two.
 pub fn asked(
     alloc: Global,
     subject: &Subject,
@@ -45,6 +46,21 @@ pub fn asked(
         "settled" => row_answers::sides(alloc, net, delays, row, answer),
         // the five values of all lines where the sources have these
         "five" => row_answers::five_values(alloc, net, row, answer),
+        _ => asked_of_trees(alloc, net, delays, prefix, word, row, answer),
+    }
+}
+
+// Adds what came of a question about hulls and trees, or of one about searches.
+fn asked_of_trees(
+    alloc: Global,
+    net: &Netlist,
+    delays: Option<&str>,
+    prefix: &str,
+    word: &str,
+    row: &str,
+    answer: &mut Text,
+) -> Result<(), Trouble> {
+    match word {
         // the hull below these halves: transition, kind, and for each half a split, as in a tree, and behind a dot 1 or 2
         "hull" => row_answers::hull_at(alloc, net, prefix, row, answer),
         // whether a tree refutes: transition, kind, and its nodes
