@@ -1,6 +1,7 @@
 // The cone of a line: the lines of its support under links, with the sources and the gates among them in order. One cone is at hand at a
-// time, and the next one costs those two and not the circuit, but where it is a good part of that. How they are listed stands in
-// cone_lists.rt. Those that were at hand before are kept aside (end_cone.rt), and cost nothing where they are asked for again.
+// time. To find another costs its lines and those of the cone whose place it takes, and not the circuit, but where it is a good part of
+// that. How they are listed stands in cone_lists.rt. The last ones at hand are kept aside (end_cone.rt), and cost nothing where they are
+// asked for again.
 ghost use Rattle.std.specs.Prelude.{◌≡◌, ◌<◌, ◌↔◌, ℕ, length, Some, IfOk, IsTrue, Contains};
 ghost use Rattle.netlist.specs.Circuit.{Circuit, line_count};
 ghost use Rattle.netlist.specs.LinkedPairs.{AreLinksOf, IsSupported};
@@ -29,7 +30,7 @@ const GATES_PER_LINE: usize = 16;
 pub struct Cone {
     current: EndCone,
     others: Vec<EndCone>,
-    // which of the others goes next
+    // the place among the others that is next in turn
     next: usize,
     links: SourceLinks,
     order: Vec<GateId>,
@@ -126,7 +127,7 @@ impl Cone {
         mem::swap(&mut self.current, &mut self.others[place]);
     }
 
-    // Puts the cone at hand aside, in place of the one that was put there longest ago.
+    // Puts the cone at hand aside, in the place that is next in turn.
     fn put_aside(&mut self)
         ensures made { (c : Circuit) → IsConeFor c self.old → IsConeFor c self.new }
         ensures links { self.new.links ≡ self.old.links }

@@ -6,11 +6,11 @@ use crate::found_lines::FoundLines;
 use pd_base::{GateId, LineId, OutOfMemory};
 use std::alloc::Global;
 
-// The most cones that are kept aside, and the most lines of the netlist that they may have together, where these are not fewer than a few.
+// At most so many cones are kept aside,
 const MOST_OTHERS: usize = 16;
-
+// and at least so many;
 const FEW_OTHERS: usize = 8;
-
+// between these, so many that together they have no more lines than this.
 const MOST_LINES: usize = 1_048_576;
 
 /// The cone of an end, if it is one: its lines, its sources and its gates.

@@ -1,5 +1,5 @@
 // By which sources a trial failed. A failure rests on the states of a line or two; the state of a gate's line rests on that of one pin, if
-// this decides it alone, and else on those of all its pins; and so on back to sources. These are few of the sources of a cone, and each
+// this decides it alone, and else on those of all its pins; and so on back to sources. These are mostly few of a cone's, and each
 // pair that has their states fails.
 ghost use Rattle.std.specs.Prelude.{◌≡◌, ◌<◌, ◌↔◌, ℕ, length, All, IfSome, IsTrue, Contains};
 ghost use Rattle.netlist.specs.Circuit.{source_count, gate_count, line_count, kind_at, pins_at};

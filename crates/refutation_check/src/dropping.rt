@@ -1,4 +1,4 @@
-// Where an engine is dropped. What that takes is long to prove, and each function that drops one would prove it anew: so those that make
+// Where an engine is dropped. What that takes is long to prove, and each function that drops one would prove it anew: so most that make
 // one hand it over at their end.
 use implication::{Engine, RuledNetlist};
 use state_sets::Algebra;

@@ -59,7 +59,7 @@ pub(crate) fn fails_early<A: Algebra>(
     false
 }
 
-// Whether a condition of the path fails by lines below this level, as far as these can be traced. False tells nothing.
+// Whether the sides of some step fail by lines below this level, as far as these can be traced. False tells nothing.
 pub(crate) fn fails_below<A: Algebra>(
     net: &Netlist,
     target: &Target,

@@ -1,5 +1,5 @@
-// The judge of trees: one engine within the ends that it is made for, which judges one tree after another. What is asked of the nodes
-// stands in refutation.rt and spent.rt.
+// The judge of trees: an engine within the ends that it is made for, which judges one tree after another, and under links one of near
+// gates, where these are few (near.rt). What is asked of the nodes stands in refutation.rt and spent.rt.
 ghost use Rattle.std.specs.Prelude.{◌≡◌, ◌<◌, ◌↔◌, All, false, Some, Ok, IfOk, Contains, IsTrue};
 ghost use Rattle.pd_base.specs.Links.{links_of};
 ghost use Rattle.pd_base.specs.Target.{target_of};
@@ -39,7 +39,7 @@ use trees::{Node, Tree};
 
 /// A judge of trees of cases for prefixes of paths in one netlist, with the kind of states that its rules choose. One serves for any number
 /// of trees, one after another: each costs what the walk over it changes in the cone of its prefix's end, and not the circuit. Only a tree
-/// that splits a linked source outside that cone may cost the circuit.
+/// that splits a linked source outside that cone may cost the circuit, and a spent tree may be walked twice.
 ///
 /// Contracts see for what it is made: the circuit, the rules under which the trees were grown, and the lines in whose support the
 /// prefixes end that it can judge.

@@ -1,5 +1,5 @@
-// An engine of near gates beside a judge's own. It tells fewer lines and narrows at far fewer gates, so a tree is walked on it first that
-// needs none but lines that it tells: what is right there is so on every engine.
+// An engine of near gates beside a judge's own. It tells fewer lines and narrows at far fewer gates, so each spent tree whose end it tells
+// is walked on it first: what is right there is so on every engine. Where it doesn't show all, the judge's own walks the tree again.
 ghost use Rattle.std.specs.Prelude.{◌≡◌, ◌<◌, true, All, None, Some, IfOk, IfSome, IsTrue};
 ghost use Rattle.netlist.specs.Circuit.{line_count};
 ghost use Rattle.netlist.specs.LinkedPairs.{FitRules};

@@ -79,7 +79,7 @@ fn walk_spent<A: Algebra, S: Setting>(
     Ok(TreeCheck::Yes)
 }
 
-// Whether a node is as a spent tree asks; false tells nothing where that of the engine doesn't.
+// Whether a node is as a spent tree asks. False tells nothing where the engine does not tell the whole support of the path's end.
 fn is_right_at<A: Algebra, S: Setting>(
     scope: &Scope<A, S>,
     target: &Target,

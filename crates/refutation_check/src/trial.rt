@@ -1,8 +1,8 @@
 // The trial of a node: the pair of vectors that has at each source of the path's support the least state that the labels leave there is
 // judged within the cone of the path's end. The trial closes exactly where this pair is no pair of the rules or does not meet the
-// conditions, so nothing has to be narrowed for it; and no line is evaluated that has the state that it had under the pair judged last, nor
-// one of a high level where the pair fails at lines of lower ones. Where it failed, the sources are kept by which it did, so that at the
-// next node these alone are looked at.
+// conditions, so nothing has to be narrowed for it; and no gate is evaluated of whose pins' lines none changed since the pair judged last,
+// nor one of a high level where the pair fails at lines of lower ones. Where it failed, the lines are kept by which it did: as long as the
+// sources among them have the same least states, these alone are looked at.
 ghost use Rattle.std.specs.Prelude.{◌≡◌, ◌<◌, ◌↔◌, false, List, None, length, All, IfOk, IsTrue};
 ghost use Rattle.netlist.specs.Circuit.{line_count};
 ghost use Rattle.netlist.specs.LinkedPairs.{FitRules};
