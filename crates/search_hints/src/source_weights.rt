@@ -9,10 +9,8 @@ use std::alloc::Global;
 #[derive(Drop)]
 pub(crate) struct SourceWeights {
     weights: Weights,
-    // those that were raised, each once; where weights were made smaller one may have none any more
+    // those that were raised, in room for all; where weights were made smaller one may stand there twice, or have none any more
     weighed: Vec<LineId>,
-    // by source, whether it is one of these
-    is_weighed: Vec<bool>,
 }
 
 impl SourceWeights {
@@ -23,21 +21,18 @@ impl SourceWeights {
         part: u64,
     ) -> Result<SourceWeights, OutOfMemory> {
         let weights = Weights::new(alloc, sources, part)?;
-        let is_weighed = vec![in alloc; false; sources]?;
         Ok(SourceWeights {
             weights,
             weighed: Vec::with_capacity(alloc, sources)?,
-            is_weighed,
         })
     }
 
     // The conflict rests on this source, which gets heavier. Takes no memory.
     pub(crate) fn raise(&mut self, source: LineId) {
+        let had_none = self.weights.of(source) == 0;
         self.weights.raise(source);
-        let at = source.0 as usize;
-        if at < self.is_weighed.len() && !self.is_weighed[at] {
-            self.is_weighed[at] = true;
-            // There is room for all sources, so this asks for no memory.
+        if had_none && self.weights.of(source) > 0 && self.weighed.len() < self.weighed.capacity() {
+            // There is room, so this asks for no memory.
             let _ = self.weighed.push(source);
         }
     }
