@@ -1,5 +1,5 @@
 -- Flags, and the gates and links that wait.
-use Rattle.std.proofs.Common.{◌≡◌, ◌≢◌, ℕ, zero, suc, ◌+◌, ◌<◌, ◌≤◌, ⊎_elim, Bool, true, false, List, [], ◌∷◌, ◌++◌, length, get_or, refl, sym, ap, ◌∙◌, subst, arith}
+use Rattle.std.proofs.Common.{◌≡◌, ◌≢◌, ℕ, zero, suc, ◌+◌, ◌<◌, ◌≤◌, ⊎_elim, Bool, true, false, not, List, [], ◌∷◌, ◌++◌, length, get_or, refl, sym, ap, ◌∙◌, subst, arith}
 use Rattle.std.proofs.Math.ListN.{set}
 use Rattle.std.specs.List.{All, Contains, sum_by}
 use Rattle.std.proofs.lemmas.Bool.{cases_eq, false≢true}
@@ -7,11 +7,15 @@ use Rattle.std.proofs.lemmas.List.{length-set, length_push, get_or-set_same, get
 use Rattle.std.proofs.lemmas.List.Elements.{All-push, All-head, All-tail, Contains-append_left, Contains-push}
 use Rattle.std.proofs.lemmas.List.Sums.{sum_by-le, sum_by-set}
 use Rattle.hulls.specs.declared.turn.Turn.{Turn}
-use Rattle.hulls.specs.Awaiting.{Awaited, is_inside, one_if, IsFlagged, IsMore, IsWoken}
+use Rattle.hulls.specs.Awaiting.{Awaited, is_inside, one_if, AreTurned, IsFlagged, IsMore, IsWoken}
 
 one_if_le : (b : Bool) → one_if b ≤ 1
 one_if_le true = omega arith
 one_if_le false = omega arith
+
+not_false : (b : Bool) → not b ≡ false → b ≡ true
+not_false true is = refl
+not_false false is = absurd (false≢true (sym is))
 
 -- no more flags are up than there are
 flags_up : (flags : List Bool) → sum_by one_if flags ≤ length flags
@@ -29,6 +33,18 @@ inside_within [] turn is = absurd (false≢true is)
 inside_within (flag ∷ flags) zero is = omega arith
 inside_within (flag ∷ flags) (suc turn) is = let e = inside_within flags turn is in omega arith
 
+-- nothing waits at first
+pub none_waits : (inside flags : List Bool) → AreTurned inside flags → (room : ℕ) → length inside ≤ room → IsFlagged inside flags [] room
+none_waits inside flags is room enough = record {
+  one_each = is.one_each;
+  flagged = λ turn here up. absurd (false≢true
+      (sym (ap not here) ∙ sym (is.turned turn (inside_within inside turn here)) ∙ up));
+  down = λ turn below low. not_false (is_inside inside turn) (sym (is.turned turn (omega (arith, is.one_each, below))) ∙ low);
+  few = omega arith;
+  all_inside = λ k d at. absurd (omega (arith, at));
+  enough = omega (arith, is.one_each, enough);
+}
+
 module _ (inside flags : List Bool) (waiting : List Turn) (room : ℕ) (is : IsFlagged inside flags waiting room) where
   abbrev awaited : Awaited
   awaited = record { inside = inside; waiting = waiting }
@@ -43,16 +59,15 @@ module _ (inside flags : List Bool) (waiting : List Turn) (room : ℕ) (is : IsF
     flag_within : turn.0 < length flags
     flag_within = let e = is.one_each in omega arith
 
-    -- what waits already
+    -- what waits already, or stands outside
     pub already : get_or flags turn.0 false ≡ true → IsWoken turn awaited awaited
-    already up = record { more = same_gates; waits = λ here. is.flagged turn.0 flag_within up }
-
-    -- what stands outside
-    pub outside : is_inside inside turn.0 ≡ false → IsWoken turn awaited awaited
-    outside away = record { more = same_gates; waits = λ here. absurd (false≢true (sym away ∙ here)) }
+    already up = record { more = same_gates; waits = λ here. is.flagged turn.0 here up }
 
     -- one that is inside and does not wait
-    module _ (down : get_or flags turn.0 false ≡ false) (here : is_inside inside turn.0 ≡ true) where
+    module _ (down : get_or flags turn.0 false ≡ false) where
+      here : is_inside inside turn.0 ≡ true
+      here = is.down turn.0 flag_within down
+
       abbrev raised : List Bool
       raised = set flags turn.0 true
 
@@ -69,12 +84,16 @@ module _ (inside flags : List Bool) (waiting : List Turn) (room : ℕ) (is : IsF
       pub added : IsFlagged inside raised (waiting ++ turn ∷ []) room
       added = record {
         one_each = same_many ∙ is.one_each;
-        flagged = λ other below up. ⊎_elim
+        flagged = λ other among up. ⊎_elim
             (λ (same : other ≡ turn.0). subst (λ (n : ℕ). Contains (waiting ++ turn ∷ []) (record { 0 = n })) (sym same)
             (Contains-push waiting turn))
             (λ (away : other ≢ turn.0). Contains-append_left waiting (turn ∷ []) (record { 0 = other })
-            (is.flagged other (let e = same_many in let w = below in omega arith)
-            (sym (get_or-set_other flags turn.0 other true false away) ∙ up)))
+            (is.flagged other among (sym (get_or-set_other flags turn.0 other true false away) ∙ up)))
+            (cases_eq other turn.0);
+        down = λ other below low. ⊎_elim
+            (λ (same : other ≡ turn.0). subst (λ (n : ℕ). is_inside inside n ≡ true) (sym same) here)
+            (λ (away : other ≢ turn.0).
+            is.down other (omega (arith, same_many, below)) (sym (get_or-set_other flags turn.0 other true false away) ∙ low))
             (cases_eq other turn.0);
         few = let e = one_more in let f = length_push waiting turn in let h = is.few in omega arith;
         all_inside = All-push (λ (g : Turn). is_inside inside g.0 ≡ true) waiting turn is.all_inside here;
@@ -111,15 +130,19 @@ module _ (inside flags : List Bool) (waiting : List Turn) (room : ℕ) (is : IsF
     pub popped : IsFlagged inside lowered rest room
     popped = record {
       one_each = same_length ∙ is.one_each;
-      flagged = λ other below up. ⊎_elim
+      flagged = λ other among up. ⊎_elim
           (λ (here : other ≡ turn.0). absurd (false≢true
           (sym (get_or-set_same flags turn.0 false false first_in_range) ∙ ap (λ n. get_or lowered n false) (sym here) ∙ up)))
           (λ (away : other ≢ turn.0).
           let waits : Contains (turn ∷ rest) (record { 0 = other }) =
           subst (λ (gs : List Turn). Contains gs (record { 0 = other })) first
-          (is.flagged other (let e = same_length in let w = below in omega arith)
-          (sym (get_or-set_other flags turn.0 other false false away) ∙ up)) in
+          (is.flagged other among (sym (get_or-set_other flags turn.0 other false false away) ∙ up)) in
           behind turn rest (record { 0 = other }) (λ same. away (sym (ap (λ (g : Turn). g.0) same))) waits.0 waits.1 waits.2)
+          (cases_eq other turn.0);
+      down = λ other below low. ⊎_elim
+          (λ (same : other ≡ turn.0). subst (λ (n : ℕ). is_inside inside n ≡ true) (sym same) first_inside)
+          (λ (away : other ≢ turn.0).
+          is.down other (omega (arith, same_length, below)) (sym (get_or-set_other flags turn.0 other false false away) ∙ low))
           (cases_eq other turn.0);
       few = let e = sum_by-set one_if flags turn.0 false false first_in_range in let f = one_if_le (get_or flags turn.0 false) in
           let g = ap length first in let h = is.few in omega arith;

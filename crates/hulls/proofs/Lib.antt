@@ -18,5 +18,5 @@ pub mod Sets
 pub mod Suffixes
 pub mod AlongLinks
 pub mod LinkCuts
-pub mod TwoPins
+pub mod FewPins
 pub mod Whole

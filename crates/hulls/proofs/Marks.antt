@@ -1,9 +1,9 @@
 -- Marks of gates, as steps are entered and left, and the conditions that they stand for.
-use Rattle.std.proofs.Common.{◌≡◌, ◌≢◌, ℕ, ◌+◌, ◌-◌, ◌<◌, ⊎_elim, ◌==◌, Bool, true, false, List, [], ◌∷◌, ◌++◌, length, get_or, Option, Some, None, if◌then◌else◌, refl, sym, ap, ◌∙◌, subst, arith}
+use Rattle.std.proofs.Common.{◌≡◌, ◌≢◌, ℕ, ◌+◌, ◌-◌, ◌<◌, ◌↔◌, ⊎_elim, ◌==◌, Bool, true, false, not, IsTrue, List, [], ◌∷◌, ◌++◌, length, get_or, Option, Some, None, if◌then◌else◌, refl, sym, ap, ◌∙◌, subst, arith}
 use Rattle.std.specs.List.{All, AllPairs}
 use Rattle.std.specs.Option.{IfSome}
 use Rattle.std.proofs.Math.ListN.{set}
-use Rattle.std.proofs.lemmas.Bool.{cases_eq, ne_eqb, eq-eqb}
+use Rattle.std.proofs.lemmas.Bool.{cases_eq, ne_eqb, eq-eqb, false≢true}
 use Rattle.std.proofs.lemmas.List.{get_or-set_same, get_or-set_other, length-set, length_push, get_or_append_left, get_or_push}
 use Rattle.std.proofs.lemmas.List.Elements.{All-head, All-tail, All-cons, All-push, All-pop}
 use Rattle.std.proofs.lemmas.List.Quantifiers.{all_pairs_push}
@@ -46,6 +46,14 @@ mark_none (first ∷ steps) gate pass =
     ap (λ (b : Bool). if b then first.pin + 1 else mark_at steps gate)
     (ne_eqb first.gate.0 gate (All-head (PassesBy gate) first steps pass))
     ∙ mark_none steps gate (All-tail (PassesBy gate) first steps pass)
+
+chosen_if : (b : Bool) (condition : Condition) → IsTrue (not b) ↔ ((if b then None else Some condition) ≢ None)
+chosen_if true condition = (λ never. absurd (false≢true never), λ some. absurd (some refl))
+chosen_if false condition = (λ sure none. absurd (let n = none in cc), λ some. refl)
+
+-- a mark stands for some condition if it is not 0
+pub some_marked : (kind : Kind) (mark : ℕ) → IsTrue (not (mark == 0)) ↔ (marked_condition kind mark ≢ None)
+some_marked kind mark = chosen_if (mark == 0) (record { pin = mark - 1; kind = kind })
 
 module _ (kind : Kind) where
   -- the mark of a pin stands for its condition

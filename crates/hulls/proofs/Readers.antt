@@ -1,7 +1,7 @@
 -- Letting gates wait, one more and at the end all that have the line among theirs.
 use Rattle.std.proofs.Common.{◌≡◌, ◌≢◌, ℕ, ◌<◌, ◌+◌, length, sym, ⊎_elim, Bool, true, List, Option, Some, refl, ap, ◌∙◌, subst, arith}
 use Rattle.std.specs.List.{All, Contains}
-use Rattle.std.proofs.lemmas.List.Elements.{All-contains, Contains-push_cases}
+use Rattle.std.proofs.lemmas.List.Elements.{All-contains, All-weaker, Contains-push_cases}
 use Rattle.std.proofs.lemmas.Option.{slice_get-get_or}
 use Rattle.pd_base.specs.Links.{LinkList}
 use Rattle.pd_base.specs.declared.ids.GateId.{GateId}
@@ -24,7 +24,11 @@ more_on old mid new before after = record {
   few = λ few. after.few (before.few few);
 }
 
--- a gate waits, if it is inside and is not passed by
+-- a gate waits, if it is inside
+abbrev pub WaitsInside : List Bool → List Turn → GateId → Type 0
+WaitsInside inside waiting gate = is_inside inside gate.0 ≡ true → Contains waiting (gate_turn gate.0)
+
+-- and where it is not passed by
 abbrev pub WaitsIn : List Bool → Option GateId → List Turn → GateId → Type 0
 WaitsIn inside passed waiting gate = is_inside inside gate.0 ≡ true → passed ≢ Some gate → Contains waiting (gate_turn gate.0)
 
@@ -65,6 +69,16 @@ module _ (c : Circuit) (line : ℕ) (readers : List PinRef) (fanout : IsFanout c
         let e : driver.0 ≡ gate = let e = ap (λ (l : LineId). l.0) own in omega arith in
         subst (λ (n : ℕ). WaitsIn inside passed more (record { 0 = n })) e waits here away)
         (Contains-push_cases (pins_at c gate) (record { 0 = gate_line c gate }) this among)
+
+  -- the line of the gate that is passed by needs its readers alone
+  pub own_waits : (inside : List Bool) (passed : Option GateId) (waiting : List Turn)
+      → All (λ (pin : PinRef). WaitsInside inside waiting pin.gate) readers
+      → (driver : GateId) → line ≡ gate_line c driver.0 → passed ≡ Some driver → AreWaiting c inside passed line waiting
+  own_waits inside passed waiting all driver is is_passed =
+      driver_waits inside passed waiting
+      (All-weaker (λ (pin : PinRef). WaitsInside inside waiting pin.gate) (λ (pin : PinRef). WaitsIn inside passed waiting pin.gate)
+      (λ pin waits here away. waits here) readers all) waiting (λ turn waits. waits) driver is
+      (λ here away. absurd (away is_passed))
 
 -- the links at a line wait, as the code has the links and the number of gates
 pub links_as : (c : Circuit) (seen links : LinkList) → seen ≡ links → (gates : ℕ) → gates ≡ gate_count c → (line : LineId) (waiting : List Turn)

@@ -1,5 +1,5 @@
 -- The gates and links that wait to be narrowed, out of those inside a part of a circuit (this project's own).
-use Rattle.std.specs.Prelude.{◌≡◌, ℕ, ◌<◌, ◌≤◌, Bool, true, false, List, length, sum_by, slice_index_or, All, Contains}
+use Rattle.std.specs.Prelude.{◌≡◌, ℕ, ◌<◌, ◌≤◌, Bool, true, false, not, List, length, sum_by, slice_index_or, All, Contains}
 use Rattle.hulls.specs.declared.turn.Turn.{Turn}
 
 -- the turn of a gate has the gate's number
@@ -20,10 +20,17 @@ abbrev pub one_if : Bool → ℕ
 one_if true = 1
 one_if false = 0
 
--- What has its flag up waits; no more wait than flags are up, all of them inside; and there is room for all.
+-- each flag is up where the other one is not
+pub record AreTurned (inside flags : List Bool) : Type 0 where
+  pub one_each : length flags ≡ length inside
+  pub turned : (at : ℕ) → at < length inside → slice_index_or flags at false ≡ not (slice_index_or inside at false)
+
+-- What is inside and has its flag up waits, and what has its flag down is inside; no more wait than flags are up, all of them inside; and
+-- there is room for all.
 pub record IsFlagged (inside flags : List Bool) (waiting : List Turn) (room : ℕ) : Type 0 where
   pub one_each : length flags ≡ length inside
-  pub flagged : (turn : ℕ) → turn < length flags → slice_index_or flags turn false ≡ true → Contains waiting (record { 0 = turn })
+  pub flagged : (turn : ℕ) → is_inside inside turn ≡ true → slice_index_or flags turn false ≡ true → Contains waiting (record { 0 = turn })
+  pub down : (turn : ℕ) → turn < length flags → slice_index_or flags turn false ≡ false → is_inside inside turn ≡ true
   pub few : length waiting ≤ sum_by one_if flags
   pub all_inside : All (λ turn. is_inside inside turn.0 ≡ true) waiting
   pub enough : length flags ≤ room

@@ -7,6 +7,7 @@ use Rattle.state_sets.specs.Labellings.{label_at}
 use Rattle.state_sets.specs.Narrowing.{GateSets, GivesAtGate, GivesAtPin}
 use Rattle.hulls.specs.declared.view.GateView.{GateView}
 use Rattle.hulls.specs.declared.few.KeptAtTwo.{KeptAtTwo}
+use Rattle.hulls.specs.declared.three.KeptAtThree.{KeptAtThree}
 use Rattle.hulls.specs.Sets.{Means, set_at}
 
 -- the sets of the lines that the pins read, pin by pin
@@ -32,6 +33,16 @@ pub record IsKeptAtTwo (a : StateAlgebra) (sets : GateSets) (kept : KeptAtTwo) :
   pub second : Means a.count kept.second (GivesAtPin a sets None 1)
   pub given : Means a.count kept.given (GivesAtGate a sets None)
 
+-- the same at three pins
+pub record IsKeptAtThree (a : StateAlgebra) (sets : GateSets) (kept : KeptAtThree) : Type 0 where
+  pub first : Means a.count kept.first (GivesAtPin a sets None 0)
+  pub second : Means a.count kept.second (GivesAtPin a sets None 1)
+  pub third : Means a.count kept.third (GivesAtPin a sets None 2)
+  pub given : Means a.count kept.given (GivesAtGate a sets None)
+
 -- what is kept at the pins, pin by pin
-abbrev pub pins_kept : KeptAtTwo → List StateSet
-pins_kept kept = kept.first ∷ kept.second ∷ []
+abbrev pub two_kept : KeptAtTwo → List StateSet
+two_kept kept = kept.first ∷ kept.second ∷ []
+
+abbrev pub three_kept : KeptAtThree → List StateSet
+three_kept kept = kept.first ∷ kept.second ∷ kept.third ∷ []

@@ -292,8 +292,8 @@ impl<A: Algebra> Board<A> {
     {
         let old = self.labels.get(line);
         let new = old.intersect(to);
-        self.trail.note(line.0, old);
         self.labels.cut(line, to);
+        self.trail.note(line.0, old);
         wake(&mut self.waiting, net, line, passed);
         self.links.wake(&mut self.waiting, net.gates(), line);
         new

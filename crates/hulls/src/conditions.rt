@@ -1,5 +1,5 @@
 // The steps of a prefix, kept so that the condition at a gate is one look.
-ghost use Rattle.std.specs.Prelude.{◌≡◌, ◌+◌, ◌-◌, ◌<◌, ◌++◌, ◌∷◌, [], None, length, take, IfOk};
+ghost use Rattle.std.specs.Prelude.{◌≡◌, ◌≢◌, ◌+◌, ◌-◌, ◌<◌, ◌++◌, ◌∷◌, ◌↔◌, [], None, length, take, IfOk, IsTrue};
 ghost use Rattle.netlist.specs.declared.limits.TheConstants.{MOST_FAN_IN};
 ghost use Rattle.netlist.specs.Circuit.{gate_count};
 ghost use Rattle.netlist.specs.Lawful.{IsCircuit};
@@ -82,6 +82,14 @@ impl Conditions {
         ensures { result ≡ condition_at self.now.kind self.now.steps gate.0 }
     {
         condition_of(self.kind, self.marks[gate.0 as usize])
+    }
+
+    /// Whether there is a condition at a gate.
+    pub(crate) fn has_condition(&self, gate: GateId) -> bool
+        requires { gate.0 < self.now.gates }
+        ensures { IsTrue result ↔ (condition_at self.now.kind self.now.steps gate.0 ≢ None) }
+    {
+        self.marks[gate.0 as usize] != 0
     }
 
     /// Adds a step behind the others, through a gate that none of them goes through. Takes no memory.

@@ -7,13 +7,13 @@ ghost use Rattle.state_sets.specs.States.{AreWithin};
 ghost use Rattle.state_sets.specs.Labellings.{TellsOfNarrowing};
 ghost use Rattle.state_sets.specs.Narrowing.{IsNarrowing, KeepsAgreeing, GivesAtGate, GivesAtPin, gate_lines, gate_sets};
 ghost use Rattle.hulls.specs.Sets.{Means, set_at};
-ghost use Rattle.hulls.specs.GateViews.{AreKeptAtPins, IsGivenAtGate, IsKeptAtTwo};
+ghost use Rattle.hulls.specs.GateViews.{sets_seen, AreKeptAtPins, IsGivenAtGate, IsKeptAtThree, IsKeptAtTwo};
 
 use crate::collecting::keep_at_all;
 use crate::cutting::{cut_line, cut_pins, told};
 use crate::few::{KeptAtTwo, keep_at_one, keep_at_two, kept_freely};
 use crate::scratch::NarrowScratch;
-use crate::three::keep_at_three;
+use crate::three::{KeptAtThree, keep_at_three, three_freely};
 use crate::view::GateView;
 use netlist::Netlist;
 use pd_base::{GateId, LineId};
@@ -82,14 +82,27 @@ pub fn kept_at<A: Algebra>(
         → Means A.algebra.count (set_at scratch.new pin) (GivesAtPin A.algebra (gate_sets net.now gate.0 labels.now) condition pin) }
     ensures at_gate { Means A.algebra.count result (GivesAtGate A.algebra (gate_sets net.now gate.0 labels.now) condition) }
 {
+    keep::<A>(&view_of(net, labels, gate), condition, scratch)
+}
+
+// What narrowing looks at.
+#[inline(always)]
+fn view_of<'a>(net: &'a Netlist, labels: &'a [StateSet], gate: GateId) -> GateView<'a>
+    requires lines { length labels.now ≡ line_count net.now }
+    requires gate { gate.0 < gate_count net.now }
+    ensures sets { sets_seen result ≡ gate_sets net.now gate.0 labels.now }
+    ensures pins { result.pins.now ≡ pins_at net.now gate.0 }
+    ensures labels { result.labels.now ≡ labels.now }
+    ensures lines { All (λ line. line.0 < length labels.now) result.pins.now }
+    ensures few { length result.pins.now ≤ MOST_FAN_IN }
+{
     let own = LineId(net.sources() + gate.0);
-    let view = GateView {
+    GateView {
         kind: net.kind(gate),
         pins: net.pins(gate),
         labels,
         own: labels[own.0 as usize],
-    };
-    keep::<A>(&view, condition, scratch)
+    }
 }
 
 // The same at a gate with two pins and no condition, with all that is kept given. Inlined, since it is asked in a loop.
@@ -100,13 +113,22 @@ pub(crate) fn kept_at_two<A: Algebra>(net: &Netlist, labels: &[StateSet], gate: 
     requires two { length (pins_at net.now gate.0) ≡ 2 }
     ensures { IsKeptAtTwo A.algebra (gate_sets net.now gate.0 labels.now) result }
 {
-    let own = LineId(net.sources() + gate.0);
-    kept_freely::<A>(&GateView {
-        kind: net.kind(gate),
-        pins: net.pins(gate),
-        labels,
-        own: labels[own.0 as usize],
-    })
+    kept_freely::<A>(&view_of(net, labels, gate))
+}
+
+// The same at a gate with three.
+#[inline(always)]
+pub(crate) fn kept_at_three<A: Algebra>(
+    net: &Netlist,
+    labels: &[StateSet],
+    gate: GateId,
+) -> KeptAtThree
+    requires lines { length labels.now ≡ line_count net.now }
+    requires gate { gate.0 < gate_count net.now }
+    requires three { length (pins_at net.now gate.0) ≡ 3 }
+    ensures { IsKeptAtThree A.algebra (gate_sets net.now gate.0 labels.now) result }
+{
+    three_freely::<A>(&view_of(net, labels, gate))
 }
 
 // The same of what is seen at a gate.

@@ -76,7 +76,7 @@ impl LinkLists {
     }
 
     /// Lets all links wait that have this line among their two. They are numbered on from the number of gates. Takes no memory, and
-    /// costs what there are of them. Inlined: each cut that takes states comes here, and without links it is one comparison.
+    /// costs what there are of them. Inlined: each cut that takes states comes here, and most lines have no link.
     #[inline(always)]
     pub(crate) fn wake(&self, waiting: &mut Waiting, gates: u32, line: LineId)
         requires room { gates + length self.now ≤ length waiting.old.inside }
@@ -89,10 +89,15 @@ impl LinkLists {
         if self.links.is_empty() {
             return;
         }
+        let of_source = head(self.by_source.heads.as_slice(), line);
+        let of_line = head(self.by_line.heads.as_slice(), line);
+        if of_source == 0 && of_line == 0 {
+            return;
+        }
         self.wake_some(waiting, gates, line);
     }
 
-    // The same where there are links: a call, so that a cut is small where there are none.
+    // The same where the line may have links: a call, so that a cut is small where it has none.
     #[inline(never)]
     fn wake_some(&self, waiting: &mut Waiting, gates: u32, line: LineId)
         requires room { gates + length self.now ≤ length waiting.old.inside }

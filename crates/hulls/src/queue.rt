@@ -48,11 +48,7 @@ impl Queue {
         requires { length self.old.turns < self.old.room }
         ensures { self.new ≡ record self.old { turns = self.old.turns ++ turn ∷ [] } }
     {
-        if self.back.is_empty() && self.front.len() < self.room {
-            self.front.push_reserved(turn);
-        } else {
-            self.back.push_reserved(turn);
-        }
+        self.back.push_reserved(turn);
     }
 
     // Takes the first turn, if there is one.

@@ -1,20 +1,21 @@
 // A board settles: one gate or link after another is narrowed, as long as one waits and each line has some state.
-ghost use Rattle.std.specs.Prelude.{◌≡◌, ◌≢◌, ◌<◌, ◌+◌, ◌↔◌, [], true, length, Contains, IfSome, IfNone, IsTrue, MatchOption};
+ghost use Rattle.std.specs.Prelude.{◌≡◌, ◌≢◌, ◌<◌, ◌+◌, ◌↔◌, [], true, length, Contains, IfSome, IfNone, IsTrue, MatchOption, None};
 ghost use Rattle.netlist.specs.Circuit.{gate_count, gate_line, line_count, pins_at};
 ghost use Rattle.netlist.specs.Lawful.{IsCircuit};
 ghost use Rattle.state_sets.specs.States.{AreWithin, no_states};
 ghost use Rattle.state_sets.specs.Labellings.{label_at};
-ghost use Rattle.state_sets.specs.Hulls.{IsHull, IsEmptied, HasAt, HasNoEmptySet};
+ghost use Rattle.state_sets.specs.Hulls.{condition_at, IsHull, IsEmptied, HasAt, HasNoEmptySet};
 ghost use Rattle.state_laws.specs.Cones.{IsNarrowingIn};
 ghost use Rattle.hulls.specs.Conditions.{IsEnteredOn};
 ghost use Rattle.hulls.specs.Awaiting.{is_inside};
 ghost use Rattle.hulls.specs.Boards.{IsBoardOf, link_turn};
-ghost use Rattle.hulls.specs.GateViews.{pins_kept};
+ghost use Rattle.hulls.specs.GateViews.{three_kept, two_kept};
 ghost use Rattle.hulls.specs.Settling.{MaySettle, IsAwakeBut, AllDiffer, IsNarrowed, IsPassed, AreAllPinsCut, IsPinEmptied, IsCutTo, MayNarrow, EndsTurn};
 
 use crate::few::KeptAtTwo;
-use crate::gate::kept_at_two;
+use crate::gate::{kept_at_three, kept_at_two};
 use crate::link::{linked_lines, linked_sources};
+use crate::three::KeptAtThree;
 use crate::{Board, Conditions, NarrowScratch, Turn, kept_at};
 use netlist::Netlist;
 use pd_base::{GateId, LineId};
@@ -127,9 +128,73 @@ impl<A: Algebra> Board<A> {
         None
     }
 
-    // Narrows at one gate. Most gates have two pins and no condition: what is kept there stands in no list.
+    // Narrows at one gate. Most gates have two pins and no condition, and of the others most have three: what is kept there stands in no
+    // list.
     #[inline(always)]
     fn narrow_at(
+        &mut self,
+        net: &Netlist,
+        conditions: &Conditions,
+        gate: GateId,
+        scratch: &mut NarrowScratch,
+    ) -> Option<LineId>
+        requires may { MayNarrow A.algebra net.now conditions.now gate.0 self.old }
+        ensures turn { EndsTurn A.algebra net.now conditions.now self.old self.new result }
+    {
+        if conditions.has_condition(gate) {
+            return self.narrow_any(net, conditions, gate, scratch);
+        }
+        match net.pins(gate).len() {
+            2 => self.narrow_two(net, conditions, gate),
+            3 => self.narrow_three(net, conditions, gate),
+            _ => self.narrow_any(net, conditions, gate, scratch),
+        }
+    }
+
+    // Narrows at a gate with two pins and no condition.
+    #[inline(always)]
+    fn narrow_two(&mut self, net: &Netlist, conditions: &Conditions, gate: GateId) -> Option<LineId>
+        requires may { MayNarrow A.algebra net.now conditions.now gate.0 self.old }
+        requires free { condition_at conditions.now.kind conditions.now.steps gate.0 ≡ None }
+        requires two { length (pins_at net.now gate.0) ≡ 2 }
+        ensures turn { EndsTurn A.algebra net.now conditions.now self.old self.new result }
+    {
+        // a netlist knows itself as a circuit
+        let _ = net.sources();
+        let passed = passed_by_two(net, gate);
+        let kept = kept_at_two::<A>(net, self.labels(), gate);
+        if let Some(line) = self.cut_two(net, gate, kept, passed) {
+            return Some(line);
+        }
+        self.cut_own(net, gate, kept.given, passed)
+    }
+
+    // Narrows at a gate with three pins and no condition: a call, so that the loop over gates is small.
+    #[inline(never)]
+    fn narrow_three(
+        &mut self,
+        net: &Netlist,
+        conditions: &Conditions,
+        gate: GateId,
+    ) -> Option<LineId>
+        requires may { MayNarrow A.algebra net.now conditions.now gate.0 self.old }
+        requires free { condition_at conditions.now.kind conditions.now.steps gate.0 ≡ None }
+        requires three { length (pins_at net.now gate.0) ≡ 3 }
+        ensures turn { EndsTurn A.algebra net.now conditions.now self.old self.new result }
+    {
+        // a netlist knows itself as a circuit
+        let _ = net.sources();
+        let passed = passed_by_three(net, gate);
+        let kept = kept_at_three::<A>(net, self.labels(), gate);
+        if let Some(line) = self.cut_three(net, gate, kept, passed) {
+            return Some(line);
+        }
+        self.cut_own(net, gate, kept.given, passed)
+    }
+
+    // Narrows at any gate: a call, too.
+    #[inline(never)]
+    fn narrow_any(
         &mut self,
         net: &Netlist,
         conditions: &Conditions,
@@ -142,15 +207,7 @@ impl<A: Algebra> Board<A> {
         // a netlist knows itself as a circuit
         let _ = net.sources();
         let passed = passed_by(net, gate);
-        let condition = conditions.at(gate);
-        if condition.is_none() && net.pins(gate).len() == 2 {
-            let kept = kept_at_two::<A>(net, self.labels(), gate);
-            if let Some(line) = self.cut_two(net, gate, kept, passed) {
-                return Some(line);
-            }
-            return self.cut_own(net, gate, kept.given, passed);
-        }
-        let given = kept_at::<A>(net, self.labels(), gate, condition, scratch);
+        let given = kept_at::<A>(net, self.labels(), gate, conditions.at(gate), scratch);
         if let Some(line) = self.cut_pins(net, gate, scratch, passed) {
             return Some(line);
         }
@@ -195,8 +252,8 @@ impl<A: Algebra> Board<A> {
         requires circuit { IsCircuit net.now }
         requires gate { gate.0 < gate_count net.now }
         requires two { length (pins_at net.now gate.0) ≡ 2 }
-        ensures cut { MatchOption result (AreAllPinsCut A.algebra.count net.now passed gate.0 (pins_kept kept) self.old self.new)
-            (λ line. IsPinEmptied A.algebra.count net.now passed gate.0 (pins_kept kept) self.old self.new line.0) }
+        ensures cut { MatchOption result (AreAllPinsCut A.algebra.count net.now passed gate.0 (two_kept kept) self.old self.new)
+            (λ line. IsPinEmptied A.algebra.count net.now passed gate.0 (two_kept kept) self.old self.new line.0) }
     {
         let pins = net.pins(gate);
         if self.cut_in(net, pins[0], kept.first, passed) == StateSet::EMPTY {
@@ -204,6 +261,37 @@ impl<A: Algebra> Board<A> {
         }
         if self.cut_in(net, pins[1], kept.second, passed) == StateSet::EMPTY {
             return Some(pins[1]);
+        }
+        None
+    }
+
+    // The same of three pins.
+    #[inline(always)]
+    fn cut_three(
+        &mut self,
+        net: &Netlist,
+        gate: GateId,
+        kept: KeptAtThree,
+        passed: Option<GateId>,
+    ) -> Option<LineId>
+        requires of { IsBoardOf net.now self.old }
+        requires within { AreWithin A.algebra.count self.old.labels }
+        requires some { HasNoEmptySet net.now self.old.labels }
+        requires circuit { IsCircuit net.now }
+        requires gate { gate.0 < gate_count net.now }
+        requires three { length (pins_at net.now gate.0) ≡ 3 }
+        ensures cut { MatchOption result (AreAllPinsCut A.algebra.count net.now passed gate.0 (three_kept kept) self.old self.new)
+            (λ line. IsPinEmptied A.algebra.count net.now passed gate.0 (three_kept kept) self.old self.new line.0) }
+    {
+        let pins = net.pins(gate);
+        if self.cut_in(net, pins[0], kept.first, passed) == StateSet::EMPTY {
+            return Some(pins[0]);
+        }
+        if self.cut_in(net, pins[1], kept.second, passed) == StateSet::EMPTY {
+            return Some(pins[1]);
+        }
+        if self.cut_in(net, pins[2], kept.third, passed) == StateSet::EMPTY {
+            return Some(pins[2]);
         }
         None
     }
@@ -234,14 +322,42 @@ impl<A: Algebra> Board<A> {
     }
 }
 
-// The gate, if its pins are found to read different lines: what narrowing it leaves, narrowing it again does not change. Inlined, since each
-// narrowing of a gate asks it.
-#[inline(always)]
+// The gate, if its pins are found to read different lines: what narrowing it leaves, narrowing it again does not change.
 fn passed_by(net: &Netlist, gate: GateId) -> Option<GateId>
     requires { gate.0 < gate_count net.now }
     ensures { IsPassed net.now gate.0 result }
 {
     if are_found_to_differ(net.pins(gate)) {
+        Some(gate)
+    } else {
+        None
+    }
+}
+
+// The same of a gate with two pins. Inlined, since most narrowings of a gate ask it.
+#[inline(always)]
+fn passed_by_two(net: &Netlist, gate: GateId) -> Option<GateId>
+    requires gate { gate.0 < gate_count net.now }
+    requires two { length (pins_at net.now gate.0) ≡ 2 }
+    ensures { IsPassed net.now gate.0 result }
+{
+    let pins = net.pins(gate);
+    if do_two_differ(pins[0], pins[1]) {
+        Some(gate)
+    } else {
+        None
+    }
+}
+
+// The same of a gate with three.
+#[inline(always)]
+fn passed_by_three(net: &Netlist, gate: GateId) -> Option<GateId>
+    requires gate { gate.0 < gate_count net.now }
+    requires three { length (pins_at net.now gate.0) ≡ 3 }
+    ensures { IsPassed net.now gate.0 result }
+{
+    let pins = net.pins(gate);
+    if do_three_differ(pins[0], pins[1], pins[2]) {
         Some(gate)
     } else {
         None

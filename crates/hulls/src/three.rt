@@ -5,12 +5,21 @@ ghost use Rattle.netlist.specs.Gates.{op_of};
 ghost use Rattle.state_sets.specs.States.{IsWithin};
 ghost use Rattle.hulls.specs.Sets.{Means};
 ghost use Rattle.hulls.specs.Passes.{PassFolds, PassSupports};
-ghost use Rattle.hulls.specs.GateViews.{pin_sets, AreKeptAtPins, IsGivenAtGate};
+ghost use Rattle.hulls.specs.GateViews.{pin_sets, sets_seen, AreKeptAtPins, IsGivenAtGate, IsKeptAtThree};
 
 use crate::inverting::uninverted;
 use crate::limits::{Limits, no_limits};
 use crate::view::GateView;
 use state_sets::{Algebra, StateSet};
+
+// The states that choices have at three pins, and those that they give at the gate's line.
+#[derive(Clone, Copy)]
+pub(crate) struct KeptAtThree {
+    pub(crate) first: StateSet,
+    pub(crate) second: StateSet,
+    pub(crate) third: StateSet,
+    pub(crate) given: StateSet,
+}
 
 // The states that the choices of a pass have at three pins, and those to which they join.
 #[derive(Clone, Copy)]
@@ -29,15 +38,32 @@ pub(crate) fn keep_at_three<A: Algebra>(gate: &GateView, kept: &mut [StateSet]) 
     ensures at_pins { AreKeptAtPins A.algebra gate.now None kept.new }
     ensures at_gate { IsGivenAtGate A.algebra gate.now None result }
 {
+    let found = three_freely::<A>(gate);
+    kept[0] = found.first;
+    kept[1] = found.second;
+    kept[2] = found.third;
+    found.given
+}
+
+// What choices have at the three pins and give at the gate's line, without a condition.
+#[inline(always)]
+pub(crate) fn three_freely<A: Algebra>(gate: &GateView) -> KeptAtThree
+    requires lines { All (λ line. line.0 < length gate.now.labels.now) gate.now.pins.now }
+    requires three { length gate.now.pins.now ≡ 3 }
+    ensures { IsKeptAtThree A.algebra (sets_seen gate.now) result }
+{
     let target = uninverted::<A>(gate.kind, gate.own);
     let pass = pass_three::<A>(gate, no_limits::<A>(), target);
-    kept[0] = pass.first;
-    kept[1] = pass.second;
-    kept[2] = pass.third;
-    uninverted::<A>(gate.kind, pass.joined)
+    KeptAtThree {
+        first: pass.first,
+        second: pass.second,
+        third: pass.third,
+        given: uninverted::<A>(gate.kind, pass.joined),
+    }
 }
 
 // What choices within the limits that join into the target have at the three pins, and join to.
+#[inline(always)]
 fn pass_three<A: Algebra>(gate: &GateView, limits: Limits, target: StateSet) -> PassOfThree
     requires lines { All (λ line. line.0 < length gate.now.labels.now) gate.now.pins.now }
     requires three { length gate.now.pins.now ≡ 3 }

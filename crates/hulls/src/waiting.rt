@@ -1,7 +1,7 @@
-// The gates and links that wait to be narrowed, first in, first out, with a flag for each, so that none is added that waits already. Only
-// those inside wait: a second flag for each says so. That nothing stands twice in the queue is true, and no proof needs it.
+// The gates and links that wait to be narrowed, first in, first out. Only those inside wait. A flag is up for each that is not to be added:
+// for good where it is outside, and else while it waits. That nothing stands twice in the queue is true, and no proof needs it.
 ghost use Rattle.std.specs.Prelude.{◌≡◌, ◌<◌, ◌∷◌, true, [], length, IfOk, IfSome, MatchOption};
-ghost use Rattle.hulls.specs.Awaiting.{is_inside, IsWoken};
+ghost use Rattle.hulls.specs.Awaiting.{is_inside, AreTurned, IsWoken};
 
 use crate::Turn;
 use crate::queue::Queue;
@@ -32,7 +32,7 @@ impl Waiting {
     pub fn new(alloc: Global, inside: Vec<bool>) -> Result<Waiting, OutOfMemory>
         ensures { IfOk result (λ w. w ≡ record { inside = inside.items; waiting = [] }) }
     {
-        let flags = vec![in alloc; false; inside.len()]?;
+        let flags = turned_flags(alloc, inside.as_slice())?;
         let queue = Queue::new(alloc, inside.len())?;
         Ok(Waiting {
             inside,
@@ -56,9 +56,6 @@ impl Waiting {
     {
         let at = turn.0 as usize;
         if self.flags[at] {
-            return;
-        }
-        if !self.inside[at] {
             return;
         }
         self.flags[at] = true;
@@ -93,4 +90,15 @@ impl Waiting {
     {
         while self.pop().is_some() {}
     }
+}
+
+// For each of these flags one that is up where it is not.
+fn turned_flags(alloc: Global, inside: &[bool]) -> Result<Vec<bool>, OutOfMemory>
+    ensures { IfOk result (λ flags. AreTurned inside.now flags.items) }
+{
+    let mut flags = Vec::from_slice(alloc, inside)?;
+    for at in 0..flags.len() {
+        flags[at] = !flags[at];
+    }
+    Ok(flags)
 }

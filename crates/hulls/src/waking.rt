@@ -20,14 +20,31 @@ pub(crate) fn wake(waiting: &mut Waiting, net: &Netlist, line: LineId, passed: O
     ensures more { IsMore waiting.old waiting.new }
     ensures waits { AreWaiting net.now waiting.old.inside passed line.0 waiting.new.waiting }
 {
-    wake_readers(waiting, net.fanout(line), passed);
-    if let Some(driver) = net.gate_of(line) {
-        wake_gate(waiting, driver, passed);
+    let readers = net.fanout(line);
+    let Some(driver) = net.gate_of(line) else {
+        return wake_others(waiting, readers, passed);
+    };
+    // most often it is the gate's own line: no reader of it is the gate
+    if is_passed(passed, driver) {
+        return wake_all(waiting, readers);
     }
+    wake_others(waiting, readers, passed);
+    waiting.add(Turn::of_gate(driver));
 }
 
 // Lets the gates of these pins wait.
-fn wake_readers(waiting: &mut Waiting, pins: &[PinRef], passed: Option<GateId>)
+fn wake_all(waiting: &mut Waiting, pins: &[PinRef])
+    requires { All (λ pin. pin.gate.0 < length waiting.old.inside) pins.now }
+    ensures more { IsMore waiting.old waiting.new }
+    ensures waits { All (λ pin. is_inside waiting.old.inside pin.gate.0 ≡ true → Contains waiting.new.waiting (gate_turn pin.gate.0)) pins.now }
+{
+    for pin in pins {
+        waiting.add(Turn::of_gate(pin.gate));
+    }
+}
+
+// The same without the gate that is passed by.
+fn wake_others(waiting: &mut Waiting, pins: &[PinRef], passed: Option<GateId>)
     requires { All (λ pin. pin.gate.0 < length waiting.old.inside) pins.now }
     ensures more { IsMore waiting.old waiting.new }
     ensures waits { All (λ pin. is_inside waiting.old.inside pin.gate.0 ≡ true → passed ≢ Some pin.gate
@@ -38,7 +55,7 @@ fn wake_readers(waiting: &mut Waiting, pins: &[PinRef], passed: Option<GateId>)
     }
 }
 
-// Lets a gate wait.
+// Lets a gate wait, if it is not the one that is passed by.
 fn wake_gate(waiting: &mut Waiting, gate: GateId, passed: Option<GateId>)
     requires { gate.0 < length waiting.old.inside }
     ensures more { IsMore waiting.old waiting.new }

@@ -1,7 +1,7 @@
 -- Three pins without a condition are told so.
 use Rattle.std.proofs.Common.{sym, subst}
 use Rattle.hulls.specs.GateViews.{AreKeptAtPins, IsGivenAtGate}
-use Rattle.hulls.proofs.TwoPins.{none_there}
+use Rattle.hulls.proofs.FewPins.{none_there}
 use Rattle.hulls.proofs.gate.keep.Goals as goal
 
 pub returns-in-3-clause-at_pins : goal.returns-in-3-clause-at_pins

@@ -1,4 +1,4 @@
--- The flag of what is inside is raised, and it stands behind the others.
+-- The flag of what does not wait is raised, and it stands behind the others.
 use Rattle.std.proofs.Common.{◌<◌, false, true, length, sym, ◌∙◌, subst}
 use Rattle.std.proofs.lemmas.List.{get_or_read}
 use Rattle.std.proofs.Math.ListN.{set}
@@ -13,7 +13,6 @@ push-requires c = let i = c.self.inside in
     let flag_within : c.args.turn.0 < length i.flags.items = subst (λ n. c.args.turn.0 < n) (sym c.self.invariant.one_each) within in
     has_room i.inside.items i.flags.items i.queue.turns i.queue.room c.self.invariant c.args.turn within
     (sym (get_or_read i.flags.items c.args.turn.0 c.index.result.now flag_within c.index.ensures false) ∙ c.if-index.false)
-    (sym (get_or_read i.inside.items c.args.turn.0 c.index-2.result.now within c.index-2.ensures false) ∙ c.if-not-index.false)
 
 pub invariant_of-self : goal.invariant_of-self
 invariant_of-self c = let i = c.self.inside in
@@ -21,8 +20,7 @@ invariant_of-self c = let i = c.self.inside in
     let flag_within : c.args.turn.0 < length i.flags.items = subst (λ n. c.args.turn.0 < n) (sym c.self.invariant.one_each) within in
     subst (λ (q : Queued). IsFlagged i.inside.items (set i.flags.items c.args.turn.0 true) q.turns q.room) (sym c.push.ensures)
     (added i.inside.items i.flags.items i.queue.turns i.queue.room c.self.invariant c.args.turn within
-    (sym (get_or_read i.flags.items c.args.turn.0 c.index.result.now flag_within c.index.ensures false) ∙ c.if-index.false)
-    (sym (get_or_read i.inside.items c.args.turn.0 c.index-2.result.now within c.index-2.ensures false) ∙ c.if-not-index.false))
+    (sym (get_or_read i.flags.items c.args.turn.0 c.index.result.now flag_within c.index.ensures false) ∙ c.if-index.false))
 
 pub returns : goal.returns
 returns c = let i = c.self.inside in
@@ -32,5 +30,4 @@ returns c = let i = c.self.inside in
     (subst (λ (q : Queued). IsWoken c.args.turn (record { inside = i.inside.items; waiting = i.queue.turns })
     (record { inside = i.inside.items; waiting = q.turns })) (sym c.push.ensures)
     (is_added i.inside.items i.flags.items i.queue.turns i.queue.room c.self.invariant c.args.turn within
-    (sym (get_or_read i.flags.items c.args.turn.0 c.index.result.now flag_within c.index.ensures false) ∙ c.if-index.false)
-    (sym (get_or_read i.inside.items c.args.turn.0 c.index-2.result.now within c.index-2.ensures false) ∙ c.if-not-index.false)))
+    (sym (get_or_read i.flags.items c.args.turn.0 c.index.result.now flag_within c.index.ensures false) ∙ c.if-index.false)))

@@ -1,7 +1,1 @@
 -- Nothing waits at first.
-use Rattle.std.proofs.Common.{arith}
-use Rattle.std.proofs.lemmas.Grind.{common_steps}
-use Rattle.hulls.proofs.waiting.Waiting.new.Goals as goal
-
-pub invariant_of-result : goal.invariant_of-result
-invariant_of-result c = grind (arith, common_steps)

@@ -2,7 +2,7 @@ use Rattle.std.proofs.Common.{take}
 use Rattle.std.specs.List.{All}
 use Rattle.hulls.specs.Awaiting.{IsMore}
 use Rattle.hulls.proofs.Readers.{WaitsIn}
-use Rattle.hulls.proofs.waking.wake_readers.Given as goal
+use Rattle.hulls.proofs.waking.wake_others.Given as goal
 
 abbrev pub invariant-loop-pin : goal.invariant-loop-pin
 invariant-loop-pin l = record {

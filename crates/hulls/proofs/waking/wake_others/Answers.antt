@@ -6,7 +6,7 @@ use Rattle.std.proofs.lemmas.List.Elements.{All-more, All-weaker}
 use Rattle.pd_base.specs.declared.ids.PinRef.{PinRef}
 use Rattle.hulls.specs.Awaiting.{gate_turn}
 use Rattle.hulls.proofs.Readers.{WaitsIn, more_on}
-use Rattle.hulls.proofs.waking.wake_readers.Goals as goal
+use Rattle.hulls.proofs.waking.wake_others.Goals as goal
 
 pub loop-pin-preserved : goal.loop-pin-preserved
 loop-pin-preserved c =

@@ -1,0 +1,46 @@
+-- The lines of the pins are cut, and then that of the gate.
+use Rattle.std.proofs.Common.{◌<◌, length, sym, subst}
+use Rattle.std.specs.Option.{IfSome}
+use Rattle.netlist.specs.Circuit.{pins_at}
+use Rattle.state_sets.specs.Hulls.{condition_at}
+use Rattle.hulls.proofs.Marks.{condition_pin}
+use Rattle.hulls.proofs.Narrowed.{conflict_at_pin, turn_ends, pins_as, gate_as}
+use Rattle.hulls.proofs.board.Board.narrow_any.Goals as goal
+
+pub cut_pins-requires-clause-circuit : goal.cut_pins-requires-clause-circuit
+cut_pins-requires-clause-circuit g c = c.sources.ensures.circuit
+
+pub kept_at-given-requires-clause-pin : goal.kept_at-given-requires-clause-pin
+kept_at-given-requires-clause-pin g c =
+    let net = c.args.net.now in let on = c.args.conditions.now in
+    subst (λ o. IfSome o (λ condition. condition.pin < length (pins_at net c.args.gate.0))) (sym c.at.ensures)
+    (condition_pin on.kind net on.steps c.requires.may.conditions.steps c.args.gate.0)
+
+pub returns-in-Some : goal.returns-in-Some
+returns-in-Some g c =
+    let a = g.A.Algebra.algebra in let net = c.args.net.now in let on = c.args.conditions.now in let gate = c.args.gate.0 in
+    let old = c.args.self.now in let kept = c.kept_at-given.new.scratch in let condition = condition_at on.kind on.steps gate in
+    record {
+      turn = conflict_at_pin a net on.kind on.steps c.sources.ensures.circuit gate c.requires.may.in_circuit kept c.kept_at-given.result old
+          c.requires.may.inside c.passed_by-passed.result c.passed_by-passed.ensures c.requires.may.of.lines c.requires.may.within
+          (pins_as a net gate c.labels.result.now old.labels c.labels.ensures.labels c.at.result condition c.at.ensures kept
+          c.kept_at-given.ensures.at_pins)
+          (gate_as a net gate c.labels.result.now old.labels c.labels.ensures.labels c.at.result condition c.at.ensures
+          c.kept_at-given.result c.kept_at-given.ensures.at_gate)
+          c.in-Some.line.0 c.cut_pins.new.self c.in-Some.ensures.cut;
+    }
+
+pub returns : goal.returns
+returns g c =
+    let a = g.A.Algebra.algebra in let net = c.args.net.now in let on = c.args.conditions.now in let gate = c.args.gate.0 in
+    let old = c.args.self.now in let kept = c.kept_at-given.new.scratch in let condition = condition_at on.kind on.steps gate in
+    record {
+      turn = turn_ends a net on.kind on.steps c.sources.ensures.circuit gate c.requires.may.in_circuit kept c.kept_at-given.result old
+          c.requires.may.inside c.passed_by-passed.result c.passed_by-passed.ensures c.requires.may.of.lines c.requires.may.within
+          (pins_as a net gate c.labels.result.now old.labels c.labels.ensures.labels c.at.result condition c.at.ensures kept
+          c.kept_at-given.ensures.at_pins)
+          (gate_as a net gate c.labels.result.now old.labels c.labels.ensures.labels c.at.result condition c.at.ensures
+          c.kept_at-given.result c.kept_at-given.ensures.at_gate)
+          c.cut_pins.new.self c.cut_own.new.self c.in_default.ensures.cut c.cut_own.ensures.cut c.cut_own.result
+          c.requires.may.awake c.cut_own.ensures.some c.cut_own.ensures.emptied;
+    }
