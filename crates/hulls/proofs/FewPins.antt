@@ -19,11 +19,11 @@ use Rattle.hulls.specs.Boards.{OnBoard}
 use Rattle.hulls.specs.Settling.{ArePinsCut, IsCutTo}
 use Rattle.hulls.proofs.Changing.{cut_none, cut_more}
 
-pub kept_at_two : (a : StateAlgebra) (sets : GateSets) (kept : KeptAtTwo) → IsKeptAtTwo a sets kept → (count : ℕ) → count ≡ 2
-    → (pin : ℕ) → pin < count → Means a.count (set_at (two_kept kept) pin) (GivesAtPin a sets None pin)
-kept_at_two a sets kept is count two zero inside = is.first
-kept_at_two a sets kept is count two (suc zero) inside = is.second
-kept_at_two a sets kept is count two (suc (suc pin)) inside = absurd (omega (arith, two, inside))
+pub kept_at_two : (a : StateAlgebra) (sets : GateSets) (condition : Option Condition) (kept : KeptAtTwo) → IsKeptAtTwo a sets condition kept
+    → (count : ℕ) → count ≡ 2 → (pin : ℕ) → pin < count → Means a.count (set_at (two_kept kept) pin) (GivesAtPin a sets condition pin)
+kept_at_two a sets condition kept is count two zero inside = is.first
+kept_at_two a sets condition kept is count two (suc zero) inside = is.second
+kept_at_two a sets condition kept is count two (suc (suc pin)) inside = absurd (omega (arith, two, inside))
 
 pub kept_at_three : (a : StateAlgebra) (sets : GateSets) (kept : KeptAtThree) → IsKeptAtThree a sets kept → (count : ℕ) → count ≡ 3
     → (pin : ℕ) → pin < count → Means a.count (set_at (three_kept kept) pin) (GivesAtPin a sets None pin)

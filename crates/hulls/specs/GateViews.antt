@@ -27,13 +27,13 @@ AreKeptAtPins a gate condition kept =
 abbrev pub IsGivenAtGate : StateAlgebra → GateView → Option Condition → StateSet → Type 0
 IsGivenAtGate a gate condition given = Means a.count given (GivesAtGate a (sets_seen gate) condition)
 
--- the states that choices have at two pins, without a condition, and those that they give at the gate's line
-pub record IsKeptAtTwo (a : StateAlgebra) (sets : GateSets) (kept : KeptAtTwo) : Type 0 where
-  pub first : Means a.count kept.first (GivesAtPin a sets None 0)
-  pub second : Means a.count kept.second (GivesAtPin a sets None 1)
-  pub given : Means a.count kept.given (GivesAtGate a sets None)
+-- the states that allowed choices have at two pins, and those that they give at the gate's line
+pub record IsKeptAtTwo (a : StateAlgebra) (sets : GateSets) (condition : Option Condition) (kept : KeptAtTwo) : Type 0 where
+  pub first : Means a.count kept.first (GivesAtPin a sets condition 0)
+  pub second : Means a.count kept.second (GivesAtPin a sets condition 1)
+  pub given : Means a.count kept.given (GivesAtGate a sets condition)
 
--- the same at three pins
+-- the same at three pins, without a condition
 pub record IsKeptAtThree (a : StateAlgebra) (sets : GateSets) (kept : KeptAtThree) : Type 0 where
   pub first : Means a.count kept.first (GivesAtPin a sets None 0)
   pub second : Means a.count kept.second (GivesAtPin a sets None 1)

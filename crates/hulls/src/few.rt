@@ -62,33 +62,32 @@ pub(crate) fn keep_at_two<A: Algebra>(
     ensures at_pins { AreKeptAtPins A.algebra gate.now condition kept.new }
     ensures at_gate { IsGivenAtGate A.algebra gate.now condition result }
 {
-    match condition {
-        None => two_freely::<A>(gate, kept),
-        Some(step) => two_at_step::<A>(gate, step, kept),
-    }
-}
-
-// The same without a condition.
-#[inline(always)]
-fn two_freely<A: Algebra>(gate: &GateView, kept: &mut [StateSet]) -> StateSet
-    requires lines { All (λ line. line.0 < length gate.now.labels.now) gate.now.pins.now }
-    requires two { length gate.now.pins.now ≡ 2 }
-    requires kept { 1 < length kept.old }
-    ensures at_pins { AreKeptAtPins A.algebra gate.now None kept.new }
-    ensures at_gate { IsGivenAtGate A.algebra gate.now None result }
-{
-    let found = kept_freely::<A>(gate);
+    let found = kept_by_two::<A>(gate, condition);
     kept[0] = found.first;
     kept[1] = found.second;
     found.given
 }
 
-// What choices have at the two pins and give at the gate's line, without a condition.
+// What allowed choices have at the two pins and give at the gate's line.
 #[inline(always)]
-pub(crate) fn kept_freely<A: Algebra>(gate: &GateView) -> KeptAtTwo
+pub(crate) fn kept_by_two<A: Algebra>(gate: &GateView, condition: Option<Condition>) -> KeptAtTwo
     requires lines { All (λ line. line.0 < length gate.now.labels.now) gate.now.pins.now }
     requires two { length gate.now.pins.now ≡ 2 }
-    ensures { IsKeptAtTwo A.algebra (sets_seen gate.now) result }
+    requires pin { IfSome condition (λ c. c.pin < length gate.now.pins.now) }
+    ensures { IsKeptAtTwo A.algebra (sets_seen gate.now) condition result }
+{
+    match condition {
+        None => two_freely::<A>(gate),
+        Some(step) => two_at_step::<A>(gate, step),
+    }
+}
+
+// The same without a condition.
+#[inline(always)]
+fn two_freely<A: Algebra>(gate: &GateView) -> KeptAtTwo
+    requires lines { All (λ line. line.0 < length gate.now.labels.now) gate.now.pins.now }
+    requires two { length gate.now.pins.now ≡ 2 }
+    ensures { IsKeptAtTwo A.algebra (sets_seen gate.now) None result }
 {
     let target = uninverted::<A>(gate.kind, gate.own);
     let pass = pass_two::<A>(gate, no_limits::<A>(), target);
@@ -100,22 +99,22 @@ pub(crate) fn kept_freely<A: Algebra>(gate: &GateView) -> KeptAtTwo
 }
 
 // The same with the condition of a step: a pass for each final value of the on-path pin.
-fn two_at_step<A: Algebra>(gate: &GateView, step: Condition, kept: &mut [StateSet]) -> StateSet
+fn two_at_step<A: Algebra>(gate: &GateView, step: Condition) -> KeptAtTwo
     requires lines { All (λ line. line.0 < length gate.now.labels.now) gate.now.pins.now }
     requires two { length gate.now.pins.now ≡ 2 }
-    requires kept { 1 < length kept.old }
     requires pin { step.pin < length gate.now.pins.now }
-    ensures at_pins { AreKeptAtPins A.algebra gate.now (Some step) kept.new }
-    ensures at_gate { IsGivenAtGate A.algebra gate.now (Some step) result }
+    ensures { IsKeptAtTwo A.algebra (sets_seen gate.now) (Some step) result }
 {
     let target = uninverted::<A>(gate.kind, gate.own);
     let at_zero = limits_of::<A>(gate.kind, step, false);
     let zero = pass_two::<A>(gate, at_zero, target);
     let at_one = limits_of::<A>(gate.kind, step, true);
     let one = pass_two::<A>(gate, at_one, target);
-    kept[0] = zero.first.unite(one.first);
-    kept[1] = zero.second.unite(one.second);
-    uninverted::<A>(gate.kind, zero.joined.unite(one.joined))
+    KeptAtTwo {
+        first: zero.first.unite(one.first),
+        second: zero.second.unite(one.second),
+        given: uninverted::<A>(gate.kind, zero.joined.unite(one.joined)),
+    }
 }
 
 // What choices within the limits that join into the target have at the two pins, and join to.

@@ -1,5 +1,5 @@
-// Narrowing at one gate: all kept sets are collected from the labels as they are, and only then are labels cut. Most gates have two pins
-// and no condition: what is kept there is given apart, and found without a call where narrowing runs in a loop.
+// Narrowing at one gate: all kept sets are collected from the labels as they are, and only then are labels cut. Most gates have two pins,
+// and most others three: what is kept there is given apart, and found without a call where narrowing runs in a loop.
 ghost use Rattle.std.specs.Prelude.{◌≡◌, ◌<◌, ◌≤◌, ℕ, length, All, IfSome};
 ghost use Rattle.netlist.specs.declared.limits.TheConstants.{MOST_FAN_IN};
 ghost use Rattle.netlist.specs.Circuit.{gate_count, line_count, pins_at};
@@ -11,7 +11,7 @@ ghost use Rattle.hulls.specs.GateViews.{sets_seen, AreKeptAtPins, IsGivenAtGate,
 
 use crate::collecting::keep_at_all;
 use crate::cutting::{cut_line, cut_pins, told};
-use crate::few::{KeptAtTwo, keep_at_one, keep_at_two, kept_freely};
+use crate::few::{KeptAtTwo, keep_at_one, keep_at_two, kept_by_two};
 use crate::scratch::NarrowScratch;
 use crate::three::{KeptAtThree, keep_at_three, three_freely};
 use crate::view::GateView;
@@ -105,18 +105,24 @@ fn view_of<'a>(net: &'a Netlist, labels: &'a [StateSet], gate: GateId) -> GateVi
     }
 }
 
-// The same at a gate with two pins and no condition, with all that is kept given. Inlined, since it is asked in a loop.
+// The same at a gate with two pins, with all that is kept given. Inlined, since it is asked in a loop, most often without a condition.
 #[inline(always)]
-pub(crate) fn kept_at_two<A: Algebra>(net: &Netlist, labels: &[StateSet], gate: GateId) -> KeptAtTwo
+pub(crate) fn kept_at_two<A: Algebra>(
+    net: &Netlist,
+    labels: &[StateSet],
+    gate: GateId,
+    condition: Option<Condition>,
+) -> KeptAtTwo
     requires lines { length labels.now ≡ line_count net.now }
     requires gate { gate.0 < gate_count net.now }
     requires two { length (pins_at net.now gate.0) ≡ 2 }
-    ensures { IsKeptAtTwo A.algebra (gate_sets net.now gate.0 labels.now) result }
+    requires pin { IfSome condition (λ c. c.pin < length (pins_at net.now gate.0)) }
+    ensures { IsKeptAtTwo A.algebra (gate_sets net.now gate.0 labels.now) condition result }
 {
-    kept_freely::<A>(&view_of(net, labels, gate))
+    kept_by_two::<A>(&view_of(net, labels, gate), condition)
 }
 
-// The same at a gate with three.
+// The same at a gate with three and no condition.
 #[inline(always)]
 pub(crate) fn kept_at_three<A: Algebra>(
     net: &Netlist,

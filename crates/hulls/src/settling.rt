@@ -19,7 +19,7 @@ use crate::three::KeptAtThree;
 use crate::{Board, Conditions, NarrowScratch, Turn, kept_at};
 use netlist::Netlist;
 use pd_base::{GateId, LineId};
-use state_sets::{Algebra, StateSet};
+use state_sets::{Algebra, Condition, StateSet};
 
 // The most pins of a gate that are compared each with all others. A gate with more, whose lines do not ascend, is narrowed again where its
 // narrowing changed a line.
@@ -142,34 +142,58 @@ impl<A: Algebra> Board<A> {
         ensures turn { EndsTurn A.algebra net.now conditions.now self.old self.new result }
     {
         if conditions.has_condition(gate) {
-            return self.narrow_any(net, conditions, gate, scratch);
+            return self.narrow_on_path(net, conditions, gate, scratch);
         }
         match net.pins(gate).len() {
-            2 => self.narrow_two(net, conditions, gate),
+            2 => self.narrow_two(net, conditions, gate, None),
             3 => self.narrow_three(net, conditions, gate),
             _ => self.narrow_any(net, conditions, gate, scratch),
         }
     }
 
-    // Narrows at a gate with two pins and no condition.
-    #[inline(always)]
-    fn narrow_two(&mut self, net: &Netlist, conditions: &Conditions, gate: GateId) -> Option<LineId>
+    // Narrows at a gate with a condition: a call, so that the loop over gates is small.
+    #[inline(never)]
+    fn narrow_on_path(
+        &mut self,
+        net: &Netlist,
+        conditions: &Conditions,
+        gate: GateId,
+        scratch: &mut NarrowScratch,
+    ) -> Option<LineId>
         requires may { MayNarrow A.algebra net.now conditions.now gate.0 self.old }
-        requires free { condition_at conditions.now.kind conditions.now.steps gate.0 ≡ None }
+        ensures turn { EndsTurn A.algebra net.now conditions.now self.old self.new result }
+    {
+        match net.pins(gate).len() {
+            2 => self.narrow_two(net, conditions, gate, conditions.at(gate)),
+            _ => self.narrow_any(net, conditions, gate, scratch),
+        }
+    }
+
+    // Narrows at a gate with two pins, under this condition.
+    #[inline(always)]
+    fn narrow_two(
+        &mut self,
+        net: &Netlist,
+        conditions: &Conditions,
+        gate: GateId,
+        condition: Option<Condition>,
+    ) -> Option<LineId>
+        requires may { MayNarrow A.algebra net.now conditions.now gate.0 self.old }
+        requires condition { condition ≡ condition_at conditions.now.kind conditions.now.steps gate.0 }
         requires two { length (pins_at net.now gate.0) ≡ 2 }
         ensures turn { EndsTurn A.algebra net.now conditions.now self.old self.new result }
     {
         // a netlist knows itself as a circuit
         let _ = net.sources();
         let passed = passed_by_two(net, gate);
-        let kept = kept_at_two::<A>(net, self.labels(), gate);
+        let kept = kept_at_two::<A>(net, self.labels(), gate, condition);
         if let Some(line) = self.cut_two(net, gate, kept, passed) {
             return Some(line);
         }
         self.cut_own(net, gate, kept.given, passed)
     }
 
-    // Narrows at a gate with three pins and no condition: a call, so that the loop over gates is small.
+    // Narrows at a gate with three pins and no condition: a call, too.
     #[inline(never)]
     fn narrow_three(
         &mut self,

@@ -1,24 +1,17 @@
--- By whether there is a condition.
-use Rattle.std.proofs.Common.{sym, subst}
-use Rattle.hulls.specs.GateViews.{AreKeptAtPins, IsGivenAtGate}
+-- What is found is left pin by pin.
+use Rattle.std.proofs.Common.{length}
+use Rattle.state_sets.specs.Narrowing.{GivesAtPin}
+use Rattle.hulls.specs.Sets.{Means}
+use Rattle.hulls.specs.GateViews.{sets_seen}
+use Rattle.hulls.proofs.OneToThree.{kept_two}
 use Rattle.hulls.proofs.few.keep_at_two.Goals as goal
 
-pub returns-in-Some-clause-at_pins : goal.returns-in-Some-clause-at_pins
-returns-in-Some-clause-at_pins g c =
-    subst (λ condition. AreKeptAtPins g.A.Algebra.algebra c.args.gate.now condition c.two_at_step.new.kept)
-    (sym c.in-Some.is) c.two_at_step.ensures.at_pins
+pub returns-clause-at_pins : goal.returns-clause-at_pins
+returns-clause-at_pins g c =
+    let a = g.A.Algebra.algebra in let view = c.args.gate.now in let found = c.kept_by_two-found.result in
+    kept_two (λ pin kept. Means a.count kept (GivesAtPin a (sets_seen view) c.args.condition pin))
+    c.args.kept.now found.first found.second (length view.pins.now) c.requires.two c.requires.kept
+    c.kept_by_two-found.ensures.first c.kept_by_two-found.ensures.second
 
-pub returns-in-Some-clause-at_gate : goal.returns-in-Some-clause-at_gate
-returns-in-Some-clause-at_gate g c =
-    subst (λ condition. IsGivenAtGate g.A.Algebra.algebra c.args.gate.now condition c.two_at_step.result)
-    (sym c.in-Some.is) c.two_at_step.ensures.at_gate
-
-pub returns-in-None-clause-at_pins : goal.returns-in-None-clause-at_pins
-returns-in-None-clause-at_pins g c =
-    subst (λ condition. AreKeptAtPins g.A.Algebra.algebra c.args.gate.now condition c.two_freely.new.kept)
-    (sym c.in-None.is) c.two_freely.ensures.at_pins
-
-pub returns-in-None-clause-at_gate : goal.returns-in-None-clause-at_gate
-returns-in-None-clause-at_gate g c =
-    subst (λ condition. IsGivenAtGate g.A.Algebra.algebra c.args.gate.now condition c.two_freely.result)
-    (sym c.in-None.is) c.two_freely.ensures.at_gate
+pub returns-clause-at_gate : goal.returns-clause-at_gate
+returns-clause-at_gate g c = c.kept_by_two-found.ensures.given

@@ -5,4 +5,4 @@ use Rattle.hulls.proofs.gate.kept_at_two.Goals as goal
 
 pub returns : goal.returns
 returns g c =
-    subst (λ sets. IsKeptAtTwo g.A.Algebra.algebra sets c.kept_freely.result) c.view_of.ensures.sets c.kept_freely.ensures
+    subst (λ sets. IsKeptAtTwo g.A.Algebra.algebra sets c.args.condition c.kept_by_two.result) c.view_of.ensures.sets c.kept_by_two.ensures
