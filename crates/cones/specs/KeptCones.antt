@@ -8,6 +8,7 @@ use Rattle.netlist.specs.Circuit.{Circuit, source_count, gate_count, gate_line, 
 use Rattle.netlist.specs.Levels.{IsRankedBefore, IsRankOrder, ReadsEarlier}
 use Rattle.netlist.specs.LinkedPairs.{AreLinksOf, IsSupported}
 use Rattle.cones.specs.FoundLines.{FoundSet}
+use Rattle.cones.specs.Ranks.{AreRanks}
 use Rattle.cones.specs.declared.end_cone.EndCone.{EndCone}
 
 -- What is at hand of a cone, if one is: its end, its lines, its sources and its gates. And of the circuit, whatever the cone is: the links
@@ -21,14 +22,6 @@ pub record KeptCone : Type 0 where
   pub order : List GateId
   pub ranks : List ℕ
   pub others : List EndCone
-
--- the gate at a place of a list
-abbrev pub ranked_gate : List GateId → ℕ → GateId
-ranked_gate gates place = slice_index_or gates place (record { 0 = 0 })
-
--- the number that each gate of a list has is its place there
-pub record AreRanks (order : List GateId) (ranks : List ℕ) : Type 0 where
-  pub each : (place : ℕ) → place < length order → slice_index ranks (ranked_gate order place).0 ≡ place
 
 -- the number is that of a gate whose line is among these
 pub record IsRankAmong (c : Circuit) (lines : List LineId) (ranks : List ℕ) (rank : ℕ) : Type 0 where

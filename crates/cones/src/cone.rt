@@ -10,9 +10,10 @@ ghost use Rattle.cones.specs.KeptCones.{IsConeFor, IsConeAt, IsConeOfNone, IsAsi
 
 use crate::back_search::find_cone;
 use crate::cone_lists::{
-    list_gates, list_sources, number_sources, rank_gates, ranks_of, scan_gates, scan_sources,
+    list_gates, list_sources, number_sources, rank_gates, scan_gates, scan_sources,
 };
 use crate::end_cone::{EndCone, most_others, no_cones, place_of};
+use crate::ranks::ranks_of;
 use crate::source_links::SourceLinks;
 use netlist::Netlist;
 use pd_base::{GateId, LineId, OutOfMemory};
