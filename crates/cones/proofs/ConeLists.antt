@@ -1,32 +1,19 @@
 -- The sources and the gates of a cone, made of their numbers and of their places in rank order.
-use Rattle.std.proofs.Common.{◌≡◌, ◌≢◌, ⊎_elim, ℕ, ◌+◌, ◌<◌, ◌≤◌, ◌↔◌, List, length, map, get_or, set, get_or-set_same, get_or-set_other, sym, ap, subst, ◌∙◌, arith}
+use Rattle.std.proofs.Common.{◌≡◌, ℕ, ◌<◌, ◌↔◌, List, length, map, get_or, sym, ap, subst, ◌∙◌}
 use Rattle.std.specs.List.{All, AllPairs, Contains}
-use Rattle.std.proofs.lemmas.Bool.{cases_lt}
-use Rattle.std.proofs.lemmas.List.{get_or_default}
 use Rattle.std.proofs.lemmas.List.Elements.{Contains-get_or}
 use Rattle.pd_base.specs.Links.{LinkList}
 use Rattle.pd_base.specs.declared.ids.LineId.{LineId}
 use Rattle.pd_base.specs.declared.ids.GateId.{GateId}
 use Rattle.netlist.specs.Circuit.{Circuit, source_count, gate_count, gate_line}
 use Rattle.netlist.specs.Lawful.{IsCircuit}
-use Rattle.netlist.specs.Levels.{level, IsRankedBefore, IsRankOrder}
-use Rattle.netlist.specs.Levels.IsRankedBefore.{lower_level, lesser_number}
+use Rattle.netlist.specs.Levels.{IsRankedBefore, IsRankOrder}
 use Rattle.netlist.specs.LinkedPairs.{IsSupported}
-use Rattle.cones.specs.KeptCones.{ranked_gate, AreRanks, IsRankAmong, AreConeSources, AreConeGates}
+use Rattle.cones.specs.KeptCones.{IsRankAmong, AreConeSources, AreConeGates}
+use Rattle.cones.specs.Ranks.{ranked_gate, AreRanks}
 use Rattle.cones.proofs.Images.{image_has, image_only, image_pairs}
+use Rattle.cones.proofs.RankPlaces.{place_of}
 use Rattle.cones.proofs.RankedCones.{cone_gates}
-
--- no gate of a list in rank order stands there twice
-pub gates_apart : (c : Circuit) (gates : List GateId) → AllPairs (IsRankedBefore c) gates → AllPairs (λ a b. a.0 ≢ b.0) gates
-gates_apart c gates rising i j d less inside same = apart (get_or gates i d) (get_or gates j d) same (rising i j d less inside)
-  where
-    apart : (a b : GateId) → a.0 ≡ b.0 → IsRankedBefore c a b → ⊥
-    apart a b same (lower_level below) = omega (arith, ap (λ n. level c (gate_line c n)) same)
-    apart a b same (lesser_number even less) = omega arith
-
--- nor of the order of all
-pub ranked_apart : (c : Circuit) (order : List GateId) → IsRankOrder c order → AllPairs (λ a b. a.0 ≢ b.0) order
-ranked_apart c order ranked = gates_apart c order ranked.rising
 
 -- a source by its number
 abbrev pub source_of : ℕ → LineId
@@ -51,18 +38,10 @@ module _ (c : Circuit) (links : LinkList) (end : ℕ) (lines : List LineId)
 
   module _ (order : List GateId) (ranked : IsRankOrder c order) (ranks : List ℕ) (places : AreRanks order ranks)
       (exactly : (n : ℕ) → Contains numbers n ↔ IsRankAmong c lines ranks n) where
-    -- the place of a gate in rank order is the number that it has
-    place_of : (gate : ℕ) → gate < gate_count c → (place : ℕ) × (place < length order) × (ranked_gate order place ≡ record { 0 = gate })
-        × (get_or ranks gate 0 ≡ place)
-    place_of gate within =
-        let at = ranked.whole gate within in
-        let is : ranked_gate order at.0 ≡ record { 0 = gate } = get_or_default order at.0 (record { 0 = 0 }) (record { 0 = gate }) at.1 ∙ at.2 in
-        (at.0, at.1, is, ap (λ (g : GateId). get_or ranks g.0 0) (sym is) ∙ places.each at.0 at.1)
-
-    -- so each of the numbers is the place of its gate
+    -- each of the numbers is the place of its gate
     own_place : (n : ℕ) → (among : IsRankAmong c lines ranks n) → (n < length order) × (ranked_gate order n ≡ record { 0 = among.gate })
     own_place n among =
-        let at = place_of among.gate among.in_circuit in
+        let at = place_of c order ranked ranks places among.gate among.in_circuit in
         let same : at.0 ≡ n = sym at.3 ∙ among.ranked in
         (subst (λ k. k < length order) same at.1, subst (λ k. ranked_gate order k ≡ record { 0 = among.gate }) same at.2)
 
@@ -90,7 +69,7 @@ module _ (c : Circuit) (links : LinkList) (end : ℕ) (lines : List LineId)
             subst (λ g. IsSupported c links end (gate_line c g)) same ((are (gate_line c among.gate)).0 among.among),
           ),
       λ both.
-          let at = place_of gate both.0 in
+          let at = place_of c order ranked ranks places gate both.0 in
           let among : IsRankAmong c lines ranks at.0 =
           record { gate = gate; in_circuit = both.0; among = (are (gate_line c gate)).1 both.1; ranked = at.3 } in
           subst (Contains gates) at.2 (image_has (ranked_gate order) numbers at.0 ((exactly at.0).1 among)),
@@ -98,16 +77,3 @@ module _ (c : Circuit) (links : LinkList) (end : ℕ) (lines : List LineId)
 
     pub listed_gates : IsCircuit c → AreConeGates c links end gates
     listed_gates circuit = cone_gates c links end gates gates_rising gates_exactly circuit
-
--- one gate more has its place
-pub ranks_more : (order : List GateId) (ranks : List ℕ) (place : ℕ) → place < length order → (ranked_gate order place).0 < length ranks
-    → AllPairs (λ a b. a.0 ≢ b.0) order → ((k : ℕ) → k < place → get_or ranks (ranked_gate order k).0 0 ≡ k)
-    → (k : ℕ) → k < place + 1 → get_or (set ranks (ranked_gate order place).0 place) (ranked_gate order k).0 0 ≡ k
-ranks_more order ranks place inside within apart before k below = ⊎_elim
-    (λ (less : k < place).
-    get_or-set_other ranks (ranked_gate order place).0 (ranked_gate order k).0 place 0 (apart k place (record { 0 = 0 }) less inside) ∙ before k less)
-    (λ (from : place ≤ k).
-    let here : k ≡ place = omega arith in
-    ap (λ j. get_or (set ranks (ranked_gate order place).0 place) (ranked_gate order j).0 0) here
-    ∙ get_or-set_same ranks (ranked_gate order place).0 place 0 within ∙ sym here)
-    (cases_lt k place)

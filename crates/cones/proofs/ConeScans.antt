@@ -15,7 +15,7 @@ use Rattle.netlist.specs.Levels.{IsRankedBefore, IsRankOrder}
 use Rattle.netlist.specs.LinkedPairs.{IsSupported}
 use Rattle.cones.specs.FoundLines.{HasMark}
 use Rattle.cones.specs.KeptCones.{AreConeSources, AreConeGates}
-use Rattle.cones.proofs.ConeLists.{ranked_apart}
+use Rattle.cones.proofs.RankPlaces.{ranked_apart}
 use Rattle.cones.proofs.Images.{few_numbers, image_pairs}
 use Rattle.cones.proofs.RankedCones.{cone_gates}
 

@@ -1,5 +1,5 @@
 -- What holds of the cones of a circuit, at hand and kept aside, where one is found and where two are exchanged.
-use Rattle.std.proofs.Common.{◌≡◌, ◌<◌, ℕ, List, length, Option, Some, None, get_or, set, sym, subst, ◌∙◌}
+use Rattle.std.proofs.Common.{◌≡◌, ◌<◌, ℕ, List, length, Option, None, get_or, set, sym, subst, ◌∙◌}
 use Rattle.std.specs.Prelude.{IfSome}
 use Rattle.std.specs.List.{All}
 use Rattle.std.proofs.lemmas.List.Elements.{All-set}
@@ -9,7 +9,7 @@ use Rattle.pd_base.specs.declared.ids.GateId.{GateId}
 use Rattle.netlist.specs.Circuit.{Circuit, line_count}
 use Rattle.cones.specs.FoundLines.{FoundSet}
 use Rattle.cones.specs.declared.end_cone.EndCone.{EndCone}
-use Rattle.cones.specs.KeptCones.{KeptCone, IsConeAt, IsConeFor, IsAside, IsAsideFor, IsNoCone}
+use Rattle.cones.specs.KeptCones.{KeptCone, AreConeParts, IsConeFor, IsAside, IsNoCone}
 
 -- where no cone is kept any more, it doesn't matter which lines were found
 pub none_kept : (c : Circuit) (cone : KeptCone) (found : FoundSet) → found.room ≡ cone.found.room → IsConeFor c cone
@@ -37,39 +37,31 @@ seen_with current others links order ranks = record {
   others = others;
 }
 
-module _ (c : Circuit) (links : LinkList) (order : List GateId) (ranks : List ℕ) where
-  -- what was kept aside of an end is its cone at hand, and the other way round
-  brought : (other : EndCone) (others : List EndCone) (end : Option LineId) → IfSome end (λ e. IsAsideFor c links e.0 other)
-      → IfSome end (λ e. IsConeAt c e.0 (seen_with other others links order ranks))
-  brought other others None own = own
-  brought other others (Some end) own = record { lines = own.lines; sources = own.sources; gates = own.gates }
+module _ (c : Circuit) (links : LinkList) (order : List GateId) (ranks : List ℕ) (current : EndCone) (others : List EndCone)
+    (made : IsConeFor c (seen_with current others links order ranks)) (place : ℕ) (d : EndCone) (inside : place < length others) where
+  abbrev after : KeptCone
+  after = seen_with (get_or others place d) (set others place current) links order ranks
 
-  put : (current : EndCone) (others : List EndCone) (end : Option LineId)
-      → IfSome end (λ e. IsConeAt c e.0 (seen_with current others links order ranks)) → IfSome end (λ e. IsAsideFor c links e.0 current)
-  put current others None kept = kept
-  put current others (Some end) kept = record { lines = kept.lines; sources = kept.sources; gates = kept.gates }
-
-  module _ (current : EndCone) (others : List EndCone) (made : IsConeFor c (seen_with current others links order ranks))
-      (place : ℕ) (d : EndCone) (inside : place < length others) where
-    abbrev after : KeptCone
-    after = seen_with (get_or others place d) (set others place current) links order ranks
-
-    -- the one at hand and one aside are exchanged, and each is still that of its end
-    pub exchanged : IsConeFor c after
-    exchanged = record {
-      room = (made.aside place d inside).room;
-      fit = made.fit;
-      ordered = made.ordered;
-      one_each = made.one_each;
-      places = made.places;
-      kept = brought (get_or others place d) (set others place current) (get_or others place d).end (made.aside place d inside).own;
-      aside = All-set (IsAside c links) others place current
-          (record { room = made.room; own = put current others current.end made.kept }) made.aside;
-    }
+  -- the one at hand and one aside are exchanged, and each is still that of its end
+  pub exchanged : IsConeFor c after
+  exchanged = record {
+    room = (made.aside place d inside).room;
+    fit = made.fit;
+    ordered = made.ordered;
+    one_each = made.one_each;
+    places = made.places;
+    kept = (made.aside place d inside).own;
+    aside = All-set (IsAside c links) others place current (record { room = made.room; own = made.kept }) made.aside;
+  }
 
 -- no cone is kept aside
 pub none_aside : (c : Circuit) (links : LinkList) (lines : ℕ) → lines ≡ line_count c → (cones : List EndCone) → All (IsNoCone lines) cones
     → All (IsAside c links) cones
 none_aside c links lines same cones none k d inside =
     let one = none k d inside in
-    record { room = one.room ∙ same; own = subst (λ (e : Option LineId). IfSome e (λ end. IsAsideFor c links end.0 (get_or cones k d))) (sym one.none) tt }
+    let cone = get_or cones k d in
+    record {
+      room = one.room ∙ same;
+      own = subst (λ (e : Option LineId). IfSome e (λ end. AreConeParts c links end.0 cone.found.lines cone.sources.items cone.gates.items))
+          (sym one.none) tt;
+    }

@@ -8,6 +8,7 @@ use Rattle.netlist.specs.Circuit.{Circuit, source_count, gate_count, gate_line, 
 use Rattle.netlist.specs.Levels.{IsRankedBefore, IsRankOrder, ReadsEarlier}
 use Rattle.netlist.specs.LinkedPairs.{AreLinksOf, IsSupported}
 use Rattle.cones.specs.FoundLines.{FoundSet}
+use Rattle.cones.specs.Ranks.{AreRanks}
 use Rattle.cones.specs.declared.end_cone.EndCone.{EndCone}
 
 -- What is at hand of a cone, if one is: its end, its lines, its sources and its gates. And of the circuit, whatever the cone is: the links
@@ -22,14 +23,6 @@ pub record KeptCone : Type 0 where
   pub ranks : List ℕ
   pub others : List EndCone
 
--- the gate at a place of a list
-abbrev pub ranked_gate : List GateId → ℕ → GateId
-ranked_gate gates place = slice_index_or gates place (record { 0 = 0 })
-
--- the number that each gate of a list has is its place there
-pub record AreRanks (order : List GateId) (ranks : List ℕ) : Type 0 where
-  pub each : (place : ℕ) → place < length order → slice_index ranks (ranked_gate order place).0 ≡ place
-
 -- the number is that of a gate whose line is among these
 pub record IsRankAmong (c : Circuit) (lines : List LineId) (ranks : List ℕ) (rank : ℕ) : Type 0 where
   pub gate : ℕ
@@ -37,16 +30,16 @@ pub record IsRankAmong (c : Circuit) (lines : List LineId) (ranks : List ℕ) (r
   pub among : Contains lines (record { 0 = gate_line c gate })
   pub ranked : slice_index ranks gate ≡ rank
 
--- there is room for the cone of any line, and no more lines were found than there may be; the numbers are room to sort in
-pub record HasRoomFor (numbers : ℕ) (cone : EndCone) : Type 0 where
+-- the cone has room for as many sources and gates as there may be lines in it, and the numbers that are sorted have that room too
+pub record HasRoomForLines (numbers : ℕ) (cone : EndCone) : Type 0 where
   pub for_sources : cone.found.room ≤ vec_capacity cone.sources
   pub for_gates : cone.found.room ≤ vec_capacity cone.gates
   pub for_numbers : cone.found.room ≤ numbers
 
 -- there is such room in the cone at hand, and in each that is kept aside
-pub record HaveRoomFor (numbers : ℕ) (current : EndCone) (others : List EndCone) : Type 0 where
-  pub here : HasRoomFor numbers current
-  pub aside : All (HasRoomFor numbers) others
+pub record AllHaveRoom (numbers : ℕ) (current : EndCone) (others : List EndCone) : Type 0 where
+  pub here : HasRoomForLines numbers current
+  pub aside : All (HasRoomForLines numbers) others
 
 -- the sources of the support of an end, in rising order
 pub record AreConeSources (c : Circuit) (links : LinkList) (end : ℕ) (sources : List LineId) : Type 0 where
@@ -59,26 +52,24 @@ pub record AreConeGates (c : Circuit) (links : LinkList) (end : ℕ) (gates : Li
   pub exactly : (gate : ℕ) → Contains gates (record { 0 = gate }) ↔ ((gate < gate_count c) × IsSupported c links end (gate_line c gate))
   pub earlier : ReadsEarlier c gates
 
+-- these are the lines of the cone of an end, its sources and its gates
+pub record AreConeParts (c : Circuit) (links : LinkList) (end : ℕ) (found listed : List LineId) (ranked : List GateId) : Type 0 where
+  pub lines : (line : ℕ) → Contains found (record { 0 = line }) ↔ IsSupported c links end line
+  pub sources : AreConeSources c links end listed
+  pub gates : AreConeGates c links end ranked
+
 -- the cone at hand is that of this end
-pub record IsConeAt (c : Circuit) (end : ℕ) (cone : KeptCone) : Type 0 where
-  pub lines : (line : ℕ) → Contains cone.found.lines (record { 0 = line }) ↔ IsSupported c cone.links end line
-  pub sources : AreConeSources c cone.links end cone.sources
-  pub gates : AreConeGates c cone.links end cone.gates
+abbrev pub IsConeAt : Circuit → ℕ → KeptCone → Type 0
+IsConeAt c end cone = AreConeParts c cone.links end cone.found.lines cone.sources cone.gates
 
--- a cone that is kept aside is that of this end, under these links
-pub record IsAsideFor (c : Circuit) (links : LinkList) (end : ℕ) (cone : EndCone) : Type 0 where
-  pub lines : (line : ℕ) → Contains cone.found.lines (record { 0 = line }) ↔ IsSupported c links end line
-  pub sources : AreConeSources c links end cone.sources.items
-  pub gates : AreConeGates c links end cone.gates.items
-
--- it is that of its end, if it has one, and there is room for that of any line of this circuit
+-- a cone that is kept aside has room for that of any line of the circuit, and is that of its end, if it has one
 pub record IsAside (c : Circuit) (links : LinkList) (cone : EndCone) : Type 0 where
   pub room : cone.found.room ≡ line_count c
-  pub own : IfSome cone.end (λ end. IsAsideFor c links end.0 cone)
+  pub own : IfSome cone.end (λ end. AreConeParts c links end.0 cone.found.lines cone.sources.items cone.gates.items)
 
--- the cone at a place of those that are kept aside is that of this end
-abbrev pub IsAsideAt : LineId → ℕ → List EndCone → Type 0
-IsAsideAt end place cones = (other : EndCone) → (slice_index_or cones place other).end ≡ Some end
+-- the cone that stands at this place is that of the end
+abbrev pub IsPlaceOf : LineId → ℕ → List EndCone → Type 0
+IsPlaceOf end place cones = (other : EndCone) → (slice_index_or cones place other).end ≡ Some end
 
 -- the cone of no end, with room for that of any of so many lines
 pub record IsNoCone (lines : ℕ) (cone : EndCone) : Type 0 where

@@ -6,13 +6,14 @@ ghost use Rattle.std.specs.Prelude.{◌≡◌, ◌<◌, ◌↔◌, ℕ, length, 
 ghost use Rattle.netlist.specs.Circuit.{Circuit, line_count};
 ghost use Rattle.netlist.specs.LinkedPairs.{AreLinksOf, IsSupported};
 ghost use Rattle.cones.specs.FoundLines.{HasMark};
-ghost use Rattle.cones.specs.KeptCones.{IsConeFor, IsConeAt, IsConeOfNone, IsAsideAt};
+ghost use Rattle.cones.specs.KeptCones.{IsConeFor, IsConeAt, IsConeOfNone, IsPlaceOf};
 
 use crate::back_search::find_cone;
 use crate::cone_lists::{
-    list_gates, list_sources, number_sources, rank_gates, ranks_of, scan_gates, scan_sources,
+    list_gates, list_sources, number_sources, rank_gates, scan_gates, scan_sources,
 };
 use crate::end_cone::{EndCone, most_others, no_cones, place_of};
+use crate::ranks::ranks_of;
 use crate::source_links::SourceLinks;
 use netlist::Netlist;
 use pd_base::{GateId, LineId, OutOfMemory};
@@ -40,13 +41,13 @@ pub struct Cone {
 
 impl Model for Cone {
     ghost use Rattle.std.specs.Prelude.{vec_capacity};
-    ghost use Rattle.cones.specs.KeptCones.{KeptCone, HaveRoomFor};
+    ghost use Rattle.cones.specs.KeptCones.{KeptCone, AllHaveRoom};
 
     ghost Value = { KeptCone };
 
     ghost view = { λ c. record { end = c.current.end; found = c.current.found; sources = c.current.sources.items; gates = c.current.gates.items; links = c.links; order = c.order.items; ranks = c.ranks.items; others = c.others.items } };
 
-    ghost invariant = { λ c. HaveRoomFor (vec_capacity c.numbers) c.current c.others.items };
+    ghost invariant = { λ c. AllHaveRoom (vec_capacity c.numbers) c.current c.others.items };
 }
 
 impl Cone {
@@ -122,7 +123,7 @@ impl Cone {
         requires { place < length self.old.others }
         ensures made { (c : Circuit) → IsConeFor c self.old → IsConeFor c self.new }
         ensures links { self.new.links ≡ self.old.links }
-        ensures cone { (c : Circuit) (end : LineId) → IsConeFor c self.old → IsAsideAt end place self.old.others → IsConeAt c end.0 self.new }
+        ensures cone { (c : Circuit) (end : LineId) → IsConeFor c self.old → IsPlaceOf end place self.old.others → IsConeAt c end.0 self.new }
     {
         mem::swap(&mut self.current, &mut self.others[place]);
     }

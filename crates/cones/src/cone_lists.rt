@@ -1,41 +1,13 @@
 // The sources and the gates among the lines of a cone, in order. Where these are few, their numbers and their places in rank order are
 // sorted; where they are many, a pass over all sources and gates takes those whose lines have marks.
-ghost use Rattle.std.specs.Prelude.{◌≡◌, ◌≢◌, ◌+◌, ◌<◌, ◌≤◌, ◌^◌, ◌↔◌, ℕ, false, map, filter, length, slice_index_or, vec_capacity, All, IfOk, AllPairs, Contains};
+ghost use Rattle.std.specs.Prelude.{◌≡◌, ◌+◌, ◌<◌, ◌≤◌, ◌^◌, ◌↔◌, ℕ, false, map, filter, length, slice_index_or, vec_capacity, All, AllPairs, Contains};
 ghost use Rattle.netlist.specs.Circuit.{gate_count, line_count};
 ghost use Rattle.cones.specs.FoundLines.{HasMark};
-ghost use Rattle.cones.specs.KeptCones.{AreRanks, IsRankAmong, ranked_gate};
+ghost use Rattle.cones.specs.KeptCones.{IsRankAmong};
+ghost use Rattle.cones.specs.Ranks.{ranked_gate};
 
 use netlist::Netlist;
-use pd_base::{GateId, LineId, OutOfMemory};
-use std::alloc::Global;
-
-// The place of each of so many gates in an order of them.
-pub(crate) fn ranks_of(
-    alloc: Global,
-    gates: usize,
-    order: &[GateId],
-) -> Result<Vec<usize>, OutOfMemory>
-    requires places { All (λ gate. gate.0 < gates) order.now }
-    requires once { AllPairs (λ a b. a.0 ≢ b.0) order.now }
-    ensures places { IfOk result (λ ranks. length ranks.items ≡ gates) }
-    ensures ranks { IfOk result (λ ranks. AreRanks order.now ranks.items) }
-{
-    let mut ranks = vec![in alloc; 0; gates]?;
-    rank_all(order, ranks.as_mut_slice());
-    Ok(ranks)
-}
-
-// Gives each gate its place in an order of gates.
-fn rank_all(order: &[GateId], ranks: &mut [usize])
-    requires places { All (λ gate. gate.0 < length ranks.old) order.now }
-    requires once { AllPairs (λ a b. a.0 ≢ b.0) order.now }
-    ensures places { length ranks.new ≡ length ranks.old }
-    ensures ranks { AreRanks order.now ranks.new }
-{
-    for (place, gate) in order.iter().enumerate() {
-        ranks[gate.0 as usize] = place;
-    }
-}
+use pd_base::{GateId, LineId};
 
 // The numbers of the sources among these lines, in rising order.
 pub(crate) fn number_sources(sources: u32, lines: &[LineId], numbers: &mut Vec<usize>)

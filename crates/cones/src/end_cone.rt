@@ -1,6 +1,6 @@
 // The cone of one end, and where those of some ends stand among others: what a `Cone` has at hand and keeps aside.
 ghost use Rattle.std.specs.Prelude.{◌≡◌, ◌<◌, length, Some, All, IfOk, IfSome, IsTrue};
-ghost use Rattle.cones.specs.KeptCones.{IsNoCone, IsAsideAt};
+ghost use Rattle.cones.specs.KeptCones.{IsNoCone, IsPlaceOf};
 
 use crate::found_lines::FoundLines;
 use pd_base::{GateId, LineId, OutOfMemory};
@@ -75,7 +75,7 @@ pub(crate) fn no_cones(
 // Where the cone of an end stands among others, if it does.
 pub(crate) fn place_of(cones: &[EndCone], end: LineId) -> Option<usize>
     ensures inside { IfSome result (λ place. place < length cones.now) }
-    ensures of { IfSome result (λ place. IsAsideAt end place cones.now) }
+    ensures of { IfSome result (λ place. IsPlaceOf end place cones.now) }
 {
     for place in 0..cones.len() {
         if cones[place].is_of(end) {

@@ -6,6 +6,5 @@ mod StepStates
 pub mod Judged
 pub mod Taking
 mod ConeJudging
-mod RankPlaces
 mod StaleGates
 mod PinsJoined

@@ -3,7 +3,7 @@ use Rattle.std.specs.Prelude.{◌≡◌, ℕ, List, length}
 use Rattle.pd_base.specs.declared.ids.GateId.{GateId}
 use Rattle.netlist.specs.Circuit.{Circuit, gate_count}
 use Rattle.netlist.specs.Levels.{IsRankOrder, ReadsEarlier}
-use Rattle.cones.specs.KeptCones.{ranked_gate, AreRanks}
+use Rattle.cones.specs.Ranks.{ranked_gate, AreRanks}
 
 -- gates in an order, and by gate its place there
 pub record RankedGates : Type 0 where

@@ -1,8 +1,8 @@
 // The gates of a netlist in rank order, and the place of each there.
-ghost use Rattle.std.specs.Prelude.{◌≡◌, ◌≢◌, ◌<◌, length, slice_index, All, AllPairs, IfOk};
-ghost use Rattle.cones.specs.KeptCones.{AreRanks};
+ghost use Rattle.std.specs.Prelude.{◌≡◌, ◌<◌, length, slice_index, IfOk};
 ghost use Rattle.pair_judging.specs.RankedGates.{AreRankedGates};
 
+use cones::ranks_of;
 use netlist::Netlist;
 use pd_base::{GateId, OutOfMemory};
 use std::alloc::Global;
@@ -30,8 +30,7 @@ impl RankedGates {
         ensures { IfOk result (AreRankedGates net.now) }
     {
         let order = Vec::from_slice(alloc, net.order())?;
-        let mut places = vec![in alloc; 0; net.gates() as usize]?;
-        number_places(order.as_slice(), places.as_mut_slice());
+        let places = ranks_of(alloc, net.gates() as usize, order.as_slice())?;
         Ok(RankedGates { order, places })
     }
 
@@ -48,17 +47,5 @@ impl RankedGates {
         ensures { result ≡ slice_index self.now.places gate.0 }
     {
         self.places[gate.0 as usize]
-    }
-}
-
-// Gives each gate its place in an order of gates.
-fn number_places(order: &[GateId], places: &mut [usize])
-    requires gates { All (λ gate. gate.0 < length places.old) order.now }
-    requires once { AllPairs (λ a b. a.0 ≢ b.0) order.now }
-    ensures one_each { length places.new ≡ length places.old }
-    ensures ranks { AreRanks order.now places.new }
-{
-    for (place, gate) in order.iter().enumerate() {
-        places[gate.0 as usize] = place;
     }
 }

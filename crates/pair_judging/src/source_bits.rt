@@ -87,8 +87,8 @@ fn give_bits(
     Ok(())
 }
 
-// The same where each source is linked to a source, whose first value stands in the first vector. Returns whether it is so; else nothing
-// is written.
+// The same where no source is linked to the line of a gate: the first values of sources stand in the first vector, and no line is
+// evaluated. Returns whether it is so; else nothing is written.
 pub(crate) fn give_first_bits(
     net: &Netlist,
     links: &SourceLinks,
@@ -110,7 +110,7 @@ pub(crate) fn give_first_bits(
     true
 }
 
-// Whether each source is linked to a source.
+// Whether the line of each of these links is that of a source.
 fn are_sources(links: &[(LineId, LineId)], sources: u32) -> bool
     ensures { IsTrue result → All (λ link. link.1.0 < sources) links.now }
 {

@@ -1,6 +1,6 @@
 -- One gate more.
 use Rattle.std.proofs.Common.{◌∙◌, arith}
-use Rattle.cones.specs.KeptCones.{ranked_gate}
+use Rattle.cones.specs.Ranks.{ranked_gate}
 use Rattle.cones.proofs.Images.{images_so_far, image_more}
 use Rattle.cones.proofs.cone_lists.list_gates.Goals as goal
 

@@ -1,6 +1,6 @@
 use Rattle.std.proofs.Common.{◌≡◌, map, take}
 use Rattle.std.specs.Prelude.{vec_capacity}
-use Rattle.cones.specs.KeptCones.{ranked_gate}
+use Rattle.cones.specs.Ranks.{ranked_gate}
 use Rattle.cones.proofs.cone_lists.list_gates.Given as goal
 
 -- the gates at the places before this one

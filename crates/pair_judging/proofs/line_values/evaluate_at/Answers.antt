@@ -5,7 +5,7 @@ use Rattle.pd_base.specs.declared.ids.LineId.{LineId}
 use Rattle.netlist.specs.Circuit.{gate_line}
 use Rattle.netlist.specs.Values.{gate_value}
 use Rattle.logic_values.specs.Known.{bit_at}
-use Rattle.cones.specs.KeptCones.{ranked_gate}
+use Rattle.cones.specs.Ranks.{ranked_gate}
 use Rattle.pair_judging.specs.LineValues.{value_made, AreLineValues, MakesReadersStale}
 use Rattle.pair_judging.proofs.StaleGates.{equal_bits, gate_changed, gate_unchanged}
 use Rattle.pair_judging.proofs.line_values.evaluate_at.Goals as goal

@@ -1,6 +1,6 @@
 -- One pin more, and its gate is stale.
 use Rattle.std.proofs.Common.{true, ℕ, ◌+◌, take, set, sym, subst, arith}
-use Rattle.pair_judging.proofs.RankPlaces.{place_inside}
+use Rattle.cones.proofs.RankPlaces.{place_of}
 use Rattle.pair_judging.proofs.StaleGates.{AddsGates, adds_none, adds_more, adds_all}
 use Rattle.pair_judging.proofs.line_values.make_readers_stale.Goals as goal
 
@@ -10,8 +10,10 @@ loop-pin-init c = adds_none c.args.gates.now.places c.args.stale.now
 pub bounds-stale-place_of : goal.bounds-stale-place_of
 bounds-stale-place_of c =
     let pin = c.fanout-pin-items.ensures.on_line c.loop-pin.pin-index (record { gate = record { 0 = 0 }; pin = 0 }) c.loop-pin-test.true in
-    let inside = place_inside c.args.net.now c.args.gates.now c.requires.gates _ pin.in_circuit in
-    omega (arith, inside, c.place_of.ensures, c.loop-pin.invariant.marks, c.requires.marks)
+    let gates = c.args.gates.now in
+    let ranked = c.requires.gates in
+    let at = place_of c.args.net.now gates.order ranked.ordered gates.places ranked.ranks _ pin.in_circuit in
+    omega (arith, at.1, at.3, c.place_of.ensures, c.loop-pin.invariant.marks, c.requires.marks)
 
 pub loop-pin-preserved : goal.loop-pin-preserved
 loop-pin-preserved c =
@@ -19,10 +21,11 @@ loop-pin-preserved c =
     let place = c.loop-pin.pin-index in
     let places = c.args.gates.now.places in
     let pin = c.fanout-pin-items.ensures.on_line place (record { gate = record { 0 = 0 }; pin = 0 }) c.loop-pin-test.true in
-    let inside = place_inside c.args.net.now c.args.gates.now c.requires.gates _ pin.in_circuit in
+    let ranked = c.requires.gates in
+    let at = place_of c.args.net.now c.args.gates.now.order ranked.ordered places ranked.ranks _ pin.in_circuit in
     subst (λ (n : ℕ). AddsGates places (take (place + 1) pins) c.args.stale.now (set c.loop-pin.stale n true)) (sym c.place_of.ensures)
     (adds_more places pins place c.loop-pin-test.true c.args.stale.now c.loop-pin.stale c.loop-pin.invariant
-    (omega (arith, inside, c.loop-pin.invariant.marks, c.requires.marks)))
+    (omega (arith, at.1, at.3, c.loop-pin.invariant.marks, c.requires.marks)))
 
 pub returns : goal.returns
 returns c =

@@ -3,7 +3,7 @@ use Rattle.std.proofs.Common.{◌≡◌, ◌<◌, length, Option, Some, get_or, 
 use Rattle.std.specs.Prelude.{IfSome}
 use Rattle.pd_base.specs.declared.ids.LineId.{LineId}
 use Rattle.cones.specs.declared.end_cone.EndCone.{EndCone}
-use Rattle.cones.specs.KeptCones.{KeptCone, IsConeAt, IsConeFor, IsAsideAt}
+use Rattle.cones.specs.KeptCones.{KeptCone, IsConeAt, IsConeFor, IsPlaceOf}
 use Rattle.cones.proofs.Keeping.{exchanged, seen_with}
 use Rattle.cones.proofs.cone.Cone.exchange.Goals as goal
 
@@ -22,7 +22,7 @@ returns-clause-made c = λ circuit made.
 pub returns-clause-cone : goal.returns-clause-cone
 returns-clause-cone c = λ circuit end made there.
     let i = c.self.inside in
-    let is = subst (λ (cone : KeptCone). IsAsideAt end c.args.place cone.others) (sym c.self.view_is) there in
+    let is = subst (λ (cone : KeptCone). IsPlaceOf end c.args.place cone.others) (sym c.self.view_is) there in
     let after = seen_with c.swap.new.x (set i.others.items c.args.place c.swap.new.y) i.links i.order.items i.ranks.items in
     subst (λ (e : Option LineId). IfSome e (λ own. IsConeAt circuit own.0 after))
     (subst (λ (x : EndCone). x.end ≡ Some end) (sym (c.swap.ensures.x_after ∙ c.index_mut.ensures.value)) (is c.index_mut.result.now))

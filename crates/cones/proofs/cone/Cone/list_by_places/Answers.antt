@@ -7,7 +7,8 @@ use Rattle.pd_base.specs.declared.ids.GateId.{GateId}
 use Rattle.netlist.specs.Circuit.{line_count}
 use Rattle.netlist.specs.LinkedPairs.{IsSupported}
 use Rattle.state_laws.proofs.Supports.{supported_in_circuit}
-use Rattle.cones.specs.KeptCones.{KeptCone, IsConeFor, AreRanks, AreConeSources, AreConeGates, ranked_gate}
+use Rattle.cones.specs.KeptCones.{KeptCone, IsConeFor, AreConeSources, AreConeGates}
+use Rattle.cones.specs.Ranks.{ranked_gate, AreRanks}
 use Rattle.cones.proofs.ConeLists.{cone_sources, listed_gates, places_inside, source_of}
 use Rattle.cones.proofs.cone.Cone.list_by_places.Goals as goal
 

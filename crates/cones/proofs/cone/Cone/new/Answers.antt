@@ -2,7 +2,7 @@
 use Rattle.std.proofs.Common.{◌≢◌, sym, subst, ◌∙◌}
 use Rattle.std.specs.List.{AllPairs}
 use Rattle.pd_base.specs.declared.ids.GateId.{GateId}
-use Rattle.cones.proofs.ConeLists.{ranked_apart}
+use Rattle.cones.proofs.RankPlaces.{ranked_apart}
 use Rattle.cones.proofs.cone.Cone.new.Goals as goal
 
 pub ranks_of-requires-clause-once : goal.ranks_of-requires-clause-once

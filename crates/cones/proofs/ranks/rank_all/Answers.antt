@@ -1,9 +1,9 @@
 -- Each gate is given its place, which no later one changes.
 use Rattle.std.proofs.Common.{◌∙◌, arith}
 use Rattle.std.proofs.lemmas.List.{length-set}
-use Rattle.cones.specs.KeptCones.{ranked_gate}
-use Rattle.cones.proofs.ConeLists.{ranks_more}
-use Rattle.cones.proofs.cone_lists.rank_all.Goals as goal
+use Rattle.cones.specs.Ranks.{ranked_gate}
+use Rattle.cones.proofs.RankPlaces.{ranks_more}
+use Rattle.cones.proofs.ranks.rank_all.Goals as goal
 
 pub loop-place-preserved : goal.loop-place-preserved
 loop-place-preserved c =
@@ -11,8 +11,8 @@ loop-place-preserved c =
     let place = c.loop-place.place in
     let within = c.requires.places place (record { 0 = 0 }) c.loop-place-test.true in
     record {
-      places = length-set c.loop-place.ranks (ranked_gate order place).0 place ∙ c.loop-place.invariant.places;
-      ranked = ranks_more order c.loop-place.ranks place c.loop-place-test.true (omega (arith, within, c.loop-place.invariant.places))
+      one_each = length-set c.loop-place.ranks (ranked_gate order place).0 place ∙ c.loop-place.invariant.one_each;
+      ranked = ranks_more order c.loop-place.ranks place c.loop-place-test.true (omega (arith, within, c.loop-place.invariant.one_each))
           c.requires.once c.loop-place.invariant.ranked;
     }
 
