@@ -11,6 +11,7 @@ ghost use Rattle.hulls.specs.Awaiting.{is_inside};
 ghost use Rattle.netlist.specs.Paths.{Connects, line_after};
 ghost use Rattle.netlist.specs.Pins.{IsPinOn};
 ghost use Rattle.state_sets.specs.States.{AreWithin};
+ghost use Rattle.trees.specs.Algebras.{algebra_of};
 ghost use Rattle.implication.specs.Standing.{idle_on, told_ends, IsIdle, IsFree, IsLabels, IsTold, TellsLabels, IsEmptiedIn, IsOpenIn, end_of_scope};
 ghost use Rattle.implication.specs.Moves.{with_entered, with_assumed, grown, closed_at, back_at, left_behind, idle_again, HasBegun};
 ghost use Rattle.implication.specs.Clients.{ExtendsStanding};
@@ -112,10 +113,33 @@ impl<A: Algebra, S: Setting> Engine<A, S> {
         Engine::with_cone(alloc, setting, Some(ends), cone)
     }
 
-    /// The same, but of the support of the ends it tells of the lines near them alone: those in their fan-in, over no link. It narrows at
-    /// gates near the ends, along the links of near sources, and at the gates that are first behind those; so it takes states that have
-    /// first values.
-    pub fn near(alloc: Global, setting: S, ends: &[LineId]) -> Result<Engine<A, S>, OutOfMemory>
+    /// An engine of near gates, if one pays: under linked rules, where the gates that it narrows at are few of those of the netlist. Of the
+    /// support of the ends it tells of the lines near them alone: those in their fan-in, over no link. A search or a walk on it takes less
+    /// than on an engine within the ends, as measured, but may split or follow fewer sources. It takes the kind of states that the rules
+    /// choose, and fails only where memory runs out.
+    pub fn near_if_few(
+        alloc: Global,
+        setting: S,
+        ends: &[LineId],
+    ) -> Result<Option<Engine<A, S>>, OutOfMemory>
+        requires states { A.algebra ≡ algebra_of (S.rules setting) }
+        requires ends { All (λ end. end.0 < line_count (S.circuit setting)) ends.now }
+        requires fit { FitRules (S.circuit setting) (S.rules setting) }
+        ensures { IfOk result (λ near. IfSome near (λ engine.
+            engine ≡ idle_on (S.circuit setting) (S.rules setting) (Some (told_ends ends.now true)))) }
+    {
+        if let Rules::Linked(_) = setting.rules() {
+            let near = Engine::near(alloc, setting, ends)?;
+            if are_few(near.narrows(), near.net()) {
+                return Ok(Some(near));
+            }
+        }
+        Ok(None)
+    }
+
+    // The same, however many gates these are. It narrows at gates near the ends, along the links of near sources, and at the gates that are
+    // first behind those; so it takes states that have first values.
+    fn near(alloc: Global, setting: S, ends: &[LineId]) -> Result<Engine<A, S>, OutOfMemory>
         requires first { HasFirstValues A.algebra }
         requires ends { All (λ end. end.0 < line_count (S.circuit setting)) ends.now }
         requires fit { FitRules (S.circuit setting) (S.rules setting) }
@@ -190,8 +214,21 @@ impl<A: Algebra, S: Setting> Engine<A, S> {
         self.told[line.0 as usize]
     }
 
-    /// How many gates it narrows at: the more these are, the more a search on it may take.
-    pub fn narrows(&self) -> u32 {
+    /// Whether each of these lines is told.
+    pub fn tells_all(&self, lines: &[LineId]) -> bool
+        requires { All (λ line. line.0 < line_count self.now.net) lines.now }
+        ensures { IsTrue result ↔ All (λ line. IsTold self.now line.0) lines.now }
+    {
+        for line in lines {
+            if !self.tells(*line) {
+                return false;
+            }
+        }
+        true
+    }
+
+    // How many gates it narrows at: the more these are, the more a search on it may take.
+    fn narrows(&self) -> u32 {
         let net = self.setting.netlist();
         let mut count = 0;
         for gate in 0..net.lines() - net.sources() {
@@ -415,6 +452,11 @@ impl<A: Algebra, S: Setting> Engine<A, S> {
         self.beginning = None;
         self.conflict = None;
     }
+}
+
+// Whether so many gates are few of those of a netlist: at most a quarter, as measured.
+fn are_few(gates: u32, net: &Netlist) -> bool {
+    gates <= (net.lines() - net.sources()) / 4
 }
 
 // The line to which these steps lead from a source.

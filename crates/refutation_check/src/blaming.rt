@@ -2,12 +2,10 @@
 // this decides it alone, and else on those of all its pins; and so on back to sources. These are mostly few of a cone's, and each
 // pair that has their states fails.
 ghost use Rattle.std.specs.Prelude.{◌≡◌, ◌<◌, ◌↔◌, ℕ, length, All, IfSome, IsTrue, Contains};
-ghost use Rattle.netlist.specs.Circuit.{source_count, gate_count, line_count, kind_at, pins_at};
-ghost use Rattle.netlist.specs.Gates.{op_of};
-ghost use Rattle.netlist.specs.LinkedPairs.{IsSupported};
+ghost use Rattle.netlist.specs.Circuit.{line_count};
 ghost use Rattle.netlist.specs.Paths.{end_of};
 ghost use Rattle.cones.specs.KeptCones.{IsConeFor, IsConeAt};
-ghost use Rattle.pair_judging.specs.ConeStates.{state_in, AreStates};
+ghost use Rattle.pair_judging.specs.ConeStates.{AreStates};
 ghost use Rattle.pair_judging.specs.Targets.{seen_target};
 ghost use Rattle.refutation_check.specs.Blames.{Absorbs, IsDeciding, IsFailure, IsBlamed, TracesMore};
 ghost use Rattle.refutation_check.specs.TrialStates.{AreTrialStates};

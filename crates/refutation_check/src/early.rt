@@ -1,10 +1,10 @@
 // Whether a pair fails at lines of low levels. The gates of a cone are evaluated in rank order, some at first, then more and more, and each
 // time the conditions are judged that these lines show by themselves: most pairs fail at one of them, and no gate behind is evaluated.
-ghost use Rattle.std.specs.Prelude.{◌≡◌, ◌<◌, length, All, IfSome, IsTrue};
+ghost use Rattle.std.specs.Prelude.{◌≡◌, ◌<◌, All, IfSome, IsTrue};
 ghost use Rattle.pd_base.specs.Links.{LinkList};
-ghost use Rattle.netlist.specs.Circuit.{gate_count, line_count, pins_at};
+ghost use Rattle.netlist.specs.Circuit.{gate_count, line_count};
 ghost use Rattle.netlist.specs.Paths.{IsPrefix, end_of};
-ghost use Rattle.pair_judging.specs.ConeStates.{AreStates, AreLineStates};
+ghost use Rattle.pair_judging.specs.ConeStates.{AreLineStates};
 ghost use Rattle.pair_judging.specs.Judged.{IsFailingSide};
 ghost use Rattle.cones.specs.KeptCones.{IsConeFor, IsConeAt};
 ghost use Rattle.refutation_check.specs.TrialStates.{AreTrialStates, KeepsSources};

@@ -21,8 +21,7 @@ ghost use Rattle.refutation_check.specs.Answers.{TellsOfNodes, TellsOfRefutation
 ghost use Rattle.pair_judging.specs.Targets.{seen_target};
 
 use crate::TreeCheck;
-use crate::dropping::drop_engine;
-use crate::near::{near_engine, spends_near};
+use crate::near::spends_near;
 use crate::refutation::refutes;
 use crate::spent::spends;
 use crate::split_ends::{refutes_apart, tells_splits};
@@ -80,7 +79,7 @@ impl<'n, A: Algebra> TreeJudge<'n, A> {
         ensures { IfOk result (λ judge. judge ≡ record { net = net.now; rules = rules.now; ends = Some (told_ends ends.now false) }) }
     {
         let room = TrialRoom::new::<A>(alloc, net, rules)?;
-        let near = near_engine(alloc, RuledNetlist { net, rules }, ends)?;
+        let near = Engine::near_if_few(alloc, RuledNetlist { net, rules }, ends)?;
         let engine = Engine::within(alloc, RuledNetlist { net, rules }, ends)?;
         Ok(TreeJudge {
             alloc,
@@ -93,7 +92,8 @@ impl<'n, A: Algebra> TreeJudge<'n, A> {
 
     /// Whether a tree refutes the conditions of a kind of test for a prefix and a transition. No names the first node in preorder that is at
     /// fault: an open leaf, a closed leaf whose node does not close, or a split on a number that is no source. It fails only where memory
-    /// runs out, of which it takes some bytes for each half above a node; the judge serves on, whatever the answer.
+    /// runs out. Of that it takes some bytes for each half above a node, and as much as an engine for a tree that splits a linked source
+    /// outside the support of the judge's ends. The judge serves on, whatever the answer.
     pub fn check_tree(
         &mut self,
         prefix: &Path,
@@ -200,12 +200,6 @@ impl<'n, A: Algebra> TreeJudge<'n, A> {
             Some(near) => spends_near(near, &mut self.pending, &mut self.room, target, tree),
             None => Ok(false),
         }
-    }
-
-    // Drops the judge.
-    pub(crate) fn drop_judge(self) {
-        let TreeJudge { engine, .. } = self;
-        drop_engine(engine);
     }
 }
 

@@ -6,7 +6,6 @@
 
 mod answer;
 mod blaming;
-mod dropping;
 mod due;
 mod early;
 mod entering;

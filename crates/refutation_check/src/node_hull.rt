@@ -15,7 +15,6 @@ ghost use Rattle.pair_judging.specs.Targets.{seen_target};
 ghost use Rattle.refutation_check.specs.Walks.{IsScopeAt};
 
 use crate::Hull;
-use crate::dropping::drop_engine;
 use crate::entering::enter_root;
 use crate::walk::assume_half;
 use implication::{Engine, RuledNetlist, Scope, Setting};
@@ -98,7 +97,8 @@ fn hull_at<A: Algebra>(
 {
     let mut engine = Engine::<A, RuledNetlist>::new(alloc, RuledNetlist { net, rules })?;
     let found = hull_on(alloc, &mut engine, target, halves);
-    drop_engine(engine);
+    // a call ends it, so that its many parts needn't be ended in this function's proof
+    drop(engine);
     found
 }
 

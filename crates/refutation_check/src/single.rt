@@ -153,6 +153,7 @@ fn spends_with<A: Algebra>(
     let ends = [end_of(net, target.path)];
     let mut judge = TreeJudge::<A>::new(alloc, net, rules, &ends)?;
     let told = judge.check_spent(target.path, target.direction, target.kind, budget, tree);
-    judge.drop_judge();
+    // a call ends it, so that its many parts needn't be ended in this function's proof
+    drop(judge);
     told
 }

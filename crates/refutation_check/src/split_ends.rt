@@ -12,7 +12,6 @@ ghost use Rattle.pair_judging.specs.Targets.{seen_target};
 ghost use Rattle.refutation_check.specs.Walks.{IsToldAt};
 
 use crate::TreeCheck;
-use crate::dropping::drop_engine;
 use crate::refutation::refutes;
 use crate::walk::Pending;
 use implication::{Engine, RuledNetlist, Setting};
@@ -70,7 +69,8 @@ pub(crate) fn refutes_apart<A: Algebra>(
         ends.as_slice(),
     )?;
     let told = refutes(&mut engine, pending, target, tree);
-    drop_engine(engine);
+    // a call ends it, so that its many parts needn't be ended in this function's proof
+    drop(engine);
     told
 }
 

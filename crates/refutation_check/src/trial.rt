@@ -3,14 +3,14 @@
 // conditions, so nothing has to be narrowed for it; and no gate is evaluated of whose pins' lines none changed since the pair judged last,
 // nor one of a high level where the pair fails at lines of lower ones. Where it failed, the lines are kept by which it did: as long as the
 // sources among them have the same least states, these alone are looked at.
-ghost use Rattle.std.specs.Prelude.{◌≡◌, ◌<◌, ◌↔◌, false, List, None, length, All, IfOk, IsTrue};
+ghost use Rattle.std.specs.Prelude.{◌≡◌, ◌<◌, false, List, None, length, All, IfOk, IsTrue};
 ghost use Rattle.netlist.specs.Circuit.{line_count};
 ghost use Rattle.netlist.specs.LinkedPairs.{FitRules};
 ghost use Rattle.netlist.specs.Paths.{IsPrefix, end_of};
 ghost use Rattle.state_sets.specs.declared.state.StateSet.{StateSet};
 ghost use Rattle.state_laws.specs.declared.half.Half.{Half};
 ghost use Rattle.implication.specs.Scopes.{standing};
-ghost use Rattle.implication.specs.Standing.{IsSupportTold, IsTold};
+ghost use Rattle.implication.specs.Standing.{IsSupportTold};
 ghost use Rattle.trees.specs.Algebras.{algebra_of};
 ghost use Rattle.trees.specs.Spent.{IsOpen};
 ghost use Rattle.cones.specs.KeptCones.{IsConeFor, IsConeAt};
@@ -84,7 +84,7 @@ pub(crate) fn is_open<A: Algebra, S: Setting>(
     prove!(at_source);
     let labels = scope.labels();
     if fails_again::<A>(net, room, labels) {
-        return tells_all(scope.engine, room.blamed.lines());
+        return scope.engine.tells_all(room.blamed.lines());
     }
     if fails_anew::<A>(
         net,
@@ -95,23 +95,10 @@ pub(crate) fn is_open<A: Algebra, S: Setting>(
         &mut room.blamed,
     ) {
         room.failed = true;
-        return tells_all(scope.engine, room.blamed.lines());
+        return scope.engine.tells_all(room.blamed.lines());
     }
     room.failed = false;
     false
-}
-
-// Whether an engine tells each of these lines.
-fn tells_all<A: Algebra, S: Setting>(engine: &Engine<A, S>, lines: &[LineId]) -> bool
-    requires { All (λ line. line.0 < line_count engine.now.net) lines.now }
-    ensures { IsTrue result ↔ All (λ line. IsTold engine.now line.0) lines.now }
-{
-    for line in lines {
-        if !engine.tells(*line) {
-            return false;
-        }
-    }
-    true
 }
 
 // Whether the pair that was judged last failed by lines of which the sources have the least states of these labels too.

@@ -6,11 +6,11 @@ use Rattle.std.proofs.lemmas.List.Elements.{All-more}
 use Rattle.pd_base.specs.declared.ids.LineId.{LineId}
 use Rattle.implication.specs.Standing.{IsTold}
 use Rattle.cones.proofs.Spreading.{no_line}
-use Rattle.refutation_check.proofs.trial.tells_all.Goals as goal
+use Rattle.implication.proofs.engine.Engine.tells_all.Goals as goal
 
 pub loop-line-preserved : goal.loop-line-preserved
 loop-line-preserved g c =
-    All-more (λ (line : LineId). IsTold c.args.engine.now line.0) c.args.lines.now c.loop-line.line-index no_line c.loop-line-test.true
+    All-more (λ (line : LineId). IsTold c.args.self.now line.0) c.args.lines.now c.loop-line.line-index no_line c.loop-line-test.true
     c.loop-line.invariant (c.tells.ensures.0 c.if-not-tells.false)
 
 pub returns-then-not-tells : goal.returns-then-not-tells
@@ -21,7 +21,7 @@ returns-then-not-tells g c = (
 
 pub returns : goal.returns
 returns g c = (
-  λ yes. subst (λ (lines : List LineId). All (λ line. IsTold c.args.engine.now line.0) lines)
+  λ yes. subst (λ (lines : List LineId). All (λ line. IsTold c.args.self.now line.0) lines)
       (take_all c.loop-line.line-index c.args.lines.now c.loop-line-test.false) c.loop-line.invariant,
   λ all. refl,
 )

@@ -4,8 +4,9 @@ use Rattle.state_sets.specs.SixStates.{six_first}
 use Rattle.state_laws.proofs.SixFirstLaws.{six_first_laws}
 use Rattle.trees.specs.Algebras.{algebra_of}
 use Rattle.implication.specs.FirstStates.{HasFirstValues}
-use Rattle.refutation_check.proofs.near.near_engine.Goals as goal
+use Rattle.implication.proofs.engine.Engine.near_if_few.Goals as goal
 
 pub near-requires-clause-first : goal.near-requires-clause-first
 near-requires-clause-first g c =
-    subst HasFirstValues (sym (c.requires.chosen ∙ ap algebra_of c.in-Linked.is)) (record { first = six_first; laws = six_first_laws })
+    subst HasFirstValues (sym (c.requires.states ∙ ap algebra_of (sym c.rules.ensures ∙ c.in-Linked.is)))
+    (record { first = six_first; laws = six_first_laws })
