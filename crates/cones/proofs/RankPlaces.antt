@@ -23,7 +23,8 @@ pub place_of : (c : Circuit) (order : List GateId) → IsRankOrder c order → (
     → (place : ℕ) × (place < length order) × (ranked_gate order place ≡ record { 0 = gate }) × (get_or ranks gate 0 ≡ place)
 place_of c order ranked ranks places gate within =
     let at = ranked.whole gate within in
-    let is : ranked_gate order at.0 ≡ record { 0 = gate } = get_or_default order at.0 (record { 0 = 0 }) (record { 0 = gate }) at.1 ∙ at.2 in
+    let is : ranked_gate order at.0 ≡ record { 0 = gate } =
+    get_or_default order at.0 (record { 0 = 0 }) (record { 0 = gate }) at.1 ∙ at.2 in
     (at.0, at.1, is, ap (λ (g : GateId). get_or ranks g.0 0) (sym is) ∙ places.each at.0 at.1)
 
 -- one gate more has its place
@@ -32,7 +33,8 @@ pub ranks_more : (order : List GateId) (ranks : List ℕ) (place : ℕ) → plac
     → (k : ℕ) → k < place + 1 → get_or (set ranks (ranked_gate order place).0 place) (ranked_gate order k).0 0 ≡ k
 ranks_more order ranks place inside within apart before k below = ⊎_elim
     (λ (less : k < place).
-    get_or-set_other ranks (ranked_gate order place).0 (ranked_gate order k).0 place 0 (apart k place (record { 0 = 0 }) less inside) ∙ before k less)
+    get_or-set_other ranks (ranked_gate order place).0 (ranked_gate order k).0 place 0 (apart k place (record { 0 = 0 }) less inside)
+    ∙ before k less)
     (λ (from : place ≤ k).
     let here : k ≡ place = omega arith in
     ap (λ j. get_or (set ranks (ranked_gate order place).0 place) (ranked_gate order j).0 0) here

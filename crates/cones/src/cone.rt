@@ -123,7 +123,8 @@ impl Cone {
         requires { place < length self.old.others }
         ensures made { (c : Circuit) → IsConeFor c self.old → IsConeFor c self.new }
         ensures links { self.new.links ≡ self.old.links }
-        ensures cone { (c : Circuit) (end : LineId) → IsConeFor c self.old → IsPlaceOf end place self.old.others → IsConeAt c end.0 self.new }
+        ensures cone { (c : Circuit) (end : LineId) → IsConeFor c self.old → IsPlaceOf end place self.old.others
+            → IsConeAt c end.0 self.new }
     {
         mem::swap(&mut self.current, &mut self.others[place]);
     }
