@@ -2,7 +2,7 @@
 -- the node closes, and where none comes of all of them, the pair of these states is a test.
 use Rattle.std.proofs.Common.{◌≡◌, ℕ, ◌+◌, ◌<◌, ◌≤◌, ◌^◌, List, [], ◌∷◌, ◌++◌, length, take, get_or}
 use Rattle.std.proofs.Common.{Option, Some, None, Bool, true, false, refl, sym, ap, ◌∙◌, subst, arith}
-use Rattle.std.specs.Prelude.{IfSome, is_some}
+use Rattle.std.specs.Prelude.{IfSome, IfNone, is_some}
 use Rattle.std.specs.List.{All}
 use Rattle.std.proofs.lemmas.Bool.{false≢true}
 use Rattle.std.proofs.lemmas.List.{take_more}
@@ -334,6 +334,16 @@ pub ends_free : (a : StateAlgebra) (target : Target) (first last : Standing) (tr
     → EndsTrial a target first last tried b → last.conflict ≡ None
 ends_free a target first last tried b none ends =
     let P : Bool → Type 0 = λ x. EndsTrial a target first last tried x in (subst P none ends).free
+
+-- what holds if there is a value, where there is one
+pub if_there : {X P : Type 0} (found : Option X) → IfSome found (λ _. P) → is_some found ≡ true → P
+if_there None holds there = absurd (false≢true there)
+if_there (Some x) holds there = holds
+
+-- what holds if there is none, where there is none
+pub if_none : {X P : Type 0} (found : Option X) → IfNone found P → is_some found ≡ false → P
+if_none None holds none = holds
+if_none (Some x) holds none = absurd (false≢true (sym none))
 
 -- a trial that fails by the first of some sources fails by those that are kept, which are these, if any are
 pub fails_by_kept : (a : StateAlgebra) (target : Target) (old new : Standing) (tried read : List Tried) → tried ≡ read → (count : ℕ)

@@ -1,6 +1,6 @@
 // The buffers of searches: the cone of one path's end, the states in which its sources were judged last, and what the last trial and
-// the last test were. No search takes memory for these but for the list of what was tried, or clears more than the cones before and
-// after.
+// the last test were. A search takes memory for these only where lists of what it tried and decided grow, and under links for frames of
+// ends; it clears no more than the cones before and after. But each tree by weights copies the labels of all lines once, where it begins.
 ghost use Rattle.std.specs.Prelude.{◌≡◌, ◌<◌, IfOk};
 ghost use Rattle.netlist.specs.Circuit.{line_count};
 ghost use Rattle.netlist.specs.LinkedPairs.{FitRules};

@@ -95,9 +95,10 @@ pub fn search_linked<S: Setting>(
     search_at(alloc, scope, &mut desk, &target, budget)
 }
 
-/// The same under any rules, at a desk that was made for the scope's netlist and rules, with the kind of states that is theirs: but for
-/// the vectors of a test it costs the cone of the path's end, and not the circuit. The desk serves afterwards as before, whatever the
-/// answer.
+/// The same under any rules, at a desk that was made for the scope's netlist and rules, with the kind of states that is theirs. It costs
+/// the cone of the path's end, and not the circuit, but for the labels of all lines, which each tree by weights copies once where it
+/// begins, and for the vectors of a test; under links also for those of each proposal, and for room for the frames of the first ends. The
+/// desk serves afterwards as before, whatever the answer.
 pub fn search_at<A: Algebra, S: Setting>(
     alloc: Global,
     scope: &mut Scope<A, S>,

@@ -12,7 +12,7 @@ ghost use Rattle.pair_judging.specs.Targets.{seen_target};
 ghost use Rattle.implication.specs.NodeScopes.{StandsAtNode};
 ghost use Rattle.justify.specs.Desks.{IsDesk, AreInSupport};
 ghost use Rattle.justify.specs.Tests.{IsFitTest};
-ghost use Rattle.justify.specs.Trying.{CanTry, HasLeastLabel, AreTriedIn, HasLeast, BlamesLeast, FailsByKept, IsTrialOf};
+ghost use Rattle.justify.specs.Trying.{CanTry, HasLeastLabel, AreTriedIn, HasLeast, BlamesLeast, FailsByKept, IsTrialOf, GivesTest};
 
 use crate::Unfinished;
 use crate::closers::Closers;
@@ -67,17 +67,55 @@ fn closes_again<A: Algebra, S: Setting>(
     ensures restored { IsRestored (standing scope.old) (standing scope.new) }
     ensures failed { IsTrue result → FailsByKept A.algebra (seen_target target.now) (standing scope.old) (standing scope.new) desk.new.closers }
 {
-    let tried = desk.tried.as_slice();
-    if tried.is_empty() || !can_try(scope, target, desk, tried) {
+    if !can_try_again(scope, target, desk) {
         return false;
     }
-    match closes_at(scope, target, desk.tried.as_slice()) {
+    match close_by(scope, target, desk.tried.as_slice(), &mut desk.closers) {
         Some(place) => {
-            desk.closers = Closers::of(desk.tried.as_slice(), place + 1);
             bring_forward(desk.tried.as_mut_slice(), place);
             true
         }
         None => false,
+    }
+}
+
+// Whether there are sources that were tried last, and they can be tried here in the same states.
+fn can_try_again<A: Algebra, S: Setting>(scope: &Scope<A, S>, target: &Target, desk: &Desk) -> bool
+    requires suits { SuitsSearch A.algebra (seen_target target.now) (standing scope.now) }
+    requires node { StandsAtNode A.algebra (seen_target target.now) (standing scope.now) }
+    requires desk { IsDesk A.algebra (standing scope.now).net (standing scope.now).rules target.now.path.now desk.now }
+    ensures { IsTrue result → All (CanTry A.algebra (seen_target target.now) (standing scope.now)) desk.now.tried.items }
+{
+    let tried = desk.tried.as_slice();
+    !tried.is_empty() && can_try(scope, target, desk, tried)
+}
+
+// Whether the node's trial closes by these sources, and then the place among them of the one at which the conflict came: those up to that
+// one are kept, if they are few.
+fn close_by<A: Algebra, S: Setting>(
+    scope: &mut Scope<A, S>,
+    target: &Target,
+    tried: &[Tried],
+    closers: &mut Option<Closers>,
+) -> Option<usize>
+    requires suits { SuitsSearch A.algebra (seen_target target.now) (standing scope.old) }
+    requires node { StandsAtNode A.algebra (seen_target target.now) (standing scope.old) }
+    requires tried { All (CanTry A.algebra (seen_target target.now) (standing scope.old)) tried.now }
+    ensures scope { IsSameScope scope.old scope.new }
+    ensures restored { IsRestored (standing scope.old) (standing scope.new) }
+    ensures failed { IfSome result (λ _.
+        FailsByKept A.algebra (seen_target target.now) (standing scope.old) (standing scope.new) closers.new) }
+    ensures test { IfNone result
+        (GivesTest A.algebra (standing scope.old).net (standing scope.old).rules (seen_target target.now) tried.now) }
+    ensures place { IfSome result (λ place. place < length tried.now) }
+    ensures kept { IfNone result (closers.new ≡ closers.old) }
+{
+    match closes_at(scope, target, tried) {
+        Some(place) => {
+            *closers = Closers::of(tried, place + 1);
+            Some(place)
+        }
+        None => None,
     }
 }
 
@@ -155,8 +193,7 @@ fn try_blamed<A: Algebra, S: Setting>(
         desk.states.as_slice(),
         &mut desk.tried,
     )?;
-    if let Some(place) = closes_at(scope, target, desk.tried.as_slice()) {
-        desk.closers = Closers::of(desk.tried.as_slice(), place + 1);
+    if close_by(scope, target, desk.tried.as_slice(), &mut desk.closers).is_some() {
         return Ok(None);
     }
     try_all(alloc, scope, target, desk)
@@ -188,8 +225,7 @@ fn try_all<A: Algebra, S: Setting>(
         desk.states.as_slice(),
         &mut desk.tried,
     )?;
-    if let Some(place) = closes_at(scope, target, desk.tried.as_slice()) {
-        desk.closers = Closers::of(desk.tried.as_slice(), place + 1);
+    if close_by(scope, target, desk.tried.as_slice(), &mut desk.closers).is_some() {
         return Ok(None);
     }
     if !tells_all(scope, desk.cone.sources()) {

@@ -1,6 +1,6 @@
-//! Answers to rows of tests, as texts: what a netlist and a delay file say, values, five values, cones, paths, tests, waves, hulls, and what
-//! the judge says of trees. Stands on the readers, the models, the lister, the replay and refutation_check, and is no part of
-//! the product. The program rows prints the answers; it and search_answers read netlists, paths and words of their rows by it.
+//! Answers to rows of tests, as texts: what a netlist and a delay file say, values, five values, cones, paths, tests, waves, hulls, and
+//! what the judge says of trees. Stands on the readers, the models, the lister, the replay and refutation_check, and is no part of the
+//! product. The program rows prints the answers; it and search_answers read netlists, paths and words of their rows by it.
 #![tactic(auto)]
 
 mod asked_cones;

@@ -3,3 +3,4 @@ mod Cones
 mod FramesAlike
 mod Kept
 mod Noted
+mod Weighing

@@ -1,9 +1,13 @@
 // How much past conflicts rest on each line: each conflict makes the lines heavier on which it rests, and a later one by more than an
 // earlier one, so that those of late count most. The heaviest source is split first; under links source_weights.rt finds it. A hint alone.
+ghost use Rattle.std.specs.Prelude.{◌≡◌, IfOk, replicate, slice_index};
+ghost use Rattle.search_hints.specs.Weighed.{RaisesOne, RaisesNone};
+
 use crate::picking::has_both_values;
 use pd_base::{LineId, OutOfMemory};
 use state_sets::{Algebra, StateSet};
 use std::alloc::Global;
+use std::marker::Model;
 
 // What the first conflict adds. It is large, so that a part of it is one as well.
 const FIRST_STEP: u64 = 65_536;
@@ -12,7 +16,7 @@ const GREATEST_STEP: u64 = 281_474_976_710_656;
 
 const FACTOR: u64 = GREATEST_STEP / FIRST_STEP;
 
-/// The weights of the first lines of one netlist.
+/// The weights of the first lines of one netlist. Contracts see them, by line.
 #[derive(Drop)]
 pub(crate) struct Weights {
     by_line: Vec<u64>,
@@ -21,9 +25,19 @@ pub(crate) struct Weights {
     part: u64,
 }
 
+impl Model for Weights {
+    ghost use Rattle.std.specs.Prelude.{ℕ, List};
+
+    ghost Value = { List ℕ };
+
+    ghost view = { λ w. w.by_line.items };
+}
+
 impl Weights {
     // No weight yet, of so many lines. What a conflict adds grows by this part from one to the next.
-    pub(crate) fn new(alloc: Global, lines: usize, part: u64) -> Result<Weights, OutOfMemory> {
+    pub(crate) fn new(alloc: Global, lines: usize, part: u64) -> Result<Weights, OutOfMemory>
+        ensures { IfOk result (λ weights. weights ≡ replicate lines 0) }
+    {
         let by_line = vec![in alloc; 0u64; lines]?;
         Ok(Weights {
             by_line,
@@ -33,7 +47,9 @@ impl Weights {
     }
 
     // The weight of a line.
-    pub(crate) fn of(&self, line: LineId) -> u64 {
+    pub(crate) fn of(&self, line: LineId) -> u64
+        ensures { result ≡ slice_index self.now line.0 }
+    {
         let at = line.0 as usize;
         if at < self.by_line.len() {
             self.by_line[at]
@@ -43,7 +59,9 @@ impl Weights {
     }
 
     // The conflict rests on this line, which gets heavier if it has a weight.
-    pub(crate) fn raise(&mut self, line: LineId) {
+    pub(crate) fn raise(&mut self, line: LineId)
+        ensures { RaisesOne line.0 self.old self.new }
+    {
         let at = line.0 as usize;
         if at < self.by_line.len() {
             self.by_line[at] = self.by_line[at].saturating_add(self.step);
@@ -63,7 +81,9 @@ impl Weights {
     }
 
     // A conflict is over: the next one adds more.
-    pub(crate) fn grow(&mut self) {
+    pub(crate) fn grow(&mut self)
+        ensures { RaisesNone self.old self.new }
+    {
         if self.step >= GREATEST_STEP {
             self.scale_down();
         }
@@ -73,7 +93,9 @@ impl Weights {
     }
 
     // Makes all weights smaller by the factor, and what a conflict adds.
-    fn scale_down(&mut self) {
+    fn scale_down(&mut self)
+        ensures { RaisesNone self.old self.new }
+    {
         for at in 0..self.by_line.len() {
             self.by_line[at] = self.by_line[at] / FACTOR;
         }
