@@ -228,7 +228,7 @@ fn try_all<A: Algebra, S: Setting>(
     if close_by(scope, target, desk.tried.as_slice(), &mut desk.closers).is_some() {
         return Ok(None);
     }
-    if !tells_all(scope, desk.cone.sources()) {
+    if !scope.engine.tells_all(desk.cone.sources()) {
         let pair = judge_untold(alloc, scope, target, desk)?;
         return Ok(Some(pair));
     }
@@ -258,19 +258,6 @@ fn judge_untold<A: Algebra, S: Setting>(
         }
         None => Err(Unfinished::Undecided),
     }
-}
-
-// Whether all of these sources are told.
-fn tells_all<A: Algebra, S: Setting>(scope: &Scope<A, S>, sources: &[LineId]) -> bool
-    requires { All (λ source. source.0 < line_count (standing scope.now).net) sources.now }
-    ensures { IsTrue result ↔ All (λ source. IsTold (standing scope.now) source.0) sources.now }
-{
-    for source in sources {
-        if !scope.engine.tells(*source) {
-            return false;
-        }
-    }
-    true
 }
 
 // Whether these sources can be tried here in the same states: they are in the support and told, and these are their least states here too.
