@@ -1,6 +1,6 @@
 // All searches for the first paths of a circuit, and the run that they make. For how many paths it was asked no search needs to know:
 // there may be fewer, and the run is good for each number of paths of which these are the first ones.
-ghost use Rattle.std.specs.Prelude.{◌≡◌, ◌+◌, ◌*◌, ◌<◌, ◌≤◌, ◌^◌, None, length, map, not, All, IfOk, OnOk};
+ghost use Rattle.std.specs.Prelude.{◌≡◌, ◌+◌, ◌*◌, ◌<◌, ◌≤◌, ◌^◌, length, map, not, All, IfOk, OnOk};
 ghost use Rattle.netlist.specs.Circuit.{line_count};
 ghost use Rattle.netlist.specs.declared.limits.TheConstants.{MOST_LEVELS};
 ghost use Rattle.delay_annotation.specs.Annotation.{delays_of, Fits};
@@ -114,8 +114,8 @@ fn search_by<A: Algebra, L>(
     outcomes
 }
 
-// An engine that tells the ends of the paths. Under links it is one of near gates where these are few, since a search on another one
-// narrows at gates all over the netlist.
+// An engine that tells the ends of the paths. It is one of near gates where that pays, since a search on another one narrows at gates all
+// over the netlist.
 fn engine_for<'n, A: Algebra>(
     alloc: Global,
     setting: RuledNetlist<'n>,
@@ -126,19 +126,10 @@ fn engine_for<'n, A: Algebra>(
     requires ends { All (λ end. end.0 < line_count setting.net.now) ends.now }
     ensures { IfOk result (IsMadeFor setting.entry.net.now setting.entry.rules.now ends.now) }
 {
-    if let Rules::Linked(_) = setting.rules {
-        let near: Engine<A, RuledNetlist<'n>> = Engine::near(alloc, setting, ends)?;
-        if are_few(near.narrows(), setting.net) {
-            return Ok(near);
-        }
+    if let Some(near) = Engine::near_if_few(alloc, setting, ends)? {
+        return Ok(near);
     }
     Engine::within(alloc, setting, ends)
-}
-
-// Whether so many gates are few of those of the netlist, so that a search that narrows at them alone takes less, as measured, though it
-// splits at fewer sources.
-fn are_few(gates: u32, net: &Netlist) -> bool {
-    gates <= (net.lines() - net.sources()) / 4
 }
 
 // Does so with this engine, on which no scope is open.
