@@ -1,5 +1,6 @@
 // Narrowing at one gate: all kept sets are collected from the labels as they are, and only then are labels cut. Most gates have two pins,
-// and most others three: what is kept there is given apart, and found without a call where narrowing runs in a loop.
+// and most others three: what is kept there is given apart, in no list, and at two pins without a condition it is found without a call where
+// narrowing runs in a loop.
 ghost use Rattle.std.specs.Prelude.{◌≡◌, ◌<◌, ◌≤◌, ℕ, length, All, IfSome};
 ghost use Rattle.netlist.specs.declared.limits.TheConstants.{MOST_FAN_IN};
 ghost use Rattle.netlist.specs.Circuit.{gate_count, line_count, pins_at};
@@ -105,7 +106,7 @@ fn view_of<'a>(net: &'a Netlist, labels: &'a [StateSet], gate: GateId) -> GateVi
     }
 }
 
-// The same at a gate with two pins, with all that is kept given. Inlined, since it is asked in a loop, most often without a condition.
+// What narrowing keeps at a gate with two pins, given without a list. Inlined, since it is asked in a loop, most often without a condition.
 #[inline(always)]
 pub(crate) fn kept_at_two<A: Algebra>(
     net: &Netlist,
@@ -137,7 +138,7 @@ pub(crate) fn kept_at_three<A: Algebra>(
     three_freely::<A>(&view_of(net, labels, gate))
 }
 
-// The same of what is seen at a gate.
+// As `kept_at`, of what is seen at a gate.
 fn keep<A: Algebra>(
     gate: &GateView,
     condition: Option<Condition>,

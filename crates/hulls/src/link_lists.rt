@@ -76,7 +76,7 @@ impl LinkLists {
     }
 
     /// Lets all links wait that have this line among their two. They are numbered on from the number of gates. Takes no memory, and
-    /// costs what there are of them. Inlined: each cut that takes states comes here, and most lines have no link.
+    /// costs what there are of them. Inlined: each cut that takes states comes here. Without links no head is read, and most lines have no link.
     #[inline(always)]
     pub(crate) fn wake(&self, waiting: &mut Waiting, gates: u32, line: LineId)
         requires room { gates + length self.now ≤ length waiting.old.inside }

@@ -1,5 +1,5 @@
-// Turns in a queue, first in, first out, as two lists: one is read from a place on, and as long as there is room behind its turns it is
-// written too; then the other is written, and where the first is done, they are exchanged.
+// Turns in a queue, first in, first out, as two lists: one is read from a place on, and the other is written; where the first is done, they
+// are exchanged.
 ghost use Rattle.std.specs.Prelude.{◌≡◌, ◌<◌, List, [], ◌∷◌, ◌++◌, length, IfOk, MatchOption};
 
 use crate::Turn;

@@ -388,8 +388,7 @@ fn passed_by_three(net: &Netlist, gate: GateId) -> Option<GateId>
     }
 }
 
-// Whether no two of these lines are the same. Of more than a few lines that do not ascend it is not looked for, and the answer is no. Most
-// gates have two pins or three, and these are compared without a loop.
+// Whether no two of these lines are the same. Of more than a few lines that do not ascend it is not looked for, and the answer is no.
 fn are_found_to_differ(lines: &[LineId]) -> bool
     ensures { IsTrue result → AllDiffer lines.now }
 {

@@ -24,7 +24,7 @@ pub(crate) fn wake(waiting: &mut Waiting, net: &Netlist, line: LineId, passed: O
     let Some(driver) = net.gate_of(line) else {
         return wake_others(waiting, readers, passed);
     };
-    // most often it is the gate's own line: no reader of it is the gate
+    // most often the narrowed gate's own line was cut: the gate does not read it, so all readers wait
     if is_passed(passed, driver) {
         return wake_all(waiting, readers);
     }

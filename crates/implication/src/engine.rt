@@ -113,10 +113,11 @@ impl<A: Algebra, S: Setting> Engine<A, S> {
         Engine::with_cone(alloc, setting, Some(ends), cone)
     }
 
-    /// An engine of near gates, if one pays: under linked rules, where the gates that it narrows at are few of those of the netlist. Of the
-    /// support of the ends it tells of the lines near them alone: those in their fan-in, over no link. A search or a walk on it takes less
-    /// than on an engine within the ends, as measured, but may split or follow fewer sources. It takes the kind of states that the rules
-    /// choose, and fails only where memory runs out.
+    /// An engine of near gates, if one pays: under linked rules, where the gates at which it narrows are at most a quarter of those of the
+    /// netlist. It tells of the sources without a link and of the lines near the ends alone: those in their fan-in, over no link. A scope
+    /// begins at a source that is told, and only what is told can be assumed and entered. A search or a walk on it takes less than on an
+    /// engine within the ends, as measured, but may split or follow fewer sources. It takes the kind of states that the rules choose, and
+    /// fails only where memory runs out.
     pub fn near_if_few(
         alloc: Global,
         setting: S,

@@ -12,7 +12,7 @@ ghost use Rattle.pair_judging.specs.Targets.{seen_target};
 ghost use Rattle.implication.specs.NodeScopes.{StandsAtNode};
 ghost use Rattle.justify.specs.Desks.{IsDesk, AreInSupport};
 ghost use Rattle.justify.specs.Tests.{IsFitTest};
-ghost use Rattle.justify.specs.Trying.{CanTry, HasLeastLabel, AreTriedIn, HasLeast, BlamesLeast, FailsByKept, IsTrialOf, GivesTest};
+ghost use Rattle.justify.specs.Trying.{CanTry, HasLeastLabel, AreTriedIn, HasLeast, BlamesLeast, EndsAtNode, FailsByKept, GivesTest, IsTrialOf};
 
 use crate::Unfinished;
 use crate::closers::Closers;
@@ -70,7 +70,7 @@ fn closes_again<A: Algebra, S: Setting>(
     if !can_try_again(scope, target, desk) {
         return false;
     }
-    match close_by(scope, target, desk.tried.as_slice(), &mut desk.closers) {
+    match closes_by(scope, target, desk.tried.as_slice(), &mut desk.closers) {
         Some(place) => {
             bring_forward(desk.tried.as_mut_slice(), place);
             true
@@ -92,7 +92,7 @@ fn can_try_again<A: Algebra, S: Setting>(scope: &Scope<A, S>, target: &Target, d
 
 // Whether the node's trial closes by these sources, and then the place among them of the one at which the conflict came: those up to that
 // one are kept, if they are few.
-fn close_by<A: Algebra, S: Setting>(
+fn closes_by<A: Algebra, S: Setting>(
     scope: &mut Scope<A, S>,
     target: &Target,
     tried: &[Tried],
@@ -107,6 +107,7 @@ fn close_by<A: Algebra, S: Setting>(
         FailsByKept A.algebra (seen_target target.now) (standing scope.old) (standing scope.new) closers.new) }
     ensures test { IfNone result
         (GivesTest A.algebra (standing scope.old).net (standing scope.old).rules (seen_target target.now) tried.now) }
+    ensures ends { EndsAtNode A.algebra (seen_target target.now) (standing scope.old) (standing scope.new) tried.now result }
     ensures place { IfSome result (λ place. place < length tried.now) }
     ensures kept { IfNone result (closers.new ≡ closers.old) }
 {
@@ -193,7 +194,7 @@ fn try_blamed<A: Algebra, S: Setting>(
         desk.states.as_slice(),
         &mut desk.tried,
     )?;
-    if close_by(scope, target, desk.tried.as_slice(), &mut desk.closers).is_some() {
+    if closes_by(scope, target, desk.tried.as_slice(), &mut desk.closers).is_some() {
         return Ok(None);
     }
     try_all(alloc, scope, target, desk)
@@ -225,7 +226,7 @@ fn try_all<A: Algebra, S: Setting>(
         desk.states.as_slice(),
         &mut desk.tried,
     )?;
-    if close_by(scope, target, desk.tried.as_slice(), &mut desk.closers).is_some() {
+    if closes_by(scope, target, desk.tried.as_slice(), &mut desk.closers).is_some() {
         return Ok(None);
     }
     if !scope.engine.tells_all(desk.cone.sources()) {

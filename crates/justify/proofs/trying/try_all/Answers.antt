@@ -34,24 +34,24 @@ module _ (g : Over) (c : After-tells_all g) where
   now = standing c.args.scope.now
 
   abbrev later : Standing
-  later = standing c.close_by.new.scope
+  later = standing c.closes_by.new.scope
 
   desk_later : IsDesk g.A.Algebra.algebra later.net later.rules c.args.target.now.path.now
-      (record c.args.desk.now { tried = c.collect.new.tried; closers = c.close_by.new.closers })
+      (record c.args.desk.now { tried = c.collect.new.tried; closers = c.closes_by.new.closers })
   desk_later =
       let P : Circuit → Rules → Type 0 = λ n r. IsDesk g.A.Algebra.algebra n r c.args.target.now.path.now
-      (record c.args.desk.now { tried = c.collect.new.tried; closers = c.close_by.new.closers }) in
-      there_too P now.net later.net now.rules later.rules (sym c.close_by.ensures.restored.net) (sym c.close_by.ensures.restored.rules)
+      (record c.args.desk.now { tried = c.collect.new.tried; closers = c.closes_by.new.closers }) in
+      there_too P now.net later.net now.rules later.rules (sym c.closes_by.ensures.restored.net) (sym c.closes_by.ensures.restored.rules)
       (kept_desk g.A.Algebra.algebra now.net now.rules c.args.target.now.path.now c.args.desk.now _
       (record { cone = refl; states = refl; blame = refl; liked = refl; justifier = refl; judge = refl }) c.requires.desk)
 
   all_told : c.tells_all.result ≡ true → TellsSupport (seen_target c.args.target.now) now
   all_told all source support =
-      let back = setting_back now later (setting_restored now later c.close_by.ensures.restored) in
+      let back = setting_back now later (setting_restored now later c.closes_by.ensures.restored) in
       told_after later now back source
       (cone_tells_support g.A.Algebra.algebra (seen_target c.args.target.now) later _ desk_later c.sources-2.result.now c.sources-2.ensures
       (c.tells_all.ensures.0 all) source
-      (supported_after (seen_target c.args.target.now) now later (setting_restored now later c.close_by.ensures.restored) source support))
+      (supported_after (seen_target c.args.target.now) now later (setting_restored now later c.closes_by.ensures.restored) source support))
 
   not_all_told : c.tells_all.result ≡ false → ¬ TellsSupport (seen_target c.args.target.now) later
   not_all_told some tells =
@@ -67,8 +67,8 @@ collect-requires-clause-lines g c =
     c.args.desk.now c.requires.desk c.sources.result.now c.sources.ensures
     (length c.as_slice.result.now) (ap length c.as_slice.ensures.value ∙ c.requires.desk.made.states)
 
-pub close_by-requires-clause-tried : goal.close_by-requires-clause-tried
-close_by-requires-clause-tried g c =
+pub closes_by-requires-clause-tried : goal.closes_by-requires-clause-tried
+closes_by-requires-clause-tried g c =
     let now = standing c.args.scope.now in let target = seen_target c.args.target.now in
     let P : List Tried → Type 0 = λ xs. All (CanTry g.A.Algebra.algebra target now) xs in
     let Q : List State → Type 0 = λ xs. HasLeast g.A.Algebra.algebra target now xs in
@@ -83,7 +83,7 @@ close_by-requires-clause-tried g c =
 
 pub read_test-requires-clause-sources : goal.read_test-requires-clause-sources
 read_test-requires-clause-sources g c =
-    sources_within g.A.Algebra.algebra c.net.result.now (standing c.args.scope.now).net (c.net.ensures ∙ c.close_by.ensures.restored.net)
+    sources_within g.A.Algebra.algebra c.net.result.now (standing c.args.scope.now).net (c.net.ensures ∙ c.closes_by.ensures.restored.net)
     (standing c.args.scope.now).rules c.args.target.now.path.now c.args.desk.now c.requires.desk
 
 pub returns-clause-answer : goal.returns-clause-answer
@@ -94,10 +94,10 @@ returns-clause-answer g c =
     tried_fits g.A.Algebra.algebra target (standing c.args.scope.now) c.args.desk.now c.requires.desk
     (all_told g (goal.at.returns-clause-answer g c).After-tells_all c.if-not-tells_all.false) c.sources.result.now c.sources.ensures
     c.as_slice.result.now c.collect.new.tried.items c.in_ok-pair-2.pair c.in_ok-collect.ensures
-    (read_at g.A.Algebra.algebra c.net.result.now net (c.net.ensures ∙ c.close_by.ensures.restored.net) rules target.path
+    (read_at g.A.Algebra.algebra c.net.result.now net (c.net.ensures ∙ c.closes_by.ensures.restored.net) rules target.path
     c.args.desk.now c.requires.desk c.as_slice-3.result.now c.as_slice.result.now
     (c.as_slice-3.ensures.value ∙ sym c.as_slice.ensures.value) c.in_ok-pair-2.pair c.in_ok-pair-2.ensures)
-    (subst Q c.as_slice-2.ensures.value (if_none c.close_by.result c.close_by.ensures.test (sym c.is_some.ensures ∙ c.if-is_some.false)))
+    (subst Q c.as_slice-2.ensures.value (if_none c.closes_by.result c.closes_by.ensures.test (sym c.is_some.ensures ∙ c.if-is_some.false)))
 
 pub read_test-requires-clause-states : goal.read_test-requires-clause-states
 read_test-requires-clause-states g c =
@@ -112,20 +112,20 @@ read_test-requires-clause-states g c =
 pub read_test-requires-clause-made : goal.read_test-requires-clause-made
 read_test-requires-clause-made g c =
     let P : Circuit → Type 0 = λ n. IsConeFor n c.args.desk.now.cone in
-    subst P (sym (c.net.ensures ∙ c.close_by.ensures.restored.net)) c.requires.desk.made.cone
+    subst P (sym (c.net.ensures ∙ c.closes_by.ensures.restored.net)) c.requires.desk.made.cone
 
 pub read_test-requires-clause-places : goal.read_test-requires-clause-places
 read_test-requires-clause-places g c = grind (arith, common_steps)
 
 pub returns-then-is_some-clause-answer : goal.returns-then-is_some-clause-answer
 returns-then-is_some-clause-answer g c =
-    if_there c.close_by.result c.close_by.ensures.failed (sym c.is_some.ensures ∙ c.if-is_some.true)
+    if_there c.closes_by.result c.closes_by.ensures.failed (sym c.is_some.ensures ∙ c.if-is_some.true)
 
 pub tells_all-requires : goal.tells_all-requires
 tells_all-requires g c =
-    let within = sources_within g.A.Algebra.algebra (standing c.close_by.new.scope).net (standing c.args.scope.now).net c.close_by.ensures.restored.net
+    let within = sources_within g.A.Algebra.algebra (standing c.closes_by.new.scope).net (standing c.args.scope.now).net c.closes_by.ensures.restored.net
     (standing c.args.scope.now).rules c.args.target.now.path.now c.args.desk.now c.requires.desk in
-    let P : List LineId → Type 0 = λ xs. All (λ source. source.0 < line_count (standing c.close_by.new.scope).net) xs in
+    let P : List LineId → Type 0 = λ xs. All (λ source. source.0 < line_count (standing c.closes_by.new.scope).net) xs in
     subst P (sym c.sources-2.ensures) (λ k d inside. let one = within k d inside in omega (arith, one))
 
 pub judge_untold-requires-clause-desk : goal.judge_untold-requires-clause-desk
@@ -137,13 +137,13 @@ judge_untold-requires-clause-untold g c = not_all_told g (goal.at.judge_untold-r
 pub judge_untold-requires-clause-prefix : goal.judge_untold-requires-clause-prefix
 judge_untold-requires-clause-prefix g c =
     let P : Circuit → Type 0 = λ n. IsPrefix n c.args.target.now.path.now in
-    subst P (sym c.close_by.ensures.restored.net) c.requires.suits.prefix
+    subst P (sym c.closes_by.ensures.restored.net) c.requires.suits.prefix
 
 pub returns-in_err-pair-clause-unfinished : goal.returns-in_err-pair-clause-unfinished
 returns-in_err-pair-clause-unfinished g c =
-    let now = standing c.args.scope.now in let later = standing c.close_by.new.scope in
+    let now = standing c.args.scope.now in let later = standing c.closes_by.new.scope in
     let left = c.from_residual-in_err-pair in
     let error = err_from_is_err_and left.result left.ensures.1 in
     rw (error.1, error.2)
-    (may_end_before (seen_target c.args.target.now) now later (setting_restored now later c.close_by.ensures.restored) _
+    (may_end_before (seen_target c.args.target.now) now later (setting_restored now later c.closes_by.ensures.restored) _
     c.in_err-pair.ensures.unfinished)

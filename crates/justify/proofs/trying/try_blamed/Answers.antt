@@ -41,24 +41,24 @@ returns-then-is_some-clause-desk g c =
 
 pub returns-then-is_some-clause-answer : goal.returns-then-is_some-clause-answer
 returns-then-is_some-clause-answer g c =
-    if_there c.close_by.result c.close_by.ensures.failed (sym c.is_some.ensures ∙ c.if-is_some.true)
+    if_there c.closes_by.result c.closes_by.ensures.failed (sym c.is_some.ensures ∙ c.if-is_some.true)
 
 pub returns-clause-desk : goal.returns-clause-desk
 returns-clause-desk g c =
     let P : Circuit → Rules → Type 0 = λ n r. IsDesk g.A.Algebra.algebra n r c.args.target.now.path.now c.try_all.new.desk in
-    there_too P (standing c.close_by.new.scope).net (standing c.args.scope.now).net (standing c.close_by.new.scope).rules
-    (standing c.args.scope.now).rules c.close_by.ensures.restored.net c.close_by.ensures.restored.rules c.try_all.ensures.desk
+    there_too P (standing c.closes_by.new.scope).net (standing c.args.scope.now).net (standing c.closes_by.new.scope).rules
+    (standing c.args.scope.now).rules c.closes_by.ensures.restored.net c.closes_by.ensures.restored.rules c.try_all.ensures.desk
 
 pub returns-clause-scope : goal.returns-clause-scope
-returns-clause-scope g c = same_scope_twice c.close_by.ensures.scope c.try_all.ensures.scope
+returns-clause-scope g c = same_scope_twice c.closes_by.ensures.scope c.try_all.ensures.scope
 
 pub returns-clause-restored : goal.returns-clause-restored
 returns-clause-restored g c =
-    restored_trans (standing c.args.scope.now) (standing c.close_by.new.scope) (standing c.try_all.new.scope)
-    c.close_by.ensures.restored c.try_all.ensures.restored
+    restored_trans (standing c.args.scope.now) (standing c.closes_by.new.scope) (standing c.try_all.new.scope)
+    c.closes_by.ensures.restored c.try_all.ensures.restored
 
-pub close_by-requires-clause-tried : goal.close_by-requires-clause-tried
-close_by-requires-clause-tried g c =
+pub closes_by-requires-clause-tried : goal.closes_by-requires-clause-tried
+closes_by-requires-clause-tried g c =
     let now = standing c.args.scope.now in let target = seen_target c.args.target.now in
     let P : List Tried → Type 0 = λ xs. All (CanTry g.A.Algebra.algebra target now) xs in
     let Q : List State → Type 0 = λ xs. HasLeast g.A.Algebra.algebra target now xs in
@@ -74,37 +74,37 @@ close_by-requires-clause-tried g c =
 pub try_all-requires-clause-least : goal.try_all-requires-clause-least
 try_all-requires-clause-least g c =
     let now = standing c.args.scope.now in
-    least_stays g.A.Algebra.algebra (seen_target c.args.target.now) now (standing c.close_by.new.scope)
-    (same_restored now (standing c.close_by.new.scope) c.close_by.ensures.restored)
+    least_stays g.A.Algebra.algebra (seen_target c.args.target.now) now (standing c.closes_by.new.scope)
+    (same_restored now (standing c.closes_by.new.scope) c.closes_by.ensures.restored)
     c.args.desk.now.states.items c.requires.blames.least
 
 pub returns-clause-answer : goal.returns-clause-answer
 returns-clause-answer g c =
-    ok_answer g.A.Algebra.algebra (seen_target c.args.target.now) (standing c.args.scope.now) (standing c.close_by.new.scope) (standing c.try_all.new.scope)
-    c.close_by.ensures.restored c.try_all.new.desk.closers c.try_all.result c.try_all.ensures.answer
+    ok_answer g.A.Algebra.algebra (seen_target c.args.target.now) (standing c.args.scope.now) (standing c.closes_by.new.scope) (standing c.try_all.new.scope)
+    c.closes_by.ensures.restored c.try_all.new.desk.closers c.try_all.result c.try_all.ensures.answer
 
 pub try_all-requires-clause-suits : goal.try_all-requires-clause-suits
 try_all-requires-clause-suits g c =
-    suits_restored g.A.Algebra.algebra (seen_target c.args.target.now) (standing c.args.scope.now) (standing c.close_by.new.scope)
-    c.close_by.ensures.restored c.requires.suits
+    suits_restored g.A.Algebra.algebra (seen_target c.args.target.now) (standing c.args.scope.now) (standing c.closes_by.new.scope)
+    c.closes_by.ensures.restored c.requires.suits
 
 pub try_all-requires-clause-node : goal.try_all-requires-clause-node
 try_all-requires-clause-node g c =
     let now = standing c.args.scope.now in
-    stays_at_node g.A.Algebra.algebra (seen_target c.args.target.now) now (standing c.close_by.new.scope)
-    (same_restored now (standing c.close_by.new.scope) c.close_by.ensures.restored) c.requires.node
+    stays_at_node g.A.Algebra.algebra (seen_target c.args.target.now) now (standing c.closes_by.new.scope)
+    (same_restored now (standing c.closes_by.new.scope) c.closes_by.ensures.restored) c.requires.node
 
 pub try_all-requires-clause-desk : goal.try_all-requires-clause-desk
 try_all-requires-clause-desk g c =
-    let after = record c.args.desk.now { tried = c.collect.new.tried; closers = c.close_by.new.closers } in
+    let after = record c.args.desk.now { tried = c.collect.new.tried; closers = c.closes_by.new.closers } in
     let P : Circuit → Rules → Type 0 = λ n r. IsDesk g.A.Algebra.algebra n r c.args.target.now.path.now after in
-    there_too P (standing c.args.scope.now).net (standing c.close_by.new.scope).net (standing c.args.scope.now).rules
-    (standing c.close_by.new.scope).rules (sym c.close_by.ensures.restored.net) (sym c.close_by.ensures.restored.rules)
+    there_too P (standing c.args.scope.now).net (standing c.closes_by.new.scope).net (standing c.args.scope.now).rules
+    (standing c.closes_by.new.scope).rules (sym c.closes_by.ensures.restored.net) (sym c.closes_by.ensures.restored.rules)
     (kept_desk g.A.Algebra.algebra (standing c.args.scope.now).net (standing c.args.scope.now).rules c.args.target.now.path.now
     c.args.desk.now after (record { cone = refl; states = refl; blame = refl; liked = refl; justifier = refl; judge = refl }) c.requires.desk)
 
 pub returns-clause-unfinished : goal.returns-clause-unfinished
 returns-clause-unfinished g c =
-    let now = standing c.args.scope.now in let last = standing c.close_by.new.scope in
-    ended_before (seen_target c.args.target.now) now last (setting_restored now last c.close_by.ensures.restored) c.try_all.result
+    let now = standing c.args.scope.now in let last = standing c.closes_by.new.scope in
+    ended_before (seen_target c.args.target.now) now last (setting_restored now last c.closes_by.ensures.restored) c.try_all.result
     c.try_all.ensures.unfinished

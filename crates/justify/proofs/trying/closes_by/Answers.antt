@@ -3,7 +3,7 @@ use Rattle.std.proofs.Common.{◌+◌, refl}
 use Rattle.implication.specs.Scopes.{standing}
 use Rattle.pair_judging.specs.Targets.{seen_target}
 use Rattle.justify.proofs.Trials.{fails_by_kept}
-use Rattle.justify.proofs.trying.close_by.Goals as goal
+use Rattle.justify.proofs.trying.closes_by.Goals as goal
 
 pub returns-in-Some-clause-failed : goal.returns-in-Some-clause-failed
 returns-in-Some-clause-failed g c =
