@@ -7,7 +7,7 @@ use pd_base::{GateId, LineId, OutOfMemory};
 use std::alloc::Global;
 
 // At most so many cones are kept aside,
-const MOST_OTHERS: usize = 16;
+const MOST_OTHERS: usize = 32;
 // and at least so many;
 const FEW_OTHERS: usize = 8;
 // between these, so many that together they have no more lines than this.
