@@ -48,8 +48,8 @@ const GROWTH_PART: u64 = 33;
 const MOST_SPLITS: u32 = 100;
 
 const LEAST_SPLITS: u32 = 6;
-// The same with links, where a tree by weights often refutes just after others spent theirs.
-const LEAST_LINKED_SPLITS: u32 = 50;
+// With links they are as many always: a tree by weights often refutes just after others spent theirs.
+const LINKED_SPLITS: u32 = 50;
 
 /// How much is tried.
 #[derive(Clone, Copy)]
@@ -101,7 +101,7 @@ impl Justifier {
         let weights = SourceWeights::new(alloc, net.sources() as usize, GROWTH_PART)?;
         let line_weights = Weights::new(alloc, net.lines() as usize, GROWTH_PART)?;
         let grounds = Grounds::new(alloc, net)?;
-        let least = least_splits(links);
+        let for_trees = tree_patience(links);
         let links = LinkEnds::new(alloc, net, links)?;
         let decisions = Decisions::new::<A>(alloc, net, links.room())?;
         let frames = Frames::new(alloc, net)?;
@@ -113,7 +113,7 @@ impl Justifier {
             weights,
             line_weights,
             for_proposals: Patience::new(FIRST_CONFLICTS, 0),
-            for_trees: Patience::new(MOST_SPLITS, least),
+            for_trees,
             links,
             values: FirstValues::new::<A>(),
             frames,
@@ -448,12 +448,12 @@ impl Justifier {
     }
 }
 
-// How few splits a first tree by weights may have where that was halved.
-fn least_splits(links: &[(LineId, LineId)]) -> u32 {
+// How many splits a first tree by weights may have.
+fn tree_patience(links: &[(LineId, LineId)]) -> Patience {
     if links.is_empty() {
-        LEAST_SPLITS
+        Patience::new(MOST_SPLITS, LEAST_SPLITS)
     } else {
-        LEAST_LINKED_SPLITS
+        Patience::new(LINKED_SPLITS, LINKED_SPLITS)
     }
 }
 
