@@ -41,6 +41,14 @@ impl Found {
         matches!(self, Found::Refuted(_))
     }
 
+    // How many splits it took to refute the conditions, or 0 where it does not refute them.
+    pub(crate) fn refuting_splits(&self) -> u32 {
+        match self {
+            Found::Refuted(tree) => tree.splits(),
+            _ => 0,
+        }
+    }
+
     // Whether it is a tree that spent its splits.
     pub(crate) fn is_spent(&self) -> bool
         ensures { result ≡ is_spent self.now }

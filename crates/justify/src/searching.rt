@@ -301,8 +301,8 @@ fn justify_lines<A: Algebra, S: Setting>(
     judge_proposal(alloc, scope, target, desk)
 }
 
-// Grows trees in turn: one by weights that has few splits, and where it spent them and more are left of the budget, others that may have
-// the whole budget. What the earlier ones came to is dropped then.
+// Grows trees in turn: one by weights that has as many splits as pay, and where it spent them and more are left of the budget, others that
+// may have the whole budget. What the earlier ones came to is dropped then.
 fn split_in_turns<A: Algebra, S: Setting>(
     alloc: Global,
     scope: &mut Scope<A, S>,
@@ -335,6 +335,8 @@ fn split_with_budget<A: Algebra, S: Setting>(
     ensures ends { EndsSearch A.algebra task.now task.now.budget (standing scope.old) (standing scope.new) desk.new result }
 {
     let found = split_cases(alloc, scope, task, desk)?;
+    desk.justifier
+        .learn_backtrace(task.target.kind, found.refuting_splits());
     if !is_tried_again(&found, &task.target, desk) {
         return Ok(found);
     }

@@ -15,6 +15,7 @@ ghost use Rattle.search_hints.specs.Drafts.{IsJustifierOf, IsSizedFor, IsConeIn}
 
 use crate::completing::{Completed, like_firsts, like_states};
 use crate::decisions::{Decisions, Ended, Order};
+use crate::first_trees::FirstTrees;
 use crate::first_values::FirstValues;
 use crate::frames::Frames;
 use crate::grounds::Grounds;
@@ -44,12 +45,6 @@ const FIRST_LINKED_CONFLICTS: u32 = 30;
 const FIRST_ACTIVE_CONFLICTS: u32 = 100;
 // By how much more a conflict counts for the split of a tree than the one before it, as a part.
 const GROWTH_PART: u64 = 33;
-// The most splits of a first tree by weights, and where that is halved the least.
-const MOST_SPLITS: u32 = 100;
-
-const LEAST_SPLITS: u32 = 6;
-// With links they are as many always: a tree by weights often refutes just after others spent theirs.
-const LINKED_SPLITS: u32 = 50;
 
 /// How much is tried.
 #[derive(Clone, Copy)]
@@ -71,7 +66,7 @@ pub struct Justifier {
     weights: SourceWeights,
     line_weights: Weights,
     for_proposals: Patience,
-    for_trees: Patience,
+    first_trees: FirstTrees,
     links: LinkEnds,
     values: FirstValues,
     frames: Frames,
@@ -101,7 +96,7 @@ impl Justifier {
         let weights = SourceWeights::new(alloc, net.sources() as usize, GROWTH_PART)?;
         let line_weights = Weights::new(alloc, net.lines() as usize, GROWTH_PART)?;
         let grounds = Grounds::new(alloc, net)?;
-        let for_trees = tree_patience(links);
+        let first_trees = FirstTrees::new(!links.is_empty());
         let links = LinkEnds::new(alloc, net, links)?;
         let decisions = Decisions::new::<A>(alloc, net, links.room())?;
         let frames = Frames::new(alloc, net)?;
@@ -113,7 +108,7 @@ impl Justifier {
             weights,
             line_weights,
             for_proposals: Patience::new(FIRST_CONFLICTS, 0),
-            for_trees,
+            first_trees,
             links,
             values: FirstValues::new::<A>(),
             frames,
@@ -128,16 +123,24 @@ impl Justifier {
         self.for_proposals.learn(kind, is_refuted);
     }
 
-    /// Learns from a search for tests of a kind whether it spent the splits of its tree by weights.
+    /// Learns from a search for tests of a kind whether its first tree, which goes by weights, spent its splits.
     pub fn learn_tree(&mut self, kind: Kind, is_spent: bool)
         ensures { self.new ≡ self.old }
     {
-        self.for_trees.learn(kind, is_spent);
+        self.first_trees.learn(kind, is_spent);
     }
 
-    /// How many splits a tree by weights may have in a search for tests of a kind.
+    /// Learns from a search for tests of a kind that its tree by backtrace refuted the conditions with so many splits.
+    pub fn learn_backtrace(&mut self, kind: Kind, splits: u32)
+        ensures { self.new ≡ self.old }
+    {
+        self.first_trees.learn_backtrace(kind, splits);
+    }
+
+    /// How many splits the first tree of a search for tests of a kind may have, which goes by weights: so many as pay, which may be more
+    /// than the budget.
     pub fn splits_by_weight(&self, kind: Kind) -> u32 {
-        self.for_trees.limit(kind)
+        self.first_trees.limit(kind)
     }
 
     /// A tree by weights begins: lines have these labels, and so many changes were noted.
@@ -445,15 +448,6 @@ impl Justifier {
         ensures { length result.now ≡ self.now.sizes.lines }
     {
         self.decisions.labels()
-    }
-}
-
-// How many splits a first tree by weights may have.
-fn tree_patience(links: &[(LineId, LineId)]) -> Patience {
-    if links.is_empty() {
-        Patience::new(MOST_SPLITS, LEAST_SPLITS)
-    } else {
-        Patience::new(LINKED_SPLITS, LINKED_SPLITS)
     }
 }
 

@@ -11,6 +11,7 @@ mod completing;
 mod culprits;
 mod decisions;
 mod draft;
+mod first_trees;
 mod first_values;
 mod framed_picking;
 mod frames;

@@ -1,5 +1,5 @@
 -- Where the budget is spent, the scope is as it was, and another tree grows.
-use Rattle.std.proofs.Common.{sym, arith}
+use Rattle.std.proofs.Common.{refl, sym, arith}
 use Rattle.std.specs.Prelude.{IfOk}
 use Rattle.netlist.specs.Circuit.{Circuit}
 use Rattle.pd_base.specs.declared.rules.Rules.{Rules}
@@ -11,6 +11,7 @@ use Rattle.pair_judging.specs.Targets.{seen_target}
 use Rattle.justify.proofs.Ended.{counts_before}
 use Rattle.justify.proofs.SameNodes.{same_restored, restored_trans, start_restored, open_stays}
 use Rattle.justify.proofs.Suiting.{suits_restored, setting_restored, ended_before}
+use Rattle.justify.proofs.TriedSources.{kept_desk}
 use Rattle.justify.proofs.searching.split_with_budget.Goals as goal
 
 pub split_by_weight-requires : goal.split_by_weight-requires
@@ -24,7 +25,10 @@ split_by_weight-requires g c =
         start = start_restored target first middle left.restored c.requires.root.start;
         left_open = open_stays g.A.Algebra.algebra first middle (same_restored first middle left.restored) c.requires.root.left_open;
         budget = c.requires.root.budget;
-        serves = there_too P first.net middle.net first.rules middle.rules (sym left.restored.net) (sym left.restored.rules) left.serves;
+        serves =
+            kept_desk g.A.Algebra.algebra middle.net middle.rules c.args.task.now.target.path.now c.split_cases.new.desk _
+            (record { cone = refl; states = refl; blame = refl; liked = refl; justifier = c.learn_backtrace.ensures; judge = refl })
+            (there_too P first.net middle.net first.rules middle.rules (sym left.restored.net) (sym left.restored.rules) left.serves);
       };
       splits = omega arith;
     }
