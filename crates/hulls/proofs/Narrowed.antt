@@ -36,7 +36,7 @@ use Rattle.hulls.specs.declared.turn.Turn.{Turn}
 use Rattle.hulls.specs.Awaiting.{is_inside, gate_turn}
 use Rattle.hulls.specs.Boards.{OnBoard, link_turn}
 use Rattle.hulls.specs.Falling.{states_left}
-use Rattle.hulls.specs.Settling.{RestsAlong, AllDiffer, IsPassed, IsSameAt, Wakes, HasLess, IsShrunk, ArePinsCut, AreAllPinsCut, IsPinEmptied, IsCutTo, RestsAt, IsAwake, IsAwakeBut, IsNarrowed, IsTurn, IsConflict}
+use Rattle.hulls.specs.Settling.{RestsAlong, AllDiffer, IsPassed, IsSameAt, Wakes, HasLess, IsShrunk, ArePinsCut, LeavesSome, IsPinEmptied, IsCutTo, RestsAt, IsAwake, IsAwakeBut, IsNarrowed, IsTurn, IsConflict}
 use Rattle.hulls.specs.Links.{link_at, link_lines}
 use Rattle.hulls.proofs.Changing.{cut_shrunk, shrunk_on, some_left, follows_on}
 use Rattle.hulls.proofs.Flags.{behind}
@@ -250,7 +250,7 @@ module _ (a : StateAlgebra) (c : Circuit) (kind : Kind) (steps : List PinRef) wh
       none = empty.none;
     }
 
-    module _ (mid new : OnBoard) (pins : AreAllPinsCut a.count c passed gate kept old mid)
+    module _ (mid new : OnBoard) (pins : LeavesSome a.count c passed gate kept (length (pins_at c gate)) old mid)
         (own : IsCutTo a.count c passed (gate_line c gate) given mid new) where
       own_within : gate_line c gate < length old.labels
       own_within = omega arith
