@@ -18,7 +18,7 @@ use Rattle.hulls.specs.Settling.{ArePinsCut, IsCutTo, IsPinEmptied, IsShrunk, Le
 use Rattle.hulls.proofs.Changing.{cut_none, cut_more, some_left}
 use Rattle.hulls.proofs.Narrowed.{is_none, is_some}
 
--- the cuts leave a board of the same circuit
+-- after cuts the board is still one of its circuit
 pub board_left : (c : Circuit) (passed : Option GateId) (count : ℕ) (old new : OnBoard) → IsBoardOf c old → IsShrunk count c passed old new
     → IsBoardOf c new
 board_left c passed count old new of shrunk = record {
@@ -31,8 +31,8 @@ board_left c passed count old new of shrunk = record {
 }
 
 -- before the first cut
-pub none_cut : (c : Circuit) (passed : Option GateId) (count gate : ℕ) (kept : List StateSet) (board : OnBoard) → AreWithin count board.labels
-    → HasNoEmptySet c board.labels → LeavesSome count c passed gate kept 0 board board
+pub none_cut : (c : Circuit) (passed : Option GateId) (count gate : ℕ) (kept : List StateSet) (board : OnBoard)
+    → AreWithin count board.labels → HasNoEmptySet c board.labels → LeavesSome count c passed gate kept 0 board board
 none_cut c passed count gate kept board within some = record { cut = cut_none c passed count gate kept board within; some = some }
 
 module _ (c : Circuit) (passed : Option GateId) (count gate : ℕ) (kept : List StateSet) (pins : List LineId) (are : pins ≡ pins_at c gate)
