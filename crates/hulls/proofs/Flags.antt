@@ -7,7 +7,7 @@ use Rattle.std.proofs.lemmas.List.{length-set, length_push, get_or-set_same, get
 use Rattle.std.proofs.lemmas.List.Elements.{All-push, All-head, All-tail, Contains-append_left, Contains-push}
 use Rattle.std.proofs.lemmas.List.Sums.{sum_by-le, sum_by-set}
 use Rattle.hulls.specs.declared.turn.Turn.{Turn}
-use Rattle.hulls.specs.Awaiting.{Awaited, is_inside, one_if, AreTurned, IsFlagged, IsMore, IsWoken}
+use Rattle.hulls.specs.Awaiting.{Awaited, is_inside, one_if, IsFlagged, IsMore, IsWoken}
 
 one_if_le : (b : Bool) → one_if b ≤ 1
 one_if_le true = omega arith
@@ -33,24 +33,9 @@ inside_within [] turn is = absurd (false≢true is)
 inside_within (flag ∷ flags) zero is = omega arith
 inside_within (flag ∷ flags) (suc turn) is = let e = inside_within flags turn is in omega arith
 
--- nothing waits at first
-pub none_waits : (inside flags : List Bool) → AreTurned inside flags → (room : ℕ) → length inside ≤ room → IsFlagged inside flags [] room
-none_waits inside flags is room enough = record {
-  one_each = is.one_each;
-  flagged = λ turn here up. absurd (false≢true
-      (sym (ap not here) ∙ sym (is.turned turn (inside_within inside turn here)) ∙ up));
-  down = λ turn below low. not_false (is_inside inside turn) (sym (is.turned turn (omega (arith, is.one_each, below))) ∙ low);
-  few = omega arith;
-  all_inside = λ k d at. absurd (omega (arith, at));
-  enough = omega (arith, is.one_each, enough);
-}
-
 module _ (inside flags : List Bool) (waiting : List Turn) (room : ℕ) (is : IsFlagged inside flags waiting room) where
   abbrev awaited : Awaited
   awaited = record { inside = inside; waiting = waiting }
-
-  pub few_waiting : length waiting ≤ length inside
-  few_waiting = let e = flags_up flags in let f = is.few in let g = is.one_each in omega arith
 
   same_gates : IsMore awaited awaited
   same_gates = record { inside = refl; stays = λ other waits. waits; few = λ few. few }

@@ -19,4 +19,5 @@ pub mod Suffixes
 pub mod AlongLinks
 pub mod LinkCuts
 pub mod FewPins
+pub mod PinCuts
 pub mod Whole

@@ -33,10 +33,11 @@ use Rattle.state_laws.proofs.Sweeps.{keeps_one, keeps_on}
 use Rattle.hulls.specs.Sets.{Means, set_at}
 use Rattle.hulls.proofs.Whole.{gate_narrowed}
 use Rattle.hulls.specs.declared.turn.Turn.{Turn}
+use Rattle.hulls.specs.Conditions.{Entered}
 use Rattle.hulls.specs.Awaiting.{is_inside, gate_turn}
 use Rattle.hulls.specs.Boards.{OnBoard, link_turn}
 use Rattle.hulls.specs.Falling.{states_left}
-use Rattle.hulls.specs.Settling.{RestsAlong, AllDiffer, IsPassed, IsSameAt, Wakes, HasLess, IsShrunk, ArePinsCut, AreAllPinsCut, IsPinEmptied, IsCutTo, RestsAt, IsAwake, IsAwakeBut, IsNarrowed, IsTurn, IsConflict}
+use Rattle.hulls.specs.Settling.{RestsAlong, AllDiffer, IsPassed, IsSameAt, Wakes, HasLess, IsShrunk, ArePinsCut, LeavesSome, IsPinEmptied, IsCutTo, RestsAt, IsAwake, IsAwakeBut, IsNarrowed, IsTurn, IsConflict, MayNarrow, EndsTurn}
 use Rattle.hulls.specs.Links.{link_at, link_lines}
 use Rattle.hulls.proofs.Changing.{cut_shrunk, shrunk_on, some_left, follows_on}
 use Rattle.hulls.proofs.Flags.{behind}
@@ -250,7 +251,7 @@ module _ (a : StateAlgebra) (c : Circuit) (kind : Kind) (steps : List PinRef) wh
       none = empty.none;
     }
 
-    module _ (mid new : OnBoard) (pins : AreAllPinsCut a.count c passed gate kept old mid)
+    module _ (mid new : OnBoard) (pins : LeavesSome a.count c passed gate kept (length (pins_at c gate)) old mid)
         (own : IsCutTo a.count c passed (gate_line c gate) given mid new) where
       own_within : gate_line c gate < length old.labels
       own_within = omega arith
@@ -425,6 +426,30 @@ module _ (a : StateAlgebra) (c : Circuit) (gate : ℕ) (seen labels : List State
   gate_as given at_gate_set =
       subst (λ (l : List StateSet). Means a.count given (GivesAtGate a (gate_sets c gate l) condition)) same
       (subst (λ (o : Option Condition). Means a.count given (GivesAtGate a (gate_sets c gate seen) o)) is at_gate_set)
+
+-- a gate is narrowed, under what is kept as the code has the labels and the condition
+module _ (a : StateAlgebra) (c : Circuit) (on : Entered) (circuit : IsCircuit c) (gate : ℕ) (old : OnBoard) (may : MayNarrow a c on gate old)
+    (passed : Option GateId) (is_passed : IsPassed c gate passed) (seen : List StateSet) (same : seen ≡ old.labels)
+    (told : Option Condition) (is : told ≡ condition_at on.kind on.steps gate) (kept : List StateSet) (given : StateSet)
+    (at_pins : (pin : ℕ) → pin < length (pins_at c gate) → Means a.count (set_at kept pin) (GivesAtPin a (gate_sets c gate seen) told pin))
+    (at_gate_set : Means a.count given (GivesAtGate a (gate_sets c gate seen) told)) where
+  -- the line of a pin has no state left
+  pub ends_at_pin : (line : ℕ) (new : OnBoard) → IsPinEmptied a.count c passed gate kept old new line
+      → IsConflict a c on.kind on.steps old new line
+  ends_at_pin = conflict_at_pin a c on.kind on.steps circuit gate may.in_circuit kept given old may.inside passed is_passed may.of.lines may.within
+      (pins_as a c gate seen old.labels same told (condition_at on.kind on.steps gate) is kept at_pins)
+      (gate_as a c gate seen old.labels same told (condition_at on.kind on.steps gate) is given at_gate_set)
+
+  -- the lines of all pins have some, and then the gate's own line is cut
+  pub ends_at_own : (mid new : OnBoard) → LeavesSome a.count c passed gate kept (length (pins_at c gate)) old mid
+      → IsCutTo a.count c passed (gate_line c gate) given mid new → (line : Option LineId)
+      → IfNone line (label_at new.labels (gate_line c gate) ≢ no_states)
+      → IfSome line (λ l. (l.0 ≡ gate_line c gate) × (label_at new.labels l.0 ≡ no_states)) → EndsTurn a c on old new line
+  ends_at_own mid new pins own line = turn_ends a c on.kind on.steps circuit gate may.in_circuit kept given old may.inside passed is_passed
+      may.of.lines may.within
+      (pins_as a c gate seen old.labels same told (condition_at on.kind on.steps gate) is kept at_pins)
+      (gate_as a c gate seen old.labels same told (condition_at on.kind on.steps gate) is given at_gate_set)
+      mid new pins own line may.awake
 
 module _ (a : StateAlgebra) (c : Circuit) (kind : Kind) (steps : List PinRef) where
   -- labels at rest, and then cuts: each gate inside and each link waits or rests

@@ -20,13 +20,14 @@ abbrev pub one_if : Bool → ℕ
 one_if true = 1
 one_if false = 0
 
--- each flag is up where the other one is not
-pub record AreTurned (inside flags : List Bool) : Type 0 where
+-- for each gate and link there is a flag, which is up where it is outside
+pub record AreOpposite (inside flags : List Bool) : Type 0 where
   pub one_each : length flags ≡ length inside
-  pub turned : (at : ℕ) → at < length inside → slice_index_or flags at false ≡ not (slice_index_or inside at false)
+  pub opposite : (at : ℕ) → at < length inside → slice_index_or flags at false ≡ not (slice_index_or inside at false)
 
--- What is inside and has its flag up waits, and what has its flag down is inside; no more wait than flags are up, all of them inside; and
--- there is room for all.
+-- There is one flag for each gate and link. It is up for what is not to be added: for what is outside, and for what waits. So what is
+-- inside and has its flag up waits, and what has its flag down is inside; no more wait than flags are up, all of them inside; and there is
+-- room for all.
 pub record IsFlagged (inside flags : List Bool) (waiting : List Turn) (room : ℕ) : Type 0 where
   pub one_each : length flags ≡ length inside
   pub flagged : (turn : ℕ) → is_inside inside turn ≡ true → slice_index_or flags turn false ≡ true → Contains waiting (record { 0 = turn })

@@ -132,10 +132,10 @@ pub record ArePinsCut (count : ℕ) (c : Circuit) (passed : Option GateId) (gate
   pub labels : HasPinsKept count (pins_at c gate) kept pins old.labels new.labels
   pub shrunk : IsShrunk count c passed old new
 
--- those of all pins were, and each line has some state left
-pub record AreAllPinsCut (count : ℕ) (c : Circuit) (passed : Option GateId) (gate : ℕ) (kept : List StateSet)
+-- those of the first pins were, and each line has some state left
+pub record LeavesSome (count : ℕ) (c : Circuit) (passed : Option GateId) (gate : ℕ) (kept : List StateSet) (pins : ℕ)
     (old new : OnBoard) : Type 0 where
-  pub cut : ArePinsCut count c passed gate kept (length (pins_at c gate)) old new
+  pub cut : ArePinsCut count c passed gate kept pins old new
   pub some : HasNoEmptySet c new.labels
 
 -- those of some pins were, and this line has no state left
@@ -146,6 +146,11 @@ pub record IsPinEmptied (count : ℕ) (c : Circuit) (passed : Option GateId) (ga
   pub cut : ArePinsCut count c passed gate kept pins old new
   pub in_circuit : line < line_count c
   pub none : label_at new.labels line ≡ no_states
+
+-- those of the first pins were, and each line has some state left, or else those of some pins were, and the line that is told has none
+abbrev pub EndsCuts : ℕ → Circuit → Option GateId → ℕ → List StateSet → ℕ → OnBoard → OnBoard → Option LineId → Type 0
+EndsCuts count c passed gate kept pins old new told =
+    MatchOption told (LeavesSome count c passed gate kept pins old new) (λ line. IsPinEmptied count c passed gate kept old new line.0)
 
 -- labels were narrowed at gates inside, and each labelling at rest there that lies in the old ones lies in the new
 pub record IsNarrowed (a : StateAlgebra) (c : Circuit) (kind : Kind) (steps : List PinRef) (old new : OnBoard) : Type 0 where

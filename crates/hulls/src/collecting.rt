@@ -16,7 +16,7 @@ use state_sets::{Algebra, Condition, StateSet};
 
 // Leaves in `kept` the states that allowed choices have at each pin, and gives those that they give at the gate's line. Each room has
 // a place for each pin of any gate, and one more.
-pub(crate) fn keep_at_all<A: Algebra>(
+pub(crate) fn list_kept_at_all<A: Algebra>(
     gate: &GateView,
     condition: Option<Condition>,
     cut: &mut [StateSet],

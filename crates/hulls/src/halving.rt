@@ -1,5 +1,5 @@
 // The halves into which the states of a source are split.
-ghost use Rattle.std.specs.Prelude.{◌≡◌, ◌<◌, ◌↔◌, IsTrue};
+ghost use Rattle.std.specs.Prelude.{◌<◌, ◌↔◌, IsTrue};
 ghost use Rattle.state_sets.specs.declared.state.State.{State};
 ghost use Rattle.state_sets.specs.States.{Has, IsWithin};
 ghost use Rattle.state_sets.specs.Starts.{IsInHalf};

@@ -1,6 +1,5 @@
 // What choices out of a list of sets join to: from each place on, and with which states at each place.
-ghost use Rattle.std.specs.Prelude.{◌≡◌, ◌<◌, ◌≤◌, ◌+◌, ◌⊎◌, ℕ, length, drop, slice_index_or};
-ghost use Rattle.netlist.specs.declared.limits.TheConstants.{MOST_FAN_IN};
+ghost use Rattle.std.specs.Prelude.{◌≡◌, ◌<◌, ◌≤◌, ◌+◌, ◌⊎◌, ℕ, length, drop};
 ghost use Rattle.state_sets.specs.States.{Has, IsWithin, AreWithin};
 ghost use Rattle.hulls.specs.Sets.{Means, set_at};
 ghost use Rattle.hulls.specs.Joins.{Folds, FoldsInto, Supports};

@@ -1,5 +1,5 @@
 // What a condition leaves at each pin of a gate, for one final value at the on-path pin.
-ghost use Rattle.std.specs.Prelude.{◌≡◌, ◌<◌, ◌≤◌, length, map, All};
+ghost use Rattle.std.specs.Prelude.{◌≡◌, ◌<◌, length, map, All};
 ghost use Rattle.state_sets.specs.States.{IsWithin};
 ghost use Rattle.state_sets.specs.Labellings.{label_at};
 ghost use Rattle.hulls.specs.Limits.{limit_at, AreCut};

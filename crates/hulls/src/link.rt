@@ -1,7 +1,7 @@
 // Narrowing along a link, of a source to a line.
-ghost use Rattle.std.specs.Prelude.{◌≡◌, ◌<◌, ◌∷◌, [], ◌↔◌, length, IsTrue};
+ghost use Rattle.std.specs.Prelude.{◌<◌, ◌∷◌, [], ◌↔◌, length, IsTrue};
 ghost use Rattle.state_sets.specs.declared.state.State.{State};
-ghost use Rattle.state_sets.specs.States.{Has, IsWithin, AreWithin};
+ghost use Rattle.state_sets.specs.States.{Has, AreWithin};
 ghost use Rattle.state_sets.specs.Labellings.{TellsOfNarrowing};
 ghost use Rattle.state_sets.specs.Narrowing.{IsLinkNarrowing};
 ghost use Rattle.hulls.specs.LinkPairs.{KeepsLinkedPairs};

@@ -1,7 +1,7 @@
 // Links, and for each line the links that have it among their two, so that a changed line lets these wait at the cost of their number.
 // They stand in chains: a line leads to the last of its links, and each link to the one before it at the same line. No line is listed where
 // there is no link.
-ghost use Rattle.std.specs.Prelude.{◌≡◌, ◌≢◌, ◌<◌, ◌≤◌, ◌+◌, ◌^◌, ◌∷◌, ◌⊎◌, [], ℕ, true, length, slice_index_or, All, Contains, IfOk, IsTrue};
+ghost use Rattle.std.specs.Prelude.{◌≡◌, ◌<◌, ◌≤◌, ◌+◌, ◌^◌, [], ℕ, true, length, slice_index_or, All, Contains, IfOk};
 ghost use Rattle.hulls.specs.Awaiting.{is_inside, IsMore};
 ghost use Rattle.hulls.specs.Links.{IsChained, IsInChain, chained_line, link_at, link_lines};
 
@@ -28,7 +28,7 @@ struct Chains {
 
 impl Model for LinkLists {
     ghost use Rattle.std.specs.Prelude.{length};
-    ghost use Rattle.std.specs.Prelude.{false, true};
+    ghost use Rattle.std.specs.Prelude.{true};
     ghost use Rattle.pd_base.specs.Links.{LinkList};
     ghost use Rattle.hulls.specs.Links.{AreChained};
 

@@ -1,6 +1,6 @@
 // Turns in a queue, first in, first out, as two lists: one is read from a place on, and the other is written; where the first is done, they
 // are exchanged.
-ghost use Rattle.std.specs.Prelude.{◌≡◌, ◌<◌, List, [], ◌∷◌, ◌++◌, length, IfOk, MatchOption};
+ghost use Rattle.std.specs.Prelude.{◌≡◌, ◌<◌, [], ◌∷◌, ◌++◌, length, IfOk, MatchOption};
 
 use crate::Turn;
 use pd_base::OutOfMemory;

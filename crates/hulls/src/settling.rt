@@ -1,5 +1,5 @@
 // A board settles: one gate or link after another is narrowed, as long as one waits and each line has some state.
-ghost use Rattle.std.specs.Prelude.{◌≡◌, ◌≢◌, ◌<◌, ◌+◌, ◌↔◌, [], true, length, Contains, IfSome, IfNone, IsTrue, MatchOption, None};
+ghost use Rattle.std.specs.Prelude.{◌≡◌, ◌≢◌, ◌<◌, ◌≤◌, ◌↔◌, List, [], ◌∷◌, true, length, Contains, IfSome, IfNone, IsTrue, None};
 ghost use Rattle.netlist.specs.Circuit.{gate_count, gate_line, line_count, pins_at};
 ghost use Rattle.netlist.specs.Lawful.{IsCircuit};
 ghost use Rattle.state_sets.specs.States.{AreWithin, no_states};
@@ -9,11 +9,10 @@ ghost use Rattle.state_laws.specs.Cones.{IsNarrowingIn};
 ghost use Rattle.hulls.specs.Conditions.{IsEnteredOn};
 ghost use Rattle.hulls.specs.Awaiting.{is_inside};
 ghost use Rattle.hulls.specs.Boards.{IsBoardOf, link_turn};
-ghost use Rattle.hulls.specs.GateViews.{three_kept, two_kept};
-ghost use Rattle.hulls.specs.Settling.{MaySettle, IsAwakeBut, AllDiffer, IsNarrowed, IsPassed, AreAllPinsCut, IsPinEmptied, IsCutTo, MayNarrow, EndsTurn};
+ghost use Rattle.hulls.specs.GateViews.{three_kept};
+ghost use Rattle.hulls.specs.Settling.{MaySettle, IsAwakeBut, AllDiffer, IsNarrowed, IsPassed, EndsCuts, IsCutTo, MayNarrow, EndsTurn};
 
-use crate::few::KeptAtTwo;
-use crate::gate::{kept_at_three, kept_at_two};
+use crate::gate::{kept_at_gate_of_three, kept_at_gate_of_two};
 use crate::link::{linked_lines, linked_sources};
 use crate::three::KeptAtThree;
 use crate::{Board, Conditions, NarrowScratch, Turn, kept_at};
@@ -186,8 +185,8 @@ impl<A: Algebra> Board<A> {
         // a netlist knows itself as a circuit
         let _ = net.sources();
         let passed = passed_by_two(net, gate);
-        let kept = kept_at_two::<A>(net, self.labels(), gate, condition);
-        if let Some(line) = self.cut_two(net, gate, kept, passed) {
+        let kept = kept_at_gate_of_two::<A>(net, self.labels(), gate, condition);
+        if let Some(line) = self.cut_first_two(net, gate, kept.first, kept.second, passed) {
             return Some(line);
         }
         self.cut_own(net, gate, kept.given, passed)
@@ -209,7 +208,7 @@ impl<A: Algebra> Board<A> {
         // a netlist knows itself as a circuit
         let _ = net.sources();
         let passed = passed_by_three(net, gate);
-        let kept = kept_at_three::<A>(net, self.labels(), gate);
+        let kept = kept_at_gate_of_three::<A>(net, self.labels(), gate);
         if let Some(line) = self.cut_three(net, gate, kept, passed) {
             return Some(line);
         }
@@ -261,35 +260,36 @@ impl<A: Algebra> Board<A> {
         }
     }
 
-    // Cuts the lines of the two pins of a gate down to what is kept there, up to a line that has no state left.
+    // Cuts the lines of the first two pins of a gate down to what is kept there, up to a line that has no state left. What is kept at the
+    // pins behind does not matter.
     #[inline(always)]
-    fn cut_two(
+    fn cut_first_two(
         &mut self,
         net: &Netlist,
         gate: GateId,
-        kept: KeptAtTwo,
+        first: StateSet,
+        second: StateSet,
         passed: Option<GateId>,
     ) -> Option<LineId>
         requires of { IsBoardOf net.now self.old }
         requires within { AreWithin A.algebra.count self.old.labels }
         requires some { HasNoEmptySet net.now self.old.labels }
-        requires circuit { IsCircuit net.now }
         requires gate { gate.0 < gate_count net.now }
-        requires two { length (pins_at net.now gate.0) ≡ 2 }
-        ensures cut { MatchOption result (AreAllPinsCut A.algebra.count net.now passed gate.0 (two_kept kept) self.old self.new)
-            (λ line. IsPinEmptied A.algebra.count net.now passed gate.0 (two_kept kept) self.old self.new line.0) }
+        requires two { 2 ≤ length (pins_at net.now gate.0) }
+        ensures cut { (behind : List StateSet)
+            → EndsCuts A.algebra.count net.now passed gate.0 (first ∷ second ∷ behind) 2 self.old self.new result }
     {
         let pins = net.pins(gate);
-        if self.cut_in(net, pins[0], kept.first, passed) == StateSet::EMPTY {
+        if self.cut_in(net, pins[0], first, passed) == StateSet::EMPTY {
             return Some(pins[0]);
         }
-        if self.cut_in(net, pins[1], kept.second, passed) == StateSet::EMPTY {
+        if self.cut_in(net, pins[1], second, passed) == StateSet::EMPTY {
             return Some(pins[1]);
         }
         None
     }
 
-    // The same of three pins.
+    // Cuts the lines of the three pins of a gate down to what is kept there, up to a line that has no state left.
     #[inline(always)]
     fn cut_three(
         &mut self,
@@ -301,18 +301,14 @@ impl<A: Algebra> Board<A> {
         requires of { IsBoardOf net.now self.old }
         requires within { AreWithin A.algebra.count self.old.labels }
         requires some { HasNoEmptySet net.now self.old.labels }
-        requires circuit { IsCircuit net.now }
         requires gate { gate.0 < gate_count net.now }
         requires three { length (pins_at net.now gate.0) ≡ 3 }
-        ensures cut { MatchOption result (AreAllPinsCut A.algebra.count net.now passed gate.0 (three_kept kept) self.old self.new)
-            (λ line. IsPinEmptied A.algebra.count net.now passed gate.0 (three_kept kept) self.old self.new line.0) }
+        ensures cut { EndsCuts A.algebra.count net.now passed gate.0 (three_kept kept) 3 self.old self.new result }
     {
+        // read before the cuts, so that the pins are looked up once
         let pins = net.pins(gate);
-        if self.cut_in(net, pins[0], kept.first, passed) == StateSet::EMPTY {
-            return Some(pins[0]);
-        }
-        if self.cut_in(net, pins[1], kept.second, passed) == StateSet::EMPTY {
-            return Some(pins[1]);
+        if let Some(line) = self.cut_first_two(net, gate, kept.first, kept.second, passed) {
+            return Some(line);
         }
         if self.cut_in(net, pins[2], kept.third, passed) == StateSet::EMPTY {
             return Some(pins[2]);
@@ -333,8 +329,7 @@ impl<A: Algebra> Board<A> {
         requires some { HasNoEmptySet net.now self.old.labels }
         requires circuit { IsCircuit net.now }
         requires gate { gate.0 < gate_count net.now }
-        ensures cut { MatchOption result (AreAllPinsCut A.algebra.count net.now passed gate.0 kept.now self.old self.new)
-            (λ line. IsPinEmptied A.algebra.count net.now passed gate.0 kept.now self.old self.new line.0) }
+        ensures cut { EndsCuts A.algebra.count net.now passed gate.0 kept.now (length (pins_at net.now gate.0)) self.old self.new result }
     {
         let pins = net.pins(gate);
         for pin in 0..pins.len() {
@@ -351,11 +346,7 @@ fn passed_by(net: &Netlist, gate: GateId) -> Option<GateId>
     requires { gate.0 < gate_count net.now }
     ensures { IsPassed net.now gate.0 result }
 {
-    if are_found_to_differ(net.pins(gate)) {
-        Some(gate)
-    } else {
-        None
-    }
+    are_found_to_differ(net.pins(gate)).then_some(gate)
 }
 
 // The same of a gate with two pins. Inlined, since most narrowings of a gate ask it.
@@ -366,11 +357,7 @@ fn passed_by_two(net: &Netlist, gate: GateId) -> Option<GateId>
     ensures { IsPassed net.now gate.0 result }
 {
     let pins = net.pins(gate);
-    if do_two_differ(pins[0], pins[1]) {
-        Some(gate)
-    } else {
-        None
-    }
+    do_two_differ(pins[0], pins[1]).then_some(gate)
 }
 
 // The same of a gate with three.
@@ -381,11 +368,7 @@ fn passed_by_three(net: &Netlist, gate: GateId) -> Option<GateId>
     ensures { IsPassed net.now gate.0 result }
 {
     let pins = net.pins(gate);
-    if do_three_differ(pins[0], pins[1], pins[2]) {
-        Some(gate)
-    } else {
-        None
-    }
+    do_three_differ(pins[0], pins[1], pins[2]).then_some(gate)
 }
 
 // Whether no two of these lines are the same. Of more than a few lines that do not ascend it is not looked for, and the answer is no.

@@ -1,7 +1,7 @@
 // The gates and links that wait to be narrowed, first in, first out. Only those inside wait. A flag is up for each that is not to be added:
 // for good where it is outside, and else while it waits. That nothing stands twice in the queue is true, and no proof needs it.
 ghost use Rattle.std.specs.Prelude.{◌≡◌, ◌<◌, ◌∷◌, true, [], length, IfOk, IfSome, MatchOption};
-ghost use Rattle.hulls.specs.Awaiting.{is_inside, AreTurned, IsWoken};
+ghost use Rattle.hulls.specs.Awaiting.{is_inside, AreOpposite, IsWoken};
 
 use crate::Turn;
 use crate::queue::Queue;
@@ -32,7 +32,7 @@ impl Waiting {
     pub fn new(alloc: Global, inside: Vec<bool>) -> Result<Waiting, OutOfMemory>
         ensures { IfOk result (λ w. w ≡ record { inside = inside.items; waiting = [] }) }
     {
-        let flags = turned_flags(alloc, inside.as_slice())?;
+        let flags = opposite_flags(alloc, inside.as_slice())?;
         let queue = Queue::new(alloc, inside.len())?;
         Ok(Waiting {
             inside,
@@ -93,8 +93,8 @@ impl Waiting {
 }
 
 // For each of these flags one that is up where it is not.
-fn turned_flags(alloc: Global, inside: &[bool]) -> Result<Vec<bool>, OutOfMemory>
-    ensures { IfOk result (λ flags. AreTurned inside.now flags.items) }
+fn opposite_flags(alloc: Global, inside: &[bool]) -> Result<Vec<bool>, OutOfMemory>
+    ensures { IfOk result (λ flags. AreOpposite inside.now flags.items) }
 {
     let mut flags = Vec::from_slice(alloc, inside)?;
     for at in 0..flags.len() {

@@ -1,10 +1,9 @@
 // Where a line lost states, the gates that have it among their lines are to be narrowed: those that read it, and the one that
 // drives it. The gate whose narrowing cut the line is passed by where narrowing it again would change nothing.
-ghost use Rattle.std.specs.Prelude.{◌≡◌, ◌≢◌, ◌<◌, ◌≤◌, ◌+◌, ◌^◌, ◌∷◌, ◌↔◌, [], ℕ, true, length, Some, All, Contains, IsTrue};
+ghost use Rattle.std.specs.Prelude.{◌≡◌, ◌≢◌, ◌<◌, ◌≤◌, ◌↔◌, true, length, Some, All, Contains, IsTrue};
 ghost use Rattle.netlist.specs.Circuit.{gate_count, line_count};
 ghost use Rattle.hulls.specs.Awaiting.{is_inside, gate_turn, IsMore};
 ghost use Rattle.hulls.specs.Settling.{AreWaiting};
-ghost use Rattle.hulls.specs.Links.{link_lines};
 
 use crate::Turn;
 use crate::waiting::Waiting;

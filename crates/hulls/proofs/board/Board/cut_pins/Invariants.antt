@@ -1,9 +1,5 @@
-use Rattle.state_sets.specs.Hulls.{HasNoEmptySet}
-use Rattle.hulls.specs.Settling.{ArePinsCut}
+use Rattle.hulls.specs.Settling.{LeavesSome}
 use Rattle.hulls.proofs.board.Board.cut_pins.Given as goal
 
 abbrev pub invariant-loop-pin : goal.invariant-loop-pin
-invariant-loop-pin g l = record {
-  cut : ArePinsCut g.A.Algebra.algebra.count l.net l.fn.passed l.fn.gate.0 l.kept l.pin l.initial.self l.self;
-  some : HasNoEmptySet l.net l.self.labels;
-}
+invariant-loop-pin g l = LeavesSome g.A.Algebra.algebra.count l.net l.fn.passed l.fn.gate.0 l.kept l.pin l.initial.self l.self

@@ -2,9 +2,8 @@
 use Rattle.std.proofs.Common.{◌<◌, length, sym, subst}
 use Rattle.std.specs.Option.{IfSome}
 use Rattle.netlist.specs.Circuit.{pins_at}
-use Rattle.state_sets.specs.Hulls.{condition_at}
 use Rattle.hulls.proofs.Marks.{condition_pin}
-use Rattle.hulls.proofs.Narrowed.{conflict_at_pin, turn_ends, pins_as, gate_as}
+use Rattle.hulls.proofs.Narrowed.{ends_at_own, ends_at_pin}
 use Rattle.hulls.proofs.board.Board.narrow_any.Goals as goal
 
 pub cut_pins-requires-clause-circuit : goal.cut_pins-requires-clause-circuit
@@ -18,29 +17,26 @@ kept_at-given-requires-clause-pin g c =
 
 pub returns-in-Some : goal.returns-in-Some
 returns-in-Some g c =
-    let a = g.A.Algebra.algebra in let net = c.args.net.now in let on = c.args.conditions.now in let gate = c.args.gate.0 in
-    let old = c.args.self.now in let kept = c.kept_at-given.new.scratch in let condition = condition_at on.kind on.steps gate in
+    let a = g.A.Algebra.algebra in let net = c.args.net.now in let gate = c.args.gate.0 in let old = c.args.self.now in
+    let seen = c.labels.result.now in let kept = c.kept_at-given in
+    let passed = c.passed_by-passed in
     record {
-      turn = conflict_at_pin a net on.kind on.steps c.sources.ensures.circuit gate c.requires.may.in_circuit kept c.kept_at-given.result old
-          c.requires.may.inside c.passed_by-passed.result c.passed_by-passed.ensures c.requires.may.of.lines c.requires.may.within
-          (pins_as a net gate c.labels.result.now old.labels c.labels.ensures.labels c.at.result condition c.at.ensures kept
-          c.kept_at-given.ensures.at_pins)
-          (gate_as a net gate c.labels.result.now old.labels c.labels.ensures.labels c.at.result condition c.at.ensures
-          c.kept_at-given.result c.kept_at-given.ensures.at_gate)
+      turn = ends_at_pin a net c.args.conditions.now c.sources.ensures.circuit gate old c.requires.may passed.result passed.ensures
+          seen c.labels.ensures.labels c.at.result c.at.ensures kept.new.scratch kept.result
+          kept.ensures.at_pins kept.ensures.at_gate
           c.in-Some.line.0 c.cut_pins.new.self c.in-Some.ensures.cut;
     }
 
 pub returns : goal.returns
 returns g c =
-    let a = g.A.Algebra.algebra in let net = c.args.net.now in let on = c.args.conditions.now in let gate = c.args.gate.0 in
-    let old = c.args.self.now in let kept = c.kept_at-given.new.scratch in let condition = condition_at on.kind on.steps gate in
+    let a = g.A.Algebra.algebra in let net = c.args.net.now in let gate = c.args.gate.0 in let old = c.args.self.now in
+    let seen = c.labels.result.now in let kept = c.kept_at-given in
+    let passed = c.passed_by-passed in
     record {
-      turn = turn_ends a net on.kind on.steps c.sources.ensures.circuit gate c.requires.may.in_circuit kept c.kept_at-given.result old
-          c.requires.may.inside c.passed_by-passed.result c.passed_by-passed.ensures c.requires.may.of.lines c.requires.may.within
-          (pins_as a net gate c.labels.result.now old.labels c.labels.ensures.labels c.at.result condition c.at.ensures kept
-          c.kept_at-given.ensures.at_pins)
-          (gate_as a net gate c.labels.result.now old.labels c.labels.ensures.labels c.at.result condition c.at.ensures
-          c.kept_at-given.result c.kept_at-given.ensures.at_gate)
-          c.cut_pins.new.self c.cut_own.new.self c.in_default.ensures.cut c.cut_own.ensures.cut c.cut_own.result
-          c.requires.may.awake c.cut_own.ensures.some c.cut_own.ensures.emptied;
+      turn = ends_at_own a net c.args.conditions.now c.sources.ensures.circuit gate old c.requires.may passed.result passed.ensures
+          seen c.labels.ensures.labels c.at.result c.at.ensures kept.new.scratch kept.result
+          kept.ensures.at_pins kept.ensures.at_gate
+          c.cut_pins.new.self c.cut_own.new.self
+          c.in_default.ensures.cut
+          c.cut_own.ensures.cut c.cut_own.result c.cut_own.ensures.some c.cut_own.ensures.emptied;
     }

@@ -1,49 +1,49 @@
 -- The lines of the two pins are cut, and then that of the gate.
-use Rattle.std.proofs.Common.{◌<◌, length, sym, subst}
+use Rattle.std.proofs.Common.{◌<◌, [], length, sym, subst}
 use Rattle.std.specs.Option.{IfSome}
 use Rattle.netlist.specs.Circuit.{pins_at}
 use Rattle.state_sets.specs.Narrowing.{gate_sets}
-use Rattle.state_sets.specs.Hulls.{condition_at}
 use Rattle.hulls.specs.GateViews.{two_kept}
 use Rattle.hulls.proofs.Marks.{condition_pin}
-use Rattle.hulls.proofs.Narrowed.{conflict_at_pin, turn_ends, pins_as, gate_as}
-use Rattle.hulls.proofs.FewPins.{kept_at_two}
+use Rattle.hulls.proofs.Narrowed.{ends_at_own, ends_at_pin}
+use Rattle.hulls.proofs.FewPins.{each_of_two}
+use Rattle.hulls.proofs.PinCuts.{board_left, all_left}
 use Rattle.hulls.proofs.board.Board.narrow_two.Goals as goal
 
-pub cut_two-requires-clause-circuit : goal.cut_two-requires-clause-circuit
-cut_two-requires-clause-circuit g c = c.sources.ensures.circuit
+pub cut_own-requires-clause-of : goal.cut_own-requires-clause-of
+cut_own-requires-clause-of g c =
+    board_left c.args.net.now c.passed_by_two-passed.result g.A.Algebra.algebra.count c.args.self.now c.cut_first_two.new.self
+    c.requires.may.of (c.in_default.ensures.cut []).cut.shrunk
 
-pub kept_at_two-kept-requires-clause-pin : goal.kept_at_two-kept-requires-clause-pin
-kept_at_two-kept-requires-clause-pin g c =
+pub kept_at_gate_of_two-kept-requires-clause-pin : goal.kept_at_gate_of_two-kept-requires-clause-pin
+kept_at_gate_of_two-kept-requires-clause-pin g c =
     let net = c.args.net.now in let on = c.args.conditions.now in
     subst (λ o. IfSome o (λ condition. condition.pin < length (pins_at net c.args.gate.0))) (sym c.requires.condition)
     (condition_pin on.kind net on.steps c.requires.may.conditions.steps c.args.gate.0)
 
 pub returns-in-Some : goal.returns-in-Some
 returns-in-Some g c =
-    let a = g.A.Algebra.algebra in let net = c.args.net.now in let on = c.args.conditions.now in let gate = c.args.gate.0 in
-    let old = c.args.self.now in let kept = c.kept_at_two-kept.result in let condition = condition_at on.kind on.steps gate in
-    let told = c.args.condition in let is = c.requires.condition in
+    let a = g.A.Algebra.algebra in let net = c.args.net.now in let gate = c.args.gate.0 in let old = c.args.self.now in
+    let seen = c.labels.result.now in let kept = c.kept_at_gate_of_two-kept in
+    let passed = c.passed_by_two-passed in
     record {
-      turn = conflict_at_pin a net on.kind on.steps c.sources.ensures.circuit gate c.requires.may.in_circuit (two_kept kept) kept.given old
-          c.requires.may.inside c.passed_by_two-passed.result c.passed_by_two-passed.ensures c.requires.may.of.lines c.requires.may.within
-          (pins_as a net gate c.labels.result.now old.labels c.labels.ensures.labels told condition is (two_kept kept)
-          (kept_at_two a (gate_sets net gate c.labels.result.now) told kept c.kept_at_two-kept.ensures (length (pins_at net gate)) c.requires.two))
-          (gate_as a net gate c.labels.result.now old.labels c.labels.ensures.labels told condition is kept.given c.kept_at_two-kept.ensures.given)
-          c.in-Some.line.0 c.cut_two.new.self c.in-Some.ensures.cut;
+      turn = ends_at_pin a net c.args.conditions.now c.sources.ensures.circuit gate old c.requires.may passed.result passed.ensures
+          seen c.labels.ensures.labels c.args.condition c.requires.condition (two_kept kept.result) kept.result.given
+          (each_of_two a (gate_sets net gate seen) c.args.condition kept.result kept.ensures (length (pins_at net gate)) c.requires.two)
+          kept.ensures.given c.in-Some.line.0 c.cut_first_two.new.self (c.in-Some.ensures.cut []);
     }
 
 pub returns : goal.returns
 returns g c =
-    let a = g.A.Algebra.algebra in let net = c.args.net.now in let on = c.args.conditions.now in let gate = c.args.gate.0 in
-    let old = c.args.self.now in let kept = c.kept_at_two-kept.result in let condition = condition_at on.kind on.steps gate in
-    let told = c.args.condition in let is = c.requires.condition in
+    let a = g.A.Algebra.algebra in let net = c.args.net.now in let gate = c.args.gate.0 in let old = c.args.self.now in
+    let seen = c.labels.result.now in let kept = c.kept_at_gate_of_two-kept in
+    let passed = c.passed_by_two-passed in
     record {
-      turn = turn_ends a net on.kind on.steps c.sources.ensures.circuit gate c.requires.may.in_circuit (two_kept kept) kept.given old
-          c.requires.may.inside c.passed_by_two-passed.result c.passed_by_two-passed.ensures c.requires.may.of.lines c.requires.may.within
-          (pins_as a net gate c.labels.result.now old.labels c.labels.ensures.labels told condition is (two_kept kept)
-          (kept_at_two a (gate_sets net gate c.labels.result.now) told kept c.kept_at_two-kept.ensures (length (pins_at net gate)) c.requires.two))
-          (gate_as a net gate c.labels.result.now old.labels c.labels.ensures.labels told condition is kept.given c.kept_at_two-kept.ensures.given)
-          c.cut_two.new.self c.cut_own.new.self c.in_default.ensures.cut c.cut_own.ensures.cut c.cut_own.result
-          c.requires.may.awake c.cut_own.ensures.some c.cut_own.ensures.emptied;
+      turn = ends_at_own a net c.args.conditions.now c.sources.ensures.circuit gate old c.requires.may passed.result passed.ensures
+          seen c.labels.ensures.labels c.args.condition c.requires.condition (two_kept kept.result) kept.result.given
+          (each_of_two a (gate_sets net gate seen) c.args.condition kept.result kept.ensures (length (pins_at net gate)) c.requires.two)
+          kept.ensures.given c.cut_first_two.new.self c.cut_own.new.self
+          (all_left net passed.result a.count gate (two_kept kept.result) 2 c.requires.two old c.cut_first_two.new.self
+          (c.in_default.ensures.cut []))
+          c.cut_own.ensures.cut c.cut_own.result c.cut_own.ensures.some c.cut_own.ensures.emptied;
     }

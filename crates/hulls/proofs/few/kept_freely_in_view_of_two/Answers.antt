@@ -6,7 +6,7 @@ use Rattle.hulls.specs.Passes.{PassFolds, PassSupports}
 use Rattle.hulls.specs.Sets.{Means}
 use Rattle.hulls.specs.GateViews.{pin_sets}
 use Rattle.hulls.proofs.Passing.{free_pin, free_gate}
-use Rattle.hulls.proofs.few.two_freely.Goals as goal
+use Rattle.hulls.proofs.few.kept_freely_in_view_of_two.Goals as goal
 
 pub returns : goal.returns
 returns g c =

@@ -1,1 +1,0 @@
--- Where no condition is found there is none, and the number of pins is what the netlist tells.

@@ -1,1 +1,0 @@
--- Nothing waits at first.
