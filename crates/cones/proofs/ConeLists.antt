@@ -12,7 +12,7 @@ use Rattle.netlist.specs.LinkedPairs.{IsSupported}
 use Rattle.cones.specs.KeptCones.{IsRankAmong, AreConeSources, AreConeGates}
 use Rattle.cones.specs.Ranks.{ranked_gate, AreRanks}
 use Rattle.cones.proofs.Images.{image_has, image_only, image_pairs}
-use Rattle.cones.proofs.RankPlaces.{place_of}
+use Rattle.cones.proofs.RankPlaces.{place_in_order}
 use Rattle.cones.proofs.RankedCones.{cone_gates}
 
 -- a source by its number
@@ -41,7 +41,7 @@ module _ (c : Circuit) (links : LinkList) (end : ℕ) (lines : List LineId)
     -- each of the numbers is the place of its gate
     own_place : (n : ℕ) → (among : IsRankAmong c lines ranks n) → (n < length order) × (ranked_gate order n ≡ record { 0 = among.gate })
     own_place n among =
-        let at = place_of c order ranked ranks places among.gate among.in_circuit in
+        let at = place_in_order c order ranked ranks places among.gate among.in_circuit in
         let same : at.0 ≡ n = sym at.3 ∙ among.ranked in
         (subst (λ k. k < length order) same at.1, subst (λ k. ranked_gate order k ≡ record { 0 = among.gate }) same at.2)
 
@@ -69,7 +69,7 @@ module _ (c : Circuit) (links : LinkList) (end : ℕ) (lines : List LineId)
             subst (λ g. IsSupported c links end (gate_line c g)) same ((are (gate_line c among.gate)).0 among.among),
           ),
       λ both.
-          let at = place_of c order ranked ranks places gate both.0 in
+          let at = place_in_order c order ranked ranks places gate both.0 in
           let among : IsRankAmong c lines ranks at.0 =
           record { gate = gate; in_circuit = both.0; among = (are (gate_line c gate)).1 both.1; ranked = at.3 } in
           subst (Contains gates) at.2 (image_has (ranked_gate order) numbers at.0 ((exactly at.0).1 among)),

@@ -18,10 +18,10 @@ ranked_apart c order ranked i j d less inside same = apart (get_or order i d) (g
     apart a b same (lesser_number even less) = omega arith
 
 -- the place of a gate in rank order is the number that it has
-pub place_of : (c : Circuit) (order : List GateId) → IsRankOrder c order → (ranks : List ℕ) → AreRanks order ranks → (gate : ℕ)
+pub place_in_order : (c : Circuit) (order : List GateId) → IsRankOrder c order → (ranks : List ℕ) → AreRanks order ranks → (gate : ℕ)
     → gate < gate_count c
     → (place : ℕ) × (place < length order) × (ranked_gate order place ≡ record { 0 = gate }) × (get_or ranks gate 0 ≡ place)
-place_of c order ranked ranks places gate within =
+place_in_order c order ranked ranks places gate within =
     let at = ranked.whole gate within in
     let is : ranked_gate order at.0 ≡ record { 0 = gate } =
     get_or_default order at.0 (record { 0 = 0 }) (record { 0 = gate }) at.1 ∙ at.2 in

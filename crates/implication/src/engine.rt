@@ -30,6 +30,10 @@ use std::alloc::Global;
 use std::marker::Model;
 use undo_trail::Note;
 
+// An engine of near gates pays where it narrows at no more than one gate of so many. As measured, searches on it took a third of the time
+// where it narrows at one of twelve, and four times as long where at two of five: they split other sources in place of those not told.
+const GATES_PER_NEAR_GATE: u32 = 4;
+
 /// A netlist with the assumptions that the scopes on it have made, and the labels under them. All room is there from the start.
 ///
 /// Contracts see how it stands: the circuit, the rules, the lines whose support is told, with what the outermost scope began, the list
@@ -455,9 +459,9 @@ impl<A: Algebra, S: Setting> Engine<A, S> {
     }
 }
 
-// Whether so many gates are few of those of a netlist: at most a quarter, as measured.
+// Whether so many gates are few enough of those of a netlist for an engine of near gates to pay.
 fn are_few(gates: u32, net: &Netlist) -> bool {
-    gates <= (net.lines() - net.sources()) / 4
+    gates <= (net.lines() - net.sources()) / GATES_PER_NEAR_GATE
 }
 
 // The line to which these steps lead from a source.

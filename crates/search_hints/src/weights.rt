@@ -26,11 +26,14 @@ pub(crate) struct Weights {
 }
 
 impl Model for Weights {
-    ghost use Rattle.std.specs.Prelude.{ℕ, List};
+    ghost use Rattle.std.specs.Prelude.{ℕ, ◌<◌, List};
 
     ghost Value = { List ℕ };
 
     ghost view = { λ w. w.by_line.items };
+
+    // each conflict adds something
+    ghost invariant = { λ w. 0 < w.step };
 }
 
 impl Weights {
@@ -85,21 +88,12 @@ impl Weights {
         ensures { RaisesNone self.old self.new }
     {
         if self.step >= GREATEST_STEP {
-            self.scale_down();
+            scale_down(self.by_line.as_mut_slice());
+            self.step = self.step / FACTOR;
         }
         if self.part > 0 {
             self.step = self.step.saturating_add(self.step / self.part);
         }
-    }
-
-    // Makes all weights smaller by the factor, and what a conflict adds.
-    fn scale_down(&mut self)
-        ensures { RaisesNone self.old self.new }
-    {
-        for at in 0..self.by_line.len() {
-            self.by_line[at] = self.by_line[at] / FACTOR;
-        }
-        self.step = self.step / FACTOR;
     }
 
     // The heaviest of these sources that can still end at either value, the first one where some are as heavy. There is none where none
@@ -119,6 +113,16 @@ impl Weights {
             }
         }
         heaviest
+    }
+}
+
+// Makes all weights smaller by the factor.
+#[tactic(auto, using(crate::proofs::Weighing::divides_next, crate::proofs::Weighing::divided_raises_none))]
+fn scale_down(weights: &mut [u64])
+    ensures { RaisesNone weights.old weights.new }
+{
+    for at in 0..weights.len() {
+        weights[at] = weights[at] / FACTOR;
     }
 }
 
