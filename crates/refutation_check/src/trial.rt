@@ -23,7 +23,7 @@ use crate::blaming::{Failure, blame_sources, traces};
 use crate::early::{fails_below, fails_early};
 use crate::trial_states::TrialStates;
 use cones::{Cone, FoundLines};
-use implication::{Engine, Scope, Setting};
+use implication::{Scope, Setting};
 use netlist::Netlist;
 use pair_judging::{Judgement, Target, failing_link, judge_steps, least};
 use pd_base::{LineId, OutOfMemory, Rules};
