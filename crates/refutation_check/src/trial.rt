@@ -23,7 +23,7 @@ use crate::blaming::{Failure, blame_sources, traces};
 use crate::early::{fails_below, fails_early};
 use crate::trial_states::TrialStates;
 use cones::{Cone, FoundLines};
-use implication::{Engine, Scope, Setting};
+use implication::{Scope, Setting};
 use netlist::Netlist;
 use pair_judging::{Judgement, Target, failing_link, judge_steps, least};
 use pd_base::{LineId, OutOfMemory, Rules};
@@ -199,11 +199,8 @@ fn fails_late<A: Algebra>(
         return true;
     }
     let states = kept.states.as_slice();
-    if let Some((source, line)) = failing_link::<A>(cone.links(), cone.sources(), states) {
-        let failure = Failure {
-            first: source,
-            second: line,
-        };
+    if let Some((first, second)) = failing_link::<A>(cone.links(), cone.sources(), states) {
+        let failure = Failure { first, second };
         blame::<A>(net, target, cone, kept, failure, blamed);
         return true;
     }
