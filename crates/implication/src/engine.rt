@@ -1,11 +1,10 @@
 // The engine: a netlist with the rules, what is assumed of it, and the labels that follow. Its board narrows on from each assumption
 // at the gates that have to be narrowed again, and the trail of the board leads back to what stood before. After an engine is made,
 // nothing costs the circuit: a call costs what changes, and one that begins or ends what its source reaches.
-ghost use Rattle.std.specs.Prelude.{◌≡◌, ◌≢◌, ◌<◌, ◌≤◌, ◌-◌, ◌^◌, ◌⊎◌, true, false, ◌∷◌, ◌++◌, [], ℕ, List, length, All, Some, None, Ok, Err, IfOk, IfErr, OnOk, OnErr, IfSome, IfNone, IsSome, IsTrue, ◌↔◌};
+ghost use Rattle.std.specs.Prelude.{◌≡◌, ◌<◌, ◌≤◌, ◌-◌, true, false, ◌∷◌, ◌++◌, [], List, length, All, Some, None, Ok, Err, IfOk, IfErr, OnOk, IfSome, IfNone, IsSome, IsTrue, ◌↔◌};
 ghost use Rattle.std.specs.Option.{option_map};
 ghost use Rattle.pd_base.specs.Links.{links_of};
 ghost use Rattle.netlist.specs.Circuit.{source_count, line_count, gate_count, gate_line};
-ghost use Rattle.netlist.specs.Lawful.{IsCircuit};
 ghost use Rattle.netlist.specs.LinkedPairs.{FitRules, AreLinksOf};
 ghost use Rattle.hulls.specs.Awaiting.{is_inside};
 ghost use Rattle.netlist.specs.Paths.{Connects, line_after};

@@ -1,5 +1,5 @@
 // The cone of an engine: the gates and links that it narrows, which the crate cones finds, or all of them; and the lines that are told.
-ghost use Rattle.std.specs.Prelude.{◌≡◌, ◌<◌, ◌≤◌, ◌↔◌, ◌⊎◌, ◌++◌, true, false, IsTrue, None, Some, length, map, IfOk, All};
+ghost use Rattle.std.specs.Prelude.{◌≡◌, ◌<◌, ◌↔◌, ◌⊎◌, ◌++◌, true, false, IsTrue, None, Some, length, map, IfOk, All};
 ghost use Rattle.std.specs.List.{filter};
 ghost use Rattle.pd_base.specs.Links.{links_of};
 ghost use Rattle.netlist.specs.Circuit.{source_count, gate_count, line_count};

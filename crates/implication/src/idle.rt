@@ -2,17 +2,14 @@
 // as the rules leave them; links rest there too, since a source may be linked to a line in any state. Where the source may launch its transition by its idle label, a beginning cuts that label, at the cost of what
 // changes. Else it writes the states that launch the transition at the source, and at each line that the source reaches, by level, what
 // its gate makes of the sets of its pins' lines: no narrowing changes these sets, and no other line has another set than its idle label.
-ghost use Rattle.std.specs.Prelude.{◌≡◌, ◌≢◌, ◌<◌, ◌≤◌, ◌∷◌, [], ℕ, length, replicate, All, Contains, IfOk, IfSome, IfNone};
+ghost use Rattle.std.specs.Prelude.{◌≡◌, ◌≢◌, ◌<◌, ◌≤◌, [], ℕ, length, All, Contains, IfOk, IfSome, IfNone};
 ghost use Rattle.pd_base.specs.Links.{links_of};
 ghost use Rattle.pd_base.specs.declared.ids.LineId.{LineId};
 ghost use Rattle.pd_base.specs.declared.rules.Rules.{Rules};
-ghost use Rattle.netlist.specs.Circuit.{Circuit, source_count, gate_count, line_count};
+ghost use Rattle.netlist.specs.Circuit.{Circuit, source_count, line_count};
 ghost use Rattle.netlist.specs.Lawful.{IsCircuit};
 ghost use Rattle.state_sets.specs.States.{IsWithin, AreWithin, no_states};
 ghost use Rattle.state_sets.specs.Labellings.{label_at};
-ghost use Rattle.state_sets.specs.Starts.{MayStart};
-ghost use Rattle.state_sets.specs.Hulls.{IsHull, IsEmptied, HasNoEmptySet};
-ghost use Rattle.state_laws.specs.Cones.{IsClosedBack, IsNarrowingIn};
 ghost use Rattle.state_laws.specs.Forward.{IsForward};
 ghost use Rattle.hulls.specs.Conditions.{IsEnteredOn};
 ghost use Rattle.hulls.specs.Awaiting.{is_inside};

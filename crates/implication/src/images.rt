@@ -1,5 +1,5 @@
 // What a gate makes of the sets of the lines that its pins read: the states that it has of choices of one state out of each set.
-ghost use Rattle.std.specs.Prelude.{◌≡◌, ◌<◌, ◌∷◌, length, map, All};
+ghost use Rattle.std.specs.Prelude.{◌<◌, ◌∷◌, length, map, All};
 ghost use Rattle.state_sets.specs.States.{IsWithin, AreWithin};
 ghost use Rattle.state_sets.specs.Labellings.{label_at};
 ghost use Rattle.hulls.specs.Sets.{Means};

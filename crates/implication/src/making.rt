@@ -1,8 +1,8 @@
 // What an engine is made of: a board with what narrows it, idle as it is made, and the lists of what is assumed, each made by itself, so
 // that few values stand at once where memory may run out.
-ghost use Rattle.std.specs.Prelude.{◌≡◌, ◌<◌, ◌≤◌, ◌+◌, ◌^◌, ◌++◌, true, [], ℕ, length, replicate, vec_capacity, IfOk};
+ghost use Rattle.std.specs.Prelude.{◌≡◌, ◌<◌, ◌≤◌, ◌+◌, ◌++◌, true, [], length, replicate, vec_capacity, IfOk};
 ghost use Rattle.pd_base.specs.declared.fault.Kind.TheVariants.{Robust};
-ghost use Rattle.netlist.specs.Circuit.{source_count, gate_count, line_count};
+ghost use Rattle.netlist.specs.Circuit.{source_count, gate_count};
 ghost use Rattle.netlist.specs.LinkedPairs.{AreLinksOf};
 ghost use Rattle.netlist.specs.Lawful.{IsCircuit};
 ghost use Rattle.netlist.specs.Levels.{greatest_level};

@@ -6,7 +6,7 @@ ghost use Rattle.netlist.specs.Pins.{IsPin};
 ghost use Rattle.hulls.specs.Conditions.{IsEnteredOn};
 ghost use Rattle.hulls.specs.Settling.{MaySettle};
 ghost use Rattle.implication.specs.Assumptions.{entered_pins};
-ghost use Rattle.implication.specs.Kept.{IsNarrowedMore, IsNarrowedToRest, IsSettledFrom, AreCutBy, IsAboutSource, CanStep, CanEnter, left_with, left_without, steps_without};
+ghost use Rattle.implication.specs.Kept.{IsNarrowedMore, IsNarrowedToRest, IsSettledFrom, IsAboutSource, CanStep, CanEnter, left_with, left_without, steps_without};
 ghost use Rattle.implication.specs.declared.assumption.Assumption.TheVariants.{Assumed};
 
 use crate::Assumption;

@@ -1,12 +1,12 @@
 // Scopes: what is assumed in one is taken back when it is closed or dropped. A scope borrows its engine, and a scope within it borrows
 // the engine in turn, by `scope.engine.scope()` at the caller. All calls take no memory.
-ghost use Rattle.std.specs.Prelude.{All, [], ◌≡◌, ◌<◌, ◌≤◌, ◌+◌, List, Some, None, Ok, Err, IfSome, IfNone, IfErr, OnOk, IsSome, length};
+ghost use Rattle.std.specs.Prelude.{All, [], ◌≡◌, ◌<◌, ◌≤◌, ◌+◌, List, Some, None, IfSome, IfNone, IsSome, length};
 ghost use Rattle.pd_base.specs.Links.{links_of};
 ghost use Rattle.netlist.specs.Circuit.{source_count, line_count, gate_line};
 ghost use Rattle.netlist.specs.Pins.{IsPinOn};
 ghost use Rattle.state_sets.specs.States.{IsWithin, AreWithin};
-ghost use Rattle.implication.specs.Standing.{Standing, IsIdle, IsFree, IsLabels, IsTold, TellsLabel, TellsLabels, IsEmptiedIn, IsOpenIn, end_of_scope};
-ghost use Rattle.implication.specs.Moves.{with_entered, with_assumed, grown, closed_at, back_at, left_behind, HasBegun, start_at};
+ghost use Rattle.implication.specs.Standing.{Standing, IsIdle, IsLabels, IsTold, TellsLabel, TellsLabels, IsEmptiedIn, IsOpenIn, end_of_scope};
+ghost use Rattle.implication.specs.Moves.{with_entered, with_assumed, back_at, left_behind, HasBegun, start_at};
 ghost use Rattle.implication.specs.Clients.{ExtendsStanding, IsRestored, TellsOfConflict, TellsOfMore};
 
 use crate::{Beginning, Conflict, Engine, Origin, Setting};
