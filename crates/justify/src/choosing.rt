@@ -1,7 +1,7 @@
 // The choice of a split. Any source of the support will do that is told and whose label has a state of each half: the one that is led to,
 // else the first one that can be split, by its last value if it has both. Below a node none can be split that could not be split there, so
 // it is looked for first where the node above left off.
-ghost use Rattle.std.specs.Prelude.{◌≡◌, ◌<◌, IfSome, IfNone, length};
+ghost use Rattle.std.specs.Prelude.{◌<◌, IfSome, IfNone, length};
 ghost use Rattle.trees.specs.Spent.{IsInSupport};
 ghost use Rattle.implication.specs.Scopes.{standing};
 ghost use Rattle.implication.specs.Standing.{IsTold};

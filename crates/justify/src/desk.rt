@@ -2,7 +2,6 @@
 // the last test were. A search takes memory for these only where lists of what it tried and decided grow, and under links for frames of
 // ends; it clears no more than the cones before and after. But each tree by weights copies the labels of all lines once, where it begins.
 ghost use Rattle.std.specs.Prelude.{◌≡◌, ◌<◌, IfOk};
-ghost use Rattle.netlist.specs.Circuit.{line_count};
 ghost use Rattle.netlist.specs.LinkedPairs.{FitRules};
 ghost use Rattle.trees.specs.Algebras.{algebra_of};
 ghost use Rattle.pair_judging.specs.ConeStates.{AreStates};

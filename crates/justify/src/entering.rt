@@ -1,6 +1,5 @@
 // The way of a scope from one place of a tree to the next. A conflict that comes there makes sources heavier, where a tree goes by weights.
-ghost use Rattle.std.specs.Prelude.{◌≡◌, ◌<◌, ◌≤◌, false, IsTrue, length};
-ghost use Rattle.netlist.specs.Circuit.{line_count};
+ghost use Rattle.std.specs.Prelude.{◌≡◌, ◌<◌, ◌≤◌, false, IsTrue};
 ghost use Rattle.netlist.specs.Paths.{IsPrefix};
 ghost use Rattle.implication.specs.Moves.{start_at};
 ghost use Rattle.implication.specs.Scopes.{IsSameScope, standing};

@@ -1,5 +1,5 @@
 // The two halves of a split, by steadiness or by the last value: which states of a set are in them.
-ghost use Rattle.std.specs.Prelude.{◌≡◌, ◌<◌, ◌↔◌, true, false, IsTrue, IfSome, IfNone};
+ghost use Rattle.std.specs.Prelude.{◌<◌, ◌↔◌, true, false, IsTrue, IfSome, IfNone};
 ghost use Rattle.state_sets.specs.States.{Has, IsWithin};
 ghost use Rattle.state_sets.specs.declared.state.State.{State};
 ghost use Rattle.trees.specs.Spent.{HasInHalf};

@@ -1,11 +1,10 @@
 // What is tried at a node: through the scope the sources that were tried last, if they still have the same least states; else the pair
 // whose states are the least ones of the labels is judged, and where it fails the sources to blame for that are tried, and then all that
 // are told. How sources are tried stands in trial.rt. What closes a trial is left at the desk.
-ghost use Rattle.std.specs.Prelude.{◌≡◌, ◌<◌, ◌↔◌, length, All, IfOk, IfErr, IfSome, IfNone, IsTrue};
+ghost use Rattle.std.specs.Prelude.{◌≡◌, ◌<◌, length, All, IfOk, IfErr, IfSome, IfNone, IsTrue};
 ghost use Rattle.netlist.specs.Circuit.{line_count};
 ghost use Rattle.netlist.specs.Paths.{IsPrefix};
 ghost use Rattle.justify.specs.Scoping.{SuitsSearch, TellsSupport, MayEndBy};
-ghost use Rattle.implication.specs.Standing.{IsTold};
 ghost use Rattle.implication.specs.Scopes.{IsSameScope, standing};
 ghost use Rattle.implication.specs.Clients.{IsRestored};
 ghost use Rattle.pair_judging.specs.Targets.{seen_target};

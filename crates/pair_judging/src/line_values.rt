@@ -1,7 +1,7 @@
 // Two-valued simulation of one vector after another, by selective trace: from one vector to the next a gate is evaluated only if a line
 // that it reads changed. It is stale until then. Gates are marked as stale by their places in rank order, so that those that are fresh are
 // passed over by runs.
-ghost use Rattle.std.specs.Prelude.{◌≡◌, ◌≢◌, ◌<◌, ◌≤◌, ℕ, false, map, length, slice_set, IfOk};
+ghost use Rattle.std.specs.Prelude.{◌≡◌, ◌≢◌, ◌<◌, ◌≤◌, ℕ, false, map, length, IfOk};
 ghost use Rattle.netlist.specs.Circuit.{source_count, line_count, gate_line};
 ghost use Rattle.netlist.specs.Lawful.{IsFanIn};
 ghost use Rattle.netlist.specs.Values.{bit_of, gate_value, parity, value};

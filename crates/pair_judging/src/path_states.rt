@@ -1,8 +1,7 @@
 // Whether states of the lines meet the conditions of a test for a path: the transition at its source, and at each step the table of
 // conditions, read on the states.
-ghost use Rattle.std.specs.Prelude.{◌≡◌, ◌<◌, ◌↔◌, length, All, IsTrue, MatchOption};
+ghost use Rattle.std.specs.Prelude.{◌<◌, ◌↔◌, length, All, IsTrue, MatchOption};
 ghost use Rattle.pd_base.specs.Links.{LinkList};
-ghost use Rattle.netlist.specs.Circuit.{line_count};
 ghost use Rattle.netlist.specs.Conditions.{Allows};
 ghost use Rattle.netlist.specs.Paths.{IsPrefix, end_of};
 ghost use Rattle.state_sets.specs.Starts.{IsLaunching};

@@ -1,17 +1,14 @@
 // Along a path: the pins that a scope has entered since it began, and the search for a test of a path. It goes back to where these pins
 // are the path's own, enters the others one by one, and then searches. The walk over the paths is in walking.rt.
-ghost use Rattle.std.specs.Prelude.{◌≡◌, ◌+◌, ◌<◌, ◌≤◌, ◌^◌, ◌∷◌, ◌++◌, [], ℕ, Some, None, true, min, length, map, take, IfOk, OnOk};
-ghost use Rattle.netlist.specs.Paths.{IsPath, end_of, prefix_of};
+ghost use Rattle.std.specs.Prelude.{◌≡◌, ◌+◌, ◌<◌, ◌≤◌, ◌^◌, ◌∷◌, ◌++◌, [], Some, None, true, length, map, take, IfOk, OnOk};
 ghost use Rattle.implication.specs.declared.assumption.Assumption.TheVariants.{Entered};
 ghost use Rattle.implication.specs.declared.assumption.Origin.TheVariants.{Begun};
 ghost use Rattle.implication.specs.Moves.{back_at};
 ghost use Rattle.implication.specs.Scopes.{IsSameScope, standing};
-ghost use Rattle.implication.specs.Standing.{IsTold};
 ghost use Rattle.justify.specs.Desks.{IsDeskFor};
 ghost use Rattle.prefix_sensitize.specs.AlongPaths.{HasGoneOn, IsAtPin, LeadsAlong, TriesPin};
 ghost use Rattle.prefix_sensitize.specs.Entering.{CanSearch, CountsPins, HasSearched, IsSameBeginning};
 ghost use Rattle.prefix_sensitize.specs.PathOrder.{ShareSteps};
-ghost use Rattle.prefix_sensitize.specs.Walks.{IsBudget};
 
 use crate::anew::decide;
 use crate::outcome::Aim;

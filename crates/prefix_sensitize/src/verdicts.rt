@@ -8,7 +8,7 @@ ghost use Rattle.netlist.specs.Paths.{IsPrefix};
 ghost use Rattle.pair_judging.specs.Judges.{IsJudgeOf};
 ghost use Rattle.good_runs.specs.Faults.{HasProof};
 ghost use Rattle.prefix_sensitize.specs.Outcomes.{IsOutcome, IsTestPair};
-ghost use Rattle.prefix_sensitize.specs.Searches.{AreFaultOutcomes, AreSearches, Searches};
+ghost use Rattle.prefix_sensitize.specs.Searches.{AreFaultOutcomes, Searches};
 ghost use Rattle.prefix_sensitize.specs.Numbering.{AreCited, HaveOneNumber};
 ghost use Rattle.prefix_sensitize.specs.Answers.{AddsTest, IsAnswered, IsAsked, IsWriterFor, written_by};
 

@@ -1,12 +1,12 @@
 // The walk for one aim over the listed paths in their order: one scope a source, in which the search goes along one path after another.
-ghost use Rattle.std.specs.Prelude.{◌≡◌, ℕ, ◌+◌, ◌*◌, ◌<◌, ◌≤◌, ◌^◌, ◌∷◌, [], Some, None, length, replicate, IfOk, OnOk};
+ghost use Rattle.std.specs.Prelude.{◌≡◌, ℕ, ◌+◌, ◌*◌, ◌<◌, ◌^◌, [], None, length, replicate, IfOk, OnOk};
 ghost use Rattle.netlist.specs.declared.limits.TheConstants.{MOST_LEVELS};
 ghost use Rattle.implication.specs.declared.assumption.Origin.TheVariants.{Begun};
 ghost use Rattle.implication.specs.Scopes.{IsSameScope, standing};
 ghost use Rattle.justify.specs.Desks.{IsDeskFor};
 ghost use Rattle.prefix_sensitize.specs.Coming.{HasComeAlong, HasComeApart};
-ghost use Rattle.prefix_sensitize.specs.Courses.{BeginsAt, IsBegunAt, IsCourse};
-ghost use Rattle.prefix_sensitize.specs.Entering.{HasGone, IsIdleAgain, IsSameBeginning};
+ghost use Rattle.prefix_sensitize.specs.Courses.{BeginsAt, IsBegunAt};
+ghost use Rattle.prefix_sensitize.specs.Entering.{HasGone, IsIdleAgain};
 ghost use Rattle.prefix_sensitize.specs.Outcomes.{AddsProofs};
 ghost use Rattle.prefix_sensitize.specs.Readiness.{IsReadyFor};
 ghost use Rattle.prefix_sensitize.specs.Walking.{AreAsked, AreBeforeAim, AreFindings, CanWalk, ComesOn, HasWalked};

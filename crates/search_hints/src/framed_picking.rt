@@ -1,6 +1,6 @@
 // On which pin of a gate to decide where there are links: of a gate of the second frame towards the states, of one of the first frame
 // alone towards the first values that are wanted of its line. And whether a linked source is open, and what to decide on it. Hints alone.
-ghost use Rattle.std.specs.Prelude.{◌≡◌, ◌<◌, length, IfSome};
+ghost use Rattle.std.specs.Prelude.{◌<◌, IfSome};
 ghost use Rattle.netlist.specs.Circuit.{gate_count, line_count, HasLines};
 
 use crate::first_values::{FirstValues, lasts_of};

@@ -1,7 +1,7 @@
 // Where to split: at the frontier of the labels, that is at what the conditions of the path's steps, the lines that the scope began and
 // the labels that changed since still leave open, and from there back to a source. A hint alone: what it leads to is tried before it is
 // taken.
-ghost use Rattle.std.specs.Prelude.{◌≡◌, ◌<◌, length, All, IfSome};
+ghost use Rattle.std.specs.Prelude.{◌≡◌, ◌<◌, All, IfSome};
 ghost use Rattle.netlist.specs.Circuit.{line_count, HasLines};
 
 use crate::open_lines::{is_justified, open_side};

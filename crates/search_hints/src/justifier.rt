@@ -6,8 +6,8 @@
 // for a first vector and last values that go with it, in the two frames of the path's end, and completes what it found by the links;
 // robust tests with the lowest levels first alone; and where the conflicts ran out, it goes on with the lines first on which late conflicts
 // rested.
-ghost use Rattle.std.specs.Prelude.{◌≡◌, ◌<◌, [], length, All, IfOk, IfSome};
-ghost use Rattle.netlist.specs.Circuit.{line_count, HasGates, HasLines};
+ghost use Rattle.std.specs.Prelude.{◌≡◌, ◌<◌, [], length, All, IfOk};
+ghost use Rattle.netlist.specs.Circuit.{line_count, HasLines};
 ghost use Rattle.netlist.specs.Paths.{IsPrefix, end_of};
 ghost use Rattle.hulls.specs.Conditions.{IsEnteredOn};
 ghost use Rattle.cones.specs.KeptCones.{IsConeFor, IsConeAt};

@@ -1,7 +1,6 @@
 // What is still open under labels: a line that its gate's pins do not justify, and a side pin whose condition may fail.
 ghost use Rattle.std.specs.Prelude.{◌≡◌, ◌<◌, ℕ, length, All, IfSome};
 ghost use Rattle.netlist.specs.Circuit.{gate_count, line_count};
-ghost use Rattle.state_sets.specs.States.{IsWithin};
 
 use crate::picking::{Cut, uninverted, without};
 use netlist::{GateKind, Netlist, Op, SideCondition, side_condition};
