@@ -1,13 +1,19 @@
--- What is kept at a gate with two pins or three, as a list of what is kept at each pin.
-use Rattle.std.proofs.Common.{◌≡◌, ℕ, zero, suc, ◌<◌, Bool, true, false, not, Option, Some, None, refl, ap, ◌∙◌, arith}
+-- What is kept at a gate with two pins or three, as a list of what is kept at each pin, and that there is no condition where the code is
+-- told that there is none.
+use Rattle.std.proofs.Common.{◌≡◌, ℕ, zero, suc, ◌<◌, Bool, true, false, not, List, [], ◌∷◌, Option, Some, None, refl, ap, ◌∙◌, arith}
 use Rattle.std.specs.Option.{is_some}
 use Rattle.state_sets.specs.declared.condition.Condition.{Condition}
+use Rattle.state_sets.specs.declared.state.StateSet.{StateSet}
 use Rattle.state_sets.specs.StateAlgebra.{StateAlgebra}
 use Rattle.state_sets.specs.Narrowing.{GateSets, GivesAtPin}
 use Rattle.hulls.specs.Sets.{Means, set_at}
 use Rattle.hulls.specs.declared.few.KeptAtTwo.{KeptAtTwo}
 use Rattle.hulls.specs.declared.three.KeptAtThree.{KeptAtThree}
-use Rattle.hulls.specs.GateViews.{IsKeptAtThree, IsKeptAtTwo, three_kept, two_kept}
+use Rattle.hulls.specs.GateViews.{IsKeptAtThree, IsKeptAtTwo, three_kept}
+
+-- what is kept at two pins, pin by pin
+abbrev pub two_kept : KeptAtTwo → List StateSet
+two_kept kept = kept.first ∷ kept.second ∷ []
 
 -- what is kept at two pins is kept at each of them
 pub each_of_two : (a : StateAlgebra) (sets : GateSets) (condition : Option Condition) (kept : KeptAtTwo) → IsKeptAtTwo a sets condition kept

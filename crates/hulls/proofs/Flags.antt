@@ -1,5 +1,5 @@
 -- Flags, and the gates and links that wait.
-use Rattle.std.proofs.Common.{◌≡◌, ◌≢◌, ℕ, zero, suc, ◌+◌, ◌<◌, ◌≤◌, ⊎_elim, Bool, true, false, not, List, [], ◌∷◌, ◌++◌, length, get_or, refl, sym, ap, ◌∙◌, subst, arith}
+use Rattle.std.proofs.Common.{◌≡◌, ◌≢◌, ℕ, zero, suc, ◌+◌, ◌<◌, ◌≤◌, ⊎_elim, Bool, true, false, List, [], ◌∷◌, ◌++◌, length, get_or, refl, sym, ap, ◌∙◌, subst, arith}
 use Rattle.std.proofs.Math.ListN.{set}
 use Rattle.std.specs.List.{All, Contains, sum_by}
 use Rattle.std.proofs.lemmas.Bool.{cases_eq, false≢true}
@@ -12,10 +12,6 @@ use Rattle.hulls.specs.Awaiting.{Awaited, is_inside, one_if, IsFlagged, IsMore, 
 one_if_le : (b : Bool) → one_if b ≤ 1
 one_if_le true = omega arith
 one_if_le false = omega arith
-
-not_false : (b : Bool) → not b ≡ false → b ≡ true
-not_false true is = refl
-not_false false is = absurd (false≢true (sym is))
 
 -- no more flags are up than there are
 flags_up : (flags : List Bool) → sum_by one_if flags ≤ length flags

@@ -37,7 +37,7 @@ use Rattle.hulls.specs.Conditions.{Entered}
 use Rattle.hulls.specs.Awaiting.{is_inside, gate_turn}
 use Rattle.hulls.specs.Boards.{OnBoard, link_turn}
 use Rattle.hulls.specs.Falling.{states_left}
-use Rattle.hulls.specs.Settling.{RestsAlong, AllDiffer, IsPassed, IsSameAt, Wakes, HasLess, IsShrunk, ArePinsCut, LeavesSome, IsPinEmptied, IsCutTo, RestsAt, IsAwake, IsAwakeBut, IsNarrowed, IsTurn, IsConflict, MayNarrow, EndsTurn}
+use Rattle.hulls.specs.Settling.{RestsAlong, AllDiffer, IsPassed, IsSameAt, Wakes, HasLess, IsShrunk, ArePinsCut, HasCutsWithStates, IsPinEmptied, IsCutTo, RestsAt, IsAwake, IsAwakeBut, IsNarrowed, IsTurn, IsConflict, MayNarrow, EndsTurn}
 use Rattle.hulls.specs.Links.{link_at, link_lines}
 use Rattle.hulls.proofs.Changing.{cut_shrunk, shrunk_on, some_left, follows_on}
 use Rattle.hulls.proofs.Flags.{behind}
@@ -251,7 +251,7 @@ module _ (a : StateAlgebra) (c : Circuit) (kind : Kind) (steps : List PinRef) wh
       none = empty.none;
     }
 
-    module _ (mid new : OnBoard) (pins : LeavesSome a.count c passed gate kept (length (pins_at c gate)) old mid)
+    module _ (mid new : OnBoard) (pins : HasCutsWithStates a.count c passed gate kept (length (pins_at c gate)) old mid)
         (own : IsCutTo a.count c passed (gate_line c gate) given mid new) where
       own_within : gate_line c gate < length old.labels
       own_within = omega arith
@@ -441,7 +441,7 @@ module _ (a : StateAlgebra) (c : Circuit) (on : Entered) (circuit : IsCircuit c)
       (gate_as a c gate seen old.labels same told (condition_at on.kind on.steps gate) is given at_gate_set)
 
   -- the lines of all pins have some, and then the gate's own line is cut
-  pub ends_at_own : (mid new : OnBoard) → LeavesSome a.count c passed gate kept (length (pins_at c gate)) old mid
+  pub ends_at_own : (mid new : OnBoard) → HasCutsWithStates a.count c passed gate kept (length (pins_at c gate)) old mid
       → IsCutTo a.count c passed (gate_line c gate) given mid new → (line : Option LineId)
       → IfNone line (label_at new.labels (gate_line c gate) ≢ no_states)
       → IfSome line (λ l. (l.0 ≡ gate_line c gate) × (label_at new.labels l.0 ≡ no_states)) → EndsTurn a c on old new line

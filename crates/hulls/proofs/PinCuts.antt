@@ -14,14 +14,14 @@ use Rattle.state_sets.specs.Hulls.{HasNoEmptySet}
 use Rattle.hulls.specs.Sets.{set_at}
 use Rattle.hulls.specs.Awaiting.{is_inside}
 use Rattle.hulls.specs.Boards.{OnBoard, IsBoardOf, link_turn}
-use Rattle.hulls.specs.Settling.{ArePinsCut, IsCutTo, IsPinEmptied, IsShrunk, LeavesSome}
+use Rattle.hulls.specs.Settling.{ArePinsCut, IsCutTo, IsPinEmptied, IsShrunk, HasCutsWithStates}
 use Rattle.hulls.proofs.Changing.{cut_none, cut_more, some_left}
 use Rattle.hulls.proofs.Narrowed.{is_none, is_some}
 
 -- after cuts the board is still one of its circuit
-pub board_left : (c : Circuit) (passed : Option GateId) (count : ℕ) (old new : OnBoard) → IsBoardOf c old → IsShrunk count c passed old new
+pub still_board : (c : Circuit) (passed : Option GateId) (count : ℕ) (old new : OnBoard) → IsBoardOf c old → IsShrunk count c passed old new
     → IsBoardOf c new
-board_left c passed count old new of shrunk = record {
+still_board c passed count old new of shrunk = record {
   lines = shrunk.lines ∙ of.lines;
   gates = omega (arith, of.gates, ap (length {A = Bool}) shrunk.inside, ap length shrunk.links);
   few = omega (arith, of.few, ap (length {A = Bool}) shrunk.inside);
@@ -32,12 +32,12 @@ board_left c passed count old new of shrunk = record {
 
 -- before the first cut
 pub none_cut : (c : Circuit) (passed : Option GateId) (count gate : ℕ) (kept : List StateSet) (board : OnBoard)
-    → AreWithin count board.labels → HasNoEmptySet c board.labels → LeavesSome count c passed gate kept 0 board board
+    → AreWithin count board.labels → HasNoEmptySet c board.labels → HasCutsWithStates count c passed gate kept 0 board board
 none_cut c passed count gate kept board within some = record { cut = cut_none c passed count gate kept board within; some = some }
 
 module _ (c : Circuit) (passed : Option GateId) (count gate : ℕ) (kept : List StateSet) (pins : List LineId) (are : pins ≡ pins_at c gate)
     (in_circuit : HasLines c pins) (pin : ℕ) (inside : pin < length pins) (old mid new : OnBoard) (lines : length old.labels ≡ line_count c)
-    (before : LeavesSome count c passed gate kept pin old mid) where
+    (before : HasCutsWithStates count c passed gate kept pin old mid) where
   abbrev line : LineId
   line = get_or pins pin (record { 0 = 0 })
 
@@ -52,7 +52,7 @@ module _ (c : Circuit) (passed : Option GateId) (count gate : ℕ) (kept : List 
 
     -- what the comparison with the empty set tells: the line of the pin has some state left, or none
     module _ (left : StateSet) (is_left : left ≡ label_at new.labels line.0) (is_empty : Bool) (tells : is_empty ≡ eqb left.0 0) where
-      pub pin_left : is_empty ≡ false → LeavesSome count c passed gate kept (pin + 1) old new
+      pub pin_left : is_empty ≡ false → HasCutsWithStates count c passed gate kept (pin + 1) old new
       pin_left is = record {
         cut = one_more;
         some = some_left c passed count line.0 (set_at kept pin) mid new cut before.some
@@ -68,9 +68,24 @@ module _ (c : Circuit) (passed : Option GateId) (count gate : ℕ) (kept : List 
         none = is_none is_empty left (label_at new.labels line.0) tells is is_left;
       }
 
+-- the line of the first pin is cut
+module _ (c : Circuit) (passed : Option GateId) (count gate : ℕ) (kept : List StateSet) (pins : List LineId) (are : pins ≡ pins_at c gate)
+    (in_circuit : HasLines c pins) (inside : 0 < length pins) (old new : OnBoard) (lines : length old.labels ≡ line_count c)
+    (within : AreWithin count old.labels) (some : HasNoEmptySet c old.labels)
+    (cut : IsCutTo count c passed (get_or pins 0 (record { 0 = 0 })).0 (set_at kept 0) old new)
+    (left : StateSet) (is_left : left ≡ label_at new.labels (get_or pins 0 (record { 0 = 0 })).0)
+    (is_empty : Bool) (tells : is_empty ≡ eqb left.0 0) where
+  pub first_left : is_empty ≡ false → HasCutsWithStates count c passed gate kept 1 old new
+  first_left = pin_left c passed count gate kept pins are in_circuit 0 inside old old new lines
+      (none_cut c passed count gate kept old within some) cut left is_left is_empty tells
+
+  pub first_emptied : is_empty ≡ true → IsPinEmptied count c passed gate kept old new (get_or pins 0 (record { 0 = 0 })).0
+  first_emptied = pin_emptied c passed count gate kept pins are in_circuit 0 inside old old new lines
+      (none_cut c passed count gate kept old within some) cut left is_left is_empty tells
+
 -- as many pins as the gate has are all of them
-pub all_left : (c : Circuit) (passed : Option GateId) (count gate : ℕ) (kept : List StateSet) (pins : ℕ) → length (pins_at c gate) ≡ pins
-    → (old new : OnBoard) → LeavesSome count c passed gate kept pins old new
-    → LeavesSome count c passed gate kept (length (pins_at c gate)) old new
-all_left c passed count gate kept pins all old new left =
-    subst (λ (n : ℕ). LeavesSome count c passed gate kept n old new) (sym all) left
+pub left_at_all_pins : (c : Circuit) (passed : Option GateId) (count gate : ℕ) (kept : List StateSet) (pins : ℕ)
+    → length (pins_at c gate) ≡ pins → (old new : OnBoard) → HasCutsWithStates count c passed gate kept pins old new
+    → HasCutsWithStates count c passed gate kept (length (pins_at c gate)) old new
+left_at_all_pins c passed count gate kept pins all old new left =
+    subst (λ (n : ℕ). HasCutsWithStates count c passed gate kept n old new) (sym all) left

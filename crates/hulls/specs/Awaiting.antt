@@ -20,14 +20,13 @@ abbrev pub one_if : Bool → ℕ
 one_if true = 1
 one_if false = 0
 
--- for each gate and link there is a flag, which is up where it is outside
+-- for each gate and link there is a flag, which is up exactly where that gate or link is outside
 pub record AreOpposite (inside flags : List Bool) : Type 0 where
   pub one_each : length flags ≡ length inside
   pub opposite : (at : ℕ) → at < length inside → slice_index_or flags at false ≡ not (slice_index_or inside at false)
 
--- There is one flag for each gate and link. It is up for what is not to be added: for what is outside, and for what waits. So what is
--- inside and has its flag up waits, and what has its flag down is inside; no more wait than flags are up, all of them inside; and there is
--- room for all.
+-- There is one flag for each gate and link. What has its flag down is inside; what is inside with its flag up waits; what waits is inside;
+-- no more wait than flags are up; and there is room for all.
 pub record IsFlagged (inside flags : List Bool) (waiting : List Turn) (room : ℕ) : Type 0 where
   pub one_each : length flags ≡ length inside
   pub flagged : (turn : ℕ) → is_inside inside turn ≡ true → slice_index_or flags turn false ≡ true → Contains waiting (record { 0 = turn })

@@ -40,10 +40,6 @@ pub record IsKeptAtThree (a : StateAlgebra) (sets : GateSets) (kept : KeptAtThre
   pub third : Means a.count kept.third (GivesAtPin a sets None 2)
   pub given : Means a.count kept.given (GivesAtGate a sets None)
 
--- what is kept at two pins, pin by pin
-abbrev pub two_kept : KeptAtTwo → List StateSet
-two_kept kept = kept.first ∷ kept.second ∷ []
-
 -- what is kept at three pins, pin by pin
 abbrev pub three_kept : KeptAtThree → List StateSet
 three_kept kept = kept.first ∷ kept.second ∷ kept.third ∷ []

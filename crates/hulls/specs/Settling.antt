@@ -132,13 +132,13 @@ pub record ArePinsCut (count : ℕ) (c : Circuit) (passed : Option GateId) (gate
   pub labels : HasPinsKept count (pins_at c gate) kept pins old.labels new.labels
   pub shrunk : IsShrunk count c passed old new
 
--- those of the first pins were, and each line has some state left
-pub record LeavesSome (count : ℕ) (c : Circuit) (passed : Option GateId) (gate : ℕ) (kept : List StateSet) (pins : ℕ)
+-- the lines of the first pins were cut, and each line has some state left
+pub record HasCutsWithStates (count : ℕ) (c : Circuit) (passed : Option GateId) (gate : ℕ) (kept : List StateSet) (pins : ℕ)
     (old new : OnBoard) : Type 0 where
   pub cut : ArePinsCut count c passed gate kept pins old new
   pub some : HasNoEmptySet c new.labels
 
--- those of some pins were, and this line has no state left
+-- the lines of some number of first pins were cut, and this line has no state left
 pub record IsPinEmptied (count : ℕ) (c : Circuit) (passed : Option GateId) (gate : ℕ) (kept : List StateSet) (old new : OnBoard)
     (line : ℕ) : Type 0 where
   pub pins : ℕ
@@ -147,10 +147,12 @@ pub record IsPinEmptied (count : ℕ) (c : Circuit) (passed : Option GateId) (ga
   pub in_circuit : line < line_count c
   pub none : label_at new.labels line ≡ no_states
 
--- those of the first pins were, and each line has some state left, or else those of some pins were, and the line that is told has none
+-- How cuts at the first pins of a gate end: where no line was emptied, the lines of all of these pins were cut and each line has some state
+-- left; else the line that was emptied has none, after cuts at some number of first pins.
 abbrev pub EndsCuts : ℕ → Circuit → Option GateId → ℕ → List StateSet → ℕ → OnBoard → OnBoard → Option LineId → Type 0
-EndsCuts count c passed gate kept pins old new told =
-    MatchOption told (LeavesSome count c passed gate kept pins old new) (λ line. IsPinEmptied count c passed gate kept old new line.0)
+EndsCuts count c passed gate kept pins old new emptied =
+    MatchOption emptied (HasCutsWithStates count c passed gate kept pins old new)
+    (λ line. IsPinEmptied count c passed gate kept old new line.0)
 
 -- labels were narrowed at gates inside, and each labelling at rest there that lies in the old ones lies in the new
 pub record IsNarrowed (a : StateAlgebra) (c : Circuit) (kind : Kind) (steps : List PinRef) (old new : OnBoard) : Type 0 where
@@ -172,7 +174,7 @@ pub record IsConflict (a : StateAlgebra) (c : Circuit) (kind : Kind) (steps : Li
   pub in_circuit : line < line_count c
   pub none : label_at new.labels line ≡ no_states
 
--- it left each line some state, or else no state at the line that is told
+-- it left each line some state, or else no state at the line that was emptied
 abbrev pub EndsTurn : StateAlgebra → Circuit → Entered → OnBoard → OnBoard → Option LineId → Type 0
-EndsTurn a c on old new told =
-    MatchOption told (IsTurn a c on.kind on.steps old new) (λ line. IsConflict a c on.kind on.steps old new line.0)
+EndsTurn a c on old new emptied =
+    MatchOption emptied (IsTurn a c on.kind on.steps old new) (λ line. IsConflict a c on.kind on.steps old new line.0)

@@ -14,9 +14,9 @@ use crate::limits::{Limits, cut_to, limits_of, no_limits};
 use crate::view::GateView;
 use state_sets::{Algebra, Condition, StateSet};
 
-// Leaves in `kept` the states that allowed choices have at each pin, and gives those that they give at the gate's line. Each room has
+// Writes to `kept` the states that allowed choices have at each pin, and gives those that they give at the gate's line. Each room has
 // a place for each pin of any gate, and one more.
-pub(crate) fn list_kept_at_all<A: Algebra>(
+pub(crate) fn write_kept_at_all<A: Algebra>(
     gate: &GateView,
     condition: Option<Condition>,
     cut: &mut [StateSet],

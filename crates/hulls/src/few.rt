@@ -28,9 +28,9 @@ struct Pass {
     joined: StateSet,
 }
 
-// Leaves in the list `kept` the states that choices have at the only pin, and gives those that they give at the gate's line. A condition
+// Writes to the list `kept` the states that choices have at the only pin, and gives those that they give at the gate's line. A condition
 // asks nothing of such a gate.
-pub(crate) fn list_kept_at_one<A: Algebra>(
+pub(crate) fn write_kept_at_one<A: Algebra>(
     gate: &GateView,
     condition: Option<Condition>,
     kept: &mut [StateSet],
@@ -48,9 +48,9 @@ pub(crate) fn list_kept_at_one<A: Algebra>(
     uninverted::<A>(gate.kind, states)
 }
 
-// Leaves in the list `kept` the states that allowed choices have at the two pins, and gives those that they give at the gate's line.
+// Writes to the list `kept` the states that allowed choices have at the two pins, and gives those that they give at the gate's line.
 #[inline(always)]
-pub(crate) fn list_kept_at_two<A: Algebra>(
+pub(crate) fn write_kept_at_two<A: Algebra>(
     gate: &GateView,
     condition: Option<Condition>,
     kept: &mut [StateSet],
@@ -62,32 +62,29 @@ pub(crate) fn list_kept_at_two<A: Algebra>(
     ensures at_pins { AreKeptAtPins A.algebra gate.now condition kept.new }
     ensures at_gate { IsGivenAtGate A.algebra gate.now condition result }
 {
-    let found = kept_in_view_of_two::<A>(gate, condition);
+    let found = keep_two::<A>(gate, condition);
     kept[0] = found.first;
     kept[1] = found.second;
     found.given
 }
 
-// What allowed choices have at the two pins and give at the gate's line, in no list, of a gate that is viewed already.
+// The same, but all returned and written nowhere.
 #[inline(always)]
-pub(crate) fn kept_in_view_of_two<A: Algebra>(
-    gate: &GateView,
-    condition: Option<Condition>,
-) -> KeptAtTwo
+pub(crate) fn keep_two<A: Algebra>(gate: &GateView, condition: Option<Condition>) -> KeptAtTwo
     requires lines { All (λ line. line.0 < length gate.now.labels.now) gate.now.pins.now }
     requires two { length gate.now.pins.now ≡ 2 }
     requires pin { IfSome condition (λ c. c.pin < length gate.now.pins.now) }
     ensures { IsKeptAtTwo A.algebra (sets_seen gate.now) condition result }
 {
     match condition {
-        None => kept_freely_in_view_of_two::<A>(gate),
-        Some(step) => kept_at_step_in_view_of_two::<A>(gate, step),
+        None => keep_two_freely::<A>(gate),
+        Some(step) => keep_two_at_step::<A>(gate, step),
     }
 }
 
 // The same without a condition.
 #[inline(always)]
-fn kept_freely_in_view_of_two<A: Algebra>(gate: &GateView) -> KeptAtTwo
+fn keep_two_freely<A: Algebra>(gate: &GateView) -> KeptAtTwo
     requires lines { All (λ line. line.0 < length gate.now.labels.now) gate.now.pins.now }
     requires two { length gate.now.pins.now ≡ 2 }
     ensures { IsKeptAtTwo A.algebra (sets_seen gate.now) None result }
@@ -102,7 +99,7 @@ fn kept_freely_in_view_of_two<A: Algebra>(gate: &GateView) -> KeptAtTwo
 }
 
 // The same with the condition of a step: a pass for each final value of the on-path pin.
-fn kept_at_step_in_view_of_two<A: Algebra>(gate: &GateView, step: Condition) -> KeptAtTwo
+fn keep_two_at_step<A: Algebra>(gate: &GateView, step: Condition) -> KeptAtTwo
     requires lines { All (λ line. line.0 < length gate.now.labels.now) gate.now.pins.now }
     requires two { length gate.now.pins.now ≡ 2 }
     requires pin { step.pin < length gate.now.pins.now }

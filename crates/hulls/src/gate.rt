@@ -10,11 +10,11 @@ ghost use Rattle.state_sets.specs.Narrowing.{IsNarrowing, KeepsAgreeing, GivesAt
 ghost use Rattle.hulls.specs.Sets.{Means, set_at};
 ghost use Rattle.hulls.specs.GateViews.{sets_seen, AreKeptAtPins, IsGivenAtGate, IsKeptAtThree, IsKeptAtTwo};
 
-use crate::collecting::list_kept_at_all;
+use crate::collecting::write_kept_at_all;
 use crate::cutting::{cut_line, cut_pins, told};
-use crate::few::{KeptAtTwo, kept_in_view_of_two, list_kept_at_one, list_kept_at_two};
+use crate::few::{KeptAtTwo, keep_two, write_kept_at_one, write_kept_at_two};
 use crate::scratch::NarrowScratch;
-use crate::three::{KeptAtThree, kept_freely_in_view_of_three, list_kept_at_three};
+use crate::three::{KeptAtThree, keep_three_freely, write_kept_at_three};
 use crate::view::GateView;
 use netlist::Netlist;
 use pd_base::{GateId, LineId};
@@ -106,10 +106,10 @@ fn view_of<'a>(net: &'a Netlist, labels: &'a [StateSet], gate: GateId) -> GateVi
     }
 }
 
-// What narrowing keeps at a gate with two pins, of a netlist with labels, given in no list. Inlined, since it is asked in a loop, most often
-// without a condition.
+// The states that narrowing keeps at a gate with two pins, as `kept_at` finds them, but returned and written nowhere. Inlined, since it is
+// asked in a loop, most often without a condition.
 #[inline(always)]
-pub(crate) fn kept_at_gate_of_two<A: Algebra>(
+pub(crate) fn kept_at_two<A: Algebra>(
     net: &Netlist,
     labels: &[StateSet],
     gate: GateId,
@@ -121,12 +121,12 @@ pub(crate) fn kept_at_gate_of_two<A: Algebra>(
     requires pin { IfSome condition (λ c. c.pin < length (pins_at net.now gate.0)) }
     ensures { IsKeptAtTwo A.algebra (gate_sets net.now gate.0 labels.now) condition result }
 {
-    kept_in_view_of_two::<A>(&view_of(net, labels, gate), condition)
+    keep_two::<A>(&view_of(net, labels, gate), condition)
 }
 
-// The same at a gate with three and no condition.
+// The same at a gate with three pins and no condition.
 #[inline(always)]
-pub(crate) fn kept_at_gate_of_three<A: Algebra>(
+pub(crate) fn kept_at_three<A: Algebra>(
     net: &Netlist,
     labels: &[StateSet],
     gate: GateId,
@@ -136,7 +136,7 @@ pub(crate) fn kept_at_gate_of_three<A: Algebra>(
     requires three { length (pins_at net.now gate.0) ≡ 3 }
     ensures { IsKeptAtThree A.algebra (gate_sets net.now gate.0 labels.now) result }
 {
-    kept_freely_in_view_of_three::<A>(&view_of(net, labels, gate))
+    keep_three_freely::<A>(&view_of(net, labels, gate))
 }
 
 // As `kept_at`, of what is seen at a gate.
@@ -152,10 +152,10 @@ fn keep<A: Algebra>(
     ensures at_gate { IsGivenAtGate A.algebra gate.now condition result }
 {
     match gate.pins.len() {
-        1 => list_kept_at_one::<A>(gate, condition, &mut scratch.kept),
-        2 => list_kept_at_two::<A>(gate, condition, &mut scratch.kept),
-        3 if condition.is_none() => list_kept_at_three::<A>(gate, &mut scratch.kept),
-        _ => list_kept_at_all::<A>(
+        1 => write_kept_at_one::<A>(gate, condition, &mut scratch.kept),
+        2 => write_kept_at_two::<A>(gate, condition, &mut scratch.kept),
+        3 if condition.is_none() => write_kept_at_three::<A>(gate, &mut scratch.kept),
+        _ => write_kept_at_all::<A>(
             gate,
             condition,
             &mut scratch.cut,

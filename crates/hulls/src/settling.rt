@@ -12,7 +12,7 @@ ghost use Rattle.hulls.specs.Boards.{IsBoardOf, link_turn};
 ghost use Rattle.hulls.specs.GateViews.{three_kept};
 ghost use Rattle.hulls.specs.Settling.{MaySettle, IsAwakeBut, AllDiffer, IsNarrowed, IsPassed, EndsCuts, IsCutTo, MayNarrow, EndsTurn};
 
-use crate::gate::{kept_at_gate_of_three, kept_at_gate_of_two};
+use crate::gate::{kept_at_three, kept_at_two};
 use crate::link::{linked_lines, linked_sources};
 use crate::three::KeptAtThree;
 use crate::{Board, Conditions, NarrowScratch, Turn, kept_at};
@@ -185,7 +185,7 @@ impl<A: Algebra> Board<A> {
         // a netlist knows itself as a circuit
         let _ = net.sources();
         let passed = passed_by_two(net, gate);
-        let kept = kept_at_gate_of_two::<A>(net, self.labels(), gate, condition);
+        let kept = kept_at_two::<A>(net, self.labels(), gate, condition);
         if let Some(line) = self.cut_first_two(net, gate, kept.first, kept.second, passed) {
             return Some(line);
         }
@@ -208,7 +208,7 @@ impl<A: Algebra> Board<A> {
         // a netlist knows itself as a circuit
         let _ = net.sources();
         let passed = passed_by_three(net, gate);
-        let kept = kept_at_gate_of_three::<A>(net, self.labels(), gate);
+        let kept = kept_at_three::<A>(net, self.labels(), gate);
         if let Some(line) = self.cut_three(net, gate, kept, passed) {
             return Some(line);
         }
@@ -305,7 +305,7 @@ impl<A: Algebra> Board<A> {
         requires three { length (pins_at net.now gate.0) ≡ 3 }
         ensures cut { EndsCuts A.algebra.count net.now passed gate.0 (three_kept kept) 3 self.old self.new result }
     {
-        // read before the cuts, so that the pins are looked up once
+        // read before the cuts, so that once `cut_first_two` is inlined they are looked up once
         let pins = net.pins(gate);
         if let Some(line) = self.cut_first_two(net, gate, kept.first, kept.second, passed) {
             return Some(line);

@@ -30,25 +30,25 @@ struct PassOfThree {
     joined: StateSet,
 }
 
-// Leaves in the list `kept` the states that choices have at the three pins, without a condition, and gives those that they give at the
+// Writes to the list `kept` the states that choices have at the three pins, without a condition, and gives those that they give at the
 // gate's line.
-pub(crate) fn list_kept_at_three<A: Algebra>(gate: &GateView, kept: &mut [StateSet]) -> StateSet
+pub(crate) fn write_kept_at_three<A: Algebra>(gate: &GateView, kept: &mut [StateSet]) -> StateSet
     requires lines { All (λ line. line.0 < length gate.now.labels.now) gate.now.pins.now }
     requires three { length gate.now.pins.now ≡ 3 }
     requires kept { 2 < length kept.old }
     ensures at_pins { AreKeptAtPins A.algebra gate.now None kept.new }
     ensures at_gate { IsGivenAtGate A.algebra gate.now None result }
 {
-    let found = kept_freely_in_view_of_three::<A>(gate);
+    let found = keep_three_freely::<A>(gate);
     kept[0] = found.first;
     kept[1] = found.second;
     kept[2] = found.third;
     found.given
 }
 
-// What choices have at the three pins and give at the gate's line, without a condition and in no list, of a gate that is viewed already.
+// The same, but all returned and written nowhere.
 #[inline(always)]
-pub(crate) fn kept_freely_in_view_of_three<A: Algebra>(gate: &GateView) -> KeptAtThree
+pub(crate) fn keep_three_freely<A: Algebra>(gate: &GateView) -> KeptAtThree
     requires lines { All (λ line. line.0 < length gate.now.labels.now) gate.now.pins.now }
     requires three { length gate.now.pins.now ≡ 3 }
     ensures { IsKeptAtThree A.algebra (sets_seen gate.now) result }

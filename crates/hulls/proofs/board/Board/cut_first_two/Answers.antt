@@ -1,6 +1,6 @@
 -- The lines of the two pins are cut, one after another.
 use Rattle.std.proofs.Common.{◌∷◌, length, ap, arith}
-use Rattle.hulls.proofs.PinCuts.{none_cut, pin_left, pin_emptied}
+use Rattle.hulls.proofs.PinCuts.{first_left, first_emptied, pin_left, pin_emptied}
 use Rattle.hulls.proofs.board.Board.cut_first_two.Goals as goal
 
 pub returns-then-eq : goal.returns-then-eq
@@ -9,8 +9,8 @@ returns-then-eq g c =
     let pins = c.pins-pins.ensures in let old = c.args.self.now in let two = c.requires.two in let many = ap length pins.pins in
     record {
       cut = λ behind. let kept = c.args.first ∷ c.args.second ∷ behind in
-          pin_emptied net passed count gate kept c.pins-pins.result.now pins.pins pins.in_circuit 0 (omega (arith, two, many)) old old
-          c.cut_in.new.self c.requires.of.lines (none_cut net passed count gate kept old c.requires.within c.requires.some)
+          first_emptied net passed count gate kept c.pins-pins.result.now pins.pins pins.in_circuit (omega (arith, two, many)) old
+          c.cut_in.new.self c.requires.of.lines c.requires.within c.requires.some
           c.cut_in.ensures.cut c.cut_in.result c.cut_in.ensures.left c.eq.result c.eq.ensures c.if-eq.true;
     }
 
@@ -20,8 +20,8 @@ returns-then-eq-2 g c =
     let pins = c.pins-pins.ensures in let old = c.args.self.now in let two = c.requires.two in let many = ap length pins.pins in
     record {
       cut = λ behind. let kept = c.args.first ∷ c.args.second ∷ behind in
-          let first = pin_left net passed count gate kept c.pins-pins.result.now pins.pins pins.in_circuit 0 (omega (arith, two, many)) old old
-          c.cut_in.new.self c.requires.of.lines (none_cut net passed count gate kept old c.requires.within c.requires.some)
+          let first = first_left net passed count gate kept c.pins-pins.result.now pins.pins pins.in_circuit (omega (arith, two, many)) old
+          c.cut_in.new.self c.requires.of.lines c.requires.within c.requires.some
           c.cut_in.ensures.cut c.cut_in.result c.cut_in.ensures.left c.eq.result c.eq.ensures c.if-eq.false in
           pin_emptied net passed count gate kept c.pins-pins.result.now pins.pins pins.in_circuit 1 (omega (arith, two, many)) old
           c.cut_in.new.self c.cut_in-2.new.self c.requires.of.lines first
@@ -34,8 +34,8 @@ returns g c =
     let pins = c.pins-pins.ensures in let old = c.args.self.now in let two = c.requires.two in let many = ap length pins.pins in
     record {
       cut = λ behind. let kept = c.args.first ∷ c.args.second ∷ behind in
-          let first = pin_left net passed count gate kept c.pins-pins.result.now pins.pins pins.in_circuit 0 (omega (arith, two, many)) old old
-          c.cut_in.new.self c.requires.of.lines (none_cut net passed count gate kept old c.requires.within c.requires.some)
+          let first = first_left net passed count gate kept c.pins-pins.result.now pins.pins pins.in_circuit (omega (arith, two, many)) old
+          c.cut_in.new.self c.requires.of.lines c.requires.within c.requires.some
           c.cut_in.ensures.cut c.cut_in.result c.cut_in.ensures.left c.eq.result c.eq.ensures c.if-eq.false in
           pin_left net passed count gate kept c.pins-pins.result.now pins.pins pins.in_circuit 1 (omega (arith, two, many)) old
           c.cut_in.new.self c.cut_in-2.new.self c.requires.of.lines first

@@ -1,12 +1,12 @@
 -- The lines of the first two pins are cut, and then that of the third.
 use Rattle.std.proofs.Common.{[], ◌∷◌, length, ap, arith}
 use Rattle.hulls.specs.GateViews.{three_kept}
-use Rattle.hulls.proofs.PinCuts.{board_left, pin_left, pin_emptied}
+use Rattle.hulls.proofs.PinCuts.{still_board, pin_left, pin_emptied}
 use Rattle.hulls.proofs.board.Board.cut_three.Goals as goal
 
 pub cut_in-requires-clause-of : goal.cut_in-requires-clause-of
 cut_in-requires-clause-of g c =
-    board_left c.args.net.now c.args.passed g.A.Algebra.algebra.count c.args.self.now c.cut_first_two.new.self c.requires.of
+    still_board c.args.net.now c.args.passed g.A.Algebra.algebra.count c.args.self.now c.cut_first_two.new.self c.requires.of
     (c.in_default.ensures.cut (c.args.kept.third ∷ [])).cut.shrunk
 
 pub returns-in-Some : goal.returns-in-Some

@@ -3,20 +3,19 @@ use Rattle.std.proofs.Common.{◌<◌, [], length, sym, subst}
 use Rattle.std.specs.Option.{IfSome}
 use Rattle.netlist.specs.Circuit.{pins_at}
 use Rattle.state_sets.specs.Narrowing.{gate_sets}
-use Rattle.hulls.specs.GateViews.{two_kept}
 use Rattle.hulls.proofs.Marks.{condition_pin}
 use Rattle.hulls.proofs.Narrowed.{ends_at_own, ends_at_pin}
-use Rattle.hulls.proofs.FewPins.{each_of_two}
-use Rattle.hulls.proofs.PinCuts.{board_left, all_left}
+use Rattle.hulls.proofs.FewPins.{two_kept, each_of_two}
+use Rattle.hulls.proofs.PinCuts.{still_board, left_at_all_pins}
 use Rattle.hulls.proofs.board.Board.narrow_two.Goals as goal
 
 pub cut_own-requires-clause-of : goal.cut_own-requires-clause-of
 cut_own-requires-clause-of g c =
-    board_left c.args.net.now c.passed_by_two-passed.result g.A.Algebra.algebra.count c.args.self.now c.cut_first_two.new.self
+    still_board c.args.net.now c.passed_by_two-passed.result g.A.Algebra.algebra.count c.args.self.now c.cut_first_two.new.self
     c.requires.may.of (c.in_default.ensures.cut []).cut.shrunk
 
-pub kept_at_gate_of_two-kept-requires-clause-pin : goal.kept_at_gate_of_two-kept-requires-clause-pin
-kept_at_gate_of_two-kept-requires-clause-pin g c =
+pub kept_at_two-kept-requires-clause-pin : goal.kept_at_two-kept-requires-clause-pin
+kept_at_two-kept-requires-clause-pin g c =
     let net = c.args.net.now in let on = c.args.conditions.now in
     subst (λ o. IfSome o (λ condition. condition.pin < length (pins_at net c.args.gate.0))) (sym c.requires.condition)
     (condition_pin on.kind net on.steps c.requires.may.conditions.steps c.args.gate.0)
@@ -24,7 +23,7 @@ kept_at_gate_of_two-kept-requires-clause-pin g c =
 pub returns-in-Some : goal.returns-in-Some
 returns-in-Some g c =
     let a = g.A.Algebra.algebra in let net = c.args.net.now in let gate = c.args.gate.0 in let old = c.args.self.now in
-    let seen = c.labels.result.now in let kept = c.kept_at_gate_of_two-kept in
+    let seen = c.labels.result.now in let kept = c.kept_at_two-kept in
     let passed = c.passed_by_two-passed in
     record {
       turn = ends_at_pin a net c.args.conditions.now c.sources.ensures.circuit gate old c.requires.may passed.result passed.ensures
@@ -36,14 +35,14 @@ returns-in-Some g c =
 pub returns : goal.returns
 returns g c =
     let a = g.A.Algebra.algebra in let net = c.args.net.now in let gate = c.args.gate.0 in let old = c.args.self.now in
-    let seen = c.labels.result.now in let kept = c.kept_at_gate_of_two-kept in
+    let seen = c.labels.result.now in let kept = c.kept_at_two-kept in
     let passed = c.passed_by_two-passed in
     record {
       turn = ends_at_own a net c.args.conditions.now c.sources.ensures.circuit gate old c.requires.may passed.result passed.ensures
           seen c.labels.ensures.labels c.args.condition c.requires.condition (two_kept kept.result) kept.result.given
           (each_of_two a (gate_sets net gate seen) c.args.condition kept.result kept.ensures (length (pins_at net gate)) c.requires.two)
           kept.ensures.given c.cut_first_two.new.self c.cut_own.new.self
-          (all_left net passed.result a.count gate (two_kept kept.result) 2 c.requires.two old c.cut_first_two.new.self
+          (left_at_all_pins net passed.result a.count gate (two_kept kept.result) 2 c.requires.two old c.cut_first_two.new.self
           (c.in_default.ensures.cut []))
           c.cut_own.ensures.cut c.cut_own.result c.cut_own.ensures.some c.cut_own.ensures.emptied;
     }

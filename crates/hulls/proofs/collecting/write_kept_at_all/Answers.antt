@@ -6,7 +6,7 @@ use Rattle.state_sets.specs.States.{no_states}
 use Rattle.state_sets.specs.Narrowing.{GivesAtPin}
 use Rattle.hulls.specs.Sets.{Means}
 use Rattle.hulls.specs.GateViews.{sets_seen}
-use Rattle.hulls.proofs.collecting.list_kept_at_all.Goals as goal
+use Rattle.hulls.proofs.collecting.write_kept_at_all.Goals as goal
 
 pub returns-clause-at_pins : goal.returns-clause-at_pins
 returns-clause-at_pins g c =

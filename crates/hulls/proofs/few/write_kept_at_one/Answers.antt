@@ -14,7 +14,7 @@ use Rattle.hulls.specs.GateViews.{pin_sets, sets_seen}
 use Rattle.hulls.proofs.OneToThree.{meets_at_one, cut_one, kept_one, alone_supports, alone_folds}
 use Rattle.hulls.proofs.Limited.{passed_supports, passed_folds}
 use Rattle.hulls.proofs.Passing.{free_pin, free_gate}
-use Rattle.hulls.proofs.few.list_kept_at_one.Goals as goal
+use Rattle.hulls.proofs.few.write_kept_at_one.Goals as goal
 
 pub returns-clause-at_pins : goal.returns-clause-at_pins
 returns-clause-at_pins g c =

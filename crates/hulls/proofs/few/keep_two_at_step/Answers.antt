@@ -8,7 +8,7 @@ use Rattle.hulls.specs.Passes.{PassSupports}
 use Rattle.hulls.specs.GateViews.{pin_sets}
 use Rattle.hulls.proofs.Sets.{united}
 use Rattle.hulls.proofs.Passing.{step_pin, step_gate}
-use Rattle.hulls.proofs.few.kept_at_step_in_view_of_two.Goals as goal
+use Rattle.hulls.proofs.few.keep_two_at_step.Goals as goal
 
 pub returns : goal.returns
 returns g c =
