@@ -37,6 +37,9 @@ use undo_trail::Note;
 
 // The most conflicts in one order where a budget was spent.
 const MOST_CONFLICTS: u32 = 300;
+// How often the most active lines are decided on first from the beginning, where a budget was spent: what is active stays from round to
+// round, so that each one begins with what those before failed at, and ten find what one of ten times the conflicts doesn't.
+const MOST_ROUNDS: u32 = 10;
 // The most conflicts of a proposal in one order before any split.
 const FIRST_CONFLICTS: u32 = 20;
 // The same with links, where a pair is harder to find by splits; and in the order of activity.
@@ -274,6 +277,10 @@ impl Justifier {
                 Kind::Robust | Kind::Nonrobust => by_level,
             },
             most_active_first: by_activity,
+            active_rounds: match effort {
+                Effort::Little => 1,
+                Effort::Much => MOST_ROUNDS,
+            },
         }
     }
 
@@ -550,16 +557,17 @@ fn seen(region: &Region, labels: &[StateSet], line: LineId) -> StateSet
     }
 }
 
-// How many conflicts there may be in each order; none where it is left out.
+// How many conflicts there may be in each order, none where it is left out; and how often there is a round of the last one.
 #[derive(Clone, Copy)]
 struct Limits {
     lowest_first: Option<u32>,
     highest_first: Option<u32>,
     most_active_first: Option<u32>,
+    active_rounds: u32,
 }
 
 // Decides in one order after another, as long as that takes too many conflicts: the lines of the lowest levels first, those of the
-// highest, the most active ones.
+// highest, the most active ones, in some rounds.
 fn search<A: Algebra>(
     decisions: &mut Decisions,
     region: &Region,
@@ -583,14 +591,31 @@ fn search<A: Algebra>(
         Order::HighestFirst,
         limits.highest_first,
     )?;
-    let ended = go_on::<A>(
-        decisions,
-        region,
-        ended,
-        Order::MostActiveFirst,
-        limits.most_active_first,
-    )?;
+    let ended = go_round::<A>(decisions, region, ended, limits)?;
     Ok(matches!(ended, Ended::Justified))
+}
+
+// Decides on the most active lines first, from the beginning in each round.
+fn go_round<A: Algebra>(
+    decisions: &mut Decisions,
+    region: &Region,
+    ended: Ended,
+    limits: Limits,
+) -> Result<Ended, OutOfMemory>
+    requires { IsSizedFor region.now.net.now decisions.old }
+    ensures { decisions.new ≡ decisions.old }
+{
+    let mut ended = ended;
+    for _ in 0..limits.active_rounds {
+        ended = go_on::<A>(
+            decisions,
+            region,
+            ended,
+            Order::MostActiveFirst,
+            limits.most_active_first,
+        )?;
+    }
+    Ok(ended)
 }
 
 // Decides in a further order, where those before took too many conflicts and this one is not left out.
