@@ -29,8 +29,9 @@ use std::alloc::Global;
 use std::marker::Model;
 use undo_trail::Note;
 
-// An engine of near gates pays where it narrows at no more than one gate of so many. As measured, searches on it took a third of the time
-// where it narrows at one of twelve, and four times as long where at two of five: they split other sources in place of those not told.
+// An engine of near gates pays where it narrows at no more than one gate of so many. Searches took a third of the time where it narrows
+// at a twelfth of the gates, and four times as long at two fifths: there backtrace leads to sources that are not told, and others are
+// split.
 const GATES_PER_NEAR_GATE: u32 = 4;
 
 /// A netlist with the assumptions that the scopes on it have made, and the labels under them. All room is there from the start.

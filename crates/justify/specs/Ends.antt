@@ -1,9 +1,10 @@
 -- What a search ends with, in words that are spoken inside this crate alone (this project's own).
-use Rattle.std.specs.Prelude.{◌≡◌, Bool, true, false, List, Option, Some, None, Result, Ok, Err}
+use Rattle.std.specs.Prelude.{◌≡◌, ℕ, Bool, true, false, List, Option, Some, None, Result, Ok, Err}
 use Rattle.std.specs.List.{Contains}
 use Rattle.pd_base.specs.Pair.{Vectors}
 use Rattle.trees.specs.declared.tree.Node.{Node}
 use Rattle.trees.specs.declared.tree.Node.TheVariants.{Waiting}
+use Rattle.trees.specs.Trees.{split_count}
 use Rattle.justify.specs.declared.answer.Found.{Found}
 use Rattle.justify.specs.declared.answer.Found.TheVariants.{Test, Refuted, Spent}
 
@@ -18,6 +19,12 @@ abbrev pub is_spent : Found → Bool
 is_spent (Test pair) = false
 is_spent (Refuted tree) = false
 is_spent (Spent tree) = true
+
+-- how many splits it took to refute the conditions, or 0 where it does not refute them
+abbrev pub refuting_splits : Found → ℕ
+refuting_splits (Test pair) = 0
+refuting_splits (Refuted tree) = split_count tree
+refuting_splits (Spent tree) = 0
 
 -- the test that a growth found, or the tree of these nodes where it found none
 abbrev pub IsAnswerOf : {E : Type 0} → Result (Option Vectors) E → List Node → Found → Type 0

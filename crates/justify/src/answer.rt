@@ -1,6 +1,6 @@
 // What a search ends with, and what it may end by with nothing found.
 ghost use Rattle.std.specs.Prelude.{◌≡◌};
-ghost use Rattle.justify.specs.Ends.{is_spent};
+ghost use Rattle.justify.specs.Ends.{is_spent, refuting_splits};
 ghost use Rattle.justify.specs.declared.answer.Unfinished.TheVariants.{NoMemory};
 
 use pd_base::{OutOfMemory, Pair};
@@ -42,7 +42,9 @@ impl Found {
     }
 
     // How many splits it took to refute the conditions, or 0 where it does not refute them.
-    pub(crate) fn refuting_splits(&self) -> u32 {
+    pub(crate) fn refuting_splits(&self) -> u32
+        ensures { result ≡ refuting_splits self.now }
+    {
         match self {
             Found::Refuted(tree) => tree.splits(),
             _ => 0,

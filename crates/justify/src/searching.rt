@@ -146,7 +146,7 @@ fn find<A: Algebra, S: Setting>(
     desk.cone.set_end(scope.net(), scope.last_line());
     match propose(alloc, scope, &task.target, desk)? {
         Some(pair) => {
-            desk.justifier.learn_tree(task.target.kind, false);
+            desk.justifier.learn_first_tree(task.target.kind, false);
             Ok(Found::Test(pair))
         }
         None => split_in_turns(alloc, scope, task, desk),
@@ -301,8 +301,8 @@ fn justify_lines<A: Algebra, S: Setting>(
     judge_proposal(alloc, scope, target, desk)
 }
 
-// Grows trees in turn: one by weights that has as many splits as pay, and where it spent them and more are left of the budget, others that
-// may have the whole budget. What the earlier ones came to is dropped then.
+// Grows trees in turn: one by weights that may have as many splits as pay, and where it spent them and more are left of the budget, others
+// that may have the whole budget. What the earlier ones came to is dropped then.
 fn split_in_turns<A: Algebra, S: Setting>(
     alloc: Global,
     scope: &mut Scope<A, S>,
@@ -313,10 +313,10 @@ fn split_in_turns<A: Algebra, S: Setting>(
     ensures scope { IsSameScope scope.old scope.new }
     ensures ends { EndsSearch A.algebra task.now task.now.budget (standing scope.old) (standing scope.new) desk.new result }
 {
-    let splits = splits_by_weight(task, desk);
+    let splits = first_tree_splits(task, desk);
     let found = split_by_weight(alloc, scope, task, desk, splits)?;
     desk.justifier
-        .learn_tree(task.target.kind, found.is_spent());
+        .learn_first_tree(task.target.kind, found.is_spent());
     if is_dropped(&found, splits, task.budget) {
         return split_with_budget(alloc, scope, task, desk);
     }
@@ -344,7 +344,7 @@ fn split_with_budget<A: Algebra, S: Setting>(
 }
 
 // Whether another tree pays after a search: where a nonrobust one spent its budget, since else the fault is aborted; but not under links,
-// where weights seldom lead to a whole tree that backtrace does not lead to.
+// where after a spent tree by backtrace one by weights was seldom whole.
 fn is_tried_again(found: &Found, target: &Target, desk: &Desk) -> bool {
     found.is_spent() && target.kind == Kind::Nonrobust && desk.cone.links().pairs().is_empty()
 }
@@ -372,11 +372,11 @@ fn split_by_weight<A: Algebra, S: Setting>(
     split_cases(alloc, scope, &by_weight, desk)
 }
 
-// How many splits the tree by weights may have: so many as pay, as far as the budget goes.
-fn splits_by_weight(task: &Task, desk: &Desk) -> u32
+// How many splits the first tree may have: as many as pay, as far as the budget goes.
+fn first_tree_splits(task: &Task, desk: &Desk) -> u32
     ensures { result ≤ task.now.budget }
 {
-    let most = desk.justifier.splits_by_weight(task.target.kind);
+    let most = desk.justifier.first_tree_splits(task.target.kind);
     if most < task.budget {
         most
     } else {
@@ -384,7 +384,7 @@ fn splits_by_weight(task: &Task, desk: &Desk) -> u32
     }
 }
 
-// Whether a tree is dropped that was to have so many splits: it spent them, and more are left of the budget.
+// Whether the first tree is dropped, which could have so many splits: it spent them, and more are left of the budget.
 fn is_dropped(found: &Found, splits: u32, budget: u32) -> bool
     requires { splits ≤ budget }
     ensures { result ≡ false → is_spent found.now ≡ true → splits ≡ budget }

@@ -199,8 +199,11 @@ fn fails_late<A: Algebra>(
         return true;
     }
     let states = kept.states.as_slice();
-    if let Some((first, second)) = failing_link::<A>(cone.links(), cone.sources(), states) {
-        let failure = Failure { first, second };
+    if let Some((source, line)) = failing_link::<A>(cone.links(), cone.sources(), states) {
+        let failure = Failure {
+            first: source,
+            second: line,
+        };
         blame::<A>(net, target, cone, kept, failure, blamed);
         return true;
     }

@@ -1,13 +1,12 @@
 -- Lines with a weight, and those that are listed.
-use Rattle.std.proofs.Common.{◌≡◌, ◌≢◌, ℕ, ◌+◌, ◌/◌, ◌<◌, ◌≤◌, inl, inr, ⊎_elim, List, [], ◌∷◌, length, set, sym, ap, ◌∙◌, subst, subst₂, arith}
+use Rattle.std.proofs.Common.{◌≡◌, ◌≢◌, ℕ, ◌+◌, ◌/◌, ◌<◌, ◌≤◌, ◌⊎◌, inl, inr, ⊎_elim, List, [], ◌∷◌, length, set, sym, ap, ◌∙◌, subst, arith}
 use Rattle.std.specs.Prelude.{slice_index}
-use Rattle.std.proofs.Math.Nat.{div-le_self, div-mul-le_self}
+use Rattle.std.proofs.Math.Nat.{div-le_self}
 use Rattle.std.proofs.lemmas.Bool.{cases_eq, cases_lt}
 use Rattle.std.proofs.lemmas.List.{length-set, get_or_past, get_or-set_same, get_or-set_other}
-use Rattle.std.proofs.lemmas.Nat.{le-div}
 use Rattle.pd_base.specs.declared.ids.LineId.{LineId}
 use Rattle.cones.specs.FoundLines.{FoundSet, FindsMore}
-use Rattle.search_hints.specs.Weighed.{RaisesOne, RaisesNone, AreListed}
+use Rattle.search_hints.specs.Weighed.{RaisesOne, AreDivided, AreListed}
 
 -- where the one line that may get a weight is listed, each line with one still is
 pub listed_more : (old new : List ℕ) (line : LineId) (before after : FoundSet) → AreListed old before → RaisesOne line.0 old new
@@ -42,16 +41,9 @@ divides_next factor end old new inside divided = record {
       ∙ divided.others line (omega (arith, behind));
 }
 
--- where all weights are divided by a number, none is greater, and they keep their order
-pub divided_raises_none : (factor end : ℕ) (old new : List ℕ) → 0 < factor → length old ≤ end → AreDividedBelow factor end old new
-    → RaisesNone old new
-divided_raises_none factor end old new some all divided = record {
-  room = divided.room;
-  none = λ line. subst (λ n. n ≤ slice_index old line) (sym (each line)) (div-le_self (slice_index old line) factor);
-  order = λ line other less. subst₂ (λ m n. m ≤ n) (sym (each line)) (sym (each other))
-      (le-div (slice_index old line / factor) (slice_index old other) factor some
-      (omega (arith, div-mul-le_self (slice_index old line) factor, less)));
-}
+-- all weights are divided where those below the end are
+pub divided_all : (factor end : ℕ) (old new : List ℕ) → length old ≤ end → AreDividedBelow factor end old new → AreDivided factor old new
+divided_all factor end old new all divided = record { room = divided.room; each = each }
   where
     each : (line : ℕ) → slice_index new line ≡ slice_index old line / factor
     each line = ⊎_elim
@@ -61,3 +53,14 @@ divided_raises_none factor end old new some all divided = record {
         let quotient : slice_index old line / factor ≤ slice_index old line = div-le_self (slice_index old line) factor in
         divided.others line behind ∙ omega (arith, none, quotient))
         (cases_lt line end)
+
+-- where each weight stays or is divided by a number, each line with one is still listed
+pub listed_divided : (factor : ℕ) (old new : List ℕ) (listed : FoundSet) → AreListed old listed
+    → (new ≡ old) ⊎ AreDivided factor old new → AreListed new listed
+listed_divided factor old new listed are (inl same) = subst (λ weights. AreListed weights listed) (sym same) are
+listed_divided factor old new listed are (inr divided) = record {
+  room = divided.room ∙ are.room;
+  each = λ line weighs.
+      let less : slice_index old line / factor ≤ slice_index old line = div-le_self (slice_index old line) factor in
+      are.each line (omega (arith, weighs, divided.each line, less));
+}

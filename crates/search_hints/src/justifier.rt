@@ -15,7 +15,6 @@ ghost use Rattle.search_hints.specs.Drafts.{IsJustifierOf, IsSizedFor, IsConeIn}
 
 use crate::completing::{Completed, like_firsts, like_states};
 use crate::decisions::{Decisions, Ended, Order};
-use crate::first_trees::FirstTrees;
 use crate::first_values::FirstValues;
 use crate::frames::Frames;
 use crate::grounds::Grounds;
@@ -25,6 +24,7 @@ use crate::patience::Patience;
 use crate::picking::Sight;
 use crate::region::{Region, is_first_alone};
 use crate::source_weights::SourceWeights;
+use crate::tree_limits::TreeLimits;
 use crate::weights::Weights;
 use cones::Cone;
 use hulls::{Conditions, enter_all};
@@ -69,7 +69,7 @@ pub struct Justifier {
     weights: SourceWeights,
     line_weights: Weights,
     for_proposals: Patience,
-    first_trees: FirstTrees,
+    tree_limits: TreeLimits,
     links: LinkEnds,
     values: FirstValues,
     frames: Frames,
@@ -99,7 +99,7 @@ impl Justifier {
         let weights = SourceWeights::new(alloc, net.sources() as usize, GROWTH_PART)?;
         let line_weights = Weights::new(alloc, net.lines() as usize, GROWTH_PART)?;
         let grounds = Grounds::new(alloc, net)?;
-        let first_trees = FirstTrees::new(!links.is_empty());
+        let tree_limits = TreeLimits::new(!links.is_empty());
         let links = LinkEnds::new(alloc, net, links)?;
         let decisions = Decisions::new::<A>(alloc, net, links.room())?;
         let frames = Frames::new(alloc, net)?;
@@ -111,7 +111,7 @@ impl Justifier {
             weights,
             line_weights,
             for_proposals: Patience::new(FIRST_CONFLICTS, 0),
-            first_trees,
+            tree_limits,
             links,
             values: FirstValues::new::<A>(),
             frames,
@@ -127,23 +127,23 @@ impl Justifier {
     }
 
     /// Learns from a search for tests of a kind whether its first tree, which goes by weights, spent its splits.
-    pub fn learn_tree(&mut self, kind: Kind, is_spent: bool)
+    pub fn learn_first_tree(&mut self, kind: Kind, is_spent: bool)
         ensures { self.new ≡ self.old }
     {
-        self.first_trees.learn(kind, is_spent);
+        self.tree_limits.learn(kind, is_spent);
     }
 
-    /// Learns from a search for tests of a kind that its tree by backtrace refuted the conditions with so many splits.
+    /// Learns from a search for tests of a kind with how many splits its tree by backtrace refuted the conditions, 0 where it did not.
     pub fn learn_backtrace(&mut self, kind: Kind, splits: u32)
         ensures { self.new ≡ self.old }
     {
-        self.first_trees.learn_backtrace(kind, splits);
+        self.tree_limits.learn_backtrace(kind, splits);
     }
 
     /// How many splits the first tree of a search for tests of a kind may have, which goes by weights: so many as pay, which may be more
     /// than the budget.
-    pub fn splits_by_weight(&self, kind: Kind) -> u32 {
-        self.first_trees.limit(kind)
+    pub fn first_tree_splits(&self, kind: Kind) -> u32 {
+        self.tree_limits.limit(kind)
     }
 
     /// A tree by weights begins: lines have these labels, and so many changes were noted.

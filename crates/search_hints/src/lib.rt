@@ -11,7 +11,6 @@ mod completing;
 mod culprits;
 mod decisions;
 mod draft;
-mod first_trees;
 mod first_values;
 mod framed_picking;
 mod frames;
@@ -25,6 +24,7 @@ mod patience;
 mod picking;
 mod region;
 mod source_weights;
+mod tree_limits;
 mod weights;
 
 pub use blaming::Blame;

@@ -1,7 +1,7 @@
 // How much past conflicts rest on each line: each conflict makes the lines heavier on which it rests, and a later one by more than an
 // earlier one, so that those of late count most. The heaviest source is split first; under links source_weights.rt finds it. A hint alone.
-ghost use Rattle.std.specs.Prelude.{◌≡◌, IfOk, replicate, slice_index};
-ghost use Rattle.search_hints.specs.Weighed.{RaisesOne, RaisesNone};
+ghost use Rattle.std.specs.Prelude.{◌≡◌, ◌⊎◌, ◌^◌, IfOk, replicate, slice_index};
+ghost use Rattle.search_hints.specs.Weighed.{RaisesOne, AreDivided};
 
 use crate::picking::has_both_values;
 use pd_base::{LineId, OutOfMemory};
@@ -85,7 +85,7 @@ impl Weights {
 
     // A conflict is over: the next one adds more.
     pub(crate) fn grow(&mut self)
-        ensures { RaisesNone self.old self.new }
+        ensures { (self.new ≡ self.old) ⊎ AreDivided (2 ^ 32) self.old self.new }
     {
         if self.step >= GREATEST_STEP {
             scale_down(self.by_line.as_mut_slice());
@@ -117,9 +117,9 @@ impl Weights {
 }
 
 // Makes all weights smaller by the factor.
-#[tactic(auto, using(crate::proofs::Weighing::divides_next, crate::proofs::Weighing::divided_raises_none))]
+#[tactic(auto, using(crate::proofs::Weighing::divides_next, crate::proofs::Weighing::divided_all))]
 fn scale_down(weights: &mut [u64])
-    ensures { RaisesNone weights.old weights.new }
+    ensures { AreDivided (2 ^ 32) weights.old weights.new }
 {
     for at in 0..weights.len() {
         weights[at] = weights[at] / FACTOR;

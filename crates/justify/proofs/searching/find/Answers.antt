@@ -46,7 +46,7 @@ returns-in-Some-clause-ends g c = record {
     restored = restored_itself (standing c.args.scope.now);
     serves =
         kept_desk g.A.Algebra.algebra (standing c.args.scope.now).net (standing c.args.scope.now).rules c.args.task.now.target.path.now c.propose.new.desk _
-        (record { cone = refl; states = refl; blame = refl; liked = refl; justifier = c.learn_tree.ensures; judge = refl }) c.propose.ensures.desk;
+        (record { cone = refl; states = refl; blame = refl; liked = refl; justifier = c.learn_first_tree.ensures; judge = refl }) c.propose.ensures.desk;
   };
   found = grind (arith, common_steps);
   counted = tt;

@@ -1,4 +1,4 @@
--- The tree by weights is the answer where it did not spend fewer splits than the budget; else the scope is as it was, and another tree grows.
+-- The first tree is the answer where it did not spend fewer splits than the budget; else the scope is as it was, and another tree grows.
 use Rattle.std.proofs.Common.{refl, sym}
 use Rattle.std.specs.Prelude.{IfOk}
 use Rattle.netlist.specs.Circuit.{Circuit}
@@ -27,7 +27,7 @@ split_with_budget-requires g c =
         budget = c.requires.root.budget;
         serves =
             kept_desk g.A.Algebra.algebra middle.net middle.rules c.args.task.now.target.path.now c.split_by_weight.new.desk _
-            (record { cone = refl; states = refl; blame = refl; liked = refl; justifier = c.learn_tree.ensures; judge = refl })
+            (record { cone = refl; states = refl; blame = refl; liked = refl; justifier = c.learn_first_tree.ensures; judge = refl })
             (there_too P first.net middle.net first.rules middle.rules (sym left.restored.net) (sym left.restored.rules) left.serves);
       };
     }
@@ -65,14 +65,14 @@ returns-clause-ends g c = record {
         serves =
             kept_desk g.A.Algebra.algebra (standing c.args.scope.now).net (standing c.args.scope.now).rules c.args.task.now.target.path.now
             c.split_by_weight.new.desk _
-            (record { cone = refl; states = refl; blame = refl; liked = refl; justifier = c.learn_tree.ensures; judge = refl }) left.serves;
+            (record { cone = refl; states = refl; blame = refl; liked = refl; justifier = c.learn_first_tree.ensures; judge = refl }) left.serves;
       };
   found =
-      turn_found c.splits_by_weight-splits.result c.args.task.now.budget (standing c.args.scope.now).net (standing c.args.scope.now).rules
-      (seen_target c.args.task.now.target) c.splits_by_weight-splits.ensures c.in_ok-found.found (c.is_dropped.ensures c.if-is_dropped.false)
+      turn_found c.first_tree_splits-splits.result c.args.task.now.budget (standing c.args.scope.now).net (standing c.args.scope.now).rules
+      (seen_target c.args.task.now.target) c.first_tree_splits-splits.ensures c.in_ok-found.found (c.is_dropped.ensures c.if-is_dropped.false)
       c.in_ok-found.ensures.ends.found;
   counted =
-      turn_counts c.splits_by_weight-splits.result c.args.task.now.budget c.in_ok-found.found (c.is_dropped.ensures c.if-is_dropped.false)
+      turn_counts c.first_tree_splits-splits.result c.args.task.now.budget c.in_ok-found.found (c.is_dropped.ensures c.if-is_dropped.false)
       (standing c.args.scope.now) (standing c.split_by_weight.new.scope) c.in_ok-found.ensures.ends.counted;
   unfinished = tt;
 }

@@ -23,9 +23,9 @@ pub blame-requires-clause-failure : goal.blame-requires-clause-failure
 blame-requires-clause-failure g c =
     let net = c.args.net.now in let cone = c.args.cone.now in let kept = c.args.kept.now in
     let P : LinkList → List LineId → List State → Type 0 =
-    λ links sources states. IsFailingLink g.A.Algebra.algebra links sources states c.in-Some.first c.in-Some.second in
+    λ links sources states. IsFailingLink g.A.Algebra.algebra links sources states c.in-Some.source c.in-Some.line in
     link_failure g.A.Algebra.algebra net c.lines.ensures.circuit cone.links c.requires.made.fit (seen_target c.args.target.now) c.requires.prefix cone.sources
-    c.requires.cone.sources kept.states.items c.in-Some.first c.in-Some.second
+    c.requires.cone.sources kept.states.items c.in-Some.source c.in-Some.line
     (told_of_same P c.links.result.now cone.links c.sources.result.now cone.sources c.as_slice-states.result.now kept.states.items
     c.links.ensures c.sources.ensures c.as_slice-states.ensures.value c.in-Some.ensures)
 
@@ -33,10 +33,10 @@ pub blame-requires-clause-each : goal.blame-requires-clause-each
 blame-requires-clause-each g c =
     let net = c.args.net.now in let cone = c.args.cone.now in let kept = c.args.kept.now in
     let P : LinkList → List LineId → List State → Type 0 =
-    λ links sources states. IsFailingLink g.A.Algebra.algebra links sources states c.in-Some.first c.in-Some.second in
+    λ links sources states. IsFailingLink g.A.Algebra.algebra links sources states c.in-Some.source c.in-Some.line in
     each_breaks_link g.A.Algebra.algebra g.met.A.Algebra.laws net c.lines.ensures.circuit cone.links c.requires.made.fit
     (seen_target c.args.target.now) c.requires.prefix cone.gates c.requires.cone.gates cone.sources c.requires.cone.sources kept
-    c.requires.kept c.requires.fresh c.in-Some.first c.in-Some.second
+    c.requires.kept c.requires.fresh c.in-Some.source c.in-Some.line
     (told_of_same P c.links.result.now cone.links c.sources.result.now cone.sources c.as_slice-states.result.now kept.states.items
     c.links.ensures c.sources.ensures c.as_slice-states.ensures.value c.in-Some.ensures)
 

@@ -1,37 +1,38 @@
-// How many splits the first tree of a search may have, which goes by weights. Where it spends them, it is dropped, and a tree by backtrace
-// has the whole budget. With links, where such a tree took many splits to refute the conditions of a robust test, weights mostly refute
-// those of the next ones with fewer: then first trees have the whole budget themselves, until one spends it. A nonrobust search that spends
-// its budget leaves its fault without a verdict, so backtrace, which seldom does so, always follows there. A hint alone.
+// How many splits the first tree of a search may have, which goes by weights. Where it spends them and more are left of the budget, it is
+// dropped, and a tree by backtrace has the whole budget. With links, where such a tree took many splits to refute the conditions of a
+// robust test, weights mostly refute those of the next ones with fewer: then first trees have the whole budget themselves, until one
+// spends it. A nonrobust search that spends its budget leaves its fault aborted; backtrace spends it less often, so its tree still follows
+// there. A hint alone.
 use crate::patience::Patience;
 use pd_base::Kind;
 
-// The most splits of a first tree, and where that is halved the least.
+// Without links: the most splits of a first tree, and the least to which halving brings them.
 const MOST_SPLITS: u32 = 100;
 
 const LEAST_SPLITS: u32 = 6;
-// With links they are as many always: a tree by weights often refutes just after others spent theirs.
+// With links they are not halved: a tree by weights often refutes just after others spent theirs.
 const LINKED_SPLITS: u32 = 50;
-// More splits of a refutation by backtrace are many.
+// A refutation by backtrace took many splits if it took more than these.
 const MANY_SPLITS: u32 = 250;
 
 /// How many splits first trees may have, for each kind of tests.
 #[derive(Clone, Copy)]
-pub(crate) struct FirstTrees {
+pub(crate) struct TreeLimits {
     patience: Patience,
     has_links: bool,
     // of robust searches: whether first trees have the whole budget
     has_whole_budget: bool,
 }
 
-impl FirstTrees {
-    // As many as pay at first, with links or without.
-    pub(crate) fn new(has_links: bool) -> FirstTrees {
+impl TreeLimits {
+    // With links or without; at first no tree has the whole budget.
+    pub(crate) fn new(has_links: bool) -> TreeLimits {
         let patience = if has_links {
             Patience::new(LINKED_SPLITS, LINKED_SPLITS)
         } else {
             Patience::new(MOST_SPLITS, LEAST_SPLITS)
         };
-        FirstTrees {
+        TreeLimits {
             patience,
             has_links,
             has_whole_budget: false,
@@ -54,7 +55,7 @@ impl FirstTrees {
         }
     }
 
-    // Learns from a search for tests of a kind whose tree by backtrace refuted with so many splits.
+    // Learns from a search for tests of a kind with how many splits its tree by backtrace refuted the conditions, 0 where it did not.
     pub(crate) fn learn_backtrace(&mut self, kind: Kind, splits: u32) {
         if self.has_links && kind == Kind::Robust && splits > MANY_SPLITS {
             self.has_whole_budget = true;
