@@ -5,7 +5,7 @@
 // rests. It is tried with the lowest levels first, and once more with the highest first where the conflicts ran out. With links it looks
 // for a first vector and last values that go with it, in the two frames of the path's end, and completes what it found by the links;
 // robust tests with the lowest levels first alone; and where the conflicts ran out, it goes on with the lines first on which late conflicts
-// rested.
+// rested, and where a budget was spent it does so in rounds, from the beginning in each.
 ghost use Rattle.std.specs.Prelude.{◌≡◌, ◌<◌, [], length, All, IfOk};
 ghost use Rattle.netlist.specs.Circuit.{line_count, HasLines};
 ghost use Rattle.netlist.specs.Paths.{IsPrefix, end_of};
