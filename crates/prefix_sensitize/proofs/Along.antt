@@ -28,7 +28,7 @@ use Rattle.prefix_sensitize.proofs.Ahead.{low}
 use Rattle.prefix_sensitize.proofs.Ended.{visited}
 use Rattle.prefix_sensitize.proofs.EnteredPrefixes.{enters_all}
 use Rattle.prefix_sensitize.proofs.OrderPlaces.{all_at, among}
-use Rattle.prefix_sensitize.proofs.Passing.{come_apart}
+use Rattle.prefix_sensitize.proofs.Passing.{come_apart, keeps_added}
 use Rattle.prefix_sensitize.proofs.PathOrder.{stands_once}
 
 -- a refutation that a search ends with is one of no more steps than the path has
@@ -47,7 +47,7 @@ same_course old new same course is =
     subst Q (sym same.ends) (subst₂ P (sym same.net) (sym same.rules) is)
 
 -- the sources of one beginning are the same
-same_source : (beginning : Option Beginning) (first second : LineId) (direction : Direction) (kind : Kind)
+pub same_source : (beginning : Option Beginning) (first second : LineId) (direction : Direction) (kind : Kind)
     → beginning ≡ Some (record { source = first; direction = direction; kind = kind })
     → beginning ≡ Some (record { source = second; direction = direction; kind = kind }) → first ≡ second
 same_source beginning first second direction kind one two =
@@ -126,7 +126,11 @@ module _ (old : Standing) (course : Course) (is_course : IsCourse old.net old.ru
             };
             come = subst₂ P (sym same.net) (sym same.rules) then.come;
           },
-          record { on = then.further; within = then.within; adds = then.adds },
+          record {
+            on = then.further;
+            within = then.within;
+            others = keeps_added course.aim before.proofs.items after.proofs.items then.adds;
+          },
         )
 
 -- the scope that the walk comes along has begun at its source

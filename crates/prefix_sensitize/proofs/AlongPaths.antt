@@ -143,7 +143,7 @@ first_more pins steps count pin first within is =
     ∙ sym (take_more steps count pin within)
 
 -- what leaves each line some state does where the circuit, the rules, the beginning and the entries are the same
-still_open : (a : StateAlgebra) (old new : Standing) → IsSameBeginning old new → new.assumptions ≡ old.assumptions → IsOpenIn a old
+pub still_open : (a : StateAlgebra) (old new : Standing) → IsSameBeginning old new → new.assumptions ≡ old.assumptions → IsOpenIn a old
     → IsOpenIn a new
 still_open a old new same entries left_open =
     let P : Circuit → Rules → Type 0 = λ c r. IsOpenFrom a c r old.beginning old.assumptions in

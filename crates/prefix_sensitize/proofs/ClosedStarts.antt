@@ -52,7 +52,7 @@ use Rattle.prefix_sensitize.specs.Walking.{ComesOn}
 use Rattle.prefix_sensitize.proofs.AlongPaths.{closes_at}
 use Rattle.prefix_sensitize.proofs.Ended.{HasVisited, StandsNoEarlier, by_end}
 use Rattle.prefix_sensitize.proofs.OrderPlaces.{all_at}
-use Rattle.prefix_sensitize.proofs.Passing.{come_alone, come_from}
+use Rattle.prefix_sensitize.proofs.Passing.{come_alone, come_from, keeps_added}
 use Rattle.prefix_sensitize.proofs.Reached.{HasReached}
 
 -- where a scope that has begun leaves some line no state, the start closes at its source
@@ -216,5 +216,9 @@ module _ (c : Circuit) (rules : Rules) (ends : Option ToldEnds) (course : Course
         let P : ℕ → Type 0 =
         λ n. HasComeOn c rules course begin end (record { source = route.source; steps = [] }) after.outcomes.items after.proofs.items n in (
           come_alone c rules course is_course.order begin end after steps route.source (subst P same visited.come),
-          record { on = visited.further; within = visited.within; adds = visited.adds },
+          record {
+            on = visited.further;
+            within = visited.within;
+            others = keeps_added course.aim before.proofs.items after.proofs.items visited.adds;
+          },
         )

@@ -19,8 +19,10 @@ mod Ready
 mod Reached
 mod Ended
 mod ClosedStarts
+mod LiftedRefutations
 mod Passing
 mod Along
+mod Lifts
 mod Answered
 mod Citing
 mod GoodRuns

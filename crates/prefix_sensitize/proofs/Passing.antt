@@ -19,7 +19,7 @@ use Rattle.prefix_sensitize.specs.declared.outcome.Findings.{Findings}
 use Rattle.prefix_sensitize.specs.declared.outcome.RowOutcome.TheVariants.{Unsearched}
 use Rattle.prefix_sensitize.specs.Coming.{HasCome, HasComeApart, HasComeOn}
 use Rattle.prefix_sensitize.specs.Courses.{BeginsAt}
-use Rattle.prefix_sensitize.specs.Outcomes.{AddsProofs, AreFoundProofs, AreOutcomes, IsNeeded, NoneIsAbout}
+use Rattle.prefix_sensitize.specs.Outcomes.{AddsProofs, AreFoundProofs, AreOutcomes, IsNeeded, KeepsOthers, NoneIsAbout}
 use Rattle.prefix_sensitize.specs.PathOrder.{IsOrder, StandsInOrder}
 use Rattle.prefix_sensitize.specs.Prefixes.{IsListedPrefix}
 use Rattle.prefix_sensitize.specs.Walks.{CountsPrefixes}
@@ -28,17 +28,32 @@ use Rattle.prefix_sensitize.proofs.PathOrder.{stands_once}
 use Rattle.prefix_sensitize.proofs.RoutePrefixes.{fewer_steps}
 
 -- nothing is added
-pub adds_none : (aim : Aim) (proofs : List Proof) → AddsProofs aim proofs proofs
+adds_none : (aim : Aim) (proofs : List Proof) → AddsProofs aim proofs proofs
 adds_none aim proofs = record { more = []; adds = sym (append-nil proofs); aimed = All-nil (IsAbout aim.kind aim.direction) }
 
 -- what is added to what was added
-pub adds_on : (aim : Aim) (first second third : List Proof) → AddsProofs aim first second → AddsProofs aim second third
+adds_on : (aim : Aim) (first second third : List Proof) → AddsProofs aim first second → AddsProofs aim second third
     → AddsProofs aim first third
 adds_on aim first second third one two = record {
   more = one.more ++ two.more;
   adds = two.adds ∙ ap (λ (list : List Proof). list ++ two.more) one.adds ∙ append_assoc first one.more two.more;
   aimed = All-append (IsAbout aim.kind aim.direction) one.more two.more one.aimed two.aimed;
 }
+
+-- other proofs stand as before where nothing changes, by one change after another, and where proofs about the aim are added
+pub keeps_none : (aim : Aim) (proofs : List Proof) → KeepsOthers aim proofs proofs
+keeps_none aim proofs others none adds = adds
+
+pub keeps_on : (aim : Aim) (first second third : List Proof) → KeepsOthers aim first second → KeepsOthers aim second third
+    → KeepsOthers aim first third
+keeps_on aim first second third one two others none adds = two others none (one others none adds)
+
+pub keeps_added : (aim : Aim) (old new : List Proof) → AddsProofs aim old new → KeepsOthers aim old new
+keeps_added aim old new more others none adds = adds_on aim others old new adds more
+
+-- where all were others, those that came are about the aim
+pub adds_alone : (aim : Aim) (old new : List Proof) → NoneIsAbout aim old → KeepsOthers aim old new → AddsProofs aim old new
+adds_alone aim old new none keeps = keeps old none (adds_none aim old)
 
 module _ (c : Circuit) (rules : Rules) (course : Course) (is_order : IsOrder course.paths.now course.order.now) (begin place : ℕ)
     (found : Findings) (steps : ℕ) where

@@ -9,6 +9,7 @@ pub mod AlongPaths
 pub mod Courses
 pub mod Settling
 pub mod Coming
+pub mod Lifting
 pub mod Searches
 pub mod Numbering
 pub mod Answers

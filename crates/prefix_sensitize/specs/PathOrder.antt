@@ -65,3 +65,9 @@ pub record IsStretch (routes : List Route) (order : List ℕ) (prefix : Route) (
   pub least_inside : at_least < end
   pub is_placed : slice_get order at_least ≡ Some least
   pub is_least : (at row : ℕ) → place ≤ at → at < end → slice_get order at ≡ Some row → least ≤ row
+
+-- the path at the first place has this prefix, and no path before it does; it stands no later than another place
+pub record IsFirstPlace (routes : List Route) (order : List ℕ) (prefix : Route) (place first : ℕ) : Type 0 where
+  pub no_later : first ≤ place
+  pub has : (row : ℕ) (route : Route) → StandsInOrder routes order first row route → IsPrefixOf prefix route
+  pub no_earlier : (at row : ℕ) (route : Route) → StandsInOrder routes order at row route → IsPrefixOf prefix route → first ≤ at

@@ -14,7 +14,7 @@ use Rattle.prefix_sensitize.specs.declared.outcome.Aim.{Aim}
 use Rattle.prefix_sensitize.specs.declared.outcome.Findings.{Findings}
 use Rattle.prefix_sensitize.specs.Courses.{IsCourse}
 use Rattle.prefix_sensitize.specs.Entering.{IsSameBeginning}
-use Rattle.prefix_sensitize.specs.Outcomes.{AddsProofs, AreFoundProofs, AreOutcomes, NoneIsAbout}
+use Rattle.prefix_sensitize.specs.Outcomes.{AddsProofs, AreFoundProofs, AreOutcomes, KeepsOthers, NoneIsAbout}
 use Rattle.prefix_sensitize.specs.Walks.{AreExcused, CountsPrefixes}
 
 -- A course, and a desk for it; and from where the count of steps stood when the walk began there is room to count all prefixes.
@@ -30,11 +30,11 @@ pub record HasWalked (a : StateAlgebra) (course : Course) (begin : ℕ) (old new
   pub same : IsSameBeginning old new
   pub counted : CountsPrefixes course.paths.now begin steps
 
--- From one place it comes to a later one, not beyond the order, and adds no proofs but some about the aim.
+-- From one place it comes to a later one, not beyond the order, and the proofs about other aims stand as before.
 pub record ComesOn (course : Course) (place end : ℕ) (before after : Findings) : Type 0 where
   pub on : place < end
   pub within : end ≤ length course.order.now
-  pub adds : AddsProofs course.aim before.proofs.items after.proofs.items
+  pub others : KeepsOthers course.aim before.proofs.items after.proofs.items
 
 -- Outcomes are asked for on some of these paths; and on each other one there is a test.
 pub record AreAsked (c : Circuit) (rules : Rules) (aim : Aim) (routes : List Route) (needed : List Bool) : Type 0 where

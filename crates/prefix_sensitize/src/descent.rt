@@ -98,7 +98,11 @@ impl Descent {
     }
 
     // Goes back to where the entered pins are the first ones of a path, and tells how many these are.
-    fn go_back<A: Algebra, S: Setting>(&mut self, scope: &mut Scope<A, S>, path: &Path) -> usize
+    pub(crate) fn go_back<A: Algebra, S: Setting>(
+        &mut self,
+        scope: &mut Scope<A, S>,
+        path: &Path,
+    ) -> usize
         requires begun { scope.old.origin ≡ Begun }
         requires entered { (standing scope.old).assumptions ≡ map Entered self.old }
         requires free { (standing scope.old).conflict ≡ None }

@@ -8,6 +8,7 @@ mod all_outcomes;
 mod anew;
 mod course;
 mod descent;
+mod lifting;
 mod listing;
 mod numbering;
 mod outcome;

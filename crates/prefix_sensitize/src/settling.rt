@@ -79,7 +79,7 @@ pub(crate) fn settle_start(
 }
 
 // The proof by this tree, for an aim and so many steps of the path in this row.
-fn found_proof(aim: Aim, spent: bool, row: usize, steps: usize, tree: Tree) -> Proof
+pub(crate) fn found_proof(aim: Aim, spent: bool, row: usize, steps: usize, tree: Tree) -> Proof
     requires row { row + 1 < 2 ^ 32 }
     requires steps { steps < 2 ^ 32 }
     ensures { result ≡ found_proof aim spent row steps tree }
@@ -95,7 +95,7 @@ fn found_proof(aim: Aim, spent: bool, row: usize, steps: usize, tree: Tree) -> P
 }
 
 // Adds a proof, which becomes the outcome of the rows on the places from one up to another, which is the answer.
-fn add_proof(
+pub(crate) fn add_proof(
     order: &[usize],
     place: usize,
     end: usize,

@@ -2,7 +2,7 @@
 ghost use Rattle.std.specs.Prelude.{◌≤◌, ◌<◌, ◌↔◌, ℕ, IsTrue, length};
 ghost use Rattle.pd_base.specs.Route.{Route};
 ghost use Rattle.netlist.specs.Paths.{IsPrefixOf, prefix_of};
-ghost use Rattle.prefix_sensitize.specs.PathOrder.{StandsInOrder, IsOrder, IsStretch};
+ghost use Rattle.prefix_sensitize.specs.PathOrder.{StandsInOrder, IsFirstPlace, IsOrder, IsStretch};
 
 use pd_base::Path;
 
@@ -38,8 +38,24 @@ pub(crate) fn stretch_from(paths: &[Path], order: &[usize], place: usize, steps:
     }
 }
 
+// The first place whose path has the first steps of the path at this one.
+pub(crate) fn first_place(paths: &[Path], order: &[usize], place: usize, steps: usize) -> usize
+    requires order { IsOrder paths.now order.now }
+    requires place { place < length order.now }
+    requires steps { (row : ℕ) (route : Route) → StandsInOrder paths.now order.now place row route → steps ≤ length route.steps }
+    ensures { (row : ℕ) (route : Route) → StandsInOrder paths.now order.now place row route
+        → IsFirstPlace paths.now order.now (prefix_of steps route) place result }
+{
+    let path = &paths[order[place]];
+    let mut start = place;
+    while start > 0 && has_first_steps(&paths[order[start - 1]], path, steps) {
+        start -= 1;
+    }
+    start
+}
+
 // Whether a path begins with the first steps of another one.
-fn has_first_steps(path: &Path, other: &Path, steps: usize) -> bool
+pub(crate) fn has_first_steps(path: &Path, other: &Path, steps: usize) -> bool
     requires { steps ≤ length other.now.steps }
     ensures { IsTrue result ↔ IsPrefixOf (prefix_of steps other.now) path.now }
 {

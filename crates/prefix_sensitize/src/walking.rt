@@ -7,13 +7,14 @@ ghost use Rattle.justify.specs.Desks.{IsDeskFor};
 ghost use Rattle.prefix_sensitize.specs.Coming.{HasComeAlong, HasComeApart};
 ghost use Rattle.prefix_sensitize.specs.Courses.{BeginsAt, IsBegunAt};
 ghost use Rattle.prefix_sensitize.specs.Entering.{HasGone, IsIdleAgain};
-ghost use Rattle.prefix_sensitize.specs.Outcomes.{AddsProofs};
+ghost use Rattle.prefix_sensitize.specs.Outcomes.{KeepsOthers};
 ghost use Rattle.prefix_sensitize.specs.Readiness.{IsReadyFor};
 ghost use Rattle.prefix_sensitize.specs.Walking.{AreAsked, AreBeforeAim, AreFindings, CanWalk, ComesOn, HasWalked};
 ghost use Rattle.prefix_sensitize.specs.Walks.{CountsPrefixes};
 
 use crate::course::{Course, PathsInOrder, begins_at};
 use crate::descent::Descent;
+use crate::lifting::lift;
 use crate::outcome::{Aim, Findings, RowOutcome};
 use crate::settling::{settle, settle_start};
 use implication::{Engine, Scope, Setting};
@@ -90,7 +91,7 @@ fn walk_course<A: Algebra, S: Setting, L>(
     ensures desk { OnOk result (IsDeskFor A.algebra engine.old.net engine.old.rules desk.new) }
     ensures rest { OnOk result (IsIdleAgain engine.old engine.new) }
     ensures come { OnOk result (HasComeApart engine.old.net engine.old.rules course.now begin (length course.now.order.now) found.new steps.new) }
-    ensures adds { OnOk result (AddsProofs course.now.aim found.old.proofs.items found.new.proofs.items) }
+    ensures others { OnOk result (KeepsOthers course.now.aim found.old.proofs.items found.new.proofs.items) }
     ensures counted { CountsPrefixes course.now.paths.now begin steps.new }
 {
     let mut place = 0;
@@ -157,9 +158,40 @@ fn walk_from<A: Algebra, S: Setting, L>(
     let mut descent = Descent::new(course.alloc);
     let mut at = place;
     'paths: while begins_at(course, at, source) {
-        at = visit(scope, desk, &mut descent, course, at, found, steps)?;
+        at = pass(scope, desk, &mut descent, course, source, at, found, steps)?;
     }
     Ok(at)
+}
+
+// Visits the path at this place, which begins at this source, and lifts the refutation that comes of that, if one does. The answer is the place
+// up to which paths are settled then.
+fn pass<A: Algebra, S: Setting, L>(
+    scope: &mut Scope<A, S>,
+    desk: &mut Desk,
+    descent: &mut Descent,
+    course: &Course,
+    source: LineId,
+    place: usize,
+    found: &mut Findings,
+    steps: &mut Steps<L>,
+) -> Result<usize, OutOfMemory>
+    ghost begin: { ℕ }
+    requires begun { scope.old.origin ≡ Begun }
+    requires walking { CanWalk A.algebra (standing scope.old).net (standing scope.old).rules (standing scope.old).ends course.now begin desk.old }
+    requires come { HasComeAlong (standing scope.old) course.now begin place descent.old found.old steps.old }
+    requires place { IsBegunAt (standing scope.old) course.now place }
+    requires source { BeginsAt course.now place source }
+    ensures walked { HasWalked A.algebra course.now begin (standing scope.old) (standing scope.new) desk.new steps.new }
+    ensures scope { IsSameScope scope.old scope.new }
+    ensures come { IfOk result (λ end. HasComeAlong (standing scope.new) course.now begin end descent.new found.new steps.new) }
+    ensures on { IfOk result (λ end. ComesOn course.now place end found.old found.new) }
+{
+    let before = found.proofs.len();
+    let end = visit(scope, desk, descent, course, place, found, steps)?;
+    if found.proofs.len() == before {
+        return Ok(end);
+    }
+    lift(scope, descent, course, source, end, found)
 }
 
 // Searches for a test of the path at this place, if it needs an outcome. The answer is the place up to which paths are settled then.

@@ -35,8 +35,8 @@ use Rattle.refutation_check.specs.declared.walk.Pending.{Pending}
 use Rattle.refutation_check.specs.Answers.{TellsIf, TellsOfNodes, TellsOfRefutation, TellsOfSpent}
 use Rattle.refutation_check.specs.Judges.{MadeFor}
 use Rattle.refutation_check.specs.Trials.{IsScopeInSupport, Shows}
-use Rattle.refutation_check.specs.Walks.{IsScopeAt, ArePending, WalksAt, IsWalk, IsOnTold, IsToldAt, GoesOnTo, PassesOn}
-use Rattle.refutation_check.proofs.SameSettings.{source_there, support_told_there, told_there}
+use Rattle.refutation_check.specs.Walks.{IsScopeAt, ArePending, WalksAt, GoesOnTo, PassesOn}
+use Rattle.refutation_check.proofs.SameSettings.{support_told_there}
 
 -- the halves from the root down are of the same sources as from the deepest up
 on_halves : (On : ℕ → Type 0) (above : List Half) → All (λ half. On half.source) above → All (λ half. On half.source) (halves_of above)
@@ -107,10 +107,6 @@ module _ (a : StateAlgebra) where
     }
 
     module _ (place : ℕ) (standing : Standing) (pending : List Pending) (checked : HasChecked IsRight On target nodes place standing pending) where
-      -- it is a walk for the target
-      pub checked_walk : IsWalk a standing pending
-      checked_walk = record { target = target; above = checked.above; walks = checked.walks }
-
       -- the rest of the nodes begins with the one here
       rest_here : (node d : Node) → place < length nodes → node ≡ get_or nodes place d → drop place nodes ≡ node ∷ drop (place + 1) nodes
       rest_here node d inside is =
@@ -203,14 +199,6 @@ module _ (a : StateAlgebra) where
         λ told right. shows.1 (support_told_there before now setting target.path told) (subst₂ R (sym setting.net) (sym setting.rules) right),
       )
 
-  -- a split that is right in a refutation is on a source, and told where each such split is
-  pub refutation_on : (standing : Standing) (target : Target) (halves : List Half) (node : Node)
-      → RefutesAtNode a standing.net standing.rules target halves node → IsToldAt standing node → IsOnTold standing node
-  refutation_on standing target halves Closed right told = tt
-  refutation_on standing target halves Waiting right told = tt
-  refutation_on standing target halves (Value source) right told = (right, told right)
-  refutation_on standing target halves (Steadiness source) right told = (right, told right)
-
 -- of which sources it is does not matter there
 pub splits_on_any : (node : Node) → SplitsOn (λ source. Unit {0}) node
 splits_on_any Closed = tt
@@ -225,13 +213,6 @@ spent_splits_on c rules target halves Closed right = tt
 spent_splits_on c rules target halves Waiting right = tt
 spent_splits_on c rules target halves (Value source) right = right.in_support
 spent_splits_on c rules target halves (Steadiness source) right = right.in_support
-
--- a split on a told source is one under the same setting
-pub on_there : (before now : Standing) → IsSameSetting before now → (node : Node) → IsOnTold before node → IsOnTold now node
-on_there before now setting Closed on = tt
-on_there before now setting Waiting on = tt
-on_there before now setting (Value source) on = (source_there before now setting source on.0, told_there before now setting source on.1)
-on_there before now setting (Steadiness source) on = (source_there before now setting source on.0, told_there before now setting source on.1)
 
 -- what is told of the nodes tells whether the tree refutes
 pub refutation_of_nodes : (c : Circuit) (rules : Rules) (target : Target) (nodes : List Node) (check : TreeCheck)

@@ -1,5 +1,6 @@
 mod Checking
 mod Closing
+mod EnteredRoots
 mod FailingSteps
 mod Judging
 mod NearEngines
@@ -14,3 +15,4 @@ mod Tracing
 mod TrialStates
 mod Trying
 mod Walking
+mod WalkRoots

@@ -1,7 +1,7 @@
 -- The steps of a walk: a half assumed at a node leads to the node below it, and going back to the mark of a half that was put off leads to
 -- the node above it.
-use Rattle.std.proofs.Common.{◌≡◌, ℕ, ◌<◌, ◌≤◌, Bool, true, false, cond, inr, List, [], ◌∷◌, ◌++◌, reverse, length, Option, Some, None}
-use Rattle.std.proofs.Common.{Result, Ok, Err, IfErr, OnOk, refl, sym, ap, ◌∙◌, subst, subst₂, arith}
+use Rattle.std.proofs.Common.{◌≡◌, ℕ, ◌<◌, Bool, true, false, cond, inr, List, [], ◌∷◌, ◌++◌, reverse, length, Option, Some, None}
+use Rattle.std.proofs.Common.{Result, Ok, Err, IfErr, OnOk, refl, sym, ap, ◌∙◌, subst, subst₂}
 use Rattle.std.specs.List.{All}
 use Rattle.std.specs.Prelude.{IfSome, is_some}
 use Rattle.std.proofs.lemmas.List.{reverse-append}
@@ -26,9 +26,8 @@ use Rattle.implication.proofs.MoreAssumed.{entered_assumed}
 use Rattle.implication.proofs.AssumedHalves.{IsStatesOf, half_assumed}
 use Rattle.implication.proofs.ScopeLabels.{open_under}
 use Rattle.refutation_check.specs.declared.walk.Pending.{Pending}
-use Rattle.refutation_check.specs.Walks.{ClosesAtLine, IsNodeBy, IsScopeAt, IsPending, ArePending, WalksAt, IsWalk, GoesOnTo}
+use Rattle.refutation_check.specs.Walks.{ClosesAtLine, IsNodeBy, IsScopeAt, IsPending, ArePending, WalksAt, GoesOnTo}
 use Rattle.refutation_check.proofs.Closing.{closes_below, closes_at_line}
-use Rattle.refutation_check.proofs.SameSettings.{told_there}
 
 module _ (a : StateAlgebra) where
   -- what was assumed of the source of a half, at a node
@@ -231,29 +230,3 @@ module _ (a : StateAlgebra) where
                 (extends_trans comes.before back new (extends_restored comes.before back restored) extends) comes.due);
           },
         )
-
-  -- the scope can go back to the mark of the half that was put off last
-  pub marks_within : (now : Standing) (next : Pending) (pending all : List Pending) → all ≡ pending ++ next ∷ [] → IsWalk a now all
-      → next.mark.at ≤ length now.assumptions
-  marks_within now next pending all is walk =
-      let comes = comes_next walk.target now walk.above next pending all is walk.walks in
-      let at = comes.is.mark in let longer = comes.is.extends.longer in omega (arith, at, longer)
-
-  -- and its half is on a source there
-  pub source_within : (now back : Standing) (next : Pending) (pending all : List Pending) → all ≡ pending ++ next ∷ [] → IsWalk a now all
-      → back ≡ back_at now next.mark.at → next.half.source < source_count back.net
-  source_within now back next pending all is walk goes =
-      let comes = comes_next walk.target now walk.above next pending all is walk.walks in
-      let P : Circuit → Type 0 = λ c. next.half.source < source_count c in
-      subst P (sym (ap (λ (s : Standing). s.net) goes ∙ comes.is.extends.net)) comes.is.source
-
-  -- which is told
-  pub told_within : (now back : Standing) (next : Pending) (pending all : List Pending) → all ≡ pending ++ next ∷ [] → IsWalk a now all
-      → back ≡ back_at now next.mark.at → IsTold back next.half.source
-  told_within now back next pending all is walk goes =
-      let comes = comes_next walk.target now walk.above next pending all is walk.walks in
-      told_there comes.before back (record {
-        net = ap (λ (s : Standing). s.net) goes ∙ comes.is.extends.net;
-        rules = ap (λ (s : Standing). s.rules) goes ∙ comes.is.extends.rules;
-        ends = ap (λ (s : Standing). s.ends) goes ∙ comes.is.extends.ends;
-      }) next.half.source comes.is.told

@@ -1,5 +1,6 @@
 pub mod Walks
 pub mod Entering
+pub mod Entered
 pub mod TrialStates
 pub mod Blames
 pub mod Trials

@@ -1,6 +1,6 @@
 -- Where a walk over a tree in preorder stands: a scope at its node, and the second halves that it has put off. These are facts of a loop,
 -- spoken inside this crate alone (this project's own).
-use Rattle.std.specs.Prelude.{◌≡◌, ⊤, ◌<◌, ◌⊎◌, true, false, List, [], ◌∷◌, reverse, length, All, Option, Some, None}
+use Rattle.std.specs.Prelude.{◌≡◌, ⊤, ℕ, ◌<◌, ◌≤◌, ◌⊎◌, true, false, List, [], ◌∷◌, reverse, length, All, Option, Some, None}
 use Rattle.pd_base.specs.Target.{Target}
 use Rattle.pd_base.specs.declared.ids.LineId.{LineId}
 use Rattle.pd_base.specs.declared.rules.Rules.{Rules}
@@ -62,16 +62,31 @@ pub record WalksAt (a : StateAlgebra) (target : Target) (above : List Half) (sta
   pub at : IsScopeAt a target (halves_of above) standing
   pub due : ArePending a target standing (reverse pending) (turns above)
 
--- it is at the root of a tree for some target
-pub record IsRoot (a : StateAlgebra) (standing : Standing) : Type 0 where
-  pub target : Target
-  pub at : IsScopeAt a target [] standing
+-- one can go back from so many assumptions to the mark of this second half, which is not behind the root, and its source is told
+pub record LeadsBack (root : Standing) (count : ℕ) (pending : Pending) : Type 0 where
+  pub before : pending.mark.at ≤ count
+  pub behind_root : length root.assumptions ≤ pending.mark.at
+  pub source : pending.half.source < source_count root.net
+  pub told : IsTold root pending.half.source
 
--- it is a walk over a tree for some target
-pub record IsWalk (a : StateAlgebra) (standing : Standing) (pending : List Pending) : Type 0 where
-  pub target : Target
-  pub above : List Half
-  pub walks : WalksAt a target above standing pending
+-- one can go back to the marks of these second halves, one after another
+abbrev pub LeadBack : Standing → ℕ → List Pending → Type 0
+LeadBack root count [] = ⊤
+LeadBack root count (pending ∷ more) = LeadsBack root count pending × LeadBack root pending.mark.at more
+
+-- the walk began where the scope stood so, at the root of a tree: what was assumed there still is, whatever was put off
+pub record IsWalkFrom (root now : Standing) (pending : List Pending) : Type 0 where
+  pub extends : ExtendsStanding root now
+  pub back : LeadBack root (length now.assumptions) (reverse pending)
+
+-- it is a walk over a tree from some root
+pub record IsWalk (now : Standing) (pending : List Pending) : Type 0 where
+  pub root : Standing
+  pub walk : IsWalkFrom root now pending
+
+-- the walk has still the same root
+abbrev pub KeepsRoot : Standing → List Pending → Standing → List Pending → Type 0
+KeepsRoot old before new after = (root : Standing) → IsWalkFrom root old before → IsWalkFrom root new after
 
 -- where a walk goes on to behind the last node below these halves: no tree waits, and it stays; or these are the halves above the tree that
 -- waits first

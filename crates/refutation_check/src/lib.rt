@@ -1,13 +1,14 @@
 //! Whether a tree of cases refutes, and whether it shows that a budget was spent; if not, which node is first at fault. And the hull at
 //! a node of a tree.
 //! Under any rules, with the kind of states that they choose. Stands on implication, trees and pair_judging.
-//! The layers above use the contracts of `TreeJudge`, `check_tree`, `check_spent` and `hull`.
+//! The layers above use the contracts of `TreeJudge`, `check_tree`, `check_spent`, `refutes_entered` and `hull`.
 #![tactic(auto)]
 
 mod answer;
 mod blaming;
 mod due;
 mod early;
+mod entered;
 mod entering;
 mod halves;
 mod judge;
@@ -22,6 +23,7 @@ mod trial_states;
 mod walk;
 
 pub use answer::{Hull, TreeCheck};
+pub use entered::refutes_entered;
 pub use judge::TreeJudge;
 pub use node_hull::hull;
 pub use single::{check_spent, check_tree};

@@ -3,13 +3,14 @@ ghost use Rattle.std.specs.Prelude.{◌≡◌, ◌↔◌, [], List, None, All, I
 ghost use Rattle.pd_base.specs.Target as seen;
 ghost use Rattle.netlist.specs.Paths.{IsPrefix, end_of};
 ghost use Rattle.state_laws.specs.declared.half.Half.{Half};
+ghost use Rattle.implication.specs.Clients.{ExtendsStanding};
 ghost use Rattle.implication.specs.Scopes.{IsSameScope, standing};
 ghost use Rattle.implication.specs.Standing.{IsTold};
 ghost use Rattle.implication.specs.declared.assumption.Origin.TheVariants.{Begun};
 ghost use Rattle.trees.specs.Faults.{RefutesAtNode};
 ghost use Rattle.implication.specs.Settings.{IsSameSetting};
 ghost use Rattle.pair_judging.specs.Targets.{seen_target};
-ghost use Rattle.refutation_check.specs.Walks.{IsScopeAt, IsRoot, IsToldAt};
+ghost use Rattle.refutation_check.specs.Walks.{IsScopeAt, IsToldAt, IsOnTold};
 ghost use Rattle.refutation_check.specs.Answers.{TellsOfNodes, IsIdleOn};
 
 use crate::TreeCheck;
@@ -42,17 +43,17 @@ pub(crate) fn refutes<A: Algebra, S: Setting>(
     walk_refutation(&mut scope, pending, tree)
 }
 
-// The same on a scope that stands at the root.
-fn walk_refutation<A: Algebra, S: Setting>(
+// The same on a scope that stands at the root. What was assumed there still is afterwards, and perhaps more, also where memory ran out.
+pub(crate) fn walk_refutation<A: Algebra, S: Setting>(
     scope: &mut Scope<A, S>,
     pending: &mut Vec<Pending>,
     tree: &Tree,
 ) -> Result<TreeCheck, OutOfMemory>
     requires begun { scope.old.origin ≡ Begun }
-    requires root { IsRoot A.algebra (standing scope.old) }
     requires splits { All (IsToldAt (standing scope.old)) tree.now }
     ensures scope { IsSameScope scope.old scope.new }
     ensures setting { IsSameSetting (standing scope.old) (standing scope.new) }
+    ensures extends { ExtendsStanding (standing scope.old) (standing scope.new) }
     ensures tells { (target : seen.Target) → IsScopeAt A.algebra target [] (standing scope.old)
         → IfOk result (TellsOfNodes (RefutesAtNode A.algebra (standing scope.old).net (standing scope.old).rules target) tree.now) }
 {
@@ -68,7 +69,8 @@ fn walk_refutation<A: Algebra, S: Setting>(
 
 // Whether a node is as a refutation asks.
 fn refutes_at<A: Algebra, S: Setting>(scope: &Scope<A, S>, node: Node) -> bool
-    ensures { (target : seen.Target) (halves : List Half) → IsScopeAt A.algebra target halves (standing scope.now)
+    ensures on { IsToldAt (standing scope.now) node → IsTrue result → IsOnTold (standing scope.now) node }
+    ensures right { (target : seen.Target) (halves : List Half) → IsScopeAt A.algebra target halves (standing scope.now)
         → IsTrue result ↔ RefutesAtNode A.algebra (standing scope.now).net (standing scope.now).rules target halves node }
 {
     match node {

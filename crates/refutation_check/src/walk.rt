@@ -11,7 +11,7 @@ ghost use Rattle.implication.specs.Standing.{IsTold};
 ghost use Rattle.implication.specs.Scopes.{IsSameScope, standing};
 ghost use Rattle.implication.specs.declared.assumption.Origin.TheVariants.{Begun};
 ghost use Rattle.implication.specs.Settings.{IsSameSetting};
-ghost use Rattle.refutation_check.specs.Walks.{IsScopeAt, IsWalk, IsOnTold, GoesRound, GoesDown, PassesOn};
+ghost use Rattle.refutation_check.specs.Walks.{IsScopeAt, IsWalk, KeepsRoot, IsOnTold, GoesRound, GoesDown, PassesOn};
 
 use hulls::half_states;
 use implication::{Scope, ScopeMark, Setting};
@@ -34,10 +34,11 @@ pub(crate) fn pass<A: Algebra, S: Setting>(
     node: Node,
 ) -> Result<(), OutOfMemory>
     requires begun { scope.old.origin ≡ Begun }
-    requires walk { IsWalk A.algebra (standing scope.old) pending.old.items }
+    requires walk { IsWalk (standing scope.old) pending.old.items }
     requires split { IsOnTold (standing scope.old) node }
     ensures scope { IsSameScope scope.old scope.new }
     ensures setting { IsSameSetting (standing scope.old) (standing scope.new) }
+    ensures root { KeepsRoot (standing scope.old) pending.old.items (standing scope.new) pending.new.items }
     ensures passes { OnOk result (PassesOn A.algebra node (standing scope.old) pending.old.items (standing scope.new) pending.new.items) }
 {
     match node {
@@ -54,9 +55,10 @@ pub(crate) fn pass<A: Algebra, S: Setting>(
 // the tree is at its end.
 fn turn<A: Algebra, S: Setting>(scope: &mut Scope<A, S>, pending: &mut Vec<Pending>)
     requires begun { scope.old.origin ≡ Begun }
-    requires walk { IsWalk A.algebra (standing scope.old) pending.old.items }
+    requires walk { IsWalk (standing scope.old) pending.old.items }
     ensures scope { IsSameScope scope.old scope.new }
     ensures setting { IsSameSetting (standing scope.old) (standing scope.new) }
+    ensures root { KeepsRoot (standing scope.old) pending.old.items (standing scope.new) pending.new.items }
     ensures goes { GoesRound A.algebra (standing scope.old) pending.old.items (standing scope.new) pending.new.items }
 {
     if let Some(next) = pending.pop() {
@@ -76,6 +78,7 @@ fn split<A: Algebra, S: Setting>(
     requires told { IsTold (standing scope.old) source }
     ensures scope { IsSameScope scope.old scope.new }
     ensures setting { IsSameSetting (standing scope.old) (standing scope.new) }
+    ensures root { KeepsRoot (standing scope.old) pending.old.items (standing scope.new) pending.new.items }
     ensures goes { OnOk result (GoesDown A.algebra (record { source = source; steadiness = steadiness; second = false })
         (standing scope.old) pending.old.items (standing scope.new) pending.new.items) }
 {

@@ -10,7 +10,7 @@ use Rattle.prefix_sensitize.specs.PathOrder.{StandsInOrder}
 use Rattle.prefix_sensitize.specs.Settling.{HasItsSteps, Settles}
 use Rattle.prefix_sensitize.proofs.Along.{counted_on, gone_to, its_steps, room_for, visited_along}
 use Rattle.prefix_sensitize.proofs.Descents.{same_at_once}
-use Rattle.prefix_sensitize.proofs.Passing.{adds_none, all_counted, come_past}
+use Rattle.prefix_sensitize.proofs.Passing.{all_counted, come_past, keeps_none}
 use Rattle.prefix_sensitize.proofs.PathOrder.{stands_once, stands_there}
 use Rattle.prefix_sensitize.proofs.walking.visit.Given.{Over}
 use Rattle.prefix_sensitize.proofs.walking.visit.Goals.{After-settle}
@@ -197,7 +197,7 @@ returns-then-not-course-row-clause-on g c = record {
   within = (let at = c.requires.1.1.1.1.1.1 in
       let within = slice_get_within c.args.course.now.order.now c.args.place at.row at.stands.is_placed in
       omega (arith, within));
-  adds = adds_none c.args.course.now.aim c.args.found.now.proofs.items;
+  others = keeps_none c.args.course.now.aim c.args.found.now.proofs.items;
 }
 
 pub search-requires-clause-can : goal.search-requires-clause-can

@@ -7,7 +7,7 @@ use Rattle.prefix_sensitize.specs.Outcomes.{AreOutcomes}
 use Rattle.prefix_sensitize.specs.PathOrder.{IsOrder}
 use Rattle.prefix_sensitize.specs.Walks.{AreExcused}
 use Rattle.prefix_sensitize.proofs.Counting.{none_counted}
-use Rattle.prefix_sensitize.proofs.Passing.{all_outcomes, come_none}
+use Rattle.prefix_sensitize.proofs.Passing.{adds_alone, all_outcomes, come_none}
 use Rattle.prefix_sensitize.proofs.Ready.{ready_again}
 use Rattle.prefix_sensitize.proofs.walking.walk.Goals as goal
 
@@ -65,7 +65,8 @@ returns-clause-found g c =
           (all_outcomes engine.net engine.rules course (subst O (sym c.order.ensures) c.requires.ready.tree.order) c.args.steps.now after
           c.walk_course.new.steps come);
       proofs = come.come.found;
-      adds = c.in_ok-walk_course.ensures.adds;
+      adds =
+          adds_alone c.args.aim c.args.proofs.items after.proofs.items c.requires.before.fresh c.in_ok-walk_course.ensures.others;
     }
 
 pub returns-clause-ready : goal.returns-clause-ready

@@ -6,7 +6,7 @@ use Rattle.implication.specs.Standing.{ToldEnds}
 use Rattle.justify.specs.Desks.{IsDeskFor}
 use Rattle.prefix_sensitize.specs.Coming.{HasComeApart}
 use Rattle.prefix_sensitize.specs.Courses.{IsCourse}
-use Rattle.prefix_sensitize.proofs.Passing.{adds_none, adds_on, all_counted}
+use Rattle.prefix_sensitize.proofs.Passing.{all_counted, keeps_none, keeps_on}
 use Rattle.prefix_sensitize.proofs.walking.walk_course.Goals as goal
 
 pub loop-place-init : goal.loop-place-init
@@ -14,7 +14,7 @@ loop-place-init g c = record {
   rest = record { net = refl; rules = refl; ends = refl; idle = c.requires.1.1.1.0 };
   desk = c.requires.1.1.1.1.0.is_desk;
   come = c.requires.1.1.1.1.1;
-  adds = adds_none c.args.course.now.aim c.args.found.now.proofs.items;
+  others = keeps_none c.args.course.now.aim c.args.found.now.proofs.items;
   within = omega arith;
 }
 
@@ -69,9 +69,9 @@ loop-place-preserved g c =
       };
       desk = subst₂ D rest.net rest.rules after.desk;
       come = subst₂ H rest.net rest.rules after.come;
-      adds =
-          adds_on course.aim c.args.found.now.proofs.items c.loop-place.found.proofs.items c.walk_source.new.found.proofs.items c.loop-place.invariant.adds
-          after.on.adds;
+      others =
+          keeps_on course.aim c.args.found.now.proofs.items c.loop-place.found.proofs.items c.walk_source.new.found.proofs.items
+          c.loop-place.invariant.others after.on.others;
       within = after.on.within;
     }
 

@@ -12,7 +12,7 @@ use Rattle.prefix_sensitize.specs.Coming.{HasComeAlong}
 use Rattle.prefix_sensitize.specs.Courses.{BeginsAt}
 use Rattle.prefix_sensitize.proofs.Along.{begun_at, come_behind, same_course}
 use Rattle.prefix_sensitize.proofs.Descents.{same_twice}
-use Rattle.prefix_sensitize.proofs.Passing.{adds_none, adds_on, all_counted, come_from}
+use Rattle.prefix_sensitize.proofs.Passing.{all_counted, come_from, keeps_none, keeps_on}
 use Rattle.prefix_sensitize.proofs.walking.walk_from.Goals as goal
 
 pub paths-init : goal.paths-init
@@ -38,13 +38,13 @@ paths-init g c =
                 come_from old.net old.rules course is_course.order g.begin place c.args.found.now
                 c.args.steps.now c.args.source c.requires.1.1.1.1.1.1.1;
           });
-      adds = adds_none course.aim c.args.found.now.proofs.items;
+      others = keeps_none course.aim c.args.found.now.proofs.items;
       behind = omega arith;
       within = omega (arith, within);
     }
 
-pub visit-requires : goal.visit-requires
-visit-requires g c κs lives =
+pub pass-requires : goal.pass-requires
+pass-requires g c κs lives =
     let course = c.args.course.now in
     let old = standing c.args.scope.now in
     let new = standing c.paths.scope in
@@ -66,8 +66,11 @@ visit-requires g c κs lives =
               },
               (
                 c.paths.invariant.come,
-                begun_at old new same course c.args.source [] c.requires.1.1.1.1.0 c.paths.at
-                    (c.begins_at.ensures.0 c.paths-test.true),
+                (
+                  begun_at old new same course c.args.source [] c.requires.1.1.1.1.0 c.paths.at
+                      (c.begins_at.ensures.0 c.paths-test.true),
+                  c.begins_at.ensures.0 c.paths-test.true,
+                ),
               ),
             ),
           ),
@@ -79,16 +82,17 @@ pub paths-preserved : goal.paths-preserved
 paths-preserved g c =
     let before = c.paths.invariant in
     let after = c.in_ok-at.ensures in
-    let P : Circuit → Rules → Type 0 = λ n r. IsDeskFor g.A.Algebra.algebra n r c.visit.new.desk in
+    let P : Circuit → Rules → Type 0 = λ n r. IsDeskFor g.A.Algebra.algebra n r c.pass.new.desk in
     let low = before.behind in
     let on = after.on.on in
     record {
       scope = same_scope_twice before.scope after.scope;
-      same = same_twice (standing c.args.scope.now) (standing c.paths.scope) (standing c.visit.new.scope) before.same after.walked.same;
+      same = same_twice (standing c.args.scope.now) (standing c.paths.scope) (standing c.pass.new.scope) before.same after.walked.same;
       desk = subst₂ P before.same.net before.same.rules after.walked.is_desk;
       come = after.come;
-      adds =
-          adds_on c.args.course.now.aim c.args.found.now.proofs.items c.paths.found.proofs.items c.visit.new.found.proofs.items before.adds after.on.adds;
+      others =
+          keeps_on c.args.course.now.aim c.args.found.now.proofs.items c.paths.found.proofs.items c.pass.new.found.proofs.items before.others
+          after.on.others;
       behind = omega (arith, low, on);
       within = after.on.within;
     }
@@ -103,7 +107,7 @@ pub begins_at-requires : goal.begins_at-requires
 begins_at-requires g c = c.requires.1.1.1.1.1.0.is_course.order.inside
 
 pub returns-in_err-at-clause-scope : goal.returns-in_err-at-clause-scope
-returns-in_err-at-clause-scope g c = same_scope_twice c.paths.invariant.scope c.visit.ensures.scope
+returns-in_err-at-clause-scope g c = same_scope_twice c.paths.invariant.scope c.pass.ensures.scope
 
 pub returns-clause-come : goal.returns-clause-come
 returns-clause-come g c =
@@ -115,11 +119,11 @@ returns-clause-come g c =
 pub returns-in_err-at-clause-walked : goal.returns-in_err-at-clause-walked
 returns-in_err-at-clause-walked g c = record {
   is_desk =
-      (let P : Circuit → Rules → Type 0 = λ n r. IsDeskFor g.A.Algebra.algebra n r c.visit.new.desk in
-      subst₂ P c.paths.invariant.same.net c.paths.invariant.same.rules c.visit.ensures.walked.is_desk);
+      (let P : Circuit → Rules → Type 0 = λ n r. IsDeskFor g.A.Algebra.algebra n r c.pass.new.desk in
+      subst₂ P c.paths.invariant.same.net c.paths.invariant.same.rules c.pass.ensures.walked.is_desk);
   same =
-      (same_twice (standing c.args.scope.now) (standing c.paths.scope) (standing c.visit.new.scope) c.paths.invariant.same c.visit.ensures.walked.same);
-  counted = c.visit.ensures.walked.counted;
+      (same_twice (standing c.args.scope.now) (standing c.paths.scope) (standing c.pass.new.scope) c.paths.invariant.same c.pass.ensures.walked.same);
+  counted = c.pass.ensures.walked.counted;
 }
 
 pub returns-clause-walked : goal.returns-clause-walked
@@ -143,5 +147,5 @@ returns-clause-on g c = record {
       absurd (true≢false (sym (c.begins_at.ensures.1 (subst P same c.requires.1.1.1.1.1.1.0)) ∙ c.paths-test.false)))
       (cases_lt c.args.place c.paths.at));
   within = c.paths.invariant.within;
-  adds = c.paths.invariant.adds;
+  others = c.paths.invariant.others;
 }

@@ -3,11 +3,11 @@ use Rattle.implication.specs.Scopes.{IsSameScope, standing}
 use Rattle.justify.specs.Desks.{IsDeskFor}
 use Rattle.prefix_sensitize.specs.Coming.{HasComeAlong}
 use Rattle.prefix_sensitize.specs.Entering.{IsSameBeginning}
-use Rattle.prefix_sensitize.specs.Outcomes.{AddsProofs}
+use Rattle.prefix_sensitize.specs.Outcomes.{KeepsOthers}
 use Rattle.prefix_sensitize.proofs.walking.walk_from.Given as goal
 
-abbrev pub ghost-visit : goal.ghost-visit
-ghost-visit g a = g.begin
+abbrev pub ghost-pass : goal.ghost-pass
+ghost-pass g a = g.begin
 
 -- the scope stands where the walk has come to
 abbrev pub invariant-paths : goal.invariant-paths
@@ -16,7 +16,7 @@ invariant-paths g l = record {
   same : IsSameBeginning (standing l.fn.scope) (standing l.scope);
   desk : IsDeskFor g.A.Algebra.algebra (standing l.fn.scope).net (standing l.fn.scope).rules l.desk;
   come : HasComeAlong (standing l.scope) l.course g.begin l.at l.descent l.found l.steps;
-  adds : AddsProofs l.course.aim l.fn.found.proofs.items l.found.proofs.items;
+  others : KeepsOthers l.course.aim l.fn.found.proofs.items l.found.proofs.items;
   behind : l.place ≤ l.at;
   within : l.at ≤ length l.course.order.now;
 }

@@ -23,7 +23,7 @@ use Rattle.prefix_sensitize.specs.PathOrder.{StandsInOrder}
 use Rattle.prefix_sensitize.specs.Settling.{Settles}
 use Rattle.prefix_sensitize.specs.Walking.{ComesOn}
 use Rattle.prefix_sensitize.proofs.ClosedStarts.{conflict_closes, no_conflict, start_settled}
-use Rattle.prefix_sensitize.proofs.Passing.{adds_none, all_counted, come_alone, come_from, come_past}
+use Rattle.prefix_sensitize.proofs.Passing.{all_counted, come_alone, come_from, come_past, keeps_none}
 use Rattle.prefix_sensitize.proofs.PathOrder.{stands_there}
 use Rattle.prefix_sensitize.proofs.walking.walk_source.Given.{Over}
 use Rattle.prefix_sensitize.proofs.walking.walk_source.Goals.{After-settle_start}
@@ -217,7 +217,7 @@ pub returns-then-not-course-row-clause-on : goal.returns-then-not-course-row-cla
 returns-then-not-course-row-clause-on g c = record {
   on = omega arith;
   within = (let place = c.requires.1.1.1.1.1.0 in omega (arith, place));
-  adds = adds_none c.args.course.now.aim c.args.found.now.proofs.items;
+  others = keeps_none c.args.course.now.aim c.args.found.now.proofs.items;
 }
 
 pub returns-clause-counted : goal.returns-clause-counted

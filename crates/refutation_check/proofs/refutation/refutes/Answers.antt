@@ -44,16 +44,6 @@ enter_root-requires-clause-begun g c =
       emptied = c.begin-scope.ensures.tells.emptied;
     }
 
-pub walk_refutation-requires-clause-root : goal.walk_refutation-requires-clause-root
-walk_refutation-requires-clause-root g c =
-    let target = seen_target c.args.target.now in
-    record {
-      target = target;
-      at = c.enter_root.ensures.root target refl
-          (c.begin-scope.ensures.begun.beginning
-          ∙ (λ i. Some (record { source = c.source.ensures i; direction = c.args.target.now.direction; kind = c.args.target.now.kind })));
-    }
-
 pub walk_refutation-requires-clause-splits : goal.walk_refutation-requires-clause-splits
 walk_refutation-requires-clause-splits g c = λ place d inside.
     told_at_there c.args.engine.now (standing c.enter_root.new.scope)

@@ -8,8 +8,8 @@ use Rattle.refutation_check.proofs.refutation.refutes_at.Goals as goal
 
 -- A closed leaf is right exactly where the scope has a conflict.
 
-pub returns-in-Closed : goal.returns-in-Closed
-returns-in-Closed g c = λ target halves at.
+pub returns-in-Closed-clause-right : goal.returns-in-Closed-clause-right
+returns-in-Closed-clause-right g c = λ target halves at.
     let now = standing c.args.scope.now in
     let P : Node → Type 0 = λ node. IsTrue c.is_some.result ↔ RefutesAtNode g.A.Algebra.algebra now.net now.rules target halves node in
     subst P (sym c.in-Closed.is)

@@ -16,8 +16,9 @@ use Rattle.pair_judging.specs.Targets.{seen_target}
 use Rattle.refutation_check.specs.declared.answer.TreeCheck.TheVariants.{Yes}
 use Rattle.refutation_check.specs.Answers.{TellsOfNodes}
 use Rattle.refutation_check.specs.Trials.{IsTrialRoomAt}
-use Rattle.refutation_check.proofs.Checking.{checked_none, checked_walk, checked_on, checked_fault, checked_more, checked_all, spends_there, spent_splits_on}
+use Rattle.refutation_check.proofs.Checking.{checked_none, checked_on, checked_fault, checked_more, checked_all, spends_there, spent_splits_on}
 use Rattle.implication.proofs.Settings.{same_itself, same_twice}
+use Rattle.refutation_check.proofs.WalkRoots.{walk_begins}
 use Rattle.refutation_check.proofs.spent.walk_spent.Goals as goal
 
 pub loop-place-init : goal.loop-place-init
@@ -26,6 +27,7 @@ loop-place-init g c =
     record {
       scope = record { engine = refl; origin = refl };
       setting = same_itself old;
+      walk = walk_begins old c.clear.new.self.items c.clear.ensures.items;
       room = c.requires.room;
       checked = checked_none g.A.Algebra.algebra (IsRightInSpent old.net old.rules (seen_target c.args.target.now))
           (IsInSupport old.net old.rules (seen_target c.args.target.now).path) (seen_target c.args.target.now)
@@ -100,11 +102,7 @@ is_right_at-requires-clause-room g c =
     subst₂ P (sym setting.net) (sym setting.rules) c.loop-place.invariant.room
 
 pub pass-requires-clause-walk : goal.pass-requires-clause-walk
-pass-requires-clause-walk g c =
-    let old = standing c.args.scope.now in let now = standing c.loop-place.scope in
-    let target = seen_target c.args.target.now in
-    checked_walk g.A.Algebra.algebra (IsRightInSpent old.net old.rules target) (IsInSupport old.net old.rules target.path) target c.nodes-node-items.result.now c.loop-place.place now
-    c.loop-place.pending.items (c.loop-place.invariant.checked)
+pass-requires-clause-walk g c = record { root = standing c.args.scope.now; walk = c.loop-place.invariant.walk }
 
 pub pass-requires-clause-split : goal.pass-requires-clause-split
 pass-requires-clause-split g c = c.is_right_at.ensures.told c.if-not-is_right_at.false
@@ -117,6 +115,7 @@ loop-place-preserved g c =
     record {
       scope = same_scope_twice inv.scope c.pass.ensures.scope;
       setting = same_twice old now next inv.setting c.pass.ensures.setting;
+      walk = c.pass.ensures.root old inv.walk;
       room =
           let P : Circuit → Rules → Type 0 =
           λ n rules. IsTrialRoomAt g.A.Algebra.algebra n rules (seen_target c.args.target.now) c.is_right_at.new.room in
