@@ -43,7 +43,7 @@ stands_or_not (first ∷ lines) line =
     (stands_or_not lines line))
     (cases_eq first.0 line)
 
-follows_none : (board : OnBoard) → Follows board board
+pub follows_none : (board : OnBoard) → Follows board board
 follows_none board = record { more = []; notes = sym (append-nil board.notes); back = refl }
 
 pub follows_on : (old mid new : OnBoard) → Follows old mid → Follows mid new → Follows old new

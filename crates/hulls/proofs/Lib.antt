@@ -21,3 +21,4 @@ pub mod LinkCuts
 pub mod FewPins
 pub mod PinCuts
 pub mod Whole
+pub mod Keeping

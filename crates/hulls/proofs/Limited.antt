@@ -1,5 +1,5 @@
 -- Choices out of sets that are cut to limits, and what the limits of a condition say of them.
-use Rattle.std.proofs.Common.{◌≡◌, ◌≢◌, ℕ, zero, suc, ◌<◌, ◌^◌, ◌==◌, ⊎_elim, Bool, List, [], ◌∷◌, length, sym, ap, ◌∙◌, subst, arith}
+use Rattle.std.proofs.Common.{◌≡◌, ◌≢◌, ℕ, zero, suc, ◌<◌, ◌^◌, ◌==◌, ◌⊎◌, inl, ⊎_elim, Bool, List, [], ◌∷◌, length, sym, ap, ◌∙◌, subst, arith}
 use Rattle.std.proofs.lemmas.Nat.{and_le_r}
 use Rattle.std.proofs.lemmas.Bool.{cases_eq, eq-eqb, ne_eqb, cond-true, cond-false}
 use Rattle.netlist.specs.declared.kind.GateKind.{GateKind}
@@ -7,7 +7,7 @@ use Rattle.netlist.specs.Conditions.{side_condition, Allows}
 use Rattle.state_sets.specs.declared.state.State.{State}
 use Rattle.state_sets.specs.declared.state.StateSet.{StateSet}
 use Rattle.state_sets.specs.declared.condition.Condition.{Condition}
-use Rattle.state_sets.specs.States.{Has}
+use Rattle.state_sets.specs.States.{Has, all_states, both_sets, no_states}
 use Rattle.state_sets.specs.StateAlgebra.{StateAlgebra}
 use Rattle.state_sets.specs.Narrowing.{IsChoice, SidesMeetAt, state_at}
 use Rattle.state_sets.specs.Narrowing.IsChoice.{none, one}
@@ -16,8 +16,8 @@ use Rattle.netlist.specs.declared.op.Op.{Op}
 use Rattle.hulls.specs.Sets.{Means, set_at}
 use Rattle.hulls.specs.Joins.{Supports, FoldsInto}
 use Rattle.hulls.specs.Limits.{limit_at, AreCut}
-use Rattle.hulls.specs.Passes.{IsLimited, PassSupports, PassFolds, AreLimitsOf, all_limits}
-use Rattle.hulls.proofs.Sets.{has_both, both_have, all_have}
+use Rattle.hulls.specs.Passes.{IsLimited, PassSupports, PassFolds, AreLimitsOf, AreSidesOf, all_limits}
+use Rattle.hulls.proofs.Sets.{has_both, both_have, has_none, all_have}
 use Rattle.hulls.proofs.Folds.{length_of_choice}
 
 -- the limit at the on-path pin, and at another one
@@ -113,6 +113,31 @@ module _ (a : StateAlgebra) where
       (λ (away : k ≢ 0). subst (λ s. Has a.count s (state_at a choice k)) (sym (limit_aside (all_limits a.count) k away)) all)
       (cases_eq k 0)
 
+  -- where no state of the on-path pin's set is within its limit, no choice is within the limits, and a pass finds nothing
+  module _ (limits : Limits) (sets : List StateSet) (on_path : limits.on_path < length sets) (cut : StateSet)
+      (is : cut ≡ both_sets (set_at sets limits.on_path) (limit_at limits limits.on_path)) (empty : cut ≡ no_states) where
+    none_limited : {choice : List State} → IsChoice a.count sets choice → IsLimited a limits choice → ⊥
+    none_limited {choice} each limited =
+        let state = state_at a choice limits.on_path in
+        has_none a.count state (subst (λ s. Has a.count s state) empty
+        (has_both a.count (set_at sets limits.on_path) (limit_at limits limits.on_path) state cut (ap (λ (s : StateSet). s.0) is)
+        (choice_at sets each limits.on_path on_path) (limited limits.on_path (let e = length_of_choice a.count each in omega arith))))
+
+    module _ (op : Op) (target : StateSet) where
+      pub none_supports : (kept : StateSet) (pin : ℕ)
+          → Means a.count kept (λ s. Has a.count kept s ⊎ PassSupports a op limits sets target pin s)
+      none_supports kept pin state = (
+        (λ has. inl has),
+        λ either. ⊎_elim (λ has. has)
+            (λ (supports : PassSupports a op limits sets target pin state). absurd (none_limited supports.each supports.limited)) either,
+      )
+
+      pub none_folds : Means a.count no_states (PassFolds a op limits sets target)
+      none_folds state = (
+        (λ has. absurd (has_none a.count state has)),
+        λ folds. absurd (none_limited folds.each folds.limited),
+      )
+
   module _ (kind : GateKind) (step : Condition) (sets : List StateSet) {choice : List State}
       (each : IsChoice a.count sets choice) (pin : step.pin < length choice) where
     -- a choice within the limits of a condition meets it
@@ -147,3 +172,23 @@ module _ (a : StateAlgebra) where
               (meets k inside (λ same. away (same ∙ sym are.on_path))),
         )))
         (cases_eq k limits.on_path)
+
+    -- The same of limits that leave all states at the on-path pin, and at the sides those that the condition allows whatever the on-path
+    -- pin ends at.
+    module _ (sides : StateSet) (are_sides : (bit : Bool) → AreSidesOf a kind step bit sides)
+        (limits : Limits) (on_path : limits.on_path ≡ step.pin) (free : limits.at_on_path ≡ all_states a.count)
+        (at_sides : limits.at_sides ≡ sides) where
+      pub aside_meets : IsLimited a limits choice → SidesMeetAt a kind step choice
+      aside_meets limited side inside other =
+          let aside : side ≢ limits.on_path = λ same. other (same ∙ on_path) in
+          ((are_sides (a.last (state_at a choice step.pin)) (state_at a choice side)).0
+          (subst (λ s. Has a.count s (state_at a choice side)) (limit_aside limits side aside ∙ at_sides) (limited side inside))).1
+
+      pub meets_aside : SidesMeetAt a kind step choice → IsLimited a limits choice
+      meets_aside meets k inside = ⊎_elim
+          (λ (here : k ≡ limits.on_path). subst (λ s. Has a.count s (state_at a choice k)) (sym (limit_on limits k here ∙ free))
+          (all_have a.count (state_at a choice k) (choice_in_range sets each k inside)))
+          (λ (away : k ≢ limits.on_path). subst (λ s. Has a.count s (state_at a choice k)) (sym (limit_aside limits k away ∙ at_sides))
+          ((are_sides (a.last (state_at a choice step.pin)) (state_at a choice k)).1
+          (choice_in_range sets each k inside, meets k inside (λ same. away (same ∙ sym on_path)))))
+          (cases_eq k limits.on_path)

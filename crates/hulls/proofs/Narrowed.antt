@@ -402,6 +402,16 @@ module _ (a : StateAlgebra) (c : Circuit) (kind : Kind) (steps : List PinRef) wh
       (subst (λ (flags : List Bool). IsAtRest a c (IsNarrowingIn c (is_inside flags) board.links kind steps) board.labels) same
       (rests_all board none awake))
 
+  -- what waits does not matter to what was narrowed
+  pub narrowed_resting : (old new : OnBoard) → IsNarrowed a c kind steps old new
+      → IsNarrowed a c kind steps old (record new { waiting = [] })
+  narrowed_resting old new narrowed = record {
+    keeps = narrowed.keeps;
+    inside = narrowed.inside;
+    links = narrowed.links;
+    follows = record { more = narrowed.follows.more; notes = narrowed.follows.notes; back = narrowed.follows.back };
+  }
+
 -- what a comparison with the empty set tells of a label
 pub is_none : (r : Bool) (left label : StateSet) → r ≡ eqb left.0 0 → r ≡ true → left ≡ label → label ≡ no_states
 is_none r left label is empty same =

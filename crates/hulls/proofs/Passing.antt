@@ -4,16 +4,16 @@ use Rattle.netlist.specs.declared.kind.GateKind.{GateKind}
 use Rattle.state_sets.specs.declared.state.State.{State}
 use Rattle.state_sets.specs.declared.state.StateSet.{StateSet}
 use Rattle.state_sets.specs.declared.condition.Condition.{Condition}
-use Rattle.state_sets.specs.States.{Has}
+use Rattle.state_sets.specs.States.{Has, all_states}
 use Rattle.state_sets.specs.StateAlgebra.{StateAlgebra, HasLaws, joined}
 use Rattle.netlist.specs.Gates.{op_of, is_inverting}
 use Rattle.state_sets.specs.Narrowing.{IsChoice, GateSets, GivesAtPin, GivesAtGate, MeetsAt, inverted_if, state_at}
 use Rattle.hulls.specs.declared.limits.Limits.{Limits}
 use Rattle.hulls.specs.Sets.{Means}
-use Rattle.hulls.specs.Passes.{PassFolds, PassSupports, IsLimited, AreLimitsOf, all_limits}
+use Rattle.hulls.specs.Passes.{PassFolds, PassSupports, IsLimited, AreLimitsOf, AreSidesOf, all_limits}
 use Rattle.hulls.proofs.Sets.{has_left, has_right, one_has}
 use Rattle.hulls.proofs.Folds.{joined_within, length_of_choice}
-use Rattle.hulls.proofs.Limited.{all_limited, limited_meets, meets_limited}
+use Rattle.hulls.proofs.Limited.{all_limited, limited_meets, meets_limited, aside_meets, meets_aside}
 
 -- a bit is 0 or 1
 pub either_bit : (bit : Bool) → (bit ≡ false) ⊎ (bit ≡ true)
@@ -179,3 +179,42 @@ module _ (a : StateAlgebra) (laws : HasLaws a) where
                   (limited_by gives.allowed.at_pins gives.allowed.meets),
             ),
           )
+
+    -- where the condition asks the same of the sides for both last values, one pass does, with all states at the on-path pin
+    module _ (step : Condition) (pin_within : step.pin < length sets) (sides : StateSet)
+        (are_sides : (bit : Bool) → AreSidesOf a kind step bit sides)
+        (limits : Limits) (on_path : limits.on_path ≡ step.pin) (free : limits.at_on_path ≡ all_states a.count)
+        (at_sides : limits.at_sides ≡ sides) where
+      on_choice : {choice : List State} → IsChoice a.count sets choice → step.pin < length choice
+      on_choice each = let e = length_of_choice a.count each in omega arith
+
+      meets_it : (choice : List State) → IsChoice a.count sets choice → IsLimited a limits choice → MeetsAt a kind (Some step) choice
+      meets_it choice each limited =
+          aside_meets a kind step sets each (on_choice each) sides are_sides limits on_path free at_sides limited
+
+      is_limited : {choice : List State} → IsChoice a.count sets choice → MeetsAt a kind (Some step) choice → IsLimited a limits choice
+      is_limited each meets =
+          meets_aside a kind step sets each (on_choice each) sides are_sides limits on_path free at_sides meets
+
+      pub aside_pin : (kept : StateSet) (pin : ℕ) → Means a.count kept (PassSupports a (op_of kind) limits sets target pin)
+          → Means a.count kept (GivesAtPin a (record { kind = kind; pins = sets; own = own }) (Some step) pin)
+      aside_pin kept pin means state = (
+        (λ has. pass_gives kind sets own target hits (Some step) limits meets_it pin state ((means state).0 has)),
+        λ gives. (means state).1 (gives_pass kind sets own target hits (Some step) limits pin state gives
+            (is_limited gives.allowed.at_pins gives.allowed.meets)),
+      )
+
+      pub aside_gate : (given result : StateSet) → Means a.count given (PassFolds a (op_of kind) limits sets target)
+          → Means a.count result (λ s. (s.0 < a.count) × Has a.count given (inverted_if a (is_inverting kind) s))
+          → Means a.count result (GivesAtGate a (record { kind = kind; pins = sets; own = own }) (Some step))
+      aside_gate given result folds means state = (
+        (λ has. let both = (means state).0 has in
+            pass_gives_gate kind sets own target hits (Some step) limits meets_it state both.0
+            ((folds (inverted_if a (is_inverting kind) state)).0 both.1)),
+        λ gives. (means state).1 (
+          given_within kind sets own target hits (Some step) state gives,
+          (folds (inverted_if a (is_inverting kind) state)).1
+              (gives_pass_gate kind sets own target hits (Some step) limits state gives
+              (is_limited gives.allowed.at_pins gives.allowed.meets)),
+        ),
+      )

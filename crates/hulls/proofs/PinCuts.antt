@@ -1,21 +1,23 @@
 -- The lines of the pins of a gate are cut, one pin after another, as the code has the pins.
-use Rattle.std.proofs.Common.{◌≡◌, ℕ, ◌+◌, ◌<◌, Bool, true, false, List, length, get_or, slice_get, Option, Some, sym, ap, ◌∙◌, subst, arith}
+use Rattle.std.proofs.Common.{◌≡◌, ℕ, zero, suc, ◌+◌, ◌<◌, ◌≤◌, inl, Bool, true, false, List, length, get_or, slice_get, Option, Some, refl, sym, ap, ◌∙◌, subst, arith}
+use Rattle.std.proofs.Math.ListN.{set}
 use Rattle.std.proofs.Math.Dec.{eqb}
+use Rattle.std.proofs.lemmas.List.{set-get_or}
 use Rattle.std.proofs.lemmas.Option.{slice_get-get_or}
 use Rattle.pd_base.specs.Links.{LinkList}
 use Rattle.pd_base.specs.declared.ids.GateId.{GateId}
 use Rattle.pd_base.specs.declared.ids.LineId.{LineId}
-use Rattle.netlist.specs.Circuit.{Circuit, HasLines, line_count, pins_at}
+use Rattle.netlist.specs.Circuit.{Circuit, HasLines, gate_line, line_count, pins_at}
 use Rattle.netlist.specs.LinkedPairs.{AreLinksOf}
 use Rattle.state_sets.specs.declared.state.StateSet.{StateSet}
-use Rattle.state_sets.specs.States.{AreWithin}
+use Rattle.state_sets.specs.States.{AreWithin, both_sets, no_states}
 use Rattle.state_sets.specs.Labellings.{label_at}
 use Rattle.state_sets.specs.Hulls.{HasNoEmptySet}
 use Rattle.hulls.specs.Sets.{set_at}
 use Rattle.hulls.specs.Awaiting.{is_inside}
 use Rattle.hulls.specs.Boards.{OnBoard, IsBoardOf, link_turn}
-use Rattle.hulls.specs.Settling.{ArePinsCut, IsCutTo, IsPinEmptied, IsShrunk, HasCutsWithStates}
-use Rattle.hulls.proofs.Changing.{cut_none, cut_more, some_left}
+use Rattle.hulls.specs.Settling.{ArePinsCut, IsCutTo, IsPinEmptied, IsShrunk, HasCutsWithStates, KeepsAll}
+use Rattle.hulls.proofs.Changing.{cut_none, cut_more, follows_none, some_left}
 use Rattle.hulls.proofs.Narrowed.{is_none, is_some}
 
 -- after cuts the board is still one of its circuit
@@ -89,3 +91,35 @@ pub left_at_all_pins : (c : Circuit) (passed : Option GateId) (count gate : ℕ)
     → HasCutsWithStates count c passed gate kept (length (pins_at c gate)) old new
 left_at_all_pins c passed count gate kept pins all old new left =
     subst (λ (n : ℕ). HasCutsWithStates count c passed gate kept n old new) (sym all) left
+
+-- where all lines of a gate keep their states, cuts change nothing
+module _ (c : Circuit) (passed : Option GateId) (count gate : ℕ) (kept : List StateSet) (given : StateSet) (board : OnBoard)
+    (lines : length board.labels ≡ line_count c) (within : AreWithin count board.labels) (some : HasNoEmptySet c board.labels)
+    (in_circuit : HasLines c (pins_at c gate)) (keeps : KeepsAll c gate kept given board.labels) where
+  no_cut : (line : ℕ) (to : StateSet) → both_sets (label_at board.labels line) to ≡ label_at board.labels line
+      → IsCutTo count c passed line to board board
+  no_cut line to same = record {
+    labels = sym (ap (λ (s : StateSet). set board.labels line s) same ∙ set-get_or board.labels line no_states);
+    within = within;
+    inside = refl;
+    links = refl;
+    follows = follows_none board;
+    stays = λ turn waits. waits;
+    moves = inl refl;
+  }
+
+  pub own_kept : IsCutTo count c passed (gate_line c gate) given board board
+  own_kept = no_cut (gate_line c gate) given keeps.own
+
+  pub pins_kept : (pins : ℕ) → pins ≤ length (pins_at c gate) → HasCutsWithStates count c passed gate kept pins board board
+  pins_kept zero few = none_cut c passed count gate kept board within some
+  pins_kept (suc pins) few =
+      let line : LineId = get_or (pins_at c gate) pins (record { 0 = 0 }) in
+      let at = slice_get-get_or (pins_at c gate) pins (record { 0 = 0 }) (omega (arith, few)) in
+      record {
+        cut = subst (λ n. ArePinsCut count c passed gate kept n board board) (omega arith)
+            (cut_more c passed count gate kept pins line board board board (omega (arith, few)) at
+            (omega (arith, in_circuit pins (record { 0 = 0 }) (omega (arith, few)), lines))
+            (pins_kept pins (omega (arith, few))).cut (no_cut line.0 (set_at kept pins) (keeps.pins pins line at)));
+        some = some;
+      }

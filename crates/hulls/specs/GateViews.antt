@@ -6,6 +6,7 @@ use Rattle.state_sets.specs.StateAlgebra.{StateAlgebra}
 use Rattle.state_sets.specs.Labellings.{label_at}
 use Rattle.state_sets.specs.Narrowing.{GateSets, GivesAtGate, GivesAtPin}
 use Rattle.hulls.specs.declared.view.GateView.{GateView}
+use Rattle.hulls.specs.declared.few.KeptAtOne.{KeptAtOne}
 use Rattle.hulls.specs.declared.few.KeptAtTwo.{KeptAtTwo}
 use Rattle.hulls.specs.declared.three.KeptAtThree.{KeptAtThree}
 use Rattle.hulls.specs.Sets.{Means, set_at}
@@ -27,7 +28,12 @@ AreKeptAtPins a gate condition kept =
 abbrev pub IsGivenAtGate : StateAlgebra → GateView → Option Condition → StateSet → Type 0
 IsGivenAtGate a gate condition given = Means a.count given (GivesAtGate a (sets_seen gate) condition)
 
--- the states that allowed choices have at two pins, and those that they give at the gate's line
+-- the states that allowed choices have at the only pin, and those that they give at the gate's line
+pub record IsKeptAtOne (a : StateAlgebra) (sets : GateSets) (condition : Option Condition) (kept : KeptAtOne) : Type 0 where
+  pub first : Means a.count kept.first (GivesAtPin a sets condition 0)
+  pub given : Means a.count kept.given (GivesAtGate a sets condition)
+
+-- the same at two pins
 pub record IsKeptAtTwo (a : StateAlgebra) (sets : GateSets) (condition : Option Condition) (kept : KeptAtTwo) : Type 0 where
   pub first : Means a.count kept.first (GivesAtPin a sets condition 0)
   pub second : Means a.count kept.second (GivesAtPin a sets condition 1)

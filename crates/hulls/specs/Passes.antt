@@ -48,3 +48,8 @@ pub record AreLimitsOf (a : StateAlgebra) (kind : GateKind) (condition : Conditi
   pub at_on_path : Means a.count limits.at_on_path (λ s. (s.0 < a.count) × (a.last s ≡ bit))
   pub at_sides : Means a.count limits.at_sides
       (λ s. (s.0 < a.count) × Allows (side_condition condition.kind kind bit) (a.last s) (a.steady s))
+
+-- the states that the condition allows the side pins where the on-path pin ends at this bit
+abbrev pub AreSidesOf : StateAlgebra → GateKind → Condition → Bool → StateSet → Type 0
+AreSidesOf a kind condition bit sides = Means a.count sides
+    (λ s. (s.0 < a.count) × Allows (side_condition condition.kind kind bit) (a.last s) (a.steady s))

@@ -5,7 +5,7 @@ use Rattle.pd_base.specs.declared.ids.GateId.{GateId}
 use Rattle.pd_base.specs.declared.ids.LineId.{LineId}
 use Rattle.pd_base.specs.declared.ids.PinRef.{PinRef}
 use Rattle.pd_base.specs.declared.fault.Kind.{Kind}
-use Rattle.netlist.specs.Circuit.{Circuit, gate_count, line_count, pins_at}
+use Rattle.netlist.specs.Circuit.{Circuit, gate_count, gate_line, line_count, pins_at}
 use Rattle.state_sets.specs.declared.state.StateSet.{StateSet}
 use Rattle.state_sets.specs.States.{AreWithin, both_sets, no_states}
 use Rattle.state_sets.specs.StateAlgebra.{StateAlgebra}
@@ -14,6 +14,7 @@ use Rattle.state_sets.specs.Narrowing.{IsNarrowing, IsLinkNarrowing, gate_lines}
 use Rattle.state_sets.specs.Hulls.{condition_at, HasNoEmptySet}
 use Rattle.state_laws.specs.Cones.{IsNarrowingIn}
 use Rattle.state_laws.specs.Sweeps.{KeepsRests}
+use Rattle.hulls.specs.Sets.{set_at}
 use Rattle.hulls.specs.Changes.{HasPinsKept}
 use Rattle.hulls.specs.Conditions.{Entered, IsEnteredOn}
 use Rattle.hulls.specs.declared.turn.Turn.{Turn}
@@ -125,6 +126,12 @@ pub record IsShrunk (count : ℕ) (c : Circuit) (passed : Option GateId) (old ne
   pub follows : Follows old new
   pub wakes : Wakes c passed old new
   pub falls : (new ≡ old) ⊎ HasLess count old new
+
+-- the line of each pin of a gate keeps all its states where it is cut down to what is kept at the pin, and so does the gate's own line
+pub record KeepsAll (c : Circuit) (gate : ℕ) (kept : List StateSet) (given : StateSet) (labels : List StateSet) : Type 0 where
+  pub pins : (pin : ℕ) (line : LineId) → slice_get (pins_at c gate) pin ≡ Some line
+      → both_sets (label_at labels line.0) (set_at kept pin) ≡ label_at labels line.0
+  pub own : both_sets (label_at labels (gate_line c gate)) given ≡ label_at labels (gate_line c gate)
 
 -- the lines of the first pins of a gate were cut down to what is kept at the pins
 pub record ArePinsCut (count : ℕ) (c : Circuit) (passed : Option GateId) (gate : ℕ) (kept : List StateSet) (pins : ℕ)

@@ -1,6 +1,6 @@
 // The board: labels that are cut line by line, with a trail by which the changes are undone, and the gates and links that have to be
 // narrowed again. Its cost goes by what changes: only making a board and asking all gates and links go over the netlist.
-ghost use Rattle.std.specs.Prelude.{◌≡◌, ◌≢◌, ◌<◌, ◌≤◌, ◌+◌, ◌^◌, ◌∷◌, ◌++◌, [], ℕ, true, All, Contains, None, bit_and, length, take, drop, replicate, slice_set, IfOk, IfSome, MatchOption};
+ghost use Rattle.std.specs.Prelude.{◌≡◌, ◌≢◌, ◌<◌, ◌≤◌, ◌↔◌, ◌+◌, ◌^◌, ◌∷◌, ◌++◌, [], ℕ, true, All, Contains, None, bit_and, length, take, drop, replicate, slice_set, IfOk, IsTrue};
 ghost use Rattle.netlist.specs.Circuit.{gate_count, line_count};
 ghost use Rattle.netlist.specs.LinkedPairs.{AreLinksOf};
 ghost use Rattle.state_sets.specs.States.{IsWithin, AreWithin, all_states};
@@ -225,14 +225,21 @@ impl<A: Algebra> Board<A> {
         }
     }
 
-    // Takes the first gate or link that waits, if one does.
-    pub(crate) fn next(&mut self) -> Option<Turn>
-        ensures cases { MatchOption result ((self.old.waiting ≡ []) × (self.new ≡ self.old))
-            (λ turn. self.old.waiting ≡ turn ∷ self.new.waiting) }
-        ensures labels { self.new ≡ record self.old { waiting = self.new.waiting } }
-        ensures all_inside { IfSome result (λ turn. is_inside self.old.inside turn.0 ≡ true) }
+    // Whether nothing waits.
+    pub(crate) fn is_resting(&self) -> bool
+        ensures { IsTrue result ↔ (self.now.waiting ≡ []) }
     {
-        self.waiting.pop()
+        self.waiting.is_empty()
+    }
+
+    // Takes the first gate or link of those that wait.
+    pub(crate) fn next(&mut self) -> Turn
+        requires { self.old.waiting ≢ [] }
+        ensures waiting { self.old.waiting ≡ result ∷ self.new.waiting }
+        ensures labels { self.new ≡ record self.old { waiting = self.new.waiting } }
+        ensures is_inside { is_inside self.old.inside result.0 ≡ true }
+    {
+        self.waiting.take()
     }
 
     /// Nothing waits any more.

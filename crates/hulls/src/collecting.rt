@@ -15,7 +15,8 @@ use crate::view::GateView;
 use state_sets::{Algebra, Condition, StateSet};
 
 // Writes to `kept` the states that allowed choices have at each pin, and gives those that they give at the gate's line. Each room has
-// a place for each pin of any gate, and one more.
+// a place for each pin of any gate, and one more. A call, so that gates with few pins cost less.
+#[inline(never)]
 pub(crate) fn write_kept_at_all<A: Algebra>(
     gate: &GateView,
     condition: Option<Condition>,
@@ -103,9 +104,9 @@ fn collect_at_step<A: Algebra>(
     let target = uninverted::<A>(gate.kind, gate.own);
     clear(kept);
     let at_zero = limits_of::<A>(gate.kind, step, false);
-    let zero = pass::<A>(gate, at_zero, target, cut, suffixes, kept);
+    let zero = pass_on_path::<A>(gate, at_zero, target, cut, suffixes, kept);
     let at_one = limits_of::<A>(gate.kind, step, true);
-    let one = pass::<A>(gate, at_one, target, cut, suffixes, kept);
+    let one = pass_on_path::<A>(gate, at_one, target, cut, suffixes, kept);
     uninverted::<A>(gate.kind, zero.unite(one))
 }
 
@@ -116,6 +117,34 @@ fn clear(sets: &mut [StateSet])
     for set in sets.iter_mut() {
         *set = StateSet::EMPTY;
     }
+}
+
+// The same pass, which is none where the on-path pin has no state within its limit: in most tests a line ends at one value.
+fn pass_on_path<A: Algebra>(
+    gate: &GateView,
+    limits: Limits,
+    target: StateSet,
+    cut: &mut [StateSet],
+    suffixes: &mut [StateSet],
+    kept: &mut [StateSet],
+) -> StateSet
+    requires lines { All (λ line. line.0 < length gate.now.labels.now) gate.now.pins.now }
+    requires pin { limits.on_path < length gate.now.pins.now }
+    requires cut { length cut.old ≡ length gate.now.pins.now }
+    requires suffixes { length suffixes.old ≡ length gate.now.pins.now + 1 }
+    requires kept { length kept.old ≡ length gate.now.pins.now }
+    requires on_path { IsWithin A.algebra.count limits.at_on_path }
+    requires sides { IsWithin A.algebra.count limits.at_sides }
+    requires target { IsWithin A.algebra.count target }
+    ensures at_pins { (pin : ℕ) → pin < length gate.now.pins.now → Means A.algebra.count (set_at kept.new pin)
+        (λ s. Has A.algebra.count (set_at kept.old pin) s
+        ⊎ PassSupports A.algebra (op_of gate.now.kind) limits (pin_sets gate.now) target pin s) }
+    ensures all { Means A.algebra.count result (PassFolds A.algebra (op_of gate.now.kind) limits (pin_sets gate.now) target) }
+{
+    if gate.cut_at(limits, limits.on_path) == StateSet::EMPTY {
+        return StateSet::EMPTY;
+    }
+    pass::<A>(gate, limits, target, cut, suffixes, kept)
 }
 
 // Adds at each pin the states that some choice within the limits has there which joins into the target. Gives the states of the

@@ -1,6 +1,6 @@
 // Narrowing at one gate: all kept sets are collected from the labels as they are, and only then are labels cut. Most gates have two pins,
-// and most others three: what is kept there is given apart, in no list, and at two pins without a condition it is found without a call where
-// narrowing runs in a loop.
+// and most others one or three: what is kept there is given apart, in no list, and at two pins it is found without a call where narrowing
+// runs in a loop.
 ghost use Rattle.std.specs.Prelude.{◌≡◌, ◌<◌, ◌≤◌, ℕ, length, All, IfSome};
 ghost use Rattle.netlist.specs.declared.limits.TheConstants.{MOST_FAN_IN};
 ghost use Rattle.netlist.specs.Circuit.{gate_count, line_count, pins_at};
@@ -8,11 +8,11 @@ ghost use Rattle.state_sets.specs.States.{AreWithin};
 ghost use Rattle.state_sets.specs.Labellings.{TellsOfNarrowing};
 ghost use Rattle.state_sets.specs.Narrowing.{IsNarrowing, KeepsAgreeing, GivesAtGate, GivesAtPin, gate_lines, gate_sets};
 ghost use Rattle.hulls.specs.Sets.{Means, set_at};
-ghost use Rattle.hulls.specs.GateViews.{sets_seen, AreKeptAtPins, IsGivenAtGate, IsKeptAtThree, IsKeptAtTwo};
+ghost use Rattle.hulls.specs.GateViews.{sets_seen, AreKeptAtPins, IsGivenAtGate, IsKeptAtOne, IsKeptAtThree, IsKeptAtTwo};
 
 use crate::collecting::write_kept_at_all;
 use crate::cutting::{cut_line, cut_pins, told};
-use crate::few::{KeptAtTwo, keep_two, write_kept_at_one, write_kept_at_two};
+use crate::few::{KeptAtOne, KeptAtTwo, keep_one, keep_two, write_kept_at_one, write_kept_at_two};
 use crate::scratch::NarrowScratch;
 use crate::three::{KeptAtThree, keep_three_freely, write_kept_at_three};
 use crate::view::GateView;
@@ -106,8 +106,24 @@ fn view_of<'a>(net: &'a Netlist, labels: &'a [StateSet], gate: GateId) -> GateVi
     }
 }
 
-// The states that narrowing keeps at a gate with two pins, as `kept_at` finds them, but returned and written nowhere. Inlined, since it is
-// asked in a loop, most often without a condition.
+// The states that narrowing keeps at a gate with one pin, as `kept_at` finds them, but returned and written nowhere.
+#[inline(always)]
+pub(crate) fn kept_at_one<A: Algebra>(
+    net: &Netlist,
+    labels: &[StateSet],
+    gate: GateId,
+    condition: Option<Condition>,
+) -> KeptAtOne
+    requires lines { length labels.now ≡ line_count net.now }
+    requires gate { gate.0 < gate_count net.now }
+    requires one { length (pins_at net.now gate.0) ≡ 1 }
+    requires pin { IfSome condition (λ c. c.pin < length (pins_at net.now gate.0)) }
+    ensures { IsKeptAtOne A.algebra (gate_sets net.now gate.0 labels.now) condition result }
+{
+    keep_one::<A>(&view_of(net, labels, gate), condition)
+}
+
+// The same at a gate with two pins. Inlined, since it is asked in a loop, most often without a condition.
 #[inline(always)]
 pub(crate) fn kept_at_two<A: Algebra>(
     net: &Netlist,
@@ -155,12 +171,16 @@ fn keep<A: Algebra>(
         1 => write_kept_at_one::<A>(gate, condition, &mut scratch.kept),
         2 => write_kept_at_two::<A>(gate, condition, &mut scratch.kept),
         3 if condition.is_none() => write_kept_at_three::<A>(gate, &mut scratch.kept),
-        _ => write_kept_at_all::<A>(
-            gate,
-            condition,
-            &mut scratch.cut,
-            &mut scratch.suffixes,
-            &mut scratch.kept,
-        ),
+        _ => {
+            // a copy for that call: so what is seen at a gate with few pins stands nowhere in memory
+            let seen = *gate;
+            write_kept_at_all::<A>(
+                &seen,
+                condition,
+                &mut scratch.cut,
+                &mut scratch.suffixes,
+                &mut scratch.kept,
+            )
+        }
     }
 }

@@ -14,9 +14,11 @@ pub(crate) fn uninverted<A: Algebra>(kind: GateKind, set: StateSet) -> StateSet
     ensures means { Means A.algebra.count result (λ s. (s.0 < A.algebra.count)
         × Has A.algebra.count set (inverted_if A.algebra (is_inverting kind) s)) }
 {
-    let states = set.intersect(every_state::<A>());
+    let all = every_state::<A>();
+    let states = set.intersect(all);
     if kind.inverts() {
-        A::invert_set(states)
+        // nothing is cut off: it shows a compiler that the set is small enough for the tables that are read at it
+        A::invert_set(states).intersect(all)
     } else {
         states
     }

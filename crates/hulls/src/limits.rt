@@ -1,6 +1,6 @@
 // What a condition leaves at each pin of a gate, for one final value at the on-path pin.
 ghost use Rattle.std.specs.Prelude.{◌≡◌, ◌<◌, length, map, All};
-ghost use Rattle.state_sets.specs.States.{IsWithin};
+ghost use Rattle.state_sets.specs.States.{IsWithin, all_states};
 ghost use Rattle.state_sets.specs.Labellings.{label_at};
 ghost use Rattle.hulls.specs.Limits.{limit_at, AreCut};
 ghost use Rattle.hulls.specs.Passes.{AreLimitsOf, all_limits};
@@ -38,6 +38,20 @@ pub(crate) fn limits_of<A: Algebra>(kind: GateKind, step: Condition, bit: bool) 
         on_path: step.pin as usize,
         at_on_path: A::ending_at(bit),
         at_sides: A::allowed_by(side_condition(step.kind, kind, bit)),
+    }
+}
+
+// All states at the on-path pin of a condition, and these at each other pin.
+pub(crate) fn limits_aside<A: Algebra>(step: Condition, sides: StateSet) -> Limits
+    ensures on_path { result.on_path ≡ step.pin }
+    ensures at_on_path { result.at_on_path ≡ all_states A.algebra.count }
+    ensures within { IsWithin A.algebra.count result.at_on_path }
+    ensures sides { result.at_sides ≡ sides }
+{
+    Limits {
+        on_path: step.pin as usize,
+        at_on_path: every_state::<A>(),
+        at_sides: sides,
     }
 }
 

@@ -1,8 +1,8 @@
 // A board settles: one gate or link after another is narrowed, as long as one waits and each line has some state.
-ghost use Rattle.std.specs.Prelude.{◌≡◌, ◌≢◌, ◌<◌, ◌≤◌, ◌↔◌, List, [], ◌∷◌, true, length, Contains, IfSome, IfNone, IsTrue, None};
+ghost use Rattle.std.specs.Prelude.{◌≡◌, ◌≢◌, ◌<◌, ◌≤◌, ◌↔◌, List, [], ◌∷◌, true, length, Contains, IfSome, IfNone, IsTrue, None, Some};
 ghost use Rattle.netlist.specs.Circuit.{gate_count, gate_line, line_count, pins_at};
 ghost use Rattle.netlist.specs.Lawful.{IsCircuit};
-ghost use Rattle.state_sets.specs.States.{AreWithin, no_states};
+ghost use Rattle.state_sets.specs.States.{AreWithin, both_sets, no_states};
 ghost use Rattle.state_sets.specs.Labellings.{label_at};
 ghost use Rattle.state_sets.specs.Hulls.{condition_at, IsHull, IsEmptied, HasAt, HasNoEmptySet};
 ghost use Rattle.state_laws.specs.Cones.{IsNarrowingIn};
@@ -10,9 +10,9 @@ ghost use Rattle.hulls.specs.Conditions.{IsEnteredOn};
 ghost use Rattle.hulls.specs.Awaiting.{is_inside};
 ghost use Rattle.hulls.specs.Boards.{IsBoardOf, link_turn};
 ghost use Rattle.hulls.specs.GateViews.{three_kept};
-ghost use Rattle.hulls.specs.Settling.{MaySettle, IsAwakeBut, AllDiffer, IsNarrowed, IsPassed, EndsCuts, IsCutTo, MayNarrow, EndsTurn};
+ghost use Rattle.hulls.specs.Settling.{MaySettle, IsAwakeBut, AllDiffer, IsNarrowed, IsPassed, EndsCuts, IsCutTo, KeepsAll, MayNarrow, EndsTurn};
 
-use crate::gate::{kept_at_three, kept_at_two};
+use crate::gate::{kept_at_one, kept_at_three, kept_at_two};
 use crate::link::{linked_lines, linked_sources};
 use crate::three::KeptAtThree;
 use crate::{Board, Conditions, NarrowScratch, Turn, kept_at};
@@ -46,7 +46,8 @@ impl<A: Algebra> Board<A> {
             (HasAt A.algebra.count self.old.labels) line.0) }
         ensures waiting { self.new.waiting ≡ [] }
     {
-        while let Some(turn) = self.next() {
+        while !self.is_resting() {
+            let turn = self.next();
             if let Some(line) = self.narrow_turn(net, conditions, turn, scratch) {
                 self.rest();
                 return Some(line);
@@ -127,8 +128,8 @@ impl<A: Algebra> Board<A> {
         None
     }
 
-    // Narrows at one gate. Most gates have two pins and no condition, and of the others most have three: what is kept there stands in no
-    // list.
+    // Narrows at one gate. Most gates have two pins and no condition, and of the others most have one or three: what is kept there stands in
+    // no list.
     #[inline(always)]
     fn narrow_at(
         &mut self,
@@ -145,6 +146,7 @@ impl<A: Algebra> Board<A> {
         }
         match net.pins(gate).len() {
             2 => self.narrow_two(net, conditions, gate, None),
+            1 => self.narrow_one(net, conditions, gate),
             3 => self.narrow_three(net, conditions, gate),
             _ => self.narrow_any(net, conditions, gate, scratch),
         }
@@ -164,6 +166,7 @@ impl<A: Algebra> Board<A> {
     {
         match net.pins(gate).len() {
             2 => self.narrow_two(net, conditions, gate, conditions.at(gate)),
+            1 => self.narrow_one(net, conditions, gate),
             _ => self.narrow_any(net, conditions, gate, scratch),
         }
     }
@@ -192,6 +195,22 @@ impl<A: Algebra> Board<A> {
         self.cut_own(net, gate, kept.given, passed)
     }
 
+    // Narrows at a gate with one pin, of which a condition asks nothing: a call, too.
+    #[inline(never)]
+    fn narrow_one(&mut self, net: &Netlist, conditions: &Conditions, gate: GateId) -> Option<LineId>
+        requires may { MayNarrow A.algebra net.now conditions.now gate.0 self.old }
+        requires one { length (pins_at net.now gate.0) ≡ 1 }
+        ensures turn { EndsTurn A.algebra net.now conditions.now self.old self.new result }
+    {
+        // a netlist knows itself as a circuit
+        let _ = net.sources();
+        let kept = kept_at_one::<A>(net, self.labels(), gate, conditions.at(gate));
+        if let Some(line) = self.cut_first(net, gate, kept.first) {
+            return Some(line);
+        }
+        self.cut_own(net, gate, kept.given, Some(gate))
+    }
+
     // Narrows at a gate with three pins and no condition: a call, too.
     #[inline(never)]
     fn narrow_three(
@@ -207,8 +226,11 @@ impl<A: Algebra> Board<A> {
     {
         // a netlist knows itself as a circuit
         let _ = net.sources();
-        let passed = passed_by_three(net, gate);
         let kept = kept_at_three::<A>(net, self.labels(), gate);
+        if self.do_three_keep(net, gate, kept) {
+            return None;
+        }
+        let passed = passed_by_three(net, gate);
         if let Some(line) = self.cut_three(net, gate, kept, passed) {
             return Some(line);
         }
@@ -237,6 +259,32 @@ impl<A: Algebra> Board<A> {
         self.cut_own(net, gate, given, passed)
     }
 
+    // Whether the lines of the three pins of a gate and its own keep all their states, as they do most often: then nothing changes, and
+    // that is seen at one look.
+    #[inline(always)]
+    fn do_three_keep(&self, net: &Netlist, gate: GateId, kept: KeptAtThree) -> bool
+        requires lines { length self.now.labels ≡ line_count net.now }
+        requires gate { gate.0 < gate_count net.now }
+        requires three { length (pins_at net.now gate.0) ≡ 3 }
+        ensures { IsTrue result → KeepsAll net.now gate.0 (three_kept kept) kept.given self.now.labels }
+    {
+        let pins = net.pins(gate);
+        self.keeps(pins[0], kept.first)
+            && self.keeps(pins[1], kept.second)
+            && self.keeps(pins[2], kept.third)
+            && self.keeps(net.line_of(gate), kept.given)
+    }
+
+    // Whether a line keeps all its states where it is cut down to a set.
+    #[inline(always)]
+    fn keeps(&self, line: LineId, to: StateSet) -> bool
+        requires { line.0 < length self.now.labels }
+        ensures { IsTrue result ↔ (both_sets (label_at self.now.labels line.0) to ≡ label_at self.now.labels line.0) }
+    {
+        let set = self.get(line);
+        set.intersect(to) == set
+    }
+
     // Cuts the line of a gate down to a set. The line, if it has no state left.
     #[inline(always)]
     fn cut_own(
@@ -254,6 +302,24 @@ impl<A: Algebra> Board<A> {
     {
         let line = net.line_of(gate);
         if self.cut_in(net, line, to, passed) == StateSet::EMPTY {
+            Some(line)
+        } else {
+            None
+        }
+    }
+
+    // Cuts the line of the first pin of a gate, which is passed by, down to what is kept there. The line, if it has no state left.
+    #[inline(always)]
+    fn cut_first(&mut self, net: &Netlist, gate: GateId, first: StateSet) -> Option<LineId>
+        requires of { IsBoardOf net.now self.old }
+        requires within { AreWithin A.algebra.count self.old.labels }
+        requires some { HasNoEmptySet net.now self.old.labels }
+        requires gate { gate.0 < gate_count net.now }
+        requires one { 1 ≤ length (pins_at net.now gate.0) }
+        ensures cut { EndsCuts A.algebra.count net.now (Some gate) gate.0 (first ∷ []) 1 self.old self.new result }
+    {
+        let line = net.pins(gate)[0];
+        if self.cut_in(net, line, first, Some(gate)) == StateSet::EMPTY {
             Some(line)
         } else {
             None
@@ -279,12 +345,14 @@ impl<A: Algebra> Board<A> {
         ensures cut { (behind : List StateSet)
             → EndsCuts A.algebra.count net.now passed gate.0 (first ∷ second ∷ behind) 2 self.old self.new result }
     {
+        // read before the cuts: what these write could be the list of pins for all that a compiler knows
         let pins = net.pins(gate);
-        if self.cut_in(net, pins[0], first, passed) == StateSet::EMPTY {
-            return Some(pins[0]);
+        let (line, other) = (pins[0], pins[1]);
+        if self.cut_in(net, line, first, passed) == StateSet::EMPTY {
+            return Some(line);
         }
-        if self.cut_in(net, pins[1], second, passed) == StateSet::EMPTY {
-            return Some(pins[1]);
+        if self.cut_in(net, other, second, passed) == StateSet::EMPTY {
+            return Some(other);
         }
         None
     }

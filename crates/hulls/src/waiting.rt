@@ -1,6 +1,6 @@
 // The gates and links that wait to be narrowed, first in, first out. Only those inside wait. A flag is up for each that is not to be added:
 // for good where it is outside, and else while it waits. That nothing stands twice in the queue is true, and no proof needs it.
-ghost use Rattle.std.specs.Prelude.{◌≡◌, ◌<◌, ◌∷◌, true, [], length, IfOk, IfSome, MatchOption};
+ghost use Rattle.std.specs.Prelude.{◌≡◌, ◌≢◌, ◌<◌, ◌↔◌, ◌∷◌, true, [], length, IfOk, IfSome, IsTrue, MatchOption};
 ghost use Rattle.hulls.specs.Awaiting.{is_inside, AreOpposite, IsWoken};
 
 use crate::Turn;
@@ -62,6 +62,25 @@ impl Waiting {
         self.queue.push(turn);
     }
 
+    // Whether nothing waits.
+    pub(crate) fn is_empty(&self) -> bool
+        ensures { IsTrue result ↔ (self.now.waiting ≡ []) }
+    {
+        self.queue.is_empty()
+    }
+
+    // Takes the first gate or link of those that wait.
+    pub(crate) fn take(&mut self) -> Turn
+        requires { self.old.waiting ≢ [] }
+        ensures waiting { self.old.waiting ≡ result ∷ self.new.waiting }
+        ensures inside { self.new.inside ≡ self.old.inside }
+        ensures is_inside { is_inside self.old.inside result.0 ≡ true }
+    {
+        let turn = self.queue.take();
+        self.flags[turn.0 as usize] = false;
+        turn
+    }
+
     /// Takes the first gate or link, if one waits.
     pub fn pop(&mut self) -> Option<Turn>
         ensures cases { MatchOption result ((self.old.waiting ≡ []) × (self.new.waiting ≡ []))
@@ -69,11 +88,11 @@ impl Waiting {
         ensures inside { self.new.inside ≡ self.old.inside }
         ensures all_inside { IfSome result (λ turn. is_inside self.old.inside turn.0 ≡ true) }
     {
-        let Some(turn) = self.queue.pop() else {
-            return None;
-        };
-        self.flags[turn.0 as usize] = false;
-        Some(turn)
+        if self.is_empty() {
+            None
+        } else {
+            Some(self.take())
+        }
     }
 
     /// For each gate and link whether it is inside. Takes no memory.
@@ -84,11 +103,14 @@ impl Waiting {
     }
 
     /// Nothing waits any more.
+    #[inline(always)]
     pub fn clear(&mut self)
         ensures waiting { self.new.waiting ≡ [] }
         ensures inside { self.new.inside ≡ self.old.inside }
     {
-        while self.pop().is_some() {}
+        while !self.is_empty() {
+            let _ = self.take();
+        }
     }
 }
 

@@ -42,7 +42,8 @@ fn wake_all(waiting: &mut Waiting, pins: &[PinRef])
     }
 }
 
-// The same without the gate that is passed by.
+// The same without the gate that is passed by. Inlined as `wake` is.
+#[inline(always)]
 fn wake_others(waiting: &mut Waiting, pins: &[PinRef], passed: Option<GateId>)
     requires { All (λ pin. pin.gate.0 < length waiting.old.inside) pins.now }
     ensures more { IsMore waiting.old waiting.new }

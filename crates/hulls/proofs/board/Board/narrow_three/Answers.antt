@@ -4,9 +4,21 @@ use Rattle.netlist.specs.Circuit.{pins_at}
 use Rattle.state_sets.specs.Narrowing.{gate_sets}
 use Rattle.hulls.specs.GateViews.{three_kept}
 use Rattle.hulls.proofs.Narrowed.{ends_at_own, ends_at_pin}
+use Rattle.hulls.proofs.Keeping.{ends_kept}
 use Rattle.hulls.proofs.FewPins.{each_of_three}
 use Rattle.hulls.proofs.PinCuts.{left_at_all_pins}
 use Rattle.hulls.proofs.board.Board.narrow_three.Goals as goal
+
+pub returns-then-do_three_keep : goal.returns-then-do_three_keep
+returns-then-do_three_keep g c =
+    let a = g.A.Algebra.algebra in let net = c.args.net.now in let gate = c.args.gate.0 in
+    let seen = c.labels.result.now in let kept = c.kept_at_three-kept in
+    record {
+      turn = ends_kept a net c.args.conditions.now c.sources.ensures.circuit gate c.args.self.now c.requires.may
+          seen c.labels.ensures.labels None (sym c.requires.free) (three_kept kept.result) kept.result.given
+          (each_of_three a (gate_sets net gate seen) kept.result kept.ensures (length (pins_at net gate)) c.requires.three)
+          kept.ensures.given (c.do_three_keep.ensures c.if-do_three_keep.true);
+    }
 
 pub returns-in-Some : goal.returns-in-Some
 returns-in-Some g c =
