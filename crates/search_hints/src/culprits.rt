@@ -6,7 +6,7 @@ ghost use Rattle.netlist.specs.Circuit.{gate_count, line_count};
 use crate::activity::Activity;
 use crate::changes::{Cause, Change};
 use crate::link_ends::LinkEnds;
-use cones::{FoundLines, find_reads};
+use cones::FoundLines;
 use netlist::Netlist;
 use pd_base::{GateId, LineId, OutOfMemory};
 use std::alloc::Global;
@@ -148,15 +148,22 @@ impl Culprits {
     }
 }
 
-// Adds the lines of a gate: its own, and those that it reads.
+// Adds the lines of a gate: its own, and those that it reads. Inlined, and the two of most gates without a loop, since it is asked at each
+// change on which a conflict rests.
+#[inline(always)]
 pub(crate) fn add_lines(net: &Netlist, gate: GateId, found: &mut FoundLines)
     requires gate { gate.0 < gate_count net.now }
     requires room { found.old.room ≡ line_count net.now }
     ensures { found.new.room ≡ found.old.room }
 {
-    let line = net.line_of(gate);
-    found.add(line);
-    find_reads(net, line, found);
+    found.add(net.line_of(gate));
+    let pins = net.pins(gate);
+    if let [first, second] = pins {
+        found.add(*first);
+        found.add(*second);
+        return;
+    }
+    found.add_all(pins);
 }
 
 // So many flags, all of them down.

@@ -45,19 +45,36 @@ pub fn follow<A: Algebra>(
     requires changes { All (λ change. change.index < line_count sight.now.net.now) changes.now }
 {
     let mut frontier = frontier;
-    if let Some(cut) = open_step::<A>(sight, path, kind, &mut frontier) {
-        let source = descend::<A>(sight, cut);
-        return Lead { source, frontier };
-    }
-    if let Some(cut) = open_begun::<A>(sight, begun_lines, &mut frontier) {
-        let source = descend::<A>(sight, cut);
-        return Lead { source, frontier };
-    }
-    let source = match open_change::<A>(sight, changes, &mut frontier) {
+    let open = first_open::<A>(sight, begun_lines, changes, path, kind, &mut frontier);
+    let source = match open {
         Some(cut) => descend::<A>(sight, cut),
         None => None,
     };
     Lead { source, frontier }
+}
+
+// What the first of all these needs that is open.
+fn first_open<A: Algebra>(
+    sight: &Sight,
+    begun_lines: &[LineId],
+    changes: &[Note<StateSet>],
+    path: &Path,
+    kind: Kind,
+    frontier: &mut Frontier,
+) -> Option<Cut>
+    requires begun_lines { HasLines sight.now.net.now begun_lines.now }
+    requires changes { All (λ change. change.index < line_count sight.now.net.now) changes.now }
+    ensures { IfSome result (λ cut. cut.line.0 < line_count sight.now.net.now) }
+{
+    let cut = open_step::<A>(sight, path, kind, frontier);
+    if cut.is_some() {
+        return cut;
+    }
+    let cut = open_begun::<A>(sight, begun_lines, frontier);
+    if cut.is_some() {
+        return cut;
+    }
+    open_change::<A>(sight, changes, frontier)
 }
 
 // What the first step needs that leaves something open.
@@ -124,7 +141,8 @@ fn open_change<A: Algebra>(
     None
 }
 
-// The label of a line, if its gate does not justify it.
+// The label of a line, if its gate does not justify it. Inlined, since it is asked in loops over lines.
+#[inline(always)]
 fn open_line<A: Algebra>(sight: &Sight, line: LineId) -> Option<Cut>
     requires { line.0 < line_count sight.now.net.now }
     ensures { IfSome result (λ cut. cut.line ≡ line) }

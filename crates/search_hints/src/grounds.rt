@@ -2,11 +2,13 @@
 // changes of labels. A change of a line that matters comes from narrowing at a gate, whose lines then matter too, or else from what was
 // assumed of the line. At which gate is not kept, but found again: at one where narrowing, by the labels as they were before the change,
 // leaves the line no more than the change did. So this costs nothing where nobody asks. What is found is a hint alone.
-ghost use Rattle.std.specs.Prelude.{◌≡◌, ◌<◌, length, All, IfOk, IfSome};
+ghost use Rattle.std.specs.Prelude.{◌≡◌, ◌<◌, ◌≤◌, length, All, IfOk, IfSome};
+ghost use Rattle.netlist.specs.declared.limits.TheConstants.{MOST_FAN_IN};
 ghost use Rattle.netlist.specs.Circuit.{gate_count, line_count};
 
 use crate::culprits::add_lines;
-use crate::picking::without;
+use crate::open_lines::{join_all, join_others};
+use crate::picking::{uninverted, without};
 use crate::region::{Region, condition_of, is_inside};
 use crate::source_weights::SourceWeights;
 use crate::weights::Weights;
@@ -18,6 +20,9 @@ use state_sets::{Algebra, StateSet};
 use std::alloc::Global;
 use std::marker::Model;
 use undo_trail::Note;
+
+// One label of a change costs as much as so many that are copied in a row, or more.
+const LINES_A_CHANGE: usize = 64;
 
 /// Room for going back from conflicts. Contracts see how many lines there are.
 #[derive(Drop)]
@@ -63,6 +68,13 @@ impl Grounds {
         ensures { self.new ≡ self.old }
     {
         self.begun = changes;
+        self.take_all(labels);
+    }
+
+    // Takes the labels of all lines.
+    fn take_all(&mut self, labels: &[StateSet])
+        ensures { self.new ≡ self.old }
+    {
         if labels.len() == self.labels.len() {
             self.labels.as_mut_slice().copy_from_slice(labels);
         }
@@ -105,12 +117,24 @@ impl Grounds {
         requires { All (λ change. change.index < self.old) changes.now }
         ensures { self.new ≡ self.old }
     {
-        for place in self.begun..changes.len() {
-            self.write(LineId(changes[place].index), labels);
-        }
+        self.take_changed(labels, changes);
         if !changes.is_empty() {
             let last = changes[changes.len() - 1];
             self.matters.add(LineId(last.index));
+        }
+    }
+
+    // The same, where none matters. Where many have changed all are taken, which costs less: the others are as they were.
+    fn take_changed(&mut self, labels: &[StateSet], changes: &[Note<StateSet>])
+        ensures { self.new ≡ self.old }
+    {
+        let count = changes.len().saturating_sub(self.begun);
+        if count >= labels.len() / LINES_A_CHANGE {
+            self.take_all(labels);
+            return;
+        }
+        for place in self.begun..changes.len() {
+            self.write(LineId(changes[place].index), labels);
         }
     }
 
@@ -207,8 +231,23 @@ impl Grounds {
         requires line { line.0 < line_count region.now.net.now }
         ensures { self.new ≡ self.old }
     {
-        let given = self.narrow_at::<A>(region, gate);
+        let given = self.given_at::<A>(region, gate);
         without(given.intersect(self.labels[line.0 as usize]), left) == StateSet::EMPTY
+    }
+
+    // What narrowing at a gate gives its line: where no condition stands there, what the gate makes of its pins, whatever these keep.
+    fn given_at<A: Algebra>(&mut self, region: &Region, gate: GateId) -> StateSet
+        requires lines { self.old ≡ line_count region.now.net.now }
+        requires gate { gate.0 < gate_count region.now.net.now }
+        ensures { self.new ≡ self.old }
+    {
+        if condition_of(region, gate).is_some() {
+            return self.narrow_at::<A>(region, gate);
+        }
+        let kind = region.net.kind(gate);
+        let pins = region.net.pins(gate);
+        let joined = join_all::<A>(self.labels.as_slice(), kind.operation(), pins);
+        uninverted::<A>(kind, joined)
     }
 
     // Whether narrowing at the gate of a pin that reads a line, if it is in the cone, leaves the line no more than this.
@@ -227,9 +266,23 @@ impl Grounds {
         if !is_inside(region, reader.gate) || reader.pin > MOST_FAN_IN {
             return false;
         }
-        self.narrow_at::<A>(region, reader.gate);
-        let kept = self.scratch.kept(reader.pin as usize);
+        let kept = self.kept_at_pin::<A>(region, reader);
         without(kept.intersect(self.labels[line.0 as usize]), left) == StateSet::EMPTY
+    }
+
+    // What narrowing at the gate of a pin keeps there: where no condition stands at the gate, what joins with the other pins into the label
+    // of its line, whatever these keep.
+    fn kept_at_pin<A: Algebra>(&mut self, region: &Region, reader: PinRef) -> StateSet
+        requires lines { self.old ≡ line_count region.now.net.now }
+        requires gate { reader.gate.0 < gate_count region.now.net.now }
+        requires pin { reader.pin ≤ MOST_FAN_IN }
+        ensures { self.new ≡ self.old }
+    {
+        if condition_of(region, reader.gate).is_some() {
+            self.narrow_at::<A>(region, reader.gate);
+            return self.scratch.kept(reader.pin as usize);
+        }
+        supporting_at::<A>(region.net, self.labels.as_slice(), reader)
     }
 
     // What narrowing at a gate keeps: its own states, and in the scratch those at its pins.
@@ -246,4 +299,16 @@ impl Grounds {
             &mut self.scratch,
         )
     }
+}
+
+// The states that join with some of the other pins of a gate into the label of its line.
+fn supporting_at<A: Algebra>(net: &Netlist, labels: &[StateSet], reader: PinRef) -> StateSet
+    requires lines { length labels.now ≡ line_count net.now }
+    requires gate { reader.gate.0 < gate_count net.now }
+{
+    let kind = net.kind(reader.gate);
+    let op = kind.operation();
+    let target = uninverted::<A>(kind, labels[net.line_of(reader.gate).0 as usize]);
+    let others = join_others::<A>(labels, op, net.pins(reader.gate), reader.pin);
+    A::supporting(op, others, target)
 }

@@ -1,13 +1,15 @@
 // What is still open under labels: a line that its gate's pins do not justify, and a side pin whose condition may fail.
 ghost use Rattle.std.specs.Prelude.{◌≡◌, ◌<◌, ℕ, length, All, IfSome};
 ghost use Rattle.netlist.specs.Circuit.{gate_count, line_count};
+ghost use Rattle.state_sets.specs.States.{IsWithin};
 
 use crate::picking::{Cut, uninverted, without};
 use netlist::{GateKind, Netlist, Op, SideCondition, side_condition};
 use pd_base::{GateId, Kind, LineId, PinRef};
 use state_sets::{Algebra, StateSet, every_state};
 
-// Whether whatever the gate makes of the states of its pins is in the label of its line.
+// Whether whatever the gate makes of the states of its pins is in the label of its line. Inlined, since it is asked in loops over lines.
+#[inline(always)]
 pub(crate) fn is_justified<A: Algebra>(net: &Netlist, labels: &[StateSet], gate: GateId) -> bool
     requires lines { length labels.now ≡ line_count net.now }
     requires gate { gate.0 < gate_count net.now }
@@ -56,6 +58,44 @@ fn join_many<A: Algebra>(labels: &[StateSet], op: Op, lines: &[LineId]) -> State
     for line in lines {
         let label = labels[line.0 as usize].intersect(every_state::<A>());
         joined = A::join_sets(op, joined, label);
+    }
+    joined
+}
+
+// What an operation makes of the states of these lines but for one, by its place. Of two lines that is the other one.
+#[inline(always)]
+pub(crate) fn join_others<A: Algebra>(
+    labels: &[StateSet],
+    op: Op,
+    lines: &[LineId],
+    place: u32,
+) -> StateSet
+    requires { All (λ line. line.0 < length labels.now) lines.now }
+    ensures { IsWithin A.algebra.count result }
+{
+    if let [first, second] = lines {
+        let other = if place == 0 { *second } else { *first };
+        return labels[other.0 as usize].intersect(every_state::<A>());
+    }
+    join_all_others::<A>(labels, op, lines, place)
+}
+
+// The same of any number of lines.
+fn join_all_others<A: Algebra>(
+    labels: &[StateSet],
+    op: Op,
+    lines: &[LineId],
+    place: u32,
+) -> StateSet
+    requires { All (λ line. line.0 < length labels.now) lines.now }
+    ensures { IsWithin A.algebra.count result }
+{
+    let mut joined = StateSet::only(A::unit(op)).intersect(every_state::<A>());
+    for (at, line) in lines.iter().enumerate() {
+        if at != place as usize {
+            let label = labels[line.0 as usize].intersect(every_state::<A>());
+            joined = A::join_sets(op, joined, label);
+        }
     }
     joined
 }

@@ -63,7 +63,9 @@ pub(crate) fn uninverted<A: Algebra>(kind: GateKind, set: StateSet) -> StateSet
     }
 }
 
-// A cut of a line that a pin of the gate reads, towards these states of the gate's line.
+// A cut of a line that a pin of the gate reads, towards these states of the gate's line. Inlined, since it is asked at each gate of the way
+// back to a source.
+#[inline(always)]
 pub(crate) fn pick<A: Algebra>(sight: &Sight, gate: GateId, states: StateSet) -> Option<Cut>
     requires { gate.0 < gate_count sight.now.net.now }
     ensures { IfSome result (λ cut. cut.line.0 < line_count sight.now.net.now) }
@@ -113,7 +115,8 @@ fn pick_controlled<A: Algebra>(
 }
 
 // The same at a parity: all pins steady, the hardest one first, where that is wanted; else the easiest pin to the final value that its
-// line is liked to have.
+// line is liked to have. Inlined, as what asks it is.
+#[inline(always)]
 fn pick_parity<A: Algebra>(sight: &Sight, pins: &[LineId], wanted: StateSet) -> Option<Cut>
     requires { HasLines sight.now.net.now pins.now }
     ensures { IfSome result (λ cut. cut.line.0 < line_count sight.now.net.now) }
@@ -174,8 +177,38 @@ pub(crate) fn cut_or(sight: &Sight, cut: Cut, to: StateSet) -> Cut
     }
 }
 
-// Of the pins with states in a set and others: one that is liked to be there, else one of the lowest level.
+// Of the pins with states in a set and others: one that is liked to be there, else one of the lowest level. Most gates have two pins: these
+// are looked at without a call, each label once, since a search asks this at each gate of the way back to a source.
+#[inline(always)]
 pub(crate) fn easiest<A: Algebra>(sight: &Sight, pins: &[LineId], to: StateSet) -> Option<Cut>
+    requires { HasLines sight.now.net.now pins.now }
+    ensures { IfSome result (λ cut. cut.line.0 < line_count sight.now.net.now) }
+{
+    if let [first, second] = pins {
+        return easier::<A>(sight, *first, *second, to);
+    }
+    easiest_of_many::<A>(sight, pins, to)
+}
+
+// The same of two pins.
+#[inline(always)]
+fn easier<A: Algebra>(sight: &Sight, first: LineId, second: LineId, to: StateSet) -> Option<Cut>
+    requires first { first.0 < line_count sight.now.net.now }
+    requires second { second.0 < line_count sight.now.net.now }
+    ensures { IfSome result (λ cut. cut.line.0 < line_count sight.now.net.now) }
+{
+    let at_first = cut_into(sight, first, to);
+    let Some(cut) = cut_into(sight, second, to) else {
+        return at_first;
+    };
+    match at_first {
+        Some(other) if !is_easier::<A>(sight, cut, other) => Some(other),
+        _ => Some(cut),
+    }
+}
+
+// The same of any number of pins.
+fn easiest_of_many<A: Algebra>(sight: &Sight, pins: &[LineId], to: StateSet) -> Option<Cut>
     requires { HasLines sight.now.net.now pins.now }
     ensures { IfSome result (λ cut. cut.line.0 < line_count sight.now.net.now) }
 {
@@ -191,8 +224,37 @@ pub(crate) fn easiest<A: Algebra>(sight: &Sight, pins: &[LineId], to: StateSet) 
     best
 }
 
-// Of the pins with states in a set and others, one of the highest level.
+// Of the pins with states in a set and others, one of the highest level. Two pins are looked at without a call, as above.
+#[inline(always)]
 pub(crate) fn hardest(sight: &Sight, pins: &[LineId], to: StateSet) -> Option<Cut>
+    requires { HasLines sight.now.net.now pins.now }
+    ensures { IfSome result (λ cut. cut.line.0 < line_count sight.now.net.now) }
+{
+    if let [first, second] = pins {
+        return harder(sight, *first, *second, to);
+    }
+    hardest_of_many(sight, pins, to)
+}
+
+// The same of two pins.
+#[inline(always)]
+fn harder(sight: &Sight, first: LineId, second: LineId, to: StateSet) -> Option<Cut>
+    requires first { first.0 < line_count sight.now.net.now }
+    requires second { second.0 < line_count sight.now.net.now }
+    ensures { IfSome result (λ cut. cut.line.0 < line_count sight.now.net.now) }
+{
+    let at_first = cut_into(sight, first, to);
+    let Some(cut) = cut_into(sight, second, to) else {
+        return at_first;
+    };
+    match at_first {
+        Some(other) if sight.net.level(cut.line) <= sight.net.level(other.line) => Some(other),
+        _ => Some(cut),
+    }
+}
+
+// The same of any number of pins.
+fn hardest_of_many(sight: &Sight, pins: &[LineId], to: StateSet) -> Option<Cut>
     requires { HasLines sight.now.net.now pins.now }
     ensures { IfSome result (λ cut. cut.line.0 < line_count sight.now.net.now) }
 {
