@@ -1,5 +1,5 @@
--- A refuted prefix is one of no path that the walk has passed: what those share with the path in hand has been entered, or has no refutation,
--- or they have a test.
+-- A refuted prefix is one of no path that the walk has passed: what those share with the path in hand has been entered, or has no
+-- refutation, or they have a test.
 use Rattle.std.proofs.Common.{◌≡◌, ◌⊎◌, ⊎_elim, ℕ, ◌<◌, ◌≤◌, true, false, true≢false, List, length, Option, sym, subst, ◌∙◌, arith}
 use Rattle.std.specs.Prelude.{Contains, slice_index_or}
 use Rattle.std.proofs.lemmas.Bool.{cases_Bool, cases_lt}

@@ -1,5 +1,5 @@
--- What a refutation at a shorter prefix does to the walk where it takes the place of the proofs within: the walk has come behind all paths
--- with the prefix. And what going back to a prefix does alone.
+-- What a refutation at a shorter prefix does to the walk where it replaces the proofs under the prefix: the walk has come behind all paths
+-- that have it. And what going back to a prefix does alone.
 use Rattle.std.proofs.Common.{◌≡◌, ◌⊎◌, ⊎_elim, inl, inr, ℕ, ◌+◌, ◌<◌, ◌≤◌, false, List, [], ◌∷◌, ◌++◌, length, Some, refl, sym, subst, subst₂, ◌∙◌, arith}
 use Rattle.std.specs.Prelude.{All, Contains, slice_get}
 use Rattle.std.proofs.lemmas.Bool.{cases_lt}
@@ -39,8 +39,8 @@ either_prefix p q route p_of q_of =
     (λ (within : length p.steps ≤ length q.steps). inl (shorter_of_two p q route p_of q_of within))
     (cases_lt (length q.steps) (length p.steps))
 
--- The walk has come to a place, at which a path stands that has the prefix of so many of its steps; and the first proofs, so many, are not
--- within this prefix, but those behind them are.
+-- The walk has come to a place, and a prefix of the path there has so many steps. The proofs so far are parted in two, those in front and
+-- the rest; below, the ones in front are not under the prefix, and the rest are.
 module _ (c : Circuit) (rules : Rules) (course : Course) (is_order : IsOrder course.paths.now course.order.now) (begin place row : ℕ)
     (route : Route) (here : StandsInOrder course.paths.now course.order.now place row route) (along : Route) (before : List RowOutcome)
     (front rest : List Proof) (counted : ℕ) (come : HasComeOn c rules course begin place along before (front ++ rest) counted)
@@ -48,8 +48,8 @@ module _ (c : Circuit) (rules : Rules) (course : Course) (is_order : IsOrder cou
   abbrev prefix : Route
   prefix = prefix_of steps route
 
-  abbrev Within : Proof → Type 0
-  Within proof = IsUnderPrefix course prefix proof
+  abbrev IsUnder : Proof → Type 0
+  IsUnder proof = IsUnderPrefix course prefix proof
 
   of_route : IsPrefixOf prefix route
   of_route = prefix_of-is_prefix steps route
@@ -58,10 +58,24 @@ module _ (c : Circuit) (rules : Rules) (course : Course) (is_order : IsOrder cou
   none_here : NoneApplies course.paths.now (front ++ rest) (target_for course.aim route)
   none_here = come.come.none_ahead place row route here (let e : place ≤ place = omega arith in e)
 
-  -- one that applies to another one with the prefix, or to its longer prefixes, is within
-  within_if_applies : (number : ℕ) (proof : Proof) (other : Route) → IsNumber (front ++ rest) number proof → IsPrefixOf prefix other
-      → Applies course.paths.now (target_for course.aim other) proof → Within proof
-  within_if_applies number proof other is has applies =
+  -- nor does one apply to some path at a prefix of this prefix, since it would apply to the path here
+  none_shorter : (number : ℕ) (proof : Proof) (other : Route) → IsNumber (front ++ rest) number proof
+      → (applies : Applies course.paths.now (target_for course.aim other) proof)
+      → ¬ IsPrefixOf (prefix_of proof.steps applies.listed) prefix
+  none_shorter number proof other is applies shorter =
+      none_here number proof is
+      (record {
+        refutes = applies.refutes;
+        is_about = record { of_kind = applies.is_about.of_kind; of_direction = applies.is_about.of_direction };
+        listed = applies.listed;
+        is_listed = applies.is_listed;
+        has_prefix = prefix_through (prefix_of proof.steps applies.listed) prefix route shorter of_route;
+      })
+
+  -- one that applies to a path with the prefix is under it
+  under_if_applies : (number : ℕ) (proof : Proof) (other : Route) → IsNumber (front ++ rest) number proof → IsPrefixOf prefix other
+      → Applies course.paths.now (target_for course.aim other) proof → IsUnder proof
+  under_if_applies number proof other is has applies =
       ⊎_elim
       (λ (longer : IsPrefixOf prefix (prefix_of proof.steps applies.listed)).
       record {
@@ -73,39 +87,25 @@ module _ (c : Circuit) (rules : Rules) (course : Course) (is_order : IsOrder cou
             (prefix_of-is_prefix proof.steps applies.listed);
       })
       (λ (shorter : IsPrefixOf (prefix_of proof.steps applies.listed) prefix).
-      absurd (none_here number proof is
-      (record {
-        refutes = applies.refutes;
-        is_about = record { of_kind = applies.is_about.of_kind; of_direction = applies.is_about.of_direction };
-        listed = applies.listed;
-        is_listed = applies.is_listed;
-        has_prefix = prefix_through (prefix_of proof.steps applies.listed) prefix route shorter of_route;
-      })))
+      absurd (none_shorter number proof other is applies shorter))
       (either_prefix prefix (prefix_of proof.steps applies.listed) other has applies.has_prefix)
 
-  -- one that is within applies to what has the prefix alone
-  has_if_within : (number : ℕ) (proof : Proof) (other : Route) → IsNumber (front ++ rest) number proof → Within proof
+  -- one that is under it applies to paths with the prefix alone
+  has_if_under : (number : ℕ) (proof : Proof) (other : Route) → IsNumber (front ++ rest) number proof → IsUnder proof
       → Applies course.paths.now (target_for course.aim other) proof → IsPrefixOf prefix other
-  has_if_within number proof other is within applies =
-      let same : within.listed ≡ applies.listed =
-      number_same course.paths.now proof.path within.listed applies.listed within.is_listed applies.is_listed in
+  has_if_under number proof other is under applies =
+      let same : under.listed ≡ applies.listed =
+      number_same course.paths.now proof.path under.listed applies.listed under.is_listed applies.is_listed in
       let P : Route → Type 0 = λ r. IsPrefixOf prefix r in
       ⊎_elim
       (λ (longer : IsPrefixOf prefix (prefix_of proof.steps applies.listed)).
       prefix_through prefix (prefix_of proof.steps applies.listed) other longer applies.has_prefix)
       (λ (shorter : IsPrefixOf (prefix_of proof.steps applies.listed) prefix).
-      absurd (none_here number proof is
-      (record {
-        refutes = applies.refutes;
-        is_about = record { of_kind = applies.is_about.of_kind; of_direction = applies.is_about.of_direction };
-        listed = applies.listed;
-        is_listed = applies.is_listed;
-        has_prefix = prefix_through (prefix_of proof.steps applies.listed) prefix route shorter of_route;
-      })))
-      (either_prefix prefix (prefix_of proof.steps applies.listed) applies.listed (subst P same within.has_prefix)
+      absurd (none_shorter number proof other is applies shorter))
+      (either_prefix prefix (prefix_of proof.steps applies.listed) applies.listed (subst P same under.has_prefix)
       (prefix_of-is_prefix proof.steps applies.listed))
 
-  module _ (outside : (number : ℕ) (proof : Proof) → IsNumber front number proof → ¬ Within proof) (inside : All Within rest)
+  module _ (none_under : (number : ℕ) (proof : Proof) → IsNumber front number proof → ¬ IsUnder proof) (all_under : All IsUnder rest)
       (start end least : ℕ)
       (no_earlier : (at other : ℕ) (another : Route) → StandsInOrder course.paths.now course.order.now at other another
       → IsPrefixOf prefix another → start ≤ at)
@@ -140,17 +140,17 @@ module _ (c : Circuit) (rules : Rules) (course : Course) (is_order : IsOrder cou
         ⊎_elim (λ (less : place < end). less)
         (λ (past : end ≤ place). absurd (stretch.behind place row route here past of_route)) (cases_lt place end)
 
-    -- no proof before applies to a path with the prefix
+    -- no proof in front applies to a path with the prefix
     none_first : (other : Route) → IsPrefixOf prefix other → NoneApplies course.paths.now front (target_for course.aim other)
     none_first other has number proof is applies =
-        outside number proof is
-        (within_if_applies number proof other (number_kept front rest number proof is) has applies)
+        none_under number proof is
+        (under_if_applies number proof other (number_kept front rest number proof is) has applies)
 
-    -- a proof of all is one of those before, or is within
-    first_or_within : (number : ℕ) (proof : Proof) → IsNumber (front ++ rest) number proof → IsNumber front number proof ⊎ Within proof
-    first_or_within number proof is =
+    -- each proof is one of those in front, or is under the prefix
+    first_or_under : (number : ℕ) (proof : Proof) → IsNumber (front ++ rest) number proof → IsNumber front number proof ⊎ IsUnder proof
+    first_or_under number proof is =
         ⊎_elim (λ (first : IsNumber front number proof). inl first)
-        (λ behind. inr (all_at_number Within rest behind.0 proof inside behind.2)) (number_of_append front rest number proof is)
+        (λ behind. inr (all_at_number IsUnder rest behind.0 proof all_under behind.2)) (number_of_append front rest number proof is)
 
     -- a proof that a path without the prefix cites is still there
     still : (other : ℕ) (another : Route) (was : RowOutcome) → slice_get course.paths.now other ≡ Some another → ¬ IsPrefixOf prefix another
@@ -168,9 +168,9 @@ module _ (c : Circuit) (rules : Rules) (course : Course) (is_order : IsOrder cou
           applies = cites.applies;
           least = λ number proof its applies. cites.least number proof (number_kept front rest number proof its) applies;
         }))
-        (λ (within : Within cites.proof).
-        absurd (not (has_if_within (index + 1) cites.proof another cites.is_proof within cites.applies)))
-        (first_or_within (index + 1) cites.proof cites.is_proof)
+        (λ (under : IsUnder cites.proof).
+        absurd (not (has_if_under (index + 1) cites.proof another cites.is_proof under cites.applies)))
+        (first_or_under (index + 1) cites.proof cites.is_proof)
     still other another (Proved index) listed not (spent none cites) =
         ⊎_elim
         (λ (first : IsNumber front (index + 1) cites.proof).
@@ -182,16 +182,16 @@ module _ (c : Circuit) (rules : Rules) (course : Course) (is_order : IsOrder cou
           is_about = cites.is_about;
           of_path = cites.of_path;
         }))
-        (λ (within : Within cites.proof).
-        let P : ℕ → Type 0 = λ n. IsNumber course.paths.now n within.listed in
-        let same : within.listed ≡ another =
-        number_same course.paths.now (other + 1) within.listed another (subst P cites.of_path within.is_listed)
+        (λ (under : IsUnder cites.proof).
+        let P : ℕ → Type 0 = λ n. IsNumber course.paths.now n under.listed in
+        let same : under.listed ≡ another =
+        number_same course.paths.now (other + 1) under.listed another (subst P cites.of_path under.is_listed)
         (number_of_place course.paths.now other another listed) in
         let Q : Route → Type 0 = λ r. IsPrefixOf prefix r in
-        absurd (not (subst Q same within.has_prefix)))
-        (first_or_within (index + 1) cites.proof cites.is_proof)
+        absurd (not (subst Q same under.has_prefix)))
+        (first_or_under (index + 1) cites.proof cites.is_proof)
 
-    -- all proofs then are found ones
+    -- those in front are found ones
     first_found : AreFoundProofs c rules course.aim.budget course.paths.now front
     first_found = record {
       each =
@@ -271,10 +271,10 @@ module _ (c : Circuit) (rules : Rules) (course : Course) (is_order : IsOrder cou
     none_before_then other none number proof is applies =
         ⊎_elim
         (λ (first : IsNumber front number proof). none number proof (number_kept front (added ∷ []) number proof first) applies)
-        (λ (within : Within proof).
+        (λ (under : IsUnder proof).
         none (length front + 1) added (number_new front (length front + 1) added refl)
-        (to_each other (has_if_within number proof other is within applies)))
-        (first_or_within number proof is)
+        (to_each other (has_if_under number proof other is under applies)))
+        (first_or_under number proof is)
 
     whole_then : (at other : ℕ) (another shorter : Route) → StandsInOrder course.paths.now course.order.now at other another → at < end
         → IsNeeded course.needed.now other → IsPrefixOf shorter another → 1 ≤ length shorter.steps

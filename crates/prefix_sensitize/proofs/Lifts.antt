@@ -29,8 +29,8 @@ use Rattle.prefix_sensitize.specs.AlongPaths.{IsAtPin}
 use Rattle.prefix_sensitize.specs.Coming.{HasComeAlong, HasComeOn}
 use Rattle.prefix_sensitize.specs.Courses.{IsCourse}
 use Rattle.prefix_sensitize.specs.Entering.{HasGone, IsSameBeginning, RefutesPrefix}
-use Rattle.prefix_sensitize.specs.Lifting.{ArePartedAt, HasLiftedTo, IsPutInPlace, IsUnderPrefix, NamesPath, TakesPlace}
-use Rattle.prefix_sensitize.specs.Lifting.IsPutInPlace.{stays, placed}
+use Rattle.prefix_sensitize.specs.Lifting.{ArePartedAt, HasLiftedTo, IsUnderPrefix, NamesPath, Replaces, ReplacesOrStays}
+use Rattle.prefix_sensitize.specs.Lifting.ReplacesOrStays.{stays, replaces}
 use Rattle.prefix_sensitize.specs.Outcomes.{IsFoundProof, KeepsOthers, target_for}
 use Rattle.prefix_sensitize.specs.PathOrder.{ShareSteps, StandsInOrder}
 use Rattle.prefix_sensitize.specs.Settling.{found_proof}
@@ -67,34 +67,34 @@ found_names c rules budget routes proof is =
     (λ (refutes : proof.spent ≡ false).
     let good = (is.refutes refutes).0 in record { listed = good.listed; is_listed = good.is_listed }) (cases_Bool proof.spent)
 
--- of proofs that are parted, those that are not about the aim stand first
+-- where a proof about the aim replaces those under the prefix, the proofs about other aims stand as before
 module _ (course : Course) (prefix : Route) (old : List Proof) (kept : ℕ) (parted : ArePartedAt course prefix old kept) (added : Proof)
     (about : IsAbout course.aim.kind course.aim.direction added) where
   abbrev About : Proof → Type 0
   About proof = IsAbout course.aim.kind course.aim.direction proof
 
-  -- a proof behind those kept is within
-  behind_within : (number : ℕ) (proof : Proof) → IsNumber old number proof → kept < number → IsUnderPrefix course prefix proof
-  behind_within number proof is behind =
+  -- a proof behind those kept is under the prefix
+  behind_under : (number : ℕ) (proof : Proof) → IsNumber old number proof → kept < number → IsUnderPrefix course prefix proof
+  behind_under number proof is behind =
       let P : List Proof → Type 0 = λ list. IsNumber list number proof in
       let short = length-take-le kept old (let some = parted.some in omega (arith, some)) in
       ⊎_elim
       (λ (first : IsNumber (take kept old) number proof).
       let low = number_within (take kept old) number proof first in absurd (omega (arith, low, short, behind)))
-      (λ last. all_at_number (IsUnderPrefix course prefix) (drop kept old) last.0 proof parted.inside last.2)
+      (λ last. all_at_number (IsUnderPrefix course prefix) (drop kept old) last.0 proof parted.all_under last.2)
       (number_of_append (take kept old) (drop kept old) number proof (subst P (sym (take-append-drop kept old)) is))
 
-  pub keeps_placed : (new : List Proof) → new ≡ take kept old ++ added ∷ [] → KeepsOthers course.aim old new
-  keeps_placed new adds others none before =
+  pub others_kept : (new : List Proof) → new ≡ take kept old ++ added ∷ [] → KeepsOthers course.aim old new
+  others_kept new adds others none before =
       let few : length others ≤ kept =
       ⊎_elim
       (λ (less : kept < length others).
       let item = get_or others kept added in
       let number = number_of_place others kept item (slice_get-get_or others kept added less) in
       let P : List Proof → Type 0 = λ list. IsNumber list (kept + 1) item in
-      let within =
-      behind_within (kept + 1) item (subst P (sym before.adds) (number_kept others before.more (kept + 1) item number)) (omega arith) in
-      absurd (all_at_number (λ (p : Proof). ¬ About p) others (kept + 1) item none number within.about))
+      let under =
+      behind_under (kept + 1) item (subst P (sym before.adds) (number_kept others before.more (kept + 1) item number)) (omega arith) in
+      absurd (all_at_number (λ (p : Proof). ¬ About p) others (kept + 1) item none number under.about))
       (λ (not : length others ≤ kept). not) (cases_lt kept (length others)) in
       let behind = take_behind others before.more kept few in
       record {
@@ -196,21 +196,21 @@ module _ (a : StateAlgebra) (old : Standing) (course : Course) (is_course : IsCo
               closes);
         }
 
-    pub taken_along : (end : ℕ) (after : Findings) → TakesPlace course prefix shared end last.tree before after
+    pub replaced_along : (end : ℕ) (after : Findings) → Replaces course prefix shared end last.tree before after
         → HasComeAlong back course begin end left after counted
-    taken_along end after takes =
+    replaced_along end after is =
         let list = before.proofs.items in
-        let kept = takes.kept in
-        let added = found_proof course.aim false takes.least shared last.tree in
+        let kept = is.kept in
+        let added = found_proof course.aim false is.least shared last.tree in
         let both = take-append-drop kept list in
         let C : List Proof → Type 0 = λ proofs. HasComeOn old.net old.rules course begin place along before.outcomes.items proofs counted in
         let then : HasComeOn old.net old.rules course begin end prefix after.outcomes.items (take kept list ++ added ∷ []) counted =
         lifted old.net old.rules course is_course.order begin place row route here along before.outcomes.items (take kept list)
         (drop kept list) counted (subst C (sym both) come.come) shared at.within
-        (λ number proof is.
-        all_at_number (λ (p : Proof). ¬ IsUnderPrefix course prefix p) (take kept list) number proof takes.parted.outside is)
-        takes.parted.inside takes.start end takes.least takes.no_earlier takes.stretch last.tree refutes_prefix after.outcomes.items
-        takes.adds.rows of_along in
+        (λ number proof its.
+        all_at_number (λ (p : Proof). ¬ IsUnderPrefix course prefix p) (take kept list) number proof is.parted.none_under its)
+        is.parted.all_under is.start end is.least is.no_earlier is.stretch last.tree refutes_prefix after.outcomes.items
+        is.adds.rows of_along in
         let P : List Proof → Type 0 = λ proofs. HasComeOn old.net old.rules course begin end prefix after.outcomes.items proofs counted in
         let R : Route → Type 0 = λ r. HasComeOn old.net old.rules course begin end r after.outcomes.items after.proofs.items counted in
         let Q : Circuit → Rules → Type 0 =
@@ -219,7 +219,7 @@ module _ (a : StateAlgebra) (old : Standing) (course : Course) (is_course : IsCo
         record {
           source = come.source;
           gone = gone_back;
-          come = subst₂ Q (sym same.net) (sym same.rules) (subst R named_again (subst P (sym takes.adds.added) then));
+          come = subst₂ Q (sym same.net) (sym same.rules) (subst R named_again (subst P (sym is.adds.added) then));
         }
 
 -- the proof that stands last is one
@@ -253,33 +253,33 @@ module _ (a : StateAlgebra) (old : Standing) (course : Course) (is_course : IsCo
 
   module _ (last : Proof) (front : List Proof) (is_last : before.proofs.items ≡ front ++ last ∷ []) (not_spent : last.spent ≡ false)
       (refutes : IsRefutation back.net back.rules (target_for course.aim (prefix_of shared route)) last.tree) where
-    taken : (end : ℕ) (after : Findings) → TakesPlace course (prefix_of shared route) shared end last.tree before after
+    replaced : (end : ℕ) (after : Findings) → Replaces course (prefix_of shared route) shared end last.tree before after
         → HasLiftedTo old back course place end pins left before after
-    taken end after takes = record {
+    replaced end after is = record {
       come =
           λ begin counted come.
-          taken_along a old course is_course begin place source began of_rules inside pins before counted come row route here begins back same
-          left shared is_shared at last front is_last not_spent refutes end after takes;
+          replaced_along a old course is_course begin place source began of_rules inside pins before counted come row route here begins back
+          same left shared is_shared at last front is_last not_spent refutes end after is;
       farther =
           ⊎_elim
           (λ (less : end < place).
-          absurd (takes.stretch.behind place row route here (omega (arith, less)) (prefix_of-is_prefix shared route)))
+          absurd (is.stretch.behind place row route here (omega (arith, less)) (prefix_of-is_prefix shared route)))
           (λ (not : place ≤ end). not) (cases_lt end place);
-      within = takes.stretch.in_order;
+      within = is.stretch.in_order;
       others =
-          keeps_placed course (prefix_of shared route) before.proofs.items takes.kept takes.parted
-          (found_proof course.aim false takes.least shared last.tree) (record { of_kind = refl; of_direction = refl }) after.proofs.items
-          takes.adds.added;
+          others_kept course (prefix_of shared route) before.proofs.items is.kept is.parted
+          (found_proof course.aim false is.least shared last.tree) (record { of_kind = refl; of_direction = refl }) after.proofs.items
+          is.adds.added;
     }
 
-    pub put : (end : ℕ) (after : Findings) → IsPutInPlace course place (prefix_of shared route) shared end before after
+    pub replaced_or_stayed : (end : ℕ) (after : Findings) → ReplacesOrStays course place (prefix_of shared route) shared end before after
         → HasLiftedTo old back course place end pins left before after
-    put end after (stays at_place unchanged) =
+    replaced_or_stayed end after (stays at_place unchanged) =
         let P : ℕ → Findings → Type 0 = λ n found. HasLiftedTo old back course place n pins left before found in
         subst₂ P (sym at_place) (sym unchanged) stayed
-    put end after (placed others its is takes) =
-        let P : Proof → Type 0 = λ proof. TakesPlace course (prefix_of shared route) shared end proof.tree before after in
-        taken end after (subst P (same_last before.proofs.items others front its last is is_last) takes)
+    replaced_or_stayed end after (replaces others its is so) =
+        let P : Proof → Type 0 = λ proof. Replaces course (prefix_of shared route) shared end proof.tree before after in
+        replaced end after (subst P (same_last before.proofs.items others front its last is is_last) so)
 
 -- a scope that is restored stands where it stood
 pub restored_at : (a : StateAlgebra) (back now : Standing) (pins : List PinRef) (route : Route) (count : ℕ) → IsAtPin a back pins route count

@@ -1,4 +1,5 @@
--- A search that begins anew at the source of a path whose pins were entered: the start of no prefix closes, so that they can be entered again.
+-- A search that begins anew at the source of a path whose pins were entered: the start of no prefix closes, so that they can be entered
+-- again.
 use Rattle.std.proofs.Common.{◌≡◌, ℕ, ◌≤◌, List, length, refl, sym, ap, subst, subst₂, ◌∙◌, arith}
 use Rattle.pd_base.specs.Target.{Target}
 use Rattle.pd_base.specs.declared.ids.PinRef.{PinRef}

@@ -73,6 +73,7 @@ pub record AddsProofs (aim : Aim) (old new : List Proof) : Type 0 where
   pub adds : new ≡ old ++ more
   pub aimed : All (IsAbout aim.kind aim.direction) more
 
--- Behind proofs that are not about this aim, where those about it stood alone, such ones stand again; so the others are as before.
+-- If the old proofs are some that are not about this aim, and behind them only ones about it, then so are the new ones, with the same
+-- proofs in front: those about other aims stand as before.
 abbrev pub KeepsOthers : Aim → List Proof → List Proof → Type 0
 KeepsOthers aim old new = (others : List Proof) → NoneIsAbout aim others → AddsProofs aim others old → AddsProofs aim others new

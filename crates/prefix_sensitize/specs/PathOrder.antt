@@ -66,7 +66,7 @@ pub record IsStretch (routes : List Route) (order : List ℕ) (prefix : Route) (
   pub is_placed : slice_get order at_least ≡ Some least
   pub is_least : (at row : ℕ) → place ≤ at → at < end → slice_get order at ≡ Some row → least ≤ row
 
--- the path at the first place has this prefix, and no path before it does; it stands no later than another place
+-- `first` is the first place whose path has this prefix: no path at an earlier one has it; and it is no later than `place`
 pub record IsFirstPlace (routes : List Route) (order : List ℕ) (prefix : Route) (place first : ℕ) : Type 0 where
   pub no_later : first ≤ place
   pub has : (row : ℕ) (route : Route) → StandsInOrder routes order first row route → IsPrefixOf prefix route

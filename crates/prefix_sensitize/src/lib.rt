@@ -1,6 +1,7 @@
 //! Searches for tests of the first paths of a circuit, for both transitions and both kinds of test, and the run that they make. The
 //! paths are walked in an order in which those that share a prefix stand side by side, so that each prefix is entered once; a
-//! refutation that comes up at a prefix settles all paths that have it. Stands on implication and justify, which search.
+//! refutation that comes up at a prefix settles all paths that have it, and one of a whole path is lifted to a prefix that it refutes.
+//! Stands on implication and justify, which search, and on refutation_check, which judges a refutation at a shorter prefix.
 //! The layer above uses `sensitize_all` and `PathTree`, and cites their contracts.
 #![tactic(auto)]
 

@@ -1,8 +1,9 @@
-// Refutations lifted to shorter prefixes. One that was found for a whole path may need no more than the conditions at the path's first
-// pins, and then it excludes the tests of all paths that share these. So where the walk comes to a path that needs an outcome, the
-// refutation found last is judged once more at the prefix that the two share; where it holds, it takes the place of those found at longer
-// prefixes, and none of the paths with this prefix is searched any more. Who searches stands in walking.rt.
-ghost use Rattle.std.specs.Prelude.{◌≡◌, ℕ, ◌+◌, ◌<◌, ◌≤◌, ◌^◌, ◌↔◌, All, Some, IfOk, IsTrue, length};
+// Refutations lifted to shorter prefixes. One with splits was found for a whole path, but it may need no more than the conditions at the
+// path's first pins; then it excludes the tests of all paths that share these. So where the next path of the walk needs an outcome, the
+// refutation that was found last is judged once more, at the prefix that the two paths share. Where it refutes there, it replaces all
+// proofs under this prefix: those about the aim that name a path with it, spent ones too. It is the outcome of all paths with the prefix
+// then, so that those ahead are not searched. The walk that calls this stands in walking.rt.
+ghost use Rattle.std.specs.Prelude.{◌≡◌, ℕ, ◌<◌, ◌≤◌, ◌^◌, ◌↔◌, All, Some, IfOk, IsTrue, length};
 ghost use Rattle.pd_base.specs.Route.{Route};
 ghost use Rattle.netlist.specs.Paths.{prefix_of};
 ghost use Rattle.netlist.specs.declared.limits.TheConstants.{MOST_LEVELS};
@@ -11,7 +12,7 @@ ghost use Rattle.implication.specs.declared.assumption.Origin.TheVariants.{Begun
 ghost use Rattle.implication.specs.Scopes.{IsSameScope, standing};
 ghost use Rattle.prefix_sensitize.specs.Courses.{IsCourse};
 ghost use Rattle.prefix_sensitize.specs.Entering.{IsSameBeginning};
-ghost use Rattle.prefix_sensitize.specs.Lifting.{AreOutside, HasLiftedTo, HasComeTo, IsPutInPlace, IsUnderPrefix, NamesPath};
+ghost use Rattle.prefix_sensitize.specs.Lifting.{HasLiftedTo, HasComeTo, IsUnderPrefix, NamesPath, NoneIsUnder, ReplacesOrStays};
 ghost use Rattle.prefix_sensitize.specs.PathOrder.{IsOrder, StandsInOrder};
 
 use crate::course::{Course, begins_at};
@@ -25,8 +26,9 @@ use refutation_check::refutes_entered;
 use runs::Proof;
 use state_sets::Algebra;
 
-/// Lifts the refutation that was found last, as long as the walk comes to paths that need an outcome and have a prefix that it refutes. The
-/// answer is the place up to which paths are settled then. Each prefix costs one walk over the tree, at most, and no pin is entered for it.
+/// Lifts the refutation that was found last, to shorter and shorter prefixes, as long as the path that comes next needs an outcome and
+/// shares a prefix that it refutes. The answer is the place up to which paths are settled then. Each prefix costs one walk over the tree,
+/// at most, and no pin is entered for it.
 pub(crate) fn lift<A: Algebra, S: Setting>(
     scope: &mut Scope<A, S>,
     descent: &mut Descent,
@@ -57,8 +59,8 @@ pub(crate) fn lift<A: Algebra, S: Setting>(
     }
 }
 
-// Lifts it to the prefix that is shared with the path at this place, if there is one that needs an outcome. Where it doesn't hold there,
-// the place stays.
+// Lifts it to the prefix that the path at this place shares with the pins that are entered. The answer is the place up to which paths are
+// settled then; it is this one where nothing is lifted.
 fn lift_once<A: Algebra, S: Setting>(
     scope: &mut Scope<A, S>,
     descent: &mut Descent,
@@ -79,30 +81,33 @@ fn lift_once<A: Algebra, S: Setting>(
     ensures on { IfOk result (λ end.
         HasLiftedTo (standing scope.old) (standing scope.new) course.now place end descent.old descent.new found.old found.new) }
 {
+    // no path from this source comes next, or it needs no search
     if !begins_at(course, place, source) || !course.needed[course.order[place]] {
         return Ok(place);
     }
     let Some(last) = found.proofs.last() else {
         return Ok(place);
     };
-    // what implication alone refutes stands at its shortest prefix already
+    // a spent tree refutes nothing, and what implication alone refutes stands at its shortest prefix already
     if last.spent || last.tree.splits() == 0 {
         return Ok(place);
     }
     let shared = descent.go_back(scope, &course.paths[course.order[place]]);
+    // the source alone is shared: nothing is tried there
     if shared == 0 {
         return Ok(place);
     }
     if !refutes_entered(course.alloc, scope, &last.tree)? {
         return Ok(place);
     }
-    put_in_place(course, place, shared, found)
+    replace_proofs(course, place, shared, found)
 }
 
-// Puts the proof that was found last in the place of all those that are about the aim and name paths with the first steps of the path at
-// this place, so that it is the outcome of all paths that have them; the answer is the place behind these. Where these proofs don't stand
-// at the end of the list nothing changes.
-fn put_in_place(
+// Replaces all proofs under a prefix, that of so many steps of the path at this place, by one: a refutation of the prefix by the tree of
+// the proof that was found last. It becomes the outcome of all paths that have the prefix, and the answer is the place behind these. No
+// contract says that the proofs under the prefix stand at the end of the list, so that is looked at: where they don't, nothing changes, and
+// the answer is this place.
+fn replace_proofs(
     course: &Course,
     place: usize,
     steps: usize,
@@ -117,15 +122,16 @@ fn put_in_place(
     requires one_each { length found.old.outcomes.items ≡ length course.now.paths.now }
     requires names { All (NamesPath course.now.paths.now) found.old.proofs.items }
     ensures { IfOk result (λ end. (row : ℕ) (route : Route) → StandsInOrder course.now.paths.now course.now.order.now place row route
-        → IsPutInPlace course.now place (prefix_of steps route) steps end found.old found.new) }
+        → ReplacesOrStays course.now place (prefix_of steps route) steps end found.old found.new) }
 {
     let path = &course.paths[course.order[place]];
     let kept = first_under_prefix(course, found.proofs.as_slice(), path, steps);
     if !are_under_prefix(course, &found.proofs[kept..], path, steps) {
         return Ok(place);
     }
+    // some proof is under the prefix
     let Some(last) = found.proofs.pop() else {
-        return Ok(place);
+        unreachable!()
     };
     found.proofs.truncate(kept);
     let start = first_place(course.paths, course.order, place, steps);
@@ -134,11 +140,11 @@ fn put_in_place(
     add_proof(course.order, start, stretch.end, proof, found)
 }
 
-// The place of the first of these proofs that is about the aim and names a path with the first steps of this one, or their count.
+// The index of the first of these proofs that is under the prefix of so many steps of a path, or their count where none is.
 fn first_under_prefix(course: &Course, proofs: &[Proof], path: &Path, steps: usize) -> usize
     requires steps { steps ≤ length path.now.steps }
     requires names { All (NamesPath course.now.paths.now) proofs.now }
-    ensures { AreOutside course.now (prefix_of steps path.now) proofs.now result }
+    ensures { NoneIsUnder course.now (prefix_of steps path.now) proofs.now result }
 {
     for at in 0..proofs.len() {
         if is_under_prefix(course, &proofs[at], path, steps) {
@@ -148,7 +154,7 @@ fn first_under_prefix(course: &Course, proofs: &[Proof], path: &Path, steps: usi
     proofs.len()
 }
 
-// Whether there are some of these proofs, and all are about the aim and name paths with the first steps of this one.
+// Whether there are some of these proofs, and all are under the prefix of so many steps of a path.
 fn are_under_prefix(course: &Course, proofs: &[Proof], path: &Path, steps: usize) -> bool
     requires steps { steps ≤ length path.now.steps }
     requires names { All (NamesPath course.now.paths.now) proofs.now }
@@ -163,7 +169,7 @@ fn are_under_prefix(course: &Course, proofs: &[Proof], path: &Path, steps: usize
     !proofs.is_empty()
 }
 
-// Whether a proof is about the aim and names a path with the first steps of this one.
+// Whether a proof is under the prefix of so many steps of a path: it is about the aim, and the path that it names has the prefix.
 fn is_under_prefix(course: &Course, proof: &Proof, path: &Path, steps: usize) -> bool
     requires steps { steps ≤ length path.now.steps }
     requires names { NamesPath course.now.paths.now proof.now }

@@ -34,7 +34,8 @@ use std::alloc::Global;
 /// search, 1 to `MOST_BUDGET`: each verdict has the test or the proofs that it asks for, and each test and each proof is what it says,
 /// under these rules (this project's own), which fit the circuit. The run can be written as files. A refutation whose prefix implication
 /// alone refutes is one closed leaf, at the shortest prefix of its path that implication alone refutes. Under linked rules that may be the
-/// source alone, before a pin is entered: the refutation has 0 steps then, and serves all paths from the source.
+/// source alone, before a pin is entered: the refutation has 0 steps then, and serves all paths from the source. A refutation with splits
+/// stands at its whole path, or at a prefix that the path shares with others; at which of them is not promised.
 ///
 /// `steps` stands at no more than 2^63, and counts the pins that are entered: at most four times as many as the paths have different
 /// prefixes of at least one step, once for each transition and kind of test, whatever the answer is. Not counted are those of a path whose

@@ -38,7 +38,7 @@ pub(crate) fn stretch_from(paths: &[Path], order: &[usize], place: usize, steps:
     }
 }
 
-// The first place whose path has the first steps of the path at this one.
+// The first place of all whose path has the first steps, so many, of the path at this place: there the paths with this prefix begin.
 pub(crate) fn first_place(paths: &[Path], order: &[usize], place: usize, steps: usize) -> usize
     requires order { IsOrder paths.now order.now }
     requires place { place < length order.now }

@@ -27,8 +27,10 @@ use std::alloc::Global;
 /// Searches for tests of the listed paths, as far as outcomes are needed, and gives for each path its outcome. Each prefix is entered at
 /// most once, and counts one step. A refutation that comes up at a prefix settles all paths that have it: none of them is searched, and
 /// the one proof that is added to the list names the first listed path that has the prefix. One may come up at a source, before a pin is
-/// entered: it has 0 steps, counts none, and settles all paths from there. No scope is open, and no proof is about this aim yet; where no
-/// outcome is needed there is a test.
+/// entered: it has 0 steps, counts none, and settles all paths from there. A refutation with splits, which a search for a whole path ended
+/// with, may be lifted to a prefix that later paths share: it then replaces all proofs about the aim that name paths with this prefix,
+/// spent ones too, and settles these paths, searched or not. No scope is open, and no proof is about this aim yet; where no outcome is
+/// needed there is a test.
 ///
 /// Afterwards no scope is open, the desk serves as before, and each proof is one that was found for these paths. The one error is that
 /// memory ran out; promised is then only how far the count of steps rose: no prefix was counted twice.
@@ -158,14 +160,14 @@ fn walk_from<A: Algebra, S: Setting, L>(
     let mut descent = Descent::new(course.alloc);
     let mut at = place;
     'paths: while begins_at(course, at, source) {
-        at = pass(scope, desk, &mut descent, course, source, at, found, steps)?;
+        at = visit_and_lift(scope, desk, &mut descent, course, source, at, found, steps)?;
     }
     Ok(at)
 }
 
-// Visits the path at this place, which begins at this source, and lifts the refutation that comes of that, if one does. The answer is the place
-// up to which paths are settled then.
-fn pass<A: Algebra, S: Setting, L>(
+// Visits the path at this place, which begins at this source, and lifts the refutation that comes of that, if one does. The answer is the
+// place up to which paths are settled then.
+fn visit_and_lift<A: Algebra, S: Setting, L>(
     scope: &mut Scope<A, S>,
     desk: &mut Desk,
     descent: &mut Descent,

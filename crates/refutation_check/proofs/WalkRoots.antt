@@ -1,4 +1,4 @@
--- A walk never goes back behind the root at which it began: what was assumed there still is, and going back to its mark restores the scope.
+-- A walk never goes back above the root at which it began: what was assumed there still is, and going back to its mark restores the scope.
 use Rattle.std.proofs.Common.{◌≡◌, ⊎_elim, ℕ, ◌<◌, ◌≤◌, List, [], ◌∷◌, ◌++◌, reverse, length, take, None, refl, sym, ap, ◌∙◌, subst, arith}
 use Rattle.std.proofs.lemmas.Bool.{cases_lt, lt-ltb, le-ltb}
 use Rattle.std.proofs.lemmas.List.{reverse-append, take-take, length-take-le}
@@ -19,10 +19,10 @@ setting_on root now on = record { net = on.net; rules = on.rules; ends = on.ends
 setting_back : (root now : Standing) → ExtendsStanding root now → IsSameSetting now root
 setting_back root now on = record { net = sym on.net; rules = sym on.rules; ends = sym on.ends }
 
--- what goes on from the root still does where it goes back, but not behind the root
+-- what goes on from the root still does where it goes back, but not above the root
 extends_back : (root now back : Standing) (mark : ℕ) → ExtendsStanding root now → length root.assumptions ≤ mark
     → mark ≤ length now.assumptions → back ≡ back_at now mark → ExtendsStanding root back
-extends_back root now back mark on behind within is =
+extends_back root now back mark on below within is =
     let P : Standing → Type 0 = λ s. ExtendsStanding root s in
     let long = length-take-le mark now.assumptions within in
     subst P (sym is) (record {
@@ -30,15 +30,15 @@ extends_back root now back mark on behind within is =
       rules = on.rules;
       ends = on.ends;
       beginning = on.beginning;
-      longer = omega (arith, long, behind);
-      front = take-take (length root.assumptions) mark now.assumptions behind ∙ on.front;
+      longer = omega (arith, long, below);
+      front = take-take (length root.assumptions) mark now.assumptions below ∙ on.front;
       conflict = ⊎_elim
           (λ (less : length root.assumptions < mark).
           let e = lt-ltb (length root.assumptions) (length (take mark now.assumptions)) (omega (arith, less, long)) in
           let f = lt-ltb (length root.assumptions) (length now.assumptions) (omega (arith, less, within)) in
           let here : None ≡ root.conflict = sym (rw f refl) ∙ on.conflict in rw e here)
           (λ (not : mark ≤ length root.assumptions).
-          let same : length root.assumptions ≡ mark = omega (arith, not, behind) in
+          let same : length root.assumptions ≡ mark = omega (arith, not, below) in
           let e = le-ltb (length root.assumptions) (length (take mark now.assumptions)) (omega (arith, not, long)) in
           let here : conflict_at now mark ≡ root.conflict = ap (conflict_at now) (sym same) ∙ on.conflict in rw e here)
           (cases_lt (length root.assumptions) mark);
@@ -51,7 +51,7 @@ lead_from_more root count more [] fewer lead = tt
 lead_from_more root count more (pending ∷ rest) fewer (leads, lead) = (
   record {
     before = let le = leads.before in omega (arith, le, fewer);
-    behind_root = leads.behind_root;
+    not_above_root = leads.not_above_root;
     source = leads.source;
     told = leads.told;
   },
@@ -77,7 +77,7 @@ root_down root old new pending more second within told marked pushed extends wal
       back = subst P (sym (ap (reverse {A = Pending}) pushed ∙ reverse-append pending (second ∷ []))) (
         record {
           before = let longer = extends.longer in omega (arith, marked, longer);
-          behind_root = let longer = walk.extends.longer in omega (arith, marked, longer);
+          not_above_root = let longer = walk.extends.longer in omega (arith, marked, longer);
           source = source_there old root setting second.half.source within;
           told = told_there old root setting second.half.source told;
         },
@@ -97,7 +97,7 @@ module _ (root now : Standing) (next : Pending) (pending all : List Pending) (is
 
   module _ (back : Standing) (goes : back ≡ back_at now next.mark.at) where
     extends_there : ExtendsStanding root back
-    extends_there = extends_back root now back next.mark.at walk.extends lead.0.behind_root lead.0.before goes
+    extends_there = extends_back root now back next.mark.at walk.extends lead.0.not_above_root lead.0.before goes
 
     -- its half is on a source there, which is told
     pub source_within : next.half.source < source_count back.net

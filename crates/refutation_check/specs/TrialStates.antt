@@ -1,5 +1,5 @@
--- States of all lines that are kept from trial to trial, and the gates whose lines are stale: facts of loops, spoken inside this crate alone
--- (this project's own).
+-- States of all lines that are kept from trial to trial, and the gates whose lines are stale: facts of loops, spoken inside this crate
+-- alone (this project's own).
 use Rattle.std.specs.Prelude.{◌≡◌, ◌≢◌, ℕ, ◌<◌, Bool, true, false, List, length, map, slice_index_or, All}
 use Rattle.pd_base.specs.declared.ids.PinRef.{PinRef}
 use Rattle.netlist.specs.Circuit.{Circuit, source_count, gate_count, gate_line, kind_at, pins_at}

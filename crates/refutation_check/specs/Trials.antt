@@ -44,8 +44,8 @@ abbrev pub EachFails : StateAlgebra → Circuit → LinkList → Target → List
 EachFails a c links target states = (labels : List StateSet) (pair : Vectors)
     → HasSourceStates a c links (end_of c target.path) states pair → FailsTrial a c links target labels pair
 
--- and its cone is that of the end of the target's path; where it says that the last pair failed, these lines are to blame in the states that
--- it has
+-- and its cone is that of the end of the target's path; where it says that the last pair failed, these lines are to blame in the states
+-- that it has
 pub record IsTrialRoomAt (a : StateAlgebra) (c : Circuit) (rules : Rules) (target : Target) (room : TrialRoom) : Type 0 where
   pub made : IsTrialRoomFor a c rules room
   pub cone : IsConeAt c (end_of c target.path) room.cone

@@ -62,10 +62,11 @@ pub record WalksAt (a : StateAlgebra) (target : Target) (above : List Half) (sta
   pub at : IsScopeAt a target (halves_of above) standing
   pub due : ArePending a target standing (reverse pending) (turns above)
 
--- one can go back from so many assumptions to the mark of this second half, which is not behind the root, and its source is told
+-- From so many assumptions one can go back to the mark of this second half, which does not stand above the root; and the half is on a
+-- source, which is told.
 pub record LeadsBack (root : Standing) (count : ℕ) (pending : Pending) : Type 0 where
   pub before : pending.mark.at ≤ count
-  pub behind_root : length root.assumptions ≤ pending.mark.at
+  pub not_above_root : length root.assumptions ≤ pending.mark.at
   pub source : pending.half.source < source_count root.net
   pub told : IsTold root pending.half.source
 

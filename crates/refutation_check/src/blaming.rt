@@ -14,7 +14,7 @@ use crate::trial_states::TrialStates;
 use cones::{Cone, FoundLines};
 use netlist::{Netlist, Op};
 use pair_judging::Target;
-use pd_base::{GateId, LineId};
+use pd_base::LineId;
 use state_sets::{Algebra, State, count_states};
 
 // Two lines, which may be one, by whose states a pair fails.

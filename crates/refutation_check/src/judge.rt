@@ -90,10 +90,10 @@ impl<'n, A: Algebra> TreeJudge<'n, A> {
         })
     }
 
-    /// Whether a tree refutes the conditions of a kind of test for a prefix and a transition. No names the first node in preorder that is at
-    /// fault: an open leaf, a closed leaf whose node does not close, or a split on a number that is no source. It fails only where memory
-    /// runs out. Of that it takes some bytes for each half above a node, and as much as an engine for a tree that splits a linked source
-    /// outside the support of the judge's ends. The judge serves on, whatever the answer.
+    /// Whether a tree refutes the conditions of a kind of test for a prefix and a transition. No names the first node in preorder that is
+    /// at fault: an open leaf, a closed leaf whose node does not close, or a split on a number that is no source. It fails only where
+    /// memory runs out. Of that it takes some bytes for each half above a node, and as much as an engine for a tree that splits a linked
+    /// source outside the support of the judge's ends. The judge serves on, whatever the answer.
     pub fn check_tree(
         &mut self,
         prefix: &Path,

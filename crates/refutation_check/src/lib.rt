@@ -1,6 +1,7 @@
-//! Whether a tree of cases refutes, and whether it shows that a budget was spent; if not, which node is first at fault. And the hull at
-//! a node of a tree.
-//! Under any rules, with the kind of states that they choose. Stands on implication, trees and pair_judging.
+//! Judges trees of cases: whether one refutes, and whether it shows that a budget was spent; if not, which node is first at fault. Whether
+//! one refutes is also judged on a scope that has entered the pins of a prefix already (`refutes_entered`). And the hull at a node of a
+//! tree.
+//! Under any rules, with the kind of states that they choose. Stands on implication, trees, cones and pair_judging.
 //! The layers above use the contracts of `TreeJudge`, `check_tree`, `check_spent`, `refutes_entered` and `hull`.
 #![tactic(auto)]
 

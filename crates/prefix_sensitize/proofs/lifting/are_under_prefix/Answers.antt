@@ -1,4 +1,4 @@
--- One more is within, and in the end all are.
+-- One more is under the prefix, and in the end all are.
 use Rattle.std.proofs.Common.{◌≤◌, List, length, subst, arith}
 use Rattle.std.specs.Prelude.{All}
 use Rattle.std.proofs.lemmas.List.{take_all}

@@ -4,6 +4,6 @@ use Rattle.netlist.specs.Paths.{prefix_of}
 use Rattle.prefix_sensitize.specs.Lifting.{IsUnderPrefix}
 use Rattle.prefix_sensitize.proofs.lifting.are_under_prefix.Given as goal
 
--- those before are within
+-- those before are under the prefix
 abbrev pub invariant-loop-proof : goal.invariant-loop-proof
 invariant-loop-proof l = All (IsUnderPrefix l.course (prefix_of l.steps l.path)) (take l.proof-index l.proofs)

@@ -1,4 +1,4 @@
--- Going back keeps what the walk has come to; and where the refutation found last holds at the prefix, it takes its place.
+-- Going back keeps what the walk has come to; and so it does where the refutation found last replaces the proofs under the prefix.
 use Rattle.std.proofs.Common.{◌≡◌, ℕ, ◌-◌, ◌≤◌, List, length, take, get_or, Some, sym, ap, subst, subst₂, ◌∙◌}
 use Rattle.std.specs.Prelude.{slice_get}
 use Rattle.std.proofs.lemmas.Option.{slice_get_within}
@@ -10,17 +10,17 @@ use Rattle.netlist.specs.Paths.{prefix_of}
 use Rattle.runs.specs.declared.run.Proof.{Proof}
 use Rattle.trees.specs.Refutations.{IsRefutation}
 use Rattle.implication.specs.Scopes.{standing}
-use Rattle.prefix_sensitize.specs.Lifting.{HasLiftedTo, IsPutInPlace}
+use Rattle.prefix_sensitize.specs.Lifting.{HasLiftedTo, ReplacesOrStays}
 use Rattle.prefix_sensitize.specs.Outcomes.{target_for}
 use Rattle.prefix_sensitize.specs.PathOrder.{StandsInOrder}
-use Rattle.prefix_sensitize.proofs.Lifts.{ends_with, entered_for, put, restored_at, restored_same, stayed}
+use Rattle.prefix_sensitize.proofs.Lifts.{ends_with, entered_for, replaced_or_stayed, restored_at, restored_same, stayed}
 use Rattle.prefix_sensitize.proofs.PathOrder.{stands_once, stands_there}
 use Rattle.prefix_sensitize.proofs.lifting.lift_once.Given.{Over}
 use Rattle.prefix_sensitize.proofs.lifting.lift_once.Goals.{After-go_back-shared}
 use Rattle.prefix_sensitize.proofs.lifting.lift_once.Goals as goal
 
-pub put_in_place-requires-clause-place : goal.put_in_place-requires-clause-place
-put_in_place-requires-clause-place g c =
+pub replace_proofs-requires-clause-place : goal.replace_proofs-requires-clause-place
+replace_proofs-requires-clause-place g c =
     let at = c.begins_at.ensures.0 c.if-not-begins_at.false in
     slice_get_within c.args.course.now.order.now c.args.place at.row at.stands.is_placed
 
@@ -68,9 +68,9 @@ returns-then-not-branch-clause-on g c =
     (restored_at g.A.Algebra.algebra back now c.go_back-shared.new.self (path g at) c.go_back-shared.result c.go_back-shared.ensures.at
     c.refutes_entered.ensures.restored)
 
-pub put_in_place-requires-clause-steps : goal.put_in_place-requires-clause-steps
-put_in_place-requires-clause-steps g c other route stands =
-    let at = (goal.at.put_in_place-requires-clause-steps g c).After-go_back-shared in
+pub replace_proofs-requires-clause-steps : goal.replace_proofs-requires-clause-steps
+replace_proofs-requires-clause-steps g c other route stands =
+    let at = (goal.at.replace_proofs-requires-clause-steps g c).After-go_back-shared in
     let P : Route → Type 0 = λ r. c.go_back-shared.result ≤ length r.steps in
     subst P
     (stands_once c.args.course.now.paths.now c.args.course.now.order.now c.args.place (row g at) other (path g at) route (here g at) stands).1
@@ -87,7 +87,7 @@ returns-clause-on g c =
     let place = c.args.place in
     let shared = c.go_back-shared.result in
     let before = c.args.found.now in
-    let after = c.put_in_place.new.found in
+    let after = c.replace_proofs.new.found in
     let again = c.refutes_entered.ensures.restored in
     let same = restored_same old back now c.go_back-shared.ensures.same again in
     let there = restored_at a back now c.go_back-shared.new.self (path g at) shared c.go_back-shared.ensures.at again in
@@ -102,15 +102,15 @@ returns-clause-on g c =
     let V : List Proof → Type 0 = λ list. slice_get list (length list - 1) ≡ Some c.in-Some.last.now in
     let ends =
     ends_with before.proofs.items c.in-Some.last.now (subst V c.deref.ensures.value (sym {b = slice_get c.deref.result.now (length c.deref.result.now - 1)} c.in-Some.ensures.value)) in
-    IfOk-weaker c.put_in_place.result
+    IfOk-weaker c.replace_proofs.result
     (λ (end : ℕ).
     (other : ℕ) (route : Route) → StandsInOrder course.paths.now course.order.now place other route
-    → IsPutInPlace course place (prefix_of shared route) shared end before after)
+    → ReplacesOrStays course place (prefix_of shared route) shared end before after)
     (λ (end : ℕ). HasLiftedTo old now course place end c.args.descent.now c.go_back-shared.new.self before after)
     (λ end is.
-    put a old course c.requires.is_course place c.args.source c.requires.beginning c.requires.rules
+    replaced_or_stayed a old course c.requires.is_course place c.args.source c.requires.beginning c.requires.rules
     c.requires.within c.args.descent.now before (row g at) (path g at) (here g at) (begins g at)
     now same c.go_back-shared.new.self shared c.go_back-shared.ensures.shared there c.in-Some.last.now
     (take (length before.proofs.items - 1) before.proofs.items) ends c.if-last.false
     (subst₂ R (sym again.net) (sym again.rules) refutes) end after (is (row g at) (path g at) (here g at)))
-    c.put_in_place.ensures
+    c.replace_proofs.ensures

@@ -43,8 +43,8 @@ paths-init g c =
       within = omega (arith, within);
     }
 
-pub pass-requires : goal.pass-requires
-pass-requires g c κs lives =
+pub visit_and_lift-requires : goal.visit_and_lift-requires
+visit_and_lift-requires g c κs lives =
     let course = c.args.course.now in
     let old = standing c.args.scope.now in
     let new = standing c.paths.scope in
@@ -82,17 +82,19 @@ pub paths-preserved : goal.paths-preserved
 paths-preserved g c =
     let before = c.paths.invariant in
     let after = c.in_ok-at.ensures in
-    let P : Circuit → Rules → Type 0 = λ n r. IsDeskFor g.A.Algebra.algebra n r c.pass.new.desk in
+    let P : Circuit → Rules → Type 0 = λ n r. IsDeskFor g.A.Algebra.algebra n r c.visit_and_lift.new.desk in
     let low = before.behind in
     let on = after.on.on in
     record {
       scope = same_scope_twice before.scope after.scope;
-      same = same_twice (standing c.args.scope.now) (standing c.paths.scope) (standing c.pass.new.scope) before.same after.walked.same;
+      same =
+          same_twice (standing c.args.scope.now) (standing c.paths.scope) (standing c.visit_and_lift.new.scope) before.same
+          after.walked.same;
       desk = subst₂ P before.same.net before.same.rules after.walked.is_desk;
       come = after.come;
       others =
-          keeps_on c.args.course.now.aim c.args.found.now.proofs.items c.paths.found.proofs.items c.pass.new.found.proofs.items before.others
-          after.on.others;
+          keeps_on c.args.course.now.aim c.args.found.now.proofs.items c.paths.found.proofs.items
+          c.visit_and_lift.new.found.proofs.items before.others after.on.others;
       behind = omega (arith, low, on);
       within = after.on.within;
     }
@@ -107,7 +109,7 @@ pub begins_at-requires : goal.begins_at-requires
 begins_at-requires g c = c.requires.1.1.1.1.1.0.is_course.order.inside
 
 pub returns-in_err-at-clause-scope : goal.returns-in_err-at-clause-scope
-returns-in_err-at-clause-scope g c = same_scope_twice c.paths.invariant.scope c.pass.ensures.scope
+returns-in_err-at-clause-scope g c = same_scope_twice c.paths.invariant.scope c.visit_and_lift.ensures.scope
 
 pub returns-clause-come : goal.returns-clause-come
 returns-clause-come g c =
@@ -119,11 +121,12 @@ returns-clause-come g c =
 pub returns-in_err-at-clause-walked : goal.returns-in_err-at-clause-walked
 returns-in_err-at-clause-walked g c = record {
   is_desk =
-      (let P : Circuit → Rules → Type 0 = λ n r. IsDeskFor g.A.Algebra.algebra n r c.pass.new.desk in
-      subst₂ P c.paths.invariant.same.net c.paths.invariant.same.rules c.pass.ensures.walked.is_desk);
+      (let P : Circuit → Rules → Type 0 = λ n r. IsDeskFor g.A.Algebra.algebra n r c.visit_and_lift.new.desk in
+      subst₂ P c.paths.invariant.same.net c.paths.invariant.same.rules c.visit_and_lift.ensures.walked.is_desk);
   same =
-      (same_twice (standing c.args.scope.now) (standing c.paths.scope) (standing c.pass.new.scope) c.paths.invariant.same c.pass.ensures.walked.same);
-  counted = c.pass.ensures.walked.counted;
+      (same_twice (standing c.args.scope.now) (standing c.paths.scope) (standing c.visit_and_lift.new.scope) c.paths.invariant.same
+      c.visit_and_lift.ensures.walked.same);
+  counted = c.visit_and_lift.ensures.walked.counted;
 }
 
 pub returns-clause-walked : goal.returns-clause-walked

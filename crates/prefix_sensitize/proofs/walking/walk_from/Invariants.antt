@@ -6,8 +6,8 @@ use Rattle.prefix_sensitize.specs.Entering.{IsSameBeginning}
 use Rattle.prefix_sensitize.specs.Outcomes.{KeepsOthers}
 use Rattle.prefix_sensitize.proofs.walking.walk_from.Given as goal
 
-abbrev pub ghost-pass : goal.ghost-pass
-ghost-pass g a = g.begin
+abbrev pub ghost-visit_and_lift : goal.ghost-visit_and_lift
+ghost-visit_and_lift g a = g.begin
 
 -- the scope stands where the walk has come to
 abbrev pub invariant-paths : goal.invariant-paths

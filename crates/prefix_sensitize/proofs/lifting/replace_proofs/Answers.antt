@@ -1,4 +1,4 @@
--- The proof found last takes the place of those within, from the first path with the prefix on.
+-- A refutation by the tree of the proof found last replaces those under the prefix, and names the first listed path that has it.
 use Rattle.std.proofs.Common.{◌≡◌, false, ℕ, ◌-◌, ◌<◌, ◌≤◌, List, [], ◌∷◌, ◌++◌, length, take, drop, get_or, All, sym, ap, subst, subst₂, ◌∙◌, arith}
 use Rattle.std.proofs.lemmas.List.{length-drop, length_push, take-append-le, take_all}
 use Rattle.std.proofs.lemmas.Result.{IfOk-weaker}
@@ -9,14 +9,14 @@ use Rattle.pd_base.specs.Route.{Route}
 use Rattle.runs.specs.declared.run.Proof.{Proof}
 use Rattle.prefix_sensitize.specs.declared.course.Course.{Course}
 use Rattle.prefix_sensitize.specs.declared.outcome.Findings.{Findings}
-use Rattle.prefix_sensitize.specs.Lifting.{IsPutInPlace, IsUnderPrefix}
-use Rattle.prefix_sensitize.specs.Lifting.IsPutInPlace.{placed}
+use Rattle.prefix_sensitize.specs.Lifting.{IsUnderPrefix, ReplacesOrStays}
+use Rattle.prefix_sensitize.specs.Lifting.ReplacesOrStays.{replaces}
 use Rattle.prefix_sensitize.specs.PathOrder.{IsFirstPlace, IsOrder, IsStretch, StandsInOrder}
 use Rattle.prefix_sensitize.specs.Settling.{AddsProof, found_proof}
 use Rattle.prefix_sensitize.proofs.OrderPlaces.{all_at, some_path}
 use Rattle.prefix_sensitize.proofs.PathOrder.{stands_once, stands_read}
 use Rattle.prefix_sensitize.proofs.RoutePrefixes.{fewer_steps, steps_of_prefix}
-use Rattle.prefix_sensitize.proofs.lifting.put_in_place.Goals as goal
+use Rattle.prefix_sensitize.proofs.lifting.replace_proofs.Goals as goal
 
 module _ (course : Course) (is_order : IsOrder course.paths.now course.order.now) (place steps : ℕ) (within : place < length course.order.now)
     (path : Route) (is : path ≡ get_or course.paths.now (get_or course.order.now place 0) path)
@@ -74,19 +74,20 @@ module _ (course : Course) (is_order : IsOrder course.paths.now course.order.now
         let its = has_steps in
         omega (arith, its, few)
 
-    -- the proof found last is put in place
+    -- the proofs under the prefix are replaced
     module _ (old new : Findings) (front : List Proof) (last proof : Proof) (is_last : old.proofs.items ≡ front ++ last ∷ []) (kept : ℕ)
-        (outside : All (λ p. ¬ IsUnderPrefix course (prefix_of steps path) p) (take kept old.proofs.items)) (some : 0 < length (drop kept old.proofs.items))
-        (inside : All (IsUnderPrefix course (prefix_of steps path)) (drop kept old.proofs.items))
+        (none_under : All (λ p. ¬ IsUnderPrefix course (prefix_of steps path) p) (take kept old.proofs.items))
+        (some : 0 < length (drop kept old.proofs.items))
+        (all_under : All (IsUnderPrefix course (prefix_of steps path)) (drop kept old.proofs.items))
         (made : proof ≡ found_proof course.aim false least steps last.tree)
         (adds : AddsProof course.order.now start end proof old.outcomes.items new.outcomes.items (take kept front) new.proofs.items) where
       many : kept < length old.proofs.items
       many = let long = length-drop kept old.proofs.items in omega (arith, long, some)
 
-      pub in_place : (row : ℕ) (route : Route) → StandsInOrder course.paths.now course.order.now place row route
-          → IsPutInPlace course place (prefix_of steps route) steps end old new
-      in_place row route stands =
-          let P : Route → Type 0 = λ r. IsPutInPlace course place (prefix_of steps r) steps end old new in
+      pub replaced : (row : ℕ) (route : Route) → StandsInOrder course.paths.now course.order.now place row route
+          → ReplacesOrStays course place (prefix_of steps route) steps end old new
+      replaced row route stands =
+          let P : Route → Type 0 = λ r. ReplacesOrStays course place (prefix_of steps r) steps end old new in
           let less : kept ≤ length front =
           let long = ap (length {A = Proof}) is_last in let one = length_push front last in let low = many in omega (arith, long, one, low) in
           let same : take kept front ≡ take kept old.proofs.items =
@@ -97,10 +98,10 @@ module _ (course : Course) (is_order : IsOrder course.paths.now course.order.now
           λ list. AddsProof course.order.now start end (found_proof course.aim false least steps last.tree) old.outcomes.items
           new.outcomes.items list new.proofs.items in
           subst P (same_path row route stands)
-          (placed front last is_last
+          (replaces front last is_last
           (record {
             kept = kept;
-            parted = record { some = many; outside = outside; inside = inside };
+            parted = record { some = many; none_under = none_under; all_under = all_under };
             start = start;
             no_earlier = is_first.no_earlier;
             least = least;
@@ -159,9 +160,9 @@ returns c =
     new.proofs.items)
     (λ (end : ℕ).
     (row : ℕ) (route : Route) → StandsInOrder course.paths.now course.order.now c.args.place row route
-    → IsPutInPlace course c.args.place (prefix_of c.args.steps route) c.args.steps end old new)
+    → ReplacesOrStays course c.args.place (prefix_of c.args.steps route) c.args.steps end old new)
     (λ end is row route stands.
-    let P : ℕ → Type 0 = λ n. IsPutInPlace course c.args.place (prefix_of c.args.steps route) c.args.steps n old new in
+    let P : ℕ → Type 0 = λ n. ReplacesOrStays course c.args.place (prefix_of c.args.steps route) c.args.steps n old new in
     let kept = c.first_under_prefix-kept.result in
     let O : Route → List Proof → Type 0 =
     λ r list. All (λ p. ¬ IsUnderPrefix course (prefix_of c.args.steps r) p) (take kept list) in
@@ -178,10 +179,10 @@ returns c =
     let Q : List Proof → Type 0 =
     λ list. AddsProof course.order.now start to c.found_proof-proof.result old.outcomes.items new.outcomes.items list new.proofs.items in
     subst P (sym is.0)
-    (in_place course c.requires.order c.args.place c.args.steps c.requires.place c.index-course-course.result c.index-course-course.is
+    (replaced course c.requires.order c.args.place c.args.steps c.requires.place c.index-course-course.result c.index-course-course.is
     c.requires.steps start c.first_place-start.ensures to c.stretch_from-stretch.result.least c.stretch_from-stretch.ensures old new
     c.pop.new.self.items c.in-Some.last c.found_proof-proof.result c.in-Some.ensures.items kept
-    (subst₂ O (sym c.index-course-course.is) c.as_slice.ensures.value c.first_under_prefix-kept.ensures.outside)
+    (subst₂ O (sym c.index-course-course.is) c.as_slice.ensures.value c.first_under_prefix-kept.ensures.none_under)
     (subst S c.deref.ensures.value (subst F tail (c.are_under_prefix.ensures.some c.if-not-are_under_prefix.false)))
     (subst₂ I (sym c.index-course-course.is) c.deref.ensures.value (subst T tail (c.are_under_prefix.ensures.all c.if-not-are_under_prefix.false)))
     c.found_proof-proof.ensures (subst Q c.truncate.ensures.items is.1) row route stands))
