@@ -21,7 +21,7 @@ use Rattle.justify.specs.declared.growing.Place.{Place}
 use Rattle.justify.specs.declared.task.Task.{Task}
 use Rattle.justify.specs.Choices.{AreSingle}
 use Rattle.justify.specs.Desks.{IsDesk}
-use Rattle.justify.specs.Growths.{IsEntered, IsShut, IsExtended, StandsAtPlace, AreToldPlaces}
+use Rattle.justify.specs.Growths.{IsKeptAtMark, IsEntered, IsShut, IsExtended, StandsAtPlace, AreToldPlaces}
 use Rattle.justify.specs.Searches.{IsSearching, SearchGoesOn, AddsNode, AddsClosed, IsNodeVisit, IsVisit, IsGrowthOf}
 use Rattle.pair_judging.specs.Targets.{seen_target}
 use Rattle.justify.specs.Tests.{IsFitTest}
@@ -90,6 +90,14 @@ module _ (a : StateAlgebra) (task : Task) (old : Standing) (desk : Desk) (growth
   next_open =
       let P : Option Beginning → Type 0 = λ b. IsOpenFrom a old.net old.rules b (take place.mark.at old.assumptions) in
       subst P (sym searching.under_way.beginning) next.here.left_open
+
+  -- and what is kept closes the trial of the node there
+  pub next_kept : IsKeptAtMark a target place old
+  next_kept = record {
+    beginning = searching.under_way.beginning;
+    entered = next.here.entered;
+    closes = next.here.closes;
+  }
 
   module _ (new : Standing) (shut : IsShut a place old new) (later : old.closings ≤ new.closings) where
     shut_setting : IsSameSetting old new

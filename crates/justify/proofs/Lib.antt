@@ -6,6 +6,7 @@ mod SameNodes
 mod Trials
 mod TriedSources
 mod HalfStates
+mod HeldSources
 mod Closing
 mod Placing
 mod Visits

@@ -1,6 +1,6 @@
 -- A scope that is restored stands at the same node: what holds of the one standing holds of the other.
 use Rattle.std.proofs.Common.{◌≡◌, List, Option, Some, None, Result, Ok, Err, refl, sym, ap, ◌∙◌, subst}
-use Rattle.std.specs.Prelude.{IfOk}
+use Rattle.std.specs.Prelude.{IfOk, IfSome}
 use Rattle.pd_base.specs.Pair.{Vectors}
 use Rattle.pd_base.specs.Target.{Target}
 use Rattle.pd_base.specs.declared.rules.Rules.{Rules}
@@ -17,6 +17,9 @@ use Rattle.implication.specs.Clients.{IsRestored}
 use Rattle.implication.specs.Standing.{Standing, IsHullFrom, IsLabels, IsOpenFrom, IsOpenIn}
 use Rattle.implication.specs.NodeScopes.{StandsAtNode, AllowAsNode}
 use Rattle.justify.specs.Scoping.{IsStart}
+use Rattle.justify.specs.declared.choosing.Split.{Split}
+use Rattle.justify.specs.declared.visiting.NextSplit.{NextSplit}
+use Rattle.justify.specs.Choices.{IsUsefulSplit}
 use Rattle.justify.specs.Tests.{IsFitTest}
 use Rattle.justify.specs.declared.closers.Closers.{Closers}
 use Rattle.justify.specs.Closers.{ClosesByKept}
@@ -169,3 +172,21 @@ pub ok_answer : {E : Type 0} (a : StateAlgebra) (target : Target) (first middle 
     → IfOk answer (IsTrialOf a target first last closers)
 ok_answer a target first middle last restored closers (Ok answer) is = answer_before a target first middle last restored closers answer is
 ok_answer a target first middle last restored closers (Err error) is = tt
+
+-- a split that may be chosen still may be
+pub useful_stays : (a : StateAlgebra) (target : Target) (first last : Standing) → IsRestored first last → (split : Split)
+    → IsUsefulSplit a target first split → IsUsefulSplit a target last split
+useful_stays a target first last restored split useful =
+    let same = same_restored first last restored in
+    record {
+      source = told_in_support_after target first last (same_setting first last same) split.source.0 useful.source;
+      splits = record {
+        at_source = useful.splits.at_source;
+        in_half = λ labels is second. useful.splits.in_half labels (same_labels a target last first (same_back first last same) labels is) second;
+      };
+    }
+
+pub next_stays : (a : StateAlgebra) (target : Target) (first last : Standing) → IsRestored first last → (next : Option NextSplit)
+    → IfSome next (λ chosen. IsUsefulSplit a target first chosen.split) → IfSome next (λ chosen. IsUsefulSplit a target last chosen.split)
+next_stays a target first last restored None useful = tt
+next_stays a target first last restored (Some next) useful = useful_stays a target first last restored next.split useful

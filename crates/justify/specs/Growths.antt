@@ -1,5 +1,5 @@
 -- The growth of a tree on a scope, in words that are spoken inside this crate alone (this project's own).
-use Rattle.std.specs.Prelude.{◌≡◌, ℕ, ◌+◌, ◌<◌, ◌≤◌, ◌↔◌, Bool, true, false, List, [], ◌∷◌, ◌++◌, length, take, map, All, AllPairs, Contains, Option, None, IsSome}
+use Rattle.std.specs.Prelude.{◌≡◌, ℕ, ◌+◌, ◌<◌, ◌≤◌, ◌↔◌, Bool, true, false, List, [], ◌∷◌, ◌++◌, length, take, map, All, AllPairs, Contains, Option, Some, None, IsSome}
 use Rattle.pd_base.specs.Target.{Target}
 use Rattle.pd_base.specs.declared.ids.LineId.{LineId}
 use Rattle.pd_base.specs.declared.rules.Rules.{Rules}
@@ -8,6 +8,7 @@ use Rattle.state_sets.specs.declared.state.State.{State}
 use Rattle.state_sets.specs.declared.state.StateSet.{StateSet}
 use Rattle.state_sets.specs.States.{Has, IsWithin, all_states}
 use Rattle.state_sets.specs.StateAlgebra.{StateAlgebra}
+use Rattle.state_sets.specs.Labellings.{label_at}
 use Rattle.state_sets.specs.Starts.{IsInHalf}
 use Rattle.state_laws.specs.declared.half.Half.{Half}
 use Rattle.state_laws.specs.Nodes.{MayBe}
@@ -19,15 +20,16 @@ use Rattle.trees.specs.Growing.{split_node, Grows}
 use Rattle.implication.specs.declared.assumption.Assumption.{Assumption}
 use Rattle.implication.specs.declared.scope.ScopeMark.{ScopeMark}
 use Rattle.implication.specs.Assumptions.{entered_pins, MayUnder, ClosesUnder}
-use Rattle.implication.specs.Standing.{Standing, IsTold, IsOpenIn, IsEmptiedIn}
+use Rattle.implication.specs.Standing.{Standing, IsLabels, IsTold, IsOpenIn, IsEmptiedIn}
 use Rattle.implication.specs.Moves.{with_assumed, grown, back_at, risen}
 use Rattle.implication.specs.NodeScopes.{beginning_of, AllowSame, StandsAtNode}
 use Rattle.justify.specs.declared.choosing.Split.{Split}
 use Rattle.justify.specs.declared.closers.Closers.{Closers}
 use Rattle.justify.specs.declared.growing.Growth.{Growth}
 use Rattle.justify.specs.declared.growing.Place.{Place}
+use Rattle.justify.specs.declared.trial.Tried.{Tried}
 use Rattle.justify.specs.Choices.{IsUsefulSplit}
-use Rattle.justify.specs.Closers.{ClosesByKept}
+use Rattle.justify.specs.Closers.{ClosesByKept, kept_of}
 
 -- the place of a half of a split: the states of that half are assumed of its source, and what closed the trial above is kept
 pub record IsHalfPlace (a : StateAlgebra) (split : Split) (mark : ScopeMark) (closers : Option Closers) (second : Bool) (place : Place) : Type 0 where
@@ -130,6 +132,22 @@ pub record CanEnter (a : StateAlgebra) (start : ℕ) (place : Place) (standing :
   pub begun : IsSome standing.beginning
   pub free : standing.conflict ≡ None
   pub left_open : IsOpenIn a (back_at standing place.mark.at)
+
+-- at the mark of the place the path's pins are entered, and the sources that are kept close the trial of the node there
+pub record IsKeptAtMark (a : StateAlgebra) (target : Target) (place : Place) (standing : Standing) : Type 0 where
+  pub beginning : standing.beginning ≡ Some (beginning_of target)
+  pub entered : entered_pins (take place.mark.at standing.assumptions) ≡ target.path.steps
+  pub closes : ClosesByKept a standing.net standing.rules target (take place.mark.at standing.assumptions) place.closers
+
+-- with the place's set assumed at the node above, where the scope stands, the source may be in no other state than the one tried
+abbrev pub IsHeldAt : StateAlgebra → Standing → Place → Tried → Type 0
+IsHeldAt a standing place entry = (labels : List StateSet) → IsLabels a standing labels → (state : State)
+    → Has a.count (label_at labels entry.source.0) state → (entry.source.0 ≡ place.source.0 → Has a.count place.set state)
+    → state ≡ entry.state
+
+-- some sources are kept, and that holds of each
+abbrev pub AreHeldAt : StateAlgebra → Standing → Place → Type 0
+AreHeldAt a standing place = (kept : Closers) × (place.closers ≡ Some kept) × All (IsHeldAt a standing place) (kept_of kept)
 
 -- the scope went back to the mark of the place and assumed its set, and each line has some state left
 pub record IsEntered (a : StateAlgebra) (place : Place) (old new : Standing) : Type 0 where

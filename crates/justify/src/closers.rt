@@ -1,5 +1,6 @@
 // The sources by which the trial of a node closed, in the states tried, if they are few. The trials of the nodes below close by them too,
-// where these are still the least states of their sources, and need not be gone through again. How a trial goes stands in trial.rt.
+// where these are still the least states of their sources, and need not be gone through again; else they are tried there first. And a half
+// closes by them where they have no other states. How a trial goes stands in trial.rt.
 ghost use Rattle.std.specs.Prelude.{◌≡◌, ◌≤◌, length, take, IfSome};
 ghost use Rattle.justify.specs.Closers.{kept_of};
 

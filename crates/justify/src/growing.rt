@@ -90,16 +90,16 @@ impl Growth {
         split: Split,
         mark: ScopeMark,
         sought: Sought,
-        closers: Option<Closers>,
+        closers: &Option<Closers>,
     ) -> Result<(), OutOfMemory>
         requires { self.old.splits < 2 ^ 32 - 1 }
-        ensures { IfOk result (λ done. IsSplitAt A.algebra split mark closers self.old self.new) }
+        ensures { IfOk result (λ done. IsSplitAt A.algebra split mark closers.now self.old self.new) }
     {
         self.nodes.push(node_of(split))?;
         self.places
-            .push(half_place::<A>(split, mark, sought, closers, true))?;
+            .push(half_place::<A>(split, mark, sought, *closers, true))?;
         self.places
-            .push(half_place::<A>(split, mark, sought, closers, false))?;
+            .push(half_place::<A>(split, mark, sought, *closers, false))?;
         self.splits += 1;
         Ok(())
     }

@@ -1,12 +1,13 @@
-// The two halves of a split, by steadiness or by the last value: which states of a set are in them.
-ghost use Rattle.std.specs.Prelude.{◌<◌, ◌↔◌, true, false, IsTrue, IfSome, IfNone};
+// The two halves of a split, by steadiness or by the last value: which states of a set are in them; and sets of one state alone, which have
+// no states in one of the halves.
+ghost use Rattle.std.specs.Prelude.{◌≡◌, ◌<◌, ◌^◌, ◌↔◌, true, false, IsTrue, IfSome, IfNone};
 ghost use Rattle.state_sets.specs.States.{Has, IsWithin};
 ghost use Rattle.state_sets.specs.declared.state.State.{State};
 ghost use Rattle.trees.specs.Spent.{HasInHalf};
 ghost use Rattle.justify.specs.Trying.{IsSingle};
 
 use hulls::half_states;
-use state_sets::{Algebra, StateSet};
+use state_sets::{Algebra, State, StateSet, count_states};
 
 // A way to split a set of states of a source, by steadiness or by the last value, so that each half has some state. There is none where
 // the set has less than two states.
@@ -38,4 +39,11 @@ fn has_in_half<A: Algebra>(set: StateSet, steadiness: bool, second: bool) -> boo
     ensures { IsTrue result ↔ HasInHalf A.algebra set steadiness second }
 {
     set.intersect(half_states::<A>(steadiness, second)) != StateSet::EMPTY
+}
+
+// Whether a set has this state alone.
+pub(crate) fn has_only<A: Algebra>(set: StateSet, state: State) -> bool
+    ensures { IsTrue result ↔ ((state.0 < A.algebra.count) × (set.0 ≡ 2 ^ state.0)) }
+{
+    state.0 < count_states::<A>() && set == StateSet::only(state)
 }

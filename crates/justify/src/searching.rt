@@ -445,7 +445,7 @@ fn grow<A: Algebra, S: Setting>(
     ensures unfinished { IfErr result (MayEndBy (seen_target task.now.target) (standing scope.old)) }
 {
     while let Some(place) = growth.places.pop() {
-        let test = visit(alloc, scope, task, desk, growth, place)?;
+        let test = visit(alloc, scope, task, desk, growth, &place)?;
         if let Some(pair) = test {
             return Ok(Some(pair));
         }

@@ -1,7 +1,7 @@
 // What a search is for.
 use pair_judging::Target;
 
-/// By what the cases of a tree are split: first the source on which past conflicts rest most, or always one that is led to.
+/// By what the cases of a tree are split: first the source on which past conflicts rest most, or what is open and what closed trials.
 #[derive(Clone, Copy, PartialEq, Eq)]
 pub(crate) enum Splitting {
     ByWeight,

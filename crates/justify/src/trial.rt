@@ -1,10 +1,13 @@
 // Trying the states of a pair through the scope: they are assumed of sources of the path's support, one after another. A conflict
 // shows that the trial of the node closes, and the scope counts it; where none comes of all sources, the pair is a test. And trials that
 // close by the sources that closed that of the node above, for which nothing is narrowed. What is tried is chosen in trying.rt.
-ghost use Rattle.std.specs.Prelude.{◌<◌, is_some, length, IfSome, IsTrue, All};
+ghost use Rattle.std.specs.Prelude.{◌≡◌, ◌<◌, is_some, length, IfSome, IsSome, IsTrue, None, All};
+ghost use Rattle.netlist.specs.Circuit.{source_count};
 ghost use Rattle.justify.specs.Scoping.{SuitsSearch};
 ghost use Rattle.implication.specs.Scopes.{IsSameScope, standing};
 ghost use Rattle.implication.specs.Clients.{IsRestored, ExtendsStanding};
+ghost use Rattle.implication.specs.Moves.{risen};
+ghost use Rattle.implication.specs.Standing.{IsTold};
 ghost use Rattle.pair_judging.specs.Targets.{seen_target};
 ghost use Rattle.implication.specs.NodeScopes.{StandsAtNode};
 ghost use Rattle.justify.specs.Closers.{ClosesBy};
@@ -97,10 +100,26 @@ pub(crate) fn closes_as_above<A: Algebra, S: Setting>(
     let Some(entry) = tried.first() else {
         return false;
     };
+    count_conflict(scope, entry.source);
+    true
+}
+
+// Counts a conflict, as one that comes where a source is left no state. The scope is otherwise as before.
+pub(crate) fn count_conflict<A: Algebra, S: Setting>(scope: &mut Scope<A, S>, source: LineId)
+    requires source { source.0 < source_count (standing scope.old).net }
+    requires told { IsTold (standing scope.old) source.0 }
+    requires begun { IsSome (standing scope.old).beginning }
+    requires free { (standing scope.old).conflict ≡ None }
+    ensures scope { IsSameScope scope.old scope.new }
+    ensures restored { IsRestored (standing scope.old) (standing scope.new) }
+    ensures counted { standing scope.new ≡ record (standing scope.old) { closings = risen (standing scope.old).closings } }
+{
     let mark = scope.mark();
-    let is_counted = scope.assume(entry.source, StateSet::EMPTY).is_err();
+    if scope.assume(source, StateSet::EMPTY).is_ok() {
+        // a source is left no state, so that a conflict comes
+        unreachable!()
+    }
     scope.back_to(mark);
-    is_counted
 }
 
 // Puts the source first at which a conflict came: one mostly rests on few of them, and these come to the front one after another, so that

@@ -1,6 +1,7 @@
-// What is tried at a node: through the scope the sources that were tried last, if they still have the same least states; else the pair
-// whose states are the least ones of the labels is judged, and where it fails the sources to blame for that are tried, and then all that
-// are told. How sources are tried stands in trial.rt. What closes a trial is left at the desk.
+// What is tried at a node: through the scope the source that is split next and those that closed the trial of the node above, in the least
+// states that they have here, or where none are kept those that were tried last, if they still have these states; else the pair of the
+// least states of the labels is judged, and where it fails the sources to blame for that are tried, and then all that are told. How sources
+// are tried stands in trial.rt. What closes a trial is left at the desk.
 ghost use Rattle.std.specs.Prelude.{◌≡◌, ◌<◌, length, All, IfOk, IfErr, IfSome, IfNone, IsTrue};
 ghost use Rattle.netlist.specs.Circuit.{line_count};
 ghost use Rattle.netlist.specs.Paths.{IsPrefix};
@@ -16,6 +17,7 @@ ghost use Rattle.justify.specs.Trying.{CanTry, HasLeastLabel, AreTriedIn, HasLea
 use crate::Unfinished;
 use crate::closers::Closers;
 use crate::desk::Desk;
+use crate::halves::has_only;
 use crate::judging::{are_source_states, judge_proposal, judge_states};
 use crate::trial::{Tried, bring_forward, closes_at};
 use implication::{Scope, Setting};
@@ -24,14 +26,17 @@ use pd_base::{LineId, OutOfMemory, Pair};
 use state_sets::{Algebra, State};
 use std::alloc::Global;
 
-// Tries the node at which the scope stands: by the sources that were tried last; else judges the node's pair, and where it fails tries the
-// sources to blame for that, and then all that are told. A test is the answer; else there is none, the node's trial has failed, and a
-// conflict was counted. The scope is afterwards as before, also after an error; and the desk still serves.
+// Tries the node at which the scope stands, of which the source of the next split is given: by that and what closed the trial above, or what
+// was tried last; else judges the node's pair, and where it fails tries the sources to blame for that, and then all that are told. A test is the answer; else there is
+// none, the node's trial has failed, and a conflict was counted. The scope is afterwards as before, also after an error; and the desk still
+// serves.
 pub(crate) fn try_node<A: Algebra, S: Setting>(
     alloc: Global,
     scope: &mut Scope<A, S>,
     target: &Target,
     desk: &mut Desk,
+    above: &Option<Closers>,
+    split: Option<LineId>,
 ) -> Result<Option<Pair>, Unfinished>
     requires suits { SuitsSearch A.algebra (seen_target target.now) (standing scope.old) }
     requires node { StandsAtNode A.algebra (seen_target target.now) (standing scope.old) }
@@ -42,13 +47,94 @@ pub(crate) fn try_node<A: Algebra, S: Setting>(
     ensures answer { IfOk result (IsTrialOf A.algebra (seen_target target.now) (standing scope.old) (standing scope.new) desk.new.closers) }
     ensures unfinished { IfErr result (MayEndBy (seen_target target.now) (standing scope.old)) }
 {
-    if closes_again(scope, target, desk) {
+    let is_closed = closes_by_tried(scope, target, desk, above, split)?;
+    if is_closed {
         return Ok(None);
     }
     match judge_least(alloc, scope, target, desk)? {
         Some(pair) => Ok(Some(pair)),
         None => try_blamed(alloc, scope, target, desk),
     }
+}
+
+// Whether the node's trial closes by the source of the next split and those that closed the trial of the node above, or where none are kept
+// by those that were tried last.
+fn closes_by_tried<A: Algebra, S: Setting>(
+    scope: &mut Scope<A, S>,
+    target: &Target,
+    desk: &mut Desk,
+    above: &Option<Closers>,
+    split: Option<LineId>,
+) -> Result<bool, OutOfMemory>
+    requires suits { SuitsSearch A.algebra (seen_target target.now) (standing scope.old) }
+    requires node { StandsAtNode A.algebra (seen_target target.now) (standing scope.old) }
+    requires desk { IsDesk A.algebra (standing scope.old).net (standing scope.old).rules target.now.path.now desk.old }
+    ensures desk { IsDesk A.algebra (standing scope.old).net (standing scope.old).rules target.now.path.now desk.new }
+    ensures scope { IsSameScope scope.old scope.new }
+    ensures restored { IsRestored (standing scope.old) (standing scope.new) }
+    ensures failed { IfOk result (λ closes. IsTrue closes
+        → FailsByKept A.algebra (seen_target target.now) (standing scope.old) (standing scope.new) desk.new.closers) }
+{
+    let Some(kept) = above else {
+        return Ok(closes_again(scope, target, desk));
+    };
+    collect_anew(scope, target, desk, split, kept.tried())?;
+    Ok(closes_by(scope, target, desk.tried.as_slice(), &mut desk.closers).is_some())
+}
+
+// Makes the list of what is tried that of these sources, each in the least state that it has here, and before them that of the next split,
+// so that most often what closes the trial closes a half of it, too. Sources of one state are left out.
+fn collect_anew<A: Algebra, S: Setting>(
+    scope: &Scope<A, S>,
+    target: &Target,
+    desk: &mut Desk,
+    split: Option<LineId>,
+    above: &[Tried],
+) -> Result<(), OutOfMemory>
+    requires suits { SuitsSearch A.algebra (seen_target target.now) (standing scope.now) }
+    requires node { StandsAtNode A.algebra (seen_target target.now) (standing scope.now) }
+    requires desk { IsDesk A.algebra (standing scope.now).net (standing scope.now).rules target.now.path.now desk.old }
+    ensures desk { IsDesk A.algebra (standing scope.now).net (standing scope.now).rules target.now.path.now desk.new }
+    ensures tried { IfOk result (λ done. All (CanTry A.algebra (seen_target target.now) (standing scope.now)) desk.new.tried.items) }
+{
+    desk.tried.clear();
+    if let Some(source) = split {
+        add_least(scope, target, desk, source)?;
+    }
+    for entry in above {
+        if Some(entry.source) != split {
+            add_least(scope, target, desk, entry.source)?;
+        }
+    }
+    Ok(())
+}
+
+// Adds a source in its least state to what is tried, if it is one of the support that is told, and may be in other states, too.
+fn add_least<A: Algebra, S: Setting>(
+    scope: &Scope<A, S>,
+    target: &Target,
+    desk: &mut Desk,
+    source: LineId,
+) -> Result<(), OutOfMemory>
+    requires suits { SuitsSearch A.algebra (seen_target target.now) (standing scope.now) }
+    requires node { StandsAtNode A.algebra (seen_target target.now) (standing scope.now) }
+    requires desk { IsDesk A.algebra (standing scope.now).net (standing scope.now).rules target.now.path.now desk.old }
+    requires tried { All (CanTry A.algebra (seen_target target.now) (standing scope.now)) desk.old.tried.items }
+    ensures desk { IsDesk A.algebra (standing scope.now).net (standing scope.now).rules target.now.path.now desk.new }
+    ensures tried { IfOk result (λ done. All (CanTry A.algebra (seen_target target.now) (standing scope.now)) desk.new.tried.items) }
+{
+    if source.0 >= scope.net().sources() {
+        return Ok(());
+    }
+    let label = scope.label(source);
+    let entry = Tried {
+        source,
+        state: least::<A>(label),
+    };
+    if !has_only::<A>(label, entry.state) && has_least(scope, target, desk.cone.marks(), entry) {
+        desk.tried.push(entry)?;
+    }
+    Ok(())
 }
 
 // Whether the node's trial closes by the sources that were tried last, where they still have the same least states. The desk then has that

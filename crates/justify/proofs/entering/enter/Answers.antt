@@ -7,7 +7,10 @@ use Rattle.pd_base.specs.declared.rules.Rules.{Rules}
 use Rattle.implication.specs.Scopes.{standing}
 use Rattle.implication.specs.Standing.{Standing}
 use Rattle.implication.proofs.ScopeLabels.{there_too}
+use Rattle.pair_judging.specs.Targets.{seen_target}
 use Rattle.justify.specs.Desks.{IsDesk}
+use Rattle.justify.proofs.HeldSources.{held_shuts}
+use Rattle.justify.proofs.Visits.{free_at}
 use Rattle.justify.proofs.entering.enter.Goals as goal
 
 pub returns-then-is_ok-clause-entered : goal.returns-then-is_ok-clause-entered
@@ -33,3 +36,11 @@ returns-clause-desk g c =
     there_too P last.net first.net last.rules first.rules
     (c.assume.ensures.extends.net ∙ ap (λ (s : Standing). s.net) c.back_to.ensures.back)
     (c.assume.ensures.extends.rules ∙ ap (λ (s : Standing). s.rules) c.back_to.ensures.back) c.weigh.ensures
+
+pub returns-then-is_closed_by_kept-clause-shut : goal.returns-then-is_closed_by_kept-clause-shut
+returns-then-is_closed_by_kept-clause-shut g c = λ no.
+    let free = ap (λ (s : Standing). s.conflict) c.back_to.ensures.back ∙ free_at (standing c.args.scope.now) c.args.place.now.mark.at c.requires.can.free in
+    let here = c.labels.ensures.told free in
+    held_shuts g.A.Algebra.algebra (seen_target c.args.task.now.target) c.args.place.now (standing c.args.scope.now) c.requires.kept
+    (standing c.back_to.new.self) (standing c.count_conflict.new.scope) c.back_to.ensures.back here.0 here.1
+    (c.is_closed_by_kept.ensures c.if-is_closed_by_kept.true) c.count_conflict.ensures.counted
