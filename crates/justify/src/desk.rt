@@ -26,6 +26,8 @@ pub struct Desk {
     pub(crate) blame: Blame,
     // what was tried last through a scope
     pub(crate) tried: Vec<Tried>,
+    // what was tried at other nodes, in the least states of the node at hand
+    pub(crate) renewed: Vec<Tried>,
     // what closed the last trial that was gone through, if it is kept
     pub(crate) closers: Option<Closers>,
     // by line; what it is liked to be in: the states with the last value that the last test gave it, or all
@@ -56,6 +58,7 @@ impl Desk {
             states,
             blame,
             tried: Vec::new(alloc),
+            renewed: Vec::new(alloc),
             closers: None,
             liked,
             justifier,

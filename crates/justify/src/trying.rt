@@ -1,7 +1,7 @@
 // What is tried at a node: through the scope the source that is split next and those that closed the trial of the node above, in the least
-// states that they have here, or where none are kept those that were tried last, if they still have these states; else the pair of the
-// least states of the labels is judged, and where it fails the sources to blame for that are tried, and then all that are told. How sources
-// are tried stands in trial.rt. What closes a trial is left at the desk.
+// states that they have here, and where these do not close it those that were tried last, too; else the pair of the least states of the
+// labels is judged, and where it fails the sources to blame for that are tried, and then all that are told. How sources are tried stands in
+// trial.rt. What closes a trial is left at the desk.
 ghost use Rattle.std.specs.Prelude.{◌≡◌, ◌<◌, length, All, IfOk, IfErr, IfSome, IfNone, IsTrue};
 ghost use Rattle.netlist.specs.Circuit.{line_count};
 ghost use Rattle.netlist.specs.Paths.{IsPrefix};
@@ -25,11 +25,12 @@ use pair_judging::{Target, least, read_test, take_least};
 use pd_base::{LineId, OutOfMemory, Pair};
 use state_sets::{Algebra, State};
 use std::alloc::Global;
+use std::mem;
 
-// Tries the node at which the scope stands, of which the source of the next split is given: by that and what closed the trial above, or what
-// was tried last; else judges the node's pair, and where it fails tries the sources to blame for that, and then all that are told. A test is the answer; else there is
-// none, the node's trial has failed, and a conflict was counted. The scope is afterwards as before, also after an error; and the desk still
-// serves.
+// Tries the node at which the scope stands, of which the source of the next split is given: by that and what closed the trial above or was
+// tried last; else judges the node's pair, and where it fails tries the sources to blame for that, and then all that are told. A test is
+// the answer; else there is none, the node's trial has failed, and a conflict was counted. The scope is afterwards as before, also after an
+// error; and the desk still serves.
 pub(crate) fn try_node<A: Algebra, S: Setting>(
     alloc: Global,
     scope: &mut Scope<A, S>,
@@ -57,8 +58,8 @@ pub(crate) fn try_node<A: Algebra, S: Setting>(
     }
 }
 
-// Whether the node's trial closes by the source of the next split and those that closed the trial of the node above, or where none are kept
-// by those that were tried last.
+// Whether the node's trial closes by the source of the next split and those that closed the trial of the node above, if these are kept, or
+// else by these and those that were tried last: to judge a pair costs the whole cone.
 fn closes_by_tried<A: Algebra, S: Setting>(
     scope: &mut Scope<A, S>,
     target: &Target,
@@ -75,42 +76,130 @@ fn closes_by_tried<A: Algebra, S: Setting>(
     ensures failed { IfOk result (λ closes. IsTrue closes
         → FailsByKept A.algebra (seen_target target.now) (standing scope.old) (standing scope.new) desk.new.closers) }
 {
-    let Some(kept) = above else {
-        return Ok(closes_again(scope, target, desk));
-    };
-    collect_anew(scope, target, desk, split, kept.tried())?;
-    Ok(closes_by(scope, target, desk.tried.as_slice(), &mut desk.closers).is_some())
+    renew_closers(scope, target, desk, split, above)?;
+    let is_closed = closes_by_few(scope, target, desk, above);
+    if is_closed {
+        return Ok(true);
+    }
+    renew_tried(scope, target, desk, split, above)?;
+    Ok(closes_again(scope, target, desk))
 }
 
-// Makes the list of what is tried that of these sources, each in the least state that it has here, and before them that of the next split,
-// so that most often what closes the trial closes a half of it, too. Sources of one state are left out.
-fn collect_anew<A: Algebra, S: Setting>(
+// Whether the node's trial closes by the few sources that are renewed, where what closed the trial above is kept.
+fn closes_by_few<A: Algebra, S: Setting>(
+    scope: &mut Scope<A, S>,
+    target: &Target,
+    desk: &mut Desk,
+    above: &Option<Closers>,
+) -> bool
+    requires suits { SuitsSearch A.algebra (seen_target target.now) (standing scope.old) }
+    requires node { StandsAtNode A.algebra (seen_target target.now) (standing scope.old) }
+    requires desk { IsDesk A.algebra (standing scope.old).net (standing scope.old).rules target.now.path.now desk.old }
+    requires renewed { All (CanTry A.algebra (seen_target target.now) (standing scope.old)) desk.old.renewed.items }
+    ensures kept { desk.new ≡ record desk.old { closers = desk.new.closers } }
+    ensures scope { IsSameScope scope.old scope.new }
+    ensures restored { IsRestored (standing scope.old) (standing scope.new) }
+    ensures failed { IsTrue result → FailsByKept A.algebra (seen_target target.now) (standing scope.old) (standing scope.new) desk.new.closers }
+{
+    if above.is_none() {
+        return false;
+    }
+    let place = closes_by(scope, target, desk.renewed.as_slice(), &mut desk.closers);
+    place.is_some()
+}
+
+// Makes the list of what is renewed that of the sources that closed the trial above, if they are kept, each in the least state that it has
+// here, and before them that of the next split, so that most often what closes the trial closes a half of it, too.
+fn renew_closers<A: Algebra, S: Setting>(
     scope: &Scope<A, S>,
     target: &Target,
     desk: &mut Desk,
     split: Option<LineId>,
-    above: &[Tried],
+    above: &Option<Closers>,
 ) -> Result<(), OutOfMemory>
     requires suits { SuitsSearch A.algebra (seen_target target.now) (standing scope.now) }
     requires node { StandsAtNode A.algebra (seen_target target.now) (standing scope.now) }
     requires desk { IsDesk A.algebra (standing scope.now).net (standing scope.now).rules target.now.path.now desk.old }
     ensures desk { IsDesk A.algebra (standing scope.now).net (standing scope.now).rules target.now.path.now desk.new }
-    ensures tried { IfOk result (λ done. All (CanTry A.algebra (seen_target target.now) (standing scope.now)) desk.new.tried.items) }
+    ensures renewed { IfOk result (λ done. All (CanTry A.algebra (seen_target target.now) (standing scope.now)) desk.new.renewed.items) }
 {
-    desk.tried.clear();
+    desk.renewed.clear();
     if let Some(source) = split {
-        add_least(scope, target, desk, source)?;
+        renew(scope, target, desk, source)?;
     }
-    for entry in above {
+    let Some(kept) = above else {
+        return Ok(());
+    };
+    for entry in kept.tried() {
         if Some(entry.source) != split {
-            add_least(scope, target, desk, entry.source)?;
+            renew(scope, target, desk, entry.source)?;
         }
     }
     Ok(())
 }
 
-// Adds a source in its least state to what is tried, if it is one of the support that is told, and may be in other states, too.
-fn add_least<A: Algebra, S: Setting>(
+// Adds what was tried last to what is renewed, but for what stands there already.
+fn renew_tried<A: Algebra, S: Setting>(
+    scope: &Scope<A, S>,
+    target: &Target,
+    desk: &mut Desk,
+    split: Option<LineId>,
+    above: &Option<Closers>,
+) -> Result<(), OutOfMemory>
+    requires suits { SuitsSearch A.algebra (seen_target target.now) (standing scope.now) }
+    requires node { StandsAtNode A.algebra (seen_target target.now) (standing scope.now) }
+    requires desk { IsDesk A.algebra (standing scope.now).net (standing scope.now).rules target.now.path.now desk.old }
+    requires renewed { All (CanTry A.algebra (seen_target target.now) (standing scope.now)) desk.old.renewed.items }
+    ensures desk { IsDesk A.algebra (standing scope.now).net (standing scope.now).rules target.now.path.now desk.new }
+    ensures renewed { IfOk result (λ done. All (CanTry A.algebra (seen_target target.now) (standing scope.now)) desk.new.renewed.items) }
+{
+    for place in 0..desk.tried.len() {
+        renew_other(scope, target, desk, split, above, place)?;
+    }
+    Ok(())
+}
+
+// Adds what stands at a place of what was tried last, unless it was added before.
+fn renew_other<A: Algebra, S: Setting>(
+    scope: &Scope<A, S>,
+    target: &Target,
+    desk: &mut Desk,
+    split: Option<LineId>,
+    above: &Option<Closers>,
+    place: usize,
+) -> Result<(), OutOfMemory>
+    requires suits { SuitsSearch A.algebra (seen_target target.now) (standing scope.now) }
+    requires node { StandsAtNode A.algebra (seen_target target.now) (standing scope.now) }
+    requires desk { IsDesk A.algebra (standing scope.now).net (standing scope.now).rules target.now.path.now desk.old }
+    requires renewed { All (CanTry A.algebra (seen_target target.now) (standing scope.now)) desk.old.renewed.items }
+    ensures desk { IsDesk A.algebra (standing scope.now).net (standing scope.now).rules target.now.path.now desk.new }
+    ensures renewed { IfOk result (λ done. All (CanTry A.algebra (seen_target target.now) (standing scope.now)) desk.new.renewed.items) }
+{
+    let Some(entry) = desk.tried.get(place) else {
+        return Ok(());
+    };
+    let source = entry.source;
+    if Some(source) == split || is_kept(above, source) {
+        return Ok(());
+    }
+    renew(scope, target, desk, source)
+}
+
+// Whether the source is one of those that closed the trial above, if these are kept.
+fn is_kept(above: &Option<Closers>, source: LineId) -> bool {
+    let Some(kept) = above else {
+        return false;
+    };
+    for entry in kept.tried() {
+        if entry.source == source {
+            return true;
+        }
+    }
+    false
+}
+
+// Adds a source in its least state to what is renewed, if it is one of the support that is told, and may be in other states, too.
+fn renew<A: Algebra, S: Setting>(
     scope: &Scope<A, S>,
     target: &Target,
     desk: &mut Desk,
@@ -119,9 +208,9 @@ fn add_least<A: Algebra, S: Setting>(
     requires suits { SuitsSearch A.algebra (seen_target target.now) (standing scope.now) }
     requires node { StandsAtNode A.algebra (seen_target target.now) (standing scope.now) }
     requires desk { IsDesk A.algebra (standing scope.now).net (standing scope.now).rules target.now.path.now desk.old }
-    requires tried { All (CanTry A.algebra (seen_target target.now) (standing scope.now)) desk.old.tried.items }
+    requires renewed { All (CanTry A.algebra (seen_target target.now) (standing scope.now)) desk.old.renewed.items }
     ensures desk { IsDesk A.algebra (standing scope.now).net (standing scope.now).rules target.now.path.now desk.new }
-    ensures tried { IfOk result (λ done. All (CanTry A.algebra (seen_target target.now) (standing scope.now)) desk.new.tried.items) }
+    ensures renewed { IfOk result (λ done. All (CanTry A.algebra (seen_target target.now) (standing scope.now)) desk.new.renewed.items) }
 {
     if source.0 >= scope.net().sources() {
         return Ok(());
@@ -132,13 +221,13 @@ fn add_least<A: Algebra, S: Setting>(
         state: least::<A>(label),
     };
     if !has_only::<A>(label, entry.state) && has_least(scope, target, desk.cone.marks(), entry) {
-        desk.tried.push(entry)?;
+        desk.renewed.push(entry)?;
     }
     Ok(())
 }
 
-// Whether the node's trial closes by the sources that were tried last, where they still have the same least states. The desk then has that
-// first at which it closed.
+// Whether the node's trial closes by all that is renewed. Then this is what was tried last, and stands there with that first at which it
+// closed.
 fn closes_again<A: Algebra, S: Setting>(
     scope: &mut Scope<A, S>,
     target: &Target,
@@ -147,32 +236,20 @@ fn closes_again<A: Algebra, S: Setting>(
     requires suits { SuitsSearch A.algebra (seen_target target.now) (standing scope.old) }
     requires node { StandsAtNode A.algebra (seen_target target.now) (standing scope.old) }
     requires desk { IsDesk A.algebra (standing scope.old).net (standing scope.old).rules target.now.path.now desk.old }
+    requires renewed { All (CanTry A.algebra (seen_target target.now) (standing scope.old)) desk.old.renewed.items }
     ensures desk { IsDesk A.algebra (standing scope.old).net (standing scope.old).rules target.now.path.now desk.new }
     ensures scope { IsSameScope scope.old scope.new }
     ensures restored { IsRestored (standing scope.old) (standing scope.new) }
     ensures failed { IsTrue result → FailsByKept A.algebra (seen_target target.now) (standing scope.old) (standing scope.new) desk.new.closers }
 {
-    if !can_try_again(scope, target, desk) {
-        return false;
-    }
-    match closes_by(scope, target, desk.tried.as_slice(), &mut desk.closers) {
+    match closes_by(scope, target, desk.renewed.as_slice(), &mut desk.closers) {
         Some(place) => {
-            bring_forward(desk.tried.as_mut_slice(), place);
+            bring_forward(desk.renewed.as_mut_slice(), place);
+            mem::swap(&mut desk.tried, &mut desk.renewed);
             true
         }
         None => false,
     }
-}
-
-// Whether there are sources that were tried last, and they can be tried here in the same states.
-fn can_try_again<A: Algebra, S: Setting>(scope: &Scope<A, S>, target: &Target, desk: &Desk) -> bool
-    requires suits { SuitsSearch A.algebra (seen_target target.now) (standing scope.now) }
-    requires node { StandsAtNode A.algebra (seen_target target.now) (standing scope.now) }
-    requires desk { IsDesk A.algebra (standing scope.now).net (standing scope.now).rules target.now.path.now desk.now }
-    ensures { IsTrue result → All (CanTry A.algebra (seen_target target.now) (standing scope.now)) desk.now.tried.items }
-{
-    let tried = desk.tried.as_slice();
-    !tried.is_empty() && can_try(scope, target, desk, tried)
 }
 
 // Whether the node's trial closes by these sources, and then the place among them of the one at which the conflict came: those up to that

@@ -10,14 +10,14 @@ use Rattle.justify.specs.declared.trial.Tried.{Tried}
 use Rattle.pair_judging.specs.Targets.{seen_target}
 use Rattle.justify.specs.Trying.{CanTry}
 use Rattle.justify.proofs.TriedSources.{tried_again}
-use Rattle.justify.proofs.trying.add_least.Goals as goal
+use Rattle.justify.proofs.trying.renew.Goals as goal
 
-pub returns-in_ok-push-clause-tried : goal.returns-in_ok-push-clause-tried
-returns-in_ok-push-clause-tried g c =
+pub returns-in_ok-push-clause-renewed : goal.returns-in_ok-push-clause-renewed
+returns-in_ok-push-clause-renewed g c =
     let target = seen_target c.args.target.now in let now = standing c.args.scope.now in
     let P : List Tried → Type 0 = λ xs. All (CanTry g.A.Algebra.algebra target now) xs in
     subst P (sym c.in_ok-push.ensures.items)
-    (All-push (CanTry g.A.Algebra.algebra target now) c.args.desk.now.tried.items _ c.requires.tried
+    (All-push (CanTry g.A.Algebra.algebra target now) c.args.desk.now.renewed.items _ c.requires.renewed
     (tried_again g.A.Algebra.algebra target now c.marks.result.now _
     (λ line marked.
     let Q : LinkList → Type 0 = λ links. IsSupported now.net links (end_of now.net target.path) line in
