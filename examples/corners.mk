@@ -3,13 +3,17 @@
 #     make -k -j 8 -f corners.mk                        on one machine; -k goes on with the others where one fails
 #     make -f corners.mk runs/NAME.CORNER.done          one run
 #
-# Beside the three files of a run stand its words, what it printed, and its err. A run whose .done is there was found good by check.
+# Beside the three files of a run stand its words, what it printed, and its err. A run whose .done is there was found good by check. It is
+# made anew where its delays or its netlist are newer; where WORDS change, remove runs/ first. In mode skewed:
+#
+#     make -f corners.mk WORDS='--mode skewed --scan nets/$(basename $*).scan'
 PDFGEN = pdfgen
 WORDS = --paths 1000 --budget 1000 --mode broadside
 
 all: $(patsubst delays/%.csv,runs/%.done,$(wildcard delays/*.csv))
 
-runs/%.done: delays/%.csv
+.SECONDEXPANSION:
+runs/%.done: delays/%.csv nets/$$(basename $$*).bench
 	mkdir -p runs
 	echo '$(WORDS)' > runs/$*.words
 	$(PDFGEN) gen nets/$(basename $*).bench $< runs/$*.tests runs/$*.report runs/$*.proofs $(WORDS) > runs/$*.out 2> runs/$*.err

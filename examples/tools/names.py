@@ -9,6 +9,7 @@ from refusing import Refused, read_text
 MAP_HEADER = "what,name,line,value"
 MAP_WORDS = ("input", "output", "clock", "held", "constant", "flip_flop", "gate", "setup", "clock_to_q")
 NAME_BYTES_AT_MOST = 255
+ENUMERATED = re.compile("_[0-9]+_")  # what `rename -enumerate` of yosys makes of names that it gave itself
 PLAIN = set(range(33, 127)) - set(b'"#(),=%*')
 
 
@@ -47,7 +48,7 @@ def bits_of(name, wire):
 def name_nets(module):
     """A name for each net of a module: that of a port, else one of the design's, else one that yosys gave. No two have the same."""
     wires = list(module["ports"].items())
-    wires += sorted(module["netnames"].items(), key=lambda named: named[1]["hide_name"])
+    wires += sorted(module["netnames"].items(), key=lambda named: (named[1]["hide_name"], bool(ENUMERATED.fullmatch(named[0]))))
     names, taken = {}, set()
     for name, bit in (pair for wire in wires for pair in bits_of(*wire)):
         if isinstance(bit, int) and bit not in names and escaped(name) not in taken:

@@ -71,6 +71,8 @@ class PinDelays:
         if (cell, name) not in self.pins:
             return
         pin, kind = self.pins[cell, name]
+        if entry[2] != ("Q" if self.kinds[cell] == "flip_flop" else "Y"):
+            raise Refused(f"MAP has no output {spelled(entry[2])} of {unescaped(cell)}")
         lists = [part for part in entry[3:] if isinstance(part, list) and part[:1] != ["RETAIN"]]
         values = self.read_values(lists)
         if (cell, name) in self.clocked:

@@ -1,21 +1,49 @@
 """What all tools here share: files read and written whole, and bad input refused with one line and status 1.
 
 Texts are read byte for byte (latin-1), since a netlist's comments may hold any bytes."""
+import argparse
 import os
 import sys
+
+FILES = []  # what this call has read
 
 
 class Refused(Exception):
     """Bad input. Its text is the line that the tool prints on err."""
 
 
+class Words(argparse.ArgumentParser):
+    """A parser of a tool's words. It refuses them with one line and status 2; --help prints the tool's text as it stands."""
+
+    def __init__(self, text):
+        super().__init__(description=text, formatter_class=argparse.RawDescriptionHelpFormatter)
+
+    def error(self, message):
+        self.exit(2, one_line(f"{self.prog}: words: {message}") + "\n")
+
+
 def read_text(name):
     """The text of a file, its ends of lines as they stand."""
+    FILES.append(name)
     try:
         with open(name, encoding="latin-1", newline="") as file:
             return file.read()
     except OSError as fault:
         raise Refused(f"{name}: {fault.strerror}")
+
+
+def refuse_overwriting(*outputs):
+    """Refuses an output that is another file of this call, by whatever name. Called when all inputs are read."""
+    for at, name in enumerate(outputs):
+        if any(is_same(name, other) for other in [*FILES, *outputs[:at]]):
+            raise Refused(f"{name}: would overwrite another file of this call")
+
+
+def is_same(name, other):
+    """Whether two names are of one file, there or not. What is no file, as /dev/null, may be written twice."""
+    if os.path.exists(name) and os.path.exists(other):
+        return os.path.isfile(name) and os.path.samefile(name, other)
+    return os.path.realpath(name) == os.path.realpath(other)
 
 
 def write_text(name, text):

@@ -28,7 +28,7 @@ def read_lists(text):
             raise Refused(f"SDF line {1 + text.count(chr(10), 0, at)}: a parenthesis too many")
         elif token["word"] or token["string"]:
             lists[-1].append(token["word"] or token["string"][1:-1])
-    if len(lists) != 1 or len(lists[0]) != 1 or lists[0][0][:1] != ["DELAYFILE"]:
+    if len(lists) != 1 or len(lists[0]) != 1 or not parts(lists[0], "DELAYFILE"):
         raise Refused("SDF: not one DELAYFILE")
     return lists[0][0]
 

@@ -41,6 +41,8 @@ class Guide(ToolTest):
             if missing(words):
                 print(f"without {missing(words)}: {words}")
                 continue
+            if "parallel" in words:
+                shutil.rmtree(self.folder / "runs")  # else all stand already
             ended = subprocess.run(["bash", "-c", words], cwd=self.folder, capture_output=True, text=True)
             self.assertEqual((ended.returncode, ended.stderr), (0, ""), words)
             if printed:

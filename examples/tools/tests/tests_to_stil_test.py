@@ -1,4 +1,5 @@
 """tests_to_stil, on runs worked out by hand, and played on a good chip."""
+import pathlib
 from calling import EXAMPLES, REPORT_HEADER, ToolTest, lines
 from circuit import read_circuit
 from stil_player import Player
@@ -106,6 +107,21 @@ class TestsToStil(ToolTest):
         files = self.broadside()
         self.write("report", self.read("report").replace("1,a,d:0", "1,q,d:0"))
         self.refuse("tests_to_stil", "path 1 WrongPath", *files, "--mode", "broadside", "--time", "5")
+
+    def test_a_report_of_another_run_is_refused(self):
+        files = self.broadside()
+        report = lines(REPORT_HEADER, "1,rise,1,q,d:1,untestable,-,-,1", "1,fall,1,q,d:1,nonrobust,1,2,-", "2,rise,1,a,d:0,untestable,-,-,3",
+                       "2,fall,1,a,d:0,robust,2,-,-")
+        self.write("report", report)
+        reason = "test 1: no test of path 1, fall, that REPORT lists (of another run?)"
+        self.refuse("tests_to_stil", reason, *files, "--mode", "broadside", "--time", "5")
+
+    def test_an_input_is_not_overwritten(self):
+        *files, _ = self.broadside()
+        for name in files[1:]:
+            held = pathlib.Path(name).read_text()
+            self.refuse("tests_to_stil", f"{name}: would overwrite another file of this call", *files, name, "--mode", "broadside", "--time", "5")
+            self.assertEqual(pathlib.Path(name).read_text(), held)
 
     def test_a_netlist_without_flip_flops_is_refused(self):
         files = self.broadside()

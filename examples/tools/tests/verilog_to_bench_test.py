@@ -57,6 +57,19 @@ class VerilogToBench(ToolTest):
         text["modules"]["top"]["ports"]["\xc3\xbc"] = text["modules"]["top"]["ports"].pop("y")
         self.assertIn("OUTPUT(%C3%BC)\n", self.written(json.dumps(text, ensure_ascii=False))[0])
 
+    def test_names_of_the_design_come_before_those_of_yosys(self):
+        text = design()
+        nets = text["modules"]["top"]["netnames"]
+        text["modules"]["top"]["netnames"] = {"_0_": net(7), **nets}
+        self.assertIn("flip_flop,ff,q%280%29,\n", self.written(json.dumps(text))[1])
+
+    def test_one_file_is_not_written_twice(self):
+        json_file, net_file = self.write("json", json.dumps(design())), self.path("net")
+        self.refuse("verilog_to_bench", f"{net_file}: would overwrite another file of this call", json_file, net_file, net_file)
+        self.assertFalse((self.folder / "net").exists())
+        self.refuse("verilog_to_bench", f"{json_file}: would overwrite another file of this call", json_file, net_file, json_file)
+        self.assertFalse((self.folder / "net").exists())
+
     def refused(self, reason, text):
         self.refuse("verilog_to_bench", reason, self.write("json", text), self.path("net"), self.path("map"))
         self.assertFalse((self.folder / "net").exists())
