@@ -23,7 +23,7 @@ line_alone line.NameTooLong number reason same = cc
 line_alone line.Syntax number reason same = cc
 line_alone line.UnknownKind number reason same = cc
 line_alone line.FanIn number reason same = cc
-line_alone line.NoMemory number reason same = cc
+line_alone (line.NoMemory _) number reason same = cc
 
 -- nor is that of a line and the lines behind it
 line_before : (number : ℕ) (reading : Reading) (rest : Statements) (reason : BuildFault) → ¬ (rest ≡ Err (Build reason))
@@ -49,7 +49,7 @@ answers_refusal text (Syntax number) answer = answer
 answers_refusal text (UnknownKind number) answer = answer
 answers_refusal text (FanIn number) answer = answer
 answers_refusal text (Build reason) answer = absurd (lines_alone 1 (lines_of text) reason answer)
-answers_refusal text NoMemory answer = tt
+answers_refusal text (NoMemory _) answer = tt
 
 -- a text has one list of statements at most
 same_statements : (text : List ℕ) (a b : List Numbered) → statements_of text ≡ Ok a → statements_of text ≡ Ok b → a ≡ b
@@ -71,4 +71,4 @@ circuit_not_refused text c (FanIn number) has refused = let read = has.read in c
 circuit_not_refused text c (Build reason) has refused =
     let same = same_statements text has.statements refused.statements has.read refused.read in
     refuses_none has.statements c reason has.described (subst (λ statements. Refuses statements reason) (sym same) refused.refused)
-circuit_not_refused text c NoMemory has refused = refused
+circuit_not_refused text c (NoMemory _) has refused = refused

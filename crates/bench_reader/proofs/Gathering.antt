@@ -39,7 +39,7 @@ adds_line number (Err fault) before after rest adds = absurd adds
 -- the answer where a line is refused
 refuses_line : (number : ℕ) (reading : Reading) (fault : BenchFault) (before : List Numbered) (rest expected : Statements)
     → expected ≡ put_first before (with_line number reading rest) → RefusesLine number reading fault → IsAnswer (Err fault) expected
-refuses_line number reading NoMemory before rest expected is refuses = tt
+refuses_line number reading (NoMemory _) before rest expected is refuses = tt
 refuses_line number (Err line) (BadByte at) before rest expected is refuses = is ∙ ap Err (sym refuses)
 refuses_line number (Err line) (NameTooLong at) before rest expected is refuses = is ∙ ap Err (sym refuses)
 refuses_line number (Err line) (Syntax at) before rest expected is refuses = is ∙ ap Err (sym refuses)

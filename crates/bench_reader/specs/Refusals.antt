@@ -15,11 +15,11 @@ pub record HasNoCircuit (text : List ℕ) (fault : BuildFault) : Type 0 where
 
 -- the text is refused for this reason: by its first line that is refused, or else because its statements describe no circuit
 abbrev pub RefusesText : List ℕ → BenchFault → Type 0
-RefusesText text NoMemory = ⊥
+RefusesText text (NoMemory _) = ⊥
 RefusesText text (Build fault) = HasNoCircuit text fault
 RefusesText text fault = statements_of text ≡ Err fault
 
 -- an answer that is no netlist: a reason, or want of memory
 abbrev pub MayRefuseText : List ℕ → BenchFault → Type 0
-MayRefuseText text NoMemory = ⊤
+MayRefuseText text (NoMemory _) = ⊤
 MayRefuseText text fault = RefusesText text fault

@@ -63,7 +63,7 @@ statement_seen arguments (seen.Flop target line) = Flop target.now line.now
 abbrev pub IsReading : List (Bor (List ℕ)) → Result (Option BorrowedStatement) LineFault → Reading → Type 0
 IsReading arguments (Ok None) reading = reading ≡ Ok None
 IsReading arguments (Ok (Some statement)) reading = reading ≡ says (statement_seen arguments statement)
-IsReading arguments (Err NoMemory) reading = ⊤
+IsReading arguments (Err (NoMemory _)) reading = ⊤
 IsReading arguments (Err fault) reading = reading ≡ Err fault
 
 -- the statement of an answer is lawful, if it has one
@@ -75,7 +75,7 @@ IsLawfulAnswer arguments (Err fault) = ⊤
 -- the same of an answer that is a statement
 abbrev pub IsStatementReading : List (Bor (List ℕ)) → Result BorrowedStatement LineFault → Reading → Type 0
 IsStatementReading arguments (Ok statement) reading = reading ≡ says (statement_seen arguments statement)
-IsStatementReading arguments (Err NoMemory) reading = ⊤
+IsStatementReading arguments (Err (NoMemory _)) reading = ⊤
 IsStatementReading arguments (Err fault) reading = reading ≡ Err fault
 
 -- the names of the arguments that these tokens spell, none where no tokens are left
@@ -91,11 +91,11 @@ tokens_left (Some tokens) = suc (length tokens.now)
 -- why the tokens were not listed
 abbrev pub ListingFails : List ℕ → LineFault → Type 0
 ListingFails code BadByte = has_bad_byte code ≡ true
-ListingFails code NoMemory = ⊤
+ListingFails code (NoMemory _) = ⊤
 ListingFails code _ = ⊥
 
 -- why the arguments were not listed
 abbrev pub ArgumentsFail : List Token → LineFault → Type 0
 ArgumentsFail tokens Syntax = arguments_of tokens ≡ None
-ArgumentsFail tokens NoMemory = ⊤
+ArgumentsFail tokens (NoMemory _) = ⊤
 ArgumentsFail tokens _ = ⊥

@@ -15,7 +15,7 @@ at_line line.NameTooLong number = NameTooLong number
 at_line line.Syntax number = Syntax number
 at_line line.UnknownKind number = UnknownKind number
 at_line line.FanIn number = FanIn number
-at_line line.NoMemory number = NoMemory
+at_line (line.NoMemory refused) number = NoMemory refused
 
 -- the statements of a text, or why it is refused
 abbrev pub Statements : Type 0
@@ -44,7 +44,7 @@ statements_of text = statements_from 1 (lines_of text)
 -- the answer is this, or memory ran out
 abbrev pub IsAnswer : Statements → Statements → Type 0
 IsAnswer (Ok statements) expected = expected ≡ Ok statements
-IsAnswer (Err NoMemory) expected = ⊤
+IsAnswer (Err (NoMemory _)) expected = ⊤
 IsAnswer (Err fault) expected = expected ≡ Err fault
 
 -- the statement of a line of this number is put last, if it has one
@@ -55,6 +55,6 @@ AddsLine number (Err fault) before after = ⊥
 
 -- a line of this number is refused so, or memory ran out
 abbrev pub RefusesLine : ℕ → Reading → BenchFault → Type 0
-RefusesLine number reading NoMemory = ⊤
+RefusesLine number reading (NoMemory _) = ⊤
 RefusesLine number (Err fault) answer = answer ≡ at_line fault number
 RefusesLine number (Ok found) answer = ⊥

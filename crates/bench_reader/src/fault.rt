@@ -4,6 +4,7 @@ ghost use Rattle.bench_reader.specs.Texts.{at_line};
 
 use crate::line_fault::LineFault;
 use net_builder::BuildFault;
+use pd_base::OutOfMemory;
 use thiserror::Error;
 
 /// Why a text is refused, with the number of the line where one is. The first line that is refused is named, by the first
@@ -30,7 +31,7 @@ pub enum BenchFault {
     Build(BuildFault),
     /// Memory ran out.
     #[error("want of memory")]
-    NoMemory,
+    NoMemory(OutOfMemory),
 }
 
 // A line's fault, with the number of the line.
@@ -43,6 +44,6 @@ pub(crate) fn at_line(fault: LineFault, number: u32) -> BenchFault
         LineFault::Syntax => BenchFault::Syntax(number),
         LineFault::UnknownKind => BenchFault::UnknownKind(number),
         LineFault::FanIn => BenchFault::FanIn(number),
-        LineFault::NoMemory => BenchFault::NoMemory,
+        LineFault::NoMemory(refused) => BenchFault::NoMemory(refused),
     }
 }

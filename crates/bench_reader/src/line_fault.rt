@@ -1,6 +1,8 @@
 // Why a line of a netlist is refused.
 ghost use Rattle.std.specs.Prelude.{◌≡◌};
+ghost use Rattle.pd_base.specs.Memory.{out_of_memory};
 
+use pd_base::OutOfMemory;
 use std::alloc::AllocFailed;
 
 /// The first of these that is true of a line is why it is refused. `NoMemory` stands beside them.
@@ -17,15 +19,15 @@ pub enum LineFault {
     /// A gate or a flip-flop of this kind takes another number of arguments.
     FanIn,
     /// Memory ran out.
-    NoMemory,
+    NoMemory(OutOfMemory),
 }
 
 impl<T: Drop> From<AllocFailed<T>> for LineFault {
     ghost use Rattle.bench_reader.specs.declared.line_fault.LineFault.TheVariants.{NoMemory};
 
-    ghost from_gives = { λ _ fault. fault ≡ NoMemory };
+    ghost from_gives = { λ _ fault. fault ≡ NoMemory out_of_memory };
 
-    fn from(_: AllocFailed<T>) -> LineFault {
-        LineFault::NoMemory
+    fn from(error: AllocFailed<T>) -> LineFault {
+        LineFault::NoMemory(error.into())
     }
 }

@@ -21,7 +21,7 @@ pub fn read_bench(alloc: Global, bytes: &[u8]) -> Result<Netlist, BenchFault>
     let raw = read_statements(alloc, bytes)?;
     match build(alloc, &raw) {
         Ok(net) => Ok(net),
-        Err(BuildFault::NoMemory) => Err(BenchFault::NoMemory),
+        Err(BuildFault::NoMemory(refused)) => Err(BenchFault::NoMemory(refused)),
         Err(fault) => Err(BenchFault::Build(fault)),
     }
 }

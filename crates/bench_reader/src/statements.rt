@@ -1,5 +1,6 @@
 // A text is read line by line into a list of statements.
 ghost use Rattle.std.specs.Prelude.{◌≡◌, ◌<◌, ◌≤◌, [], ◌∷◌, ◌++◌, length, OnOk, IfErr};
+ghost use Rattle.pd_base.specs.Memory.{out_of_memory};
 ghost use Rattle.pd_base.specs.declared.limits.TheConstants.{MOST_BYTES};
 ghost use Rattle.netlist.specs.declared.limits.TheConstants.{MOST_STATEMENTS};
 ghost use Rattle.netlist.specs.NameTexts.{bytes_of};
@@ -64,7 +65,7 @@ fn push(
     requires lawful { IsStatement (statement_seen arguments.now statement) }
     requires few { length raw.old < MOST_STATEMENTS }
     ensures ok { OnOk result (raw.new ≡ raw.old ++ numbered number (statement_seen arguments.now statement.entry) ∷ []) }
-    ensures err { IfErr result (λ fault. fault ≡ BenchFault.NoMemory) }
+    ensures err { IfErr result (λ fault. fault ≡ BenchFault.NoMemory out_of_memory) }
 {
     let pushed = match statement {
         Statement::Input(name) => raw.push_input(number, name),
@@ -72,5 +73,5 @@ fn push(
         Statement::Gate(name, kind) => raw.push_gate(number, name, kind, arguments),
         Statement::Flop(name, data_line) => raw.push_flop(number, name, data_line),
     };
-    pushed.map_err(|_| BenchFault::NoMemory)
+    pushed.map_err(BenchFault::NoMemory)
 }

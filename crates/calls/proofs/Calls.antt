@@ -1,6 +1,7 @@
 -- What follows for a whole call of any command from how it performed and was reported.
 use Rattle.std.proofs.Common.{◌≡◌, ℕ, List, [], ◌∷◌, ◌++◌, Option, refl, sym, ap, subst, ◌∙◌, append_assoc}
 use Rattle.std.specs.Prelude.{⊤}
+use Rattle.pd_base.specs.Memory.{out_of_memory}
 use Rattle.pd_io.specs.Folder.{Folder}
 use Rattle.pd_io.specs.Seen.{FilesSeen, SinkSeen, Outside, seen_of}
 use Rattle.pd_io.proofs.Tellings.{tells_chain}
@@ -29,7 +30,7 @@ abbrev pub IsOfRefusal : Status → Type 0
 IsOfRefusal exit.Done = ⊥
 IsOfRefusal exit.ReadFault = ⊥
 IsOfRefusal exit.WriteFault = ⊥
-IsOfRefusal exit.NoMemory = ⊥
+IsOfRefusal (exit.NoMemory _) = ⊥
 IsOfRefusal status = ⊤
 
 -- for each cause it is one of them
@@ -48,7 +49,7 @@ done_alone (Refused refusal) other same = refusal_status refusal.cause exit.Done
 done_alone (ReadFault role) other same = cc
 done_alone (WriteFault role) other same = cc
 done_alone OutFault other same = cc
-done_alone NoMemory other same = cc
+done_alone (NoMemory _) other same = cc
 
 -- the status of work that was done is reported of no other ending, and leaves err as it is
 reported_done : (ending : Ending) (old new : SinkSeen) → IsReported ending exit.Done old new
@@ -57,7 +58,7 @@ reported_done ending old new (reports.nothing is done same) = (is, same)
 reported_done ending old new (reports.whole other status line) = absurd (done_alone ending other (sym status))
 reported_done ending old new (reports.cut other status part) = absurd (done_alone ending other (sym status))
 reported_done ending old new (reports.no_memory other status part) =
-    let none : exit.Done ≡ exit.NoMemory = status in absurd (cc)
+    let none : exit.Done ≡ (exit.NoMemory out_of_memory) = status in absurd (cc)
 
 -- work that came to its end was done
 performed_done : (work : Work) (old new : Outside) → Performs work Done (seen_of old) (seen_of new) → new.err ≡ old.err
@@ -116,7 +117,7 @@ accepted_not_refused work refusal old new accepted it =
 -- the endings to which a call comes that nothing stops but want of memory
 data EndsDoneOrNoMemory (ending : Ending) : Type 0 where
   is_done_ending : ending ≡ Done → EndsDoneOrNoMemory ending
-  is_memory_ending : ending ≡ NoMemory → EndsDoneOrNoMemory ending
+  is_memory_ending : ending ≡ NoMemory out_of_memory → EndsDoneOrNoMemory ending
 
 -- where nothing failed and the inputs are accepted, a call ends so
 ends_so : (work : Work) (old new : Outside) (ending : Ending) → Performs work ending (seen_of old) (seen_of new)
@@ -133,7 +134,7 @@ ends_so work old new (WriteFault role) (calls.wrote inputs products read passed 
 ends_so work old new OutFault (calls.stopped stops same) accepted none = absurd stops
 ends_so work old new OutFault (calls.wrote inputs products read passed gives writes) accepted none =
     absurd (none.out writes.rose)
-ends_so work old new NoMemory performed accepted none = is_memory_ending refl
+ends_so work old new (NoMemory _) performed accepted none = is_memory_ending refl
 
 -- the status of such an ending
 status_so : (ending : Ending) (status : Status) (old new : SinkSeen) → IsReported ending status old new

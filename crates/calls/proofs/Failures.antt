@@ -1,6 +1,6 @@
 -- The causes of the statuses 5, 6 and 7: which reads or writes failed, and what stands then.
 use Rattle.std.proofs.Common.{◌≡◌, refl, sym, subst, ◌∙◌}
-use Rattle.pd_io.specs.Counts.{Rose}
+use Rattle.pd_base.specs.Memory.{out_of_memory}
 use Rattle.pd_io.specs.Seen.{Outside, seen_of}
 use Rattle.calls.specs.declared.ending.Ending.{Ending}
 use Rattle.calls.specs.declared.ending.Ending.TheVariants.{Done, Refused, ReadFault, WriteFault, OutFault, NoMemory}
@@ -19,7 +19,7 @@ use Rattle.calls.proofs.Outputs.{rose_later}
 -- the status is that of its ending, or that of want of memory
 data StatusIs (ending : Ending) (status : Status) : Type 0 where
   of_ending : status ≡ status_of ending → StatusIs ending status
-  of_memory : status ≡ exit.NoMemory → StatusIs ending status
+  of_memory : status ≡ exit.NoMemory out_of_memory → StatusIs ending status
 
 -- so is each that is reported
 status_is : (ending : Ending) (status : Status) (old new : Outside) → IsReported ending status old.err new.err
@@ -43,12 +43,12 @@ read_failed work status old new ends failed =
       by_kind (ReadFault role) (calls.wrote inputs products read passed gives writes) is = absurd writes
       by_kind (WriteFault role) performed is = absurd (cc)
       by_kind OutFault performed is = absurd (cc)
-      by_kind NoMemory performed is = absurd (cc)
+      by_kind (NoMemory _) performed is = absurd (cc)
 
       by_ending : (ending : Ending) → Performs work ending (seen_of old) (seen_of new) → StatusIs ending status
           → HasFailedRead work old new
       by_ending ending performed (of_ending is) = by_kind ending performed (sym is ∙ failed)
-      by_ending ending performed (of_memory is) = let never : exit.NoMemory ≡ exit.ReadFault = sym is ∙ failed in absurd (cc)
+      by_ending ending performed (of_memory is) = let never : exit.NoMemory out_of_memory ≡ exit.ReadFault = sym is ∙ failed in absurd (cc)
 
 -- the status of a failed write has its failed write
 pub write_failed : (work : Work) (status : Status) (old new : Outside) → Ends work status old new
@@ -65,9 +65,9 @@ write_failed work status old new ends failed =
           of_files (rose_later _ _ _ passed.only.write_faults writes.rose)
       by_kind OutFault (calls.stopped stops same) is = absurd stops
       by_kind OutFault (calls.wrote inputs products read passed gives writes) is = of_out writes.rose
-      by_kind NoMemory performed is = absurd (cc)
+      by_kind (NoMemory _) performed is = absurd (cc)
 
       by_ending : (ending : Ending) → Performs work ending (seen_of old) (seen_of new) → StatusIs ending status
           → HasFailedWrite old new
       by_ending ending performed (of_ending is) = by_kind ending performed (sym is ∙ failed)
-      by_ending ending performed (of_memory is) = let never : exit.NoMemory ≡ exit.WriteFault = sym is ∙ failed in absurd (cc)
+      by_ending ending performed (of_memory is) = let never : exit.NoMemory out_of_memory ≡ exit.WriteFault = sym is ∙ failed in absurd (cc)

@@ -3,6 +3,7 @@ use Rattle.std.proofs.Common.{◌≡◌, ℕ, ◌+◌, ◌<◌, List, [], ◌∷
 use Rattle.std.proofs.lemmas.List.{append-nil, length-replicate}
 use Rattle.std.specs.Prelude.{Vec, replicate, MatchResult, ◌≢◌, IsErrOf}
 use Rattle.std.specs.declared.alloc.Global.{Global}
+use Rattle.pd_base.specs.Memory.{out_of_memory}
 use Rattle.pd_io.specs.declared.fault.ReadFault.{ReadFault}
 use Rattle.pd_io.specs.declared.fault.ReadFault.TheVariants as reading
 use Rattle.pd_io.specs.Counts.{HasCause}
@@ -84,10 +85,10 @@ names_asked result name (Some before) (Some after) (whole.no_memory why same) =
 
 -- memory ran out
 pub out_of_memory : (role : Role) (name : List ℕ) (result : Result (Vec ℕ Global) ReadFault) (old new : FilesSeen)
-    → result ≡ Err reading.NoMemory → Tells old.folder new.folder (AsksFor result name)
+    → result ≡ Err (reading.NoMemory out_of_memory) → Tells old.folder new.folder (AsksFor result name)
     → HasCause old.read_faults new.read_faults result reading.Failed → new.write_faults ≡ old.write_faults
-    → FailsToRead role name ended.NoMemory old new
+    → FailsToRead role name (ended.NoMemory out_of_memory) old new
 out_of_memory role name result old new is asked cause write =
     let names = names_asked result name old.folder new.folder asked in
     no_memory names.0 refl names.1 names.2
-    (uncounted result reading.NoMemory old.read_faults new.read_faults is (λ same. cc) cause) write
+    (uncounted result (reading.NoMemory out_of_memory) old.read_faults new.read_faults is (λ same. cc) cause) write

@@ -2,13 +2,13 @@
 -- which refusal it is.
 use Rattle.std.proofs.Common.{◌≡◌, ℕ, List, [], ◌∷◌, ◌++◌, Option, refl, sym, ap, subst, ◌∙◌, append_assoc}
 use Rattle.std.proofs.lemmas.List.{append-nil, append_cancel_left}
+use Rattle.pd_base.specs.Memory.{out_of_memory}
 use Rattle.pd_io.specs.Folder.{Folder}
-use Rattle.pd_io.specs.Seen.{FilesSeen, Outside, SinkSeen, seen_of}
+use Rattle.pd_io.specs.Seen.{FilesSeen, Outside, seen_of}
 use Rattle.calls.specs.declared.refusal.Refusal.{Refusal}
 use Rattle.calls.specs.declared.ending.Ending.{Ending}
 use Rattle.calls.specs.declared.ending.Ending.TheVariants.{Done, NoMemory, OutFault, ReadFault, Refused, WriteFault}
 use Rattle.calls.specs.declared.status.Status.{Status}
-use Rattle.calls.specs.Lines.{status_of}
 use Rattle.calls.specs.Passing.{Pass}
 use Rattle.calls.specs.Reports.{IsReported}
 use Rattle.calls.specs.Reports as reports
@@ -121,11 +121,11 @@ module _ (work : Work) (folder : Option Folder) (front : List (Stage work.Requir
         absurd (none.write (rose_later _ _ _ pass.only.write_faults writes.rose))
     ends_so old new OutFault tells none (calls.stopped stops same) status reported = absurd stops
     ends_so old new OutFault tells none (calls.wrote read products mid pass gives writes) status reported = absurd (none.out writes.rose)
-    ends_so old new NoMemory tells none performed status (reports.nothing is exit_is same) =
-        let never : NoMemory ≡ Done = is in absurd cc
-    ends_so old new NoMemory tells none performed status (reports.whole other is line) = laws.done (calls.no_memory is)
-    ends_so old new NoMemory tells none performed status (reports.cut other is part) = laws.done (calls.no_memory is)
-    ends_so old new NoMemory tells none performed status (reports.no_memory other is part) = laws.done (calls.no_memory is)
+    ends_so old new (NoMemory _) tells none performed status (reports.nothing is exit_is same) =
+        let never : NoMemory out_of_memory ≡ Done = is in absurd cc
+    ends_so old new (NoMemory _) tells none performed status (reports.whole other is line) = laws.done (calls.no_memory is)
+    ends_so old new (NoMemory _) tells none performed status (reports.cut other is part) = laws.done (calls.no_memory is)
+    ends_so old new (NoMemory _) tells none performed status (reports.no_memory other is part) = laws.done (calls.no_memory is)
 
     -- where nothing failed, a call of it is answered so
     pub answered_at : (status : Status) (old new : Outside) → Ends work status old new → old.files.folder ≡ folder → NoneFailed old new

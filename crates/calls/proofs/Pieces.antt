@@ -51,7 +51,7 @@ module _ (text next : List ℕ) where
     taken = tells_weaker old.taken new.taken (TookPart text) (TookPart (text ++ next)) ends.taken (part_before text next);
     rose = ends.rose;
   }
-  cut_there NoMemory old new ends = record {
+  cut_there (NoMemory _) old new ends = record {
     taken = tells_weaker old.taken new.taken (TookPart text) (TookPart (text ++ next)) ends.taken (part_before text next);
     uncounted = ends.uncounted;
   }
@@ -75,7 +75,7 @@ module _ (text next : List ℕ) where
     taken = part_of_next old mid new whole ends.taken;
     rose = subst (λ (count : ℕ). Rose count new.faults) whole.uncounted ends.rose;
   }
-  then_written (Err NoMemory) old mid new whole ends = record {
+  then_written (Err (NoMemory _)) old mid new whole ends = record {
     taken = part_of_next old mid new whole ends.taken;
     uncounted = ends.uncounted ∙ whole.uncounted;
   }

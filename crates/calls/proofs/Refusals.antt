@@ -1,6 +1,7 @@
 -- What the files hold is refused where it leads to a refusal, and nothing else comes in its place, unless a read or write fails or memory
 -- runs out; and each status of a refusal has its refusal.
 use Rattle.std.proofs.Common.{◌≡◌, ℕ, List, [], ◌∷◌, ◌++◌, Option, refl, sym, ap, subst, ◌∙◌}
+use Rattle.pd_base.specs.Memory.{out_of_memory}
 use Rattle.pd_io.specs.Folder.{Folder}
 use Rattle.pd_io.specs.Seen.{SinkSeen, Outside, seen_of}
 use Rattle.pd_io.proofs.Tellings.{tells_weaker}
@@ -31,7 +32,7 @@ use Rattle.calls.proofs.Calls.{refusal_status, stage_behind, told_before}
 data EndsRefused (work : Work) (requirement : work.Requirement) (inputs : List (List ℕ)) (ending : Ending) : Type 0 where
   by_refusal : (refusal : Refusal) → ending ≡ Refused refusal → work.Refuses requirement inputs refusal
       → EndsRefused work requirement inputs ending
-  by_memory : ending ≡ NoMemory → EndsRefused work requirement inputs ending
+  by_memory : ending ≡ NoMemory out_of_memory → EndsRefused work requirement inputs ending
 
 module _ (work : Work) (folder : Option Folder) (first : LeadsToRefusal work folder) where
   -- the names read before the requirement are told
@@ -86,7 +87,7 @@ module _ (work : Work) (folder : Option Folder) (first : LeadsToRefusal work fol
   ends_refused old new (ReadFault role) tells none (calls.stopped stops same) = absurd (none.read stops.rose)
   ends_refused old new (WriteFault role) tells none (calls.stopped stops same) = absurd stops
   ends_refused old new OutFault tells none (calls.stopped stops same) = absurd stops
-  ends_refused old new NoMemory tells none (calls.stopped stops same) = by_memory refl
+  ends_refused old new (NoMemory _) tells none (calls.stopped stops same) = by_memory refl
 
   -- such an ending is reported
   answered_so : (ending : Ending) (status : Status) (old new : SinkSeen) → IsReported ending status old new
@@ -94,7 +95,7 @@ module _ (work : Work) (folder : Option Folder) (first : LeadsToRefusal work fol
   answered_so ending status old new reported (by_refusal refusal is refuses) =
       laws.refused refusal refuses (subst (λ (e : Ending). IsReported e status old new) is reported)
   answered_so ending status old new (reports.nothing is done same) (by_memory none) =
-      let never : Done ≡ NoMemory = sym is ∙ none in absurd (cc)
+      let never : Done ≡ (NoMemory out_of_memory) = sym is ∙ none in absurd (cc)
   answered_so ending status old new (reports.whole other is line) (by_memory none) = laws.no_memory (is ∙ ap status_of none)
   answered_so ending status old new (reports.cut other is part) (by_memory none) = laws.no_memory (is ∙ ap status_of none)
   answered_so ending status old new (reports.no_memory other is part) (by_memory none) = laws.no_memory is
@@ -159,14 +160,14 @@ module _ (work : Work) (cause : Cause) (status : Status) (old new : Outside) (of
   by_status (ReadFault role) performed is reported = absurd (refusal_status cause exit.ReadFault (sym of ∙ is))
   by_status (WriteFault role) performed is reported = absurd (refusal_status cause exit.WriteFault (sym of ∙ is))
   by_status OutFault performed is reported = absurd (refusal_status cause exit.WriteFault (sym of ∙ is))
-  by_status NoMemory performed is reported = absurd (refusal_status cause exit.NoMemory (sym of ∙ is))
+  by_status (NoMemory refused) performed is reported = absurd (refusal_status cause (exit.NoMemory refused) (sym of ∙ is))
 
   by_report : (ending : Ending) → Performs work ending (seen_of old) (seen_of new)
       → IsReported ending status old.err new.err → IsReported ending status old.err new.err → WasRefused work cause status old new
   by_report ending performed (reports.nothing is done same) reported = absurd (refusal_status cause exit.Done (sym of ∙ done))
   by_report ending performed (reports.whole other is line) reported = by_status ending performed is reported
   by_report ending performed (reports.cut other is part) reported = by_status ending performed is reported
-  by_report ending performed (reports.no_memory other is part) reported = absurd (refusal_status cause exit.NoMemory (sym of ∙ is))
+  by_report ending performed (reports.no_memory other is part) reported = absurd (refusal_status cause (exit.NoMemory out_of_memory) (sym of ∙ is))
 
   -- the status of refusals for a cause has such a refusal
   pub was_refused : Ends work status old new → WasRefused work cause status old new
@@ -179,7 +180,7 @@ pub record HasRefusal (work : Work) (status : Status) (old new : Outside) : Type
   pub refused : IsRefused work refusal old.files new.files
 
 module _ (work : Work) (status : Status) (old new : Outside) (none : NoneFailed old new) (not_done : status ≡ exit.Done → ⊥)
-    (not_memory : status ≡ exit.NoMemory → ⊥) where
+    (not_memory : status ≡ exit.NoMemory out_of_memory → ⊥) where
   -- the status is that of the ending
   of_ending : (ending : Ending) → IsReported ending status old.err new.err → status ≡ status_of ending
   of_ending ending (reports.nothing is done same) = absurd (not_done done)
@@ -198,7 +199,7 @@ module _ (work : Work) (status : Status) (old new : Outside) (none : NoneFailed 
       absurd (none.write (rose_later _ _ _ passed.only.write_faults writes.rose))
   by_kind OutFault (calls.stopped stops same) is = absurd stops
   by_kind OutFault (calls.wrote inputs products read passed gives writes) is = absurd (none.out writes.rose)
-  by_kind NoMemory performed is = absurd (not_memory is)
+  by_kind (NoMemory _) performed is = absurd (not_memory is)
 
   -- where nothing failed and memory sufficed, a call that was not done was refused
   pub has_refusal : Ends work status old new → HasRefusal work status old new

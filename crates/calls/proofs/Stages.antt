@@ -1,6 +1,7 @@
 -- The stages of a command, one after the other: what was passed so far, and how the call may end at the next stage.
 use Rattle.std.proofs.Common.{◌≡◌, ℕ, List, [], ◌∷◌, ◌++◌, Option, None, Some, refl, sym, ap, subst, ◌∙◌, append_assoc, arith}
 use Rattle.std.proofs.lemmas.List.{append-nil}
+use Rattle.pd_base.specs.Memory.{out_of_memory}
 use Rattle.pd_io.specs.Folder.{Folder, bytes_at}
 use Rattle.pd_io.specs.Telling.{Tells, IsFrontOf}
 use Rattle.pd_io.specs.Seen.{FilesSeen}
@@ -120,7 +121,7 @@ module _ (work : Work) where
 
   -- want of memory behind stages that were passed
   pub stops_for_memory : {stages : List (Stage work.Requirement)} {inputs : List (List ℕ)} {old new : FilesSeen}
-      → HasPassed work stages inputs old new → IsFrontOf stages work.stages → Stops work NoMemory old new
+      → HasPassed work stages inputs old new → IsFrontOf stages work.stages → Stops work (NoMemory out_of_memory) old new
   stops_for_memory {stages} {inputs} {old} {new} before front = record {
     before = stages;
     next = [];

@@ -1,5 +1,6 @@
 -- What the program promises of a whole call of any command (this project's own).
 use Rattle.std.specs.Prelude.{◌≡◌, ⊤, ℕ, List, [], ◌∷◌, ◌++◌, Option, None, Some}
+use Rattle.pd_base.specs.Memory.{out_of_memory}
 use Rattle.pd_io.specs.Counts.{Rose}
 use Rattle.pd_io.specs.Folder.{Folder}
 use Rattle.pd_io.specs.Telling.{Tells}
@@ -65,4 +66,4 @@ pub record NoneFailed (old new : Outside) : Type 0 where
 -- the statuses to which a call comes that nothing stops but want of memory
 pub data IsDoneOrNoMemory (status : Status) : Type 0 where
   done : status ≡ exit.Done → IsDoneOrNoMemory status
-  no_memory : status ≡ exit.NoMemory → IsDoneOrNoMemory status
+  no_memory : status ≡ exit.NoMemory out_of_memory → IsDoneOrNoMemory status

@@ -1,6 +1,7 @@
 -- One input, read or not (this project's own).
 use Rattle.std.specs.Prelude.{◌≡◌, ℕ, ◌+◌, ◌<◌, ◌≤◌, List, [], ◌∷◌, length, Option, None, Some, Vec}
 use Rattle.std.specs.declared.alloc.Global.{Global}
+use Rattle.pd_base.specs.Memory.{out_of_memory}
 use Rattle.pd_io.specs.Counts.{Rose}
 use Rattle.pd_io.specs.Telling.{Tells, IsFrontOf}
 use Rattle.pd_io.specs.Seen.{FilesSeen}
@@ -40,7 +41,7 @@ pub data FailsToRead (role : Role) (name : List ℕ) (ending : Ending) (old new 
       → Rose old.read_faults new.read_faults → new.write_faults ≡ old.write_faults
       → FailsToRead role name ending old new
   -- memory ran out, before the name was asked or afterwards
-  no_memory : (names : List (List ℕ)) → ending ≡ NoMemory → IsFrontOf names (name ∷ [])
+  no_memory : (names : List (List ℕ)) → ending ≡ NoMemory out_of_memory → IsFrontOf names (name ∷ [])
       → Tells old.folder new.folder (AsksOnly names)
       → new.read_faults ≡ old.read_faults → new.write_faults ≡ old.write_faults
       → FailsToRead role name ending old new

@@ -1,5 +1,6 @@
 -- What holds of every call, whatever its command, by its status and by what the files told (this project's own).
 use Rattle.std.specs.Prelude.{◌≡◌, ℕ, List, [], ◌∷◌, ◌++◌, Option}
+use Rattle.pd_base.specs.Memory.{out_of_memory}
 use Rattle.pd_io.specs.Counts.{Rose}
 use Rattle.pd_io.specs.Folder.{Folder}
 use Rattle.pd_io.specs.Telling.{Tells}
@@ -63,7 +64,7 @@ pub data AnswersRefusal (work : Work) (requirement : work.Requirement) (inputs :
     : Type 0 where
   refused : (refusal : Refusal) → work.Refuses requirement inputs refusal → IsReported (Refused refusal) status old new
       → AnswersRefusal work requirement inputs status old new
-  no_memory : status ≡ exit.NoMemory → AnswersRefusal work requirement inputs status old new
+  no_memory : status ≡ exit.NoMemory out_of_memory → AnswersRefusal work requirement inputs status old new
 
 -- the work was done, or memory ran out; or this requirement refused these inputs, which was reported
 pub data AnswersAt (work : Work) (last : work.Requirement) (inputs : List (List ℕ)) (status : Status) (old new : SinkSeen) : Type 0 where

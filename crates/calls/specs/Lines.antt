@@ -33,7 +33,7 @@ line_of (Refused refusal) = refusal_line refusal
 line_of (ReadFault role) = line (codes "read fault " ++ role_word role)
 line_of (WriteFault role) = line (codes "write fault " ++ role_word role)
 line_of OutFault = line (codes "write fault out")
-line_of NoMemory = line (codes "want of memory")
+line_of (NoMemory _) = line (codes "want of memory")
 
 -- the status of refusals for a cause
 abbrev pub status_for : Cause → Status
@@ -53,7 +53,7 @@ status_of (Refused refusal) = status_for refusal.cause
 status_of (ReadFault role) = exit.ReadFault
 status_of (WriteFault role) = exit.WriteFault
 status_of OutFault = exit.WriteFault
-status_of NoMemory = exit.NoMemory
+status_of (NoMemory refused) = exit.NoMemory refused
 
 -- the number of a status
 abbrev pub number_of : Status → ℕ
@@ -64,7 +64,7 @@ number_of exit.Netlist = 3
 number_of exit.Delays = 4
 number_of exit.ReadFault = 5
 number_of exit.WriteFault = 6
-number_of exit.NoMemory = 7
+number_of (exit.NoMemory _) = 7
 number_of exit.Size = 8
 number_of exit.Scan = 10
 number_of exit.Pair = 11

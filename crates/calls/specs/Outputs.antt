@@ -1,5 +1,6 @@
 -- The outputs, one after the other, each written or not (this project's own).
 use Rattle.std.specs.Prelude.{◌≡◌, ℕ, List, ◌∷◌, ◌++◌}
+use Rattle.pd_base.specs.Memory.{out_of_memory}
 use Rattle.pd_io.specs.Counts.{Rose}
 use Rattle.pd_io.specs.Telling.{Tells}
 use Rattle.pd_io.specs.Whole.{HoldsPart, TookPart}
@@ -16,7 +17,7 @@ pub data FailsToWrite (due : Due) (ending : Ending) (old new : FilesSeen) : Type
       → Rose old.write_faults new.write_faults → new.read_faults ≡ old.read_faults
       → FailsToWrite due ending old new
   -- memory ran out
-  no_memory : ending ≡ NoMemory → Tells old.folder new.folder (HoldsPart due.name due.text)
+  no_memory : ending ≡ NoMemory out_of_memory → Tells old.folder new.folder (HoldsPart due.name due.text)
       → new.write_faults ≡ old.write_faults → new.read_faults ≡ old.read_faults
       → FailsToWrite due ending old new
 
@@ -39,5 +40,5 @@ pub data Prints (text : List ℕ) (ending : Ending) (old new : SinkSeen) : Type 
   failed : ending ≡ OutFault → Tells old.taken new.taken (TookPart text) → Rose old.faults new.faults
       → Prints text ending old new
   -- memory ran out, and out took a part, not all
-  no_memory : ending ≡ NoMemory → Tells old.taken new.taken (TookPart text) → new.faults ≡ old.faults
+  no_memory : ending ≡ NoMemory out_of_memory → Tells old.taken new.taken (TookPart text) → new.faults ≡ old.faults
       → Prints text ending old new

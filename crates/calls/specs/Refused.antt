@@ -1,5 +1,6 @@
 -- What a call does that is refused before it does anything, as for its words (this project's own).
 use Rattle.std.specs.Prelude.{◌≡◌, ⊤, ℕ, List, [], ◌∷◌}
+use Rattle.pd_base.specs.Memory.{out_of_memory}
 use Rattle.pd_io.specs.Seen.{SinkSeen}
 use Rattle.calls.specs.declared.ending.Ending.TheVariants.{Refused}
 use Rattle.calls.specs.declared.refusal.Refusal.{Refusal}
@@ -28,4 +29,4 @@ refused_at_once refusal = record {
 -- such a call reports its refusal, or memory ran out
 pub data ReportsAtOnce (refusal : Refusal) (status : Status) (old new : SinkSeen) : Type 0 where
   refused : IsReported (Refused refusal) status old new → ReportsAtOnce refusal status old new
-  no_memory : status ≡ exit.NoMemory → ReportsAtOnce refusal status old new
+  no_memory : status ≡ exit.NoMemory out_of_memory → ReportsAtOnce refusal status old new

@@ -1,5 +1,6 @@
 -- How an ending is reported: what err took, and the status (this project's own).
 use Rattle.std.specs.Prelude.{◌≡◌, ◌≢◌, ◌++◌, ⊤, List, ℕ, Result, Ok, Err}
+use Rattle.pd_base.specs.Memory.{out_of_memory}
 use Rattle.pd_io.specs.Counts.{Rose}
 use Rattle.pd_io.specs.Telling.{Tells}
 use Rattle.pd_io.specs.Whole.{TookPart}
@@ -35,7 +36,7 @@ pub record ErrLacksMemory (text : List ℕ) (old new : SinkSeen) : Type 0 where
 abbrev pub LineEnds : List ℕ → Result ⊤ FileFault → SinkSeen → SinkSeen → Type 0
 LineEnds text (Ok done) old new = HasWholeLine text old new
 LineEnds text (Err failure.Failed) old new = FailedWithin text old new
-LineEnds text (Err failure.NoMemory) old new = ErrLacksMemory text old new
+LineEnds text (Err (failure.NoMemory _)) old new = ErrLacksMemory text old new
 
 -- how an ending was reported
 pub data IsReported (ending : Ending) (status : Status) (old new : SinkSeen) : Type 0 where
@@ -48,5 +49,5 @@ pub data IsReported (ending : Ending) (status : Status) (old new : SinkSeen) : T
   cut : ending ≢ Done → status ≡ status_of ending → FailedWithin (line_of ending) old new
       → IsReported ending status old new
   -- err had no memory
-  no_memory : ending ≢ Done → status ≡ exit.NoMemory → ErrLacksMemory (line_of ending) old new
+  no_memory : ending ≢ Done → status ≡ exit.NoMemory out_of_memory → ErrLacksMemory (line_of ending) old new
       → IsReported ending status old new

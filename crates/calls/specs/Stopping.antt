@@ -51,4 +51,4 @@ Stops work (Refused refusal) old new = IsRefused work refusal old new
 Stops work (ReadFault role) old new = IsUnread work role old new
 Stops work (WriteFault role) old new = ⊥
 Stops work OutFault old new = ⊥
-Stops work NoMemory old new = LacksMemory work old new
+Stops work (NoMemory _) old new = LacksMemory work old new

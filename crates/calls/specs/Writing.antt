@@ -78,4 +78,4 @@ Writes products (Refused refusal) old new = ⊥
 Writes products (ReadFault role) old new = ⊥
 Writes products (WriteFault role) old new = IsUnwritten products role old new
 Writes products OutFault old new = IsUnprinted products old new
-Writes products NoMemory old new = LacksMemoryToWrite products old new
+Writes products (NoMemory _) old new = LacksMemoryToWrite products old new

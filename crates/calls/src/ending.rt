@@ -19,14 +19,14 @@ pub enum Ending {
     /// A write on out failed.
     OutFault,
     /// Memory ran out.
-    NoMemory,
+    NoMemory(OutOfMemory),
 }
 
 impl From<OutOfMemory> for Ending {
-    ghost from_gives = { λ _ ending. ending ≡ ended.NoMemory };
+    ghost from_gives = { λ refused ending. ending ≡ ended.NoMemory refused };
 
-    fn from(_: OutOfMemory) -> Ending {
-        Ending::NoMemory
+    fn from(refused: OutOfMemory) -> Ending {
+        Ending::NoMemory(refused)
     }
 }
 

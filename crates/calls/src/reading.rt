@@ -25,6 +25,6 @@ pub fn read_input<F: Files>(
         Ok(bytes) => Ok(Some(bytes)),
         Err(ReadFault::TooLong) => Ok(None),
         Err(ReadFault::Failed) => Err(Ending::ReadFault(role)),
-        Err(ReadFault::NoMemory) => Err(Ending::NoMemory),
+        Err(ReadFault::NoMemory(refused)) => Err(Ending::NoMemory(refused)),
     }
 }

@@ -2,35 +2,37 @@
 ghost use Rattle.std.specs.Prelude.{◌≡◌};
 ghost use Rattle.calls.specs.Lines.{number_of};
 
+use pd_base::OutOfMemory;
+
 /// How a call ended, as the number with which the program ends.
 #[derive(Clone, Copy, Debug, PartialEq, Eq)]
 pub enum Status {
     /// The work was done.
-    Done = 0,
+    Done,
     /// A claim file is malformed, the run that the claim files spell is not good, a listed path is none of the netlist, or a test expects
     /// other bits than the values of the observed lines.
-    Refused = 1,
+    Refused,
     /// The words were refused.
-    Words = 2,
+    Words,
     /// The netlist has no circuit.
-    Netlist = 3,
+    Netlist,
     /// The delay file gives no delays.
-    Delays = 4,
+    Delays,
     /// A file could not be read.
-    ReadFault = 5,
+    ReadFault,
     /// A file or out could not be written.
-    WriteFault = 6,
+    WriteFault,
     /// Memory ran out.
-    NoMemory = 7,
+    NoMemory(OutOfMemory),
     /// An input has more bytes than are read of it, the texts may be too long, a line changes too often under a test, or there are too many
     /// tests for so many faults.
-    Size = 8,
+    Size,
     /// The scan file gives no chains of the circuit.
-    Scan = 10,
+    Scan,
     /// A test has a pair of vectors that the last shift of the chains does not launch.
-    Pair = 11,
+    Pair,
     /// The log is refused: it is no log of these tests.
-    Log = 12,
+    Log,
 }
 
 impl Status {
@@ -38,6 +40,19 @@ impl Status {
     pub fn number(self) -> u8
         ensures { result ≡ number_of self }
     {
-        self as u8
+        match self {
+            Status::Done => 0,
+            Status::Refused => 1,
+            Status::Words => 2,
+            Status::Netlist => 3,
+            Status::Delays => 4,
+            Status::ReadFault => 5,
+            Status::WriteFault => 6,
+            Status::NoMemory(_) => 7,
+            Status::Size => 8,
+            Status::Scan => 10,
+            Status::Pair => 11,
+            Status::Log => 12,
+        }
     }
 }

@@ -20,7 +20,7 @@ pub fn tell<E: Sink>(ending: &Ending, err: &mut E) -> Status
     }
     match write_ending(ending, err) {
         Ok(()) | Err(FileFault::Failed) => status(ending),
-        Err(FileFault::NoMemory) => Status::NoMemory,
+        Err(FileFault::NoMemory(refused)) => Status::NoMemory(refused),
     }
 }
 
@@ -33,7 +33,7 @@ fn status(ending: &Ending) -> Status
         Ending::Refused(refusal) => refusal.cause().status(),
         Ending::ReadFault(_) => Status::ReadFault,
         Ending::WriteFault(_) | Ending::OutFault => Status::WriteFault,
-        Ending::NoMemory => Status::NoMemory,
+        Ending::NoMemory(refused) => Status::NoMemory(*refused),
     }
 }
 
@@ -48,7 +48,7 @@ fn write_ending<E: Sink>(ending: &Ending, err: &mut E) -> Result<(), FileFault>
         Ending::ReadFault(role) => write_fault(err, b"read fault ", *role),
         Ending::WriteFault(role) => write_fault(err, b"write fault ", *role),
         Ending::OutFault => write_text(err, b"write fault out\n"),
-        Ending::NoMemory => write_text(err, b"want of memory\n"),
+        Ending::NoMemory(_) => write_text(err, b"want of memory\n"),
     }
 }
 

@@ -26,7 +26,7 @@ pub fn write_file<F: Files, P: Pieces>(
     match write_pieces(alloc, files, name, pieces) {
         Ok(()) => Ok(()),
         Err(WriteFault::Failed) => Err(Ending::WriteFault(role)),
-        Err(WriteFault::NoMemory) => Err(Ending::NoMemory),
+        Err(WriteFault::NoMemory(refused)) => Err(Ending::NoMemory(refused)),
     }
 }
 
@@ -37,6 +37,6 @@ pub fn print<O: Sink>(text: &[u8], out: &mut O) -> Ending
     match write_all(out, text) {
         Ok(()) => Ending::Done,
         Err(FileFault::Failed) => Ending::OutFault,
-        Err(FileFault::NoMemory) => Ending::NoMemory,
+        Err(FileFault::NoMemory(refused)) => Ending::NoMemory(refused),
     }
 }

@@ -42,7 +42,7 @@ module _ (form : Form) (words : List (List ℕ)) where
   -- words that may not are refused, too
   pub words_fault : (fault : WordsFault) → IsFaultOf taken_by fault → IsFaultOf (accepted_texts form words) fault
   words_fault (Refused reason) taken = ap (λ (outcome : Result Given WordsRefusal). then_taken outcome (texts_judged form)) taken
-  words_fault NoMemory taken = tt
+  words_fault (NoMemory _) taken = tt
 
   -- they are accepted
   pub texts_accepted : (accepted : AreAccepted form words) → accepted_texts form words ≡ Ok (texts_given accepted.given)

@@ -74,7 +74,7 @@ given_of taken = record {
 -- the words are refused for the reason that this outcome has, or memory ran out
 abbrev pub IsFaultOf : {A : Type 0} → Result A WordsRefusal → WordsFault → Type 0
 IsFaultOf outcome (Refused reason) = outcome ≡ Err reason
-IsFaultOf outcome NoMemory = ⊤
+IsFaultOf outcome (NoMemory _) = ⊤
 
 -- a word was taken, or is refused, as this outcome has it, or memory ran out
 abbrev pub TakesAs : Result Given WordsRefusal → Given → Result ⊤ WordsFault → Type 0

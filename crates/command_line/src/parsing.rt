@@ -12,6 +12,7 @@ use crate::OptionName;
 use crate::form::WordsForm;
 use clap::error::ErrorKind;
 use clap::{Arg, ArgAction, ArgMatches, Command, Error};
+use pd_base::OutOfMemory;
 use std::alloc::Global;
 
 /// The values of the words of a command, as clap has them.
@@ -51,6 +52,13 @@ pub(crate) fn parsed_words<'a>(
     let parser = words_parser(alloc, form.options)?;
     let matches = parser.try_get_matches_from(words)?;
     values_of(alloc, matches)
+}
+
+// The want of memory that an error of clap tells of, by its kind.
+pub(crate) fn refused_memory(_error: Error) -> OutOfMemory
+    requires { kind_of _error ≡ ErrorKind.OutOfMemory }
+{
+    OutOfMemory::reported()
 }
 
 // What clap is told of the words: one argument takes all positional words, and each option that the command knows has a value. Each

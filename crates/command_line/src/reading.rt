@@ -5,7 +5,7 @@ ghost use Rattle.command_line.specs.Reading.{AreAccepted, accepted_texts, togeth
 ghost use Rattle.command_line.specs.Taken.{IsFaultOf, given_of, texts_parsed};
 
 use crate::form::CommandForm;
-use crate::parsing::{Parsed, parsed_words};
+use crate::parsing::{Parsed, parsed_words, refused_memory};
 use crate::same::same_among;
 use crate::taken::Taken;
 use crate::taking::taken_words;
@@ -25,7 +25,7 @@ pub(crate) fn accepted_words<'a, F: CommandForm>(
     judge_words::<F>(alloc, later)?;
     match parsed_words(alloc, F::words(), words) {
         Ok(parsed) => Ok(parsed),
-        Err(_) => Err(WordsFault::NoMemory),
+        Err(error) => Err(WordsFault::NoMemory(refused_memory(error))),
     }
 }
 

@@ -2,6 +2,7 @@
 use Rattle.std.proofs.Common.{◌≡◌, ℕ, List, [], ◌∷◌, ◌++◌, codes, length, refl, sym, ap, subst, ◌∙◌}
 use Rattle.std.specs.Prelude.{Vec}
 use Rattle.std.specs.declared.alloc.Global.{Global}
+use Rattle.pd_base.specs.Memory.{out_of_memory}
 use Rattle.pd_base.specs.declared.test.Test.{Test}
 use Rattle.pd_io.specs.Seen.{FilesSeen}
 use Rattle.netlist.specs.Circuit.{Circuit}
@@ -47,12 +48,12 @@ log_judged tests text (log.NoTest row) refuses = judging.refused _ refl (record 
 log_judged tests text (log.BadTime row) refuses = judging.refused _ refl (record { fault = log.BadTime row; refused = refuses; is = refl })
 log_judged tests text (log.BadResult row) refuses =
     judging.refused _ refl (record { fault = log.BadResult row; refused = refuses; is = refl })
-log_judged tests text log.NoMemory refuses = judging.no_memory refl
+log_judged tests text (log.NoMemory _) refuses = judging.no_memory refl
 
 -- want of memory is no refusal
-memory_is_no_refusal : (fault : LogFault) (refusal : Refusal) → fault ≡ log.NoMemory → ¬ (log_ending fault ≡ Refused refusal)
+memory_is_no_refusal : (fault : LogFault) (refusal : Refusal) → fault ≡ log.NoMemory out_of_memory → ¬ (log_ending fault ≡ Refused refusal)
 memory_is_no_refusal fault refusal none is =
-    let never : NoMemory ≡ Refused refusal = sym (ap log_ending none) ∙ is in absurd cc
+    let never : NoMemory out_of_memory ≡ Refused refusal = sym (ap log_ending none) ∙ is in absurd cc
 
 -- a log is not refused
 is_no_fault : (tests : ℕ) (text : List ℕ) (rows : List LogRow) (refusal : Refusal) → IsLog tests text rows → ¬ HasNoLogFor tests text refusal
@@ -124,7 +125,7 @@ module _ (call : BoundsCall) (c : Circuit) (old mid new : FilesSeen) (net : Give
               (accepts_log call net.text.items texts.tests.items texts.report.items text.items c net.holds listed spell.tests_are rows is_log)
 
           -- memory ran out behind them
-          pub no_memory : Stops (bounds_work call) NoMemory old last
+          pub no_memory : Stops (bounds_work call) (NoMemory out_of_memory) old last
           no_memory = stops_for_memory (bounds_work call) all_passed ([], refl)
 
           -- the text was made

@@ -1,6 +1,7 @@
 -- SCAN behind stages that were passed with NET in front, whichever they are: what is passed with it, how the call ends there, and what the
 -- files tell of it is accepted.
 use Rattle.std.proofs.Common.{◌≡◌, ℕ, ◌≤◌, List, [], ◌∷◌, ◌++◌, length, Some, refl, sym, ap, subst, ◌∙◌, append_assoc}
+use Rattle.pd_base.specs.Memory.{out_of_memory}
 use Rattle.pd_base.specs.declared.ids.LineId.{LineId}
 use Rattle.pd_io.specs.Folder.{Folder, bytes_at}
 use Rattle.pd_io.specs.Seen.{FilesSeen}
@@ -40,7 +41,7 @@ told_so c scan (fault.Twice place) refuses =
     judging.refused _ refl (record { fault = fault.Twice place; refused = refuses; is = refl })
 told_so c scan (fault.Missing flop) refuses =
     judging.refused _ refl (record { fault = fault.Missing flop; refused = refuses; is = refl })
-told_so c scan fault.NoMemory refuses = judging.no_memory refl
+told_so c scan (fault.NoMemory _) refuses = judging.no_memory refl
 
 pub chains_judged : (c : Circuit) (scan : List ℕ) (fault : ScanFault) (ending : Ending) → RefusesScan c scan fault
     → EndsForScan c fault ending → FailsChains c scan ending
@@ -51,7 +52,7 @@ chains_judged c scan fault ending refuses (judging.scan_untold is) = judging.no_
 chains_not_refused : (c : Circuit) (scan : List ℕ) (chains : List (List LineId)) (refusal : Refusal) → HasChains c scan chains
     → ¬ HasNoChainsFor c scan refusal
 chains_not_refused c scan chains refusal has it =
-    let never : NoMemory ≡ Refused refusal =
+    let never : NoMemory out_of_memory ≡ Refused refusal =
     sym (ap (λ (fault : ScanFault). scan_ending c fault) (scan_not_refused c scan chains it.fault has it.refused)) ∙ it.is in
     absurd cc
 

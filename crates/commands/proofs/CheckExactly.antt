@@ -3,6 +3,7 @@
 use Rattle.std.proofs.Common.{◌≡◌, ◌≢◌, ℕ, ◌+◌, List, [], ◌∷◌, ◌++◌, Option, Some, Ok, length, refl, sym, ap, subst, ◌∙◌, arith}
 use Rattle.std.proofs.lemmas.List.{length-append, length_push}
 use Rattle.std.specs.Prelude.{◌↔◌}
+use Rattle.pd_base.specs.Memory.{out_of_memory}
 use Rattle.pd_io.specs.Folder.{Folder}
 use Rattle.pd_io.specs.Seen.{Outside}
 use Rattle.run_files.specs.ProofsText.{version_of}
@@ -138,7 +139,7 @@ module _ (call : RunCall) (told : Folder) (texts : RunTexts) where
 
     -- a call over such files, of which nothing failed and that did not run out of memory
     module _ (status : Status) (old new : Outside) (ends : Ends (check_work call) status old new) (tells : old.files.folder ≡ Some told)
-        (none : NoneFailed old new) (enough : status ≢ exit.NoMemory) where
+        (none : NoneFailed old new) (enough : status ≢ exit.NoMemory out_of_memory) where
       spell_if_done : status ≡ exit.Done → SpellGoodRun call texts
       spell_if_done done =
           let it = is_done work status old new ends done in

@@ -1,5 +1,6 @@
 -- The stages of `compact` behind NET: what is passed up to its products, and how the call ends there.
 use Rattle.std.proofs.Common.{◌≡◌, List, [], ◌∷◌, ◌++◌, codes, length, refl}
+use Rattle.pd_base.specs.Memory.{out_of_memory}
 use Rattle.pd_base.specs.declared.test.Test.{Test}
 use Rattle.pd_io.specs.Seen.{FilesSeen}
 use Rattle.netlist.specs.Circuit.{Circuit}
@@ -54,7 +55,7 @@ module _ (call : CompactCall) (c : Circuit) (old mid new : FilesSeen) (net : Giv
           graded
 
       -- memory ran out behind them
-      pub no_memory : Stops (compact_work call) NoMemory old new
+      pub no_memory : Stops (compact_work call) (NoMemory out_of_memory) old new
       no_memory = stops_for_memory (compact_work call) all_passed ([], refl)
 
       -- tests were left out

@@ -1,6 +1,7 @@
 -- A text without a circuit, or one that gives no delays, is refused for its fault; one that has a circuit, gives delays, has its form or
 -- a short product is not refused.
 use Rattle.std.proofs.Common.{◌≡◌, ℕ, ◌≤◌, List, refl, ap, sym, subst, ◌∙◌, arith}
+use Rattle.pd_base.specs.Memory.{out_of_memory}
 use Rattle.pd_base.specs.declared.test.Test.{Test}
 use Rattle.net_builder.specs.declared.fault.BuildFault.TheVariants as build
 use Rattle.netlist.specs.Circuit.{Circuit}
@@ -60,8 +61,8 @@ net_judged text (bench.Build (build.Loop line name)) refuses =
     judging.refused _ refl (record { fault = bench.Build (build.Loop line name); refused = refuses; is = refl })
 net_judged text (bench.Build (build.TooDeep line name)) refuses =
     judging.refused _ refl (record { fault = bench.Build (build.TooDeep line name); refused = refuses; is = refl })
-net_judged text (bench.Build build.NoMemory) refuses = judging.no_memory refl
-net_judged text bench.NoMemory refuses = judging.no_memory refl
+net_judged text (bench.Build (build.NoMemory _)) refuses = judging.no_memory refl
+net_judged text (bench.NoMemory _) refuses = judging.no_memory refl
 
 -- so does a fault of a delay file
 pub delays_judged : (columns : Columns) (c : Circuit) (text : List ℕ) (fault : DelayFault) → RefusesFile c columns text fault
@@ -75,12 +76,12 @@ delays_judged columns c text (delay.BadPin row) refuses =
     judging.refused _ refl (record { fault = delay.BadPin row; refused = refuses; is = refl })
 delays_judged columns c text (delay.BadNumber row) refuses =
     judging.refused _ refl (record { fault = delay.BadNumber row; refused = refuses; is = refl })
-delays_judged columns c text delay.NoMemory refuses = judging.no_memory refl
+delays_judged columns c text (delay.NoMemory _) refuses = judging.no_memory refl
 
 -- want of memory is no refusal
-memory_is_no_refusal : (fault : DelayFault) (refusal : Refusal) → fault ≡ delay.NoMemory → ¬ (delays_ending fault ≡ Refused refusal)
+memory_is_no_refusal : (fault : DelayFault) (refusal : Refusal) → fault ≡ delay.NoMemory out_of_memory → ¬ (delays_ending fault ≡ Refused refusal)
 memory_is_no_refusal fault refusal none is =
-    let never : NoMemory ≡ Refused refusal = sym (ap delays_ending none) ∙ is in absurd cc
+    let never : NoMemory out_of_memory ≡ Refused refusal = sym (ap delays_ending none) ∙ is in absurd cc
 
 -- a text that gives delays in these columns, for either transition, is not refused
 pub gives_delays : (columns : Columns) (direction : Direction) (c : Circuit) → IsCircuit c → (text : List ℕ) (delays : Delays)

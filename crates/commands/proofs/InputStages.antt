@@ -20,7 +20,7 @@ use Rattle.calls.specs.Stopping.{Stops}
 use Rattle.calls.proofs.Stages.{begun, then_required, stops_refused}
 use Rattle.commands.specs.declared.inputs.reading.TheConstants.{INPUT_LIMIT}
 use Rattle.commands.specs.declared.inputs.sizes.TheConstants.{MOST_PATH_TEXT, MOST_TEST_TEXT}
-use Rattle.commands.specs.Inside.InputJudging.{FailsToGive, FailsToGiveDelays, FailsToGiveNet, GivesDelays, GivesFrom, GivesNet, ReadsWithin}
+use Rattle.commands.specs.Inside.InputJudging.{FailsToGive, FailsToGiveDelays, FailsToGiveNet, GivesDelays, GivesFrom, GivesNet}
 use Rattle.commands.specs.Inside.InputJudging as judging
 use Rattle.commands.specs.InputRefusals.{long_path_text, long_test_text}
 use Rattle.commands.specs.InputRequirements.{HasMalformed, LacksCircuit, HasNoDelaysFor, InputCommand, Requirement, ShortPathText, ShortTestText, SpellsCircuit, SpellsDelays, WellFormed, delays_stages, input_at, input_stages, net_stages, short_stages, work_on_inputs}

@@ -1,6 +1,7 @@
 -- What follows for a call of `make`: it is always accepted, touches no file, and answers 0, 6 or 7.
 use Rattle.std.proofs.Common.{◌≡◌, ℕ, List, [], ◌∷◌, ◌++◌, Option, refl, sym, ap, subst, ◌∙◌}
 use Rattle.std.proofs.lemmas.List.{append-nil}
+use Rattle.pd_base.specs.Memory.{out_of_memory}
 use Rattle.pd_io.specs.Folder.{Folder}
 use Rattle.pd_io.specs.Seen.{FilesSeen, SinkSeen, Outside, Seen, seen_of}
 use Rattle.pd_io.specs.Telling.{Tells}
@@ -66,7 +67,7 @@ made_performed call line shown files ending old new gives is prints =
 
 -- memory ran out before the line was made
 pub made_no_memory : (call : MakeCall) (files : FilesSeen) (out : SinkSeen)
-    → Performs (make_work call) NoMemory (record { files = files; out = out }) (record { files = files; out = out })
+    → Performs (make_work call) (NoMemory out_of_memory) (record { files = files; out = out }) (record { files = files; out = out })
 made_no_memory call files out = stopped (stops_for_memory (make_work call) (begun (make_work call) files) ([], refl)) refl
 
 -- no stage stands among none
@@ -90,7 +91,7 @@ none_written files old new none stands = among_none stands.before stands.due sta
 data EndsMake (ending : Ending) : Type 0 where
   is_done : ending ≡ Done → EndsMake ending
   is_unprinted : ending ≡ OutFault → EndsMake ending
-  is_without_memory : ending ≡ NoMemory → EndsMake ending
+  is_without_memory : ending ≡ NoMemory out_of_memory → EndsMake ending
 
 make_ends : (call : MakeCall) (ending : Ending) (old new : Seen) → Performs (make_work call) ending old new → EndsMake ending
 make_ends call Done old new performed = is_done refl
@@ -102,7 +103,7 @@ make_ends call (WriteFault role) old new (stopped stops same) = absurd stops
 make_ends call (WriteFault role) old new (wrote inputs products read passed gives writes) =
     absurd (none_written products.files read new.files (none_due call inputs products gives) writes.stands)
 make_ends call OutFault old new performed = is_unprinted refl
-make_ends call NoMemory old new performed = is_without_memory refl
+make_ends call (NoMemory _) old new performed = is_without_memory refl
 
 -- the status of such an ending
 status_of_make : (ending : Ending) (status : Status) → EndsMake ending → status ≡ status_of ending → AnswersMake status
@@ -164,7 +165,7 @@ make_touches_no_file call OutFault old new (stopped stops same) = absurd stops
 make_touches_no_file call OutFault old new (wrote inputs products read passed gives writes) =
     none_touched old.files read new.files products.files (none_due call inputs products gives) passed.asked passed.only.read_faults
     passed.only.write_faults writes.stands.files
-make_touches_no_file call NoMemory old new (stopped stops same) =
+make_touches_no_file call (NoMemory _) old new (stopped stops same) =
     let stages = front_of_none (stops.before ++ stops.next) stops.place.0 stops.place.1 in
     record {
       told = asked_none old.files.folder new.files.folder stops.names
@@ -172,9 +173,9 @@ make_touches_no_file call NoMemory old new (stopped stops same) =
       read_faults = stops.read_faults;
       write_faults = stops.write_faults;
     }
-make_touches_no_file call NoMemory old new (wrote inputs products read passed gives (in_file stands same out)) =
+make_touches_no_file call (NoMemory _) old new (wrote inputs products read passed gives (in_file stands same out)) =
     absurd (none_written products.files read new.files (none_due call inputs products gives) stands)
-make_touches_no_file call NoMemory old new (wrote inputs products read passed gives (on_out stands same)) =
+make_touches_no_file call (NoMemory _) old new (wrote inputs products read passed gives (on_out stands same)) =
     none_touched old.files read new.files products.files (none_due call inputs products gives) passed.asked passed.only.read_faults
     passed.only.write_faults stands.files
 

@@ -28,4 +28,4 @@ pub fault_performed : (asked : Result Call WordsRefusal) (fault : WordsFault) (s
 fault_performed asked (fault.Refused reason) seen is =
     asked_performed asked (Err reason) (Refused (words_refusal reason)) seen seen is
     (stopped (stops_at_once (refused_at_once (words_refusal reason)) seen.files tt (words_refusal reason) ([], refl) refl) refl)
-fault_performed asked fault.NoMemory seen is = stopped (stops_for_memory (work_of asked) (begun (work_of asked) seen.files) (_, refl)) refl
+fault_performed asked (fault.NoMemory _) seen is = stopped (stops_for_memory (work_of asked) (begun (work_of asked) seen.files) (_, refl)) refl

@@ -13,7 +13,7 @@ module _ (c : Circuit) (waves : PairWaves) (tests : List Test) where
   -- the line that is named is one of the circuit
   pub names_line : (fault : ReplayTextFault) → RefusesTestsOf c waves tests fault → NamesLine c fault
   names_line (TooManyChanges number line) refuses = over_inside c waves refuses.test.pair line.0 refuses.too_much
-  names_line NoMemory refuses = tt
+  names_line (NoMemory _) refuses = tt
 
   -- so there is no text for what is told
   pub fails_for : (fault : ReplayTextFault) → RefusesTestsOf c waves tests fault → (ending : Ending) → EndsForFault c fault ending

@@ -68,7 +68,7 @@ module _ (c : Circuit) (waves : PairWaves) where
       -- or it is the first one over
       pub refused_here : (fault : ReplayFault) → RefusesWaves c (waves here.pair) fault
           → RefusesTestsOf c waves tests (replay_text_fault (place + 1) fault)
-      refused_here NoMemory refuses = tt
+      refused_here (NoMemory _) refuses = tt
       refused_here (TooManyChanges line) refuses = record {
         earlier = take place tests;
         test = here;

@@ -48,7 +48,7 @@ log_ending (log.Fields row) = wrong_row row (codes " fields")
 log_ending (log.NoTest row) = wrong_row row (codes " test")
 log_ending (log.BadTime row) = wrong_row row (codes " time")
 log_ending (log.BadResult row) = wrong_row row (codes " result")
-log_ending log.NoMemory = NoMemory
+log_ending (log.NoMemory refused) = NoMemory refused
 
 -- the text is no log of so many tests, and is refused so
 pub record HasNoLogFor (tests : ℕ) (text : List ℕ) (refusal : Refusal) : Type 0 where

@@ -1,5 +1,6 @@
 -- What holds of a call of `check`, beside what holds of every call (this project's own).
 use Rattle.std.specs.Prelude.{◌≡◌, ◌≢◌, ◌≤◌, ◌↔◌, ℕ, List, [], ◌∷◌, All, length, Some, codes}
+use Rattle.pd_base.specs.Memory.{out_of_memory}
 use Rattle.pd_io.specs.Folder.{Folder, bytes_at}
 use Rattle.pd_io.specs.Seen.{Outside}
 use Rattle.pd_base.specs.declared.limits.TheConstants.{MOST_BYTES}
@@ -44,7 +45,7 @@ pub record ComesToClaims (call : RunCall) (texts : RunTexts) (status : Status) (
   pub told : old.files.folder ≡ Some folder
   pub read : Pass (check_work call) (Some folder) (stages_read call) [] (inputs_of texts)
   pub none_failed : NoneFailed old new
-  pub enough : status ≢ exit.NoMemory
+  pub enough : status ≢ exit.NoMemory out_of_memory
 
 -- what holds of a call that these words ask for
 pub record KeepsCheckLaws (words : List (List ℕ)) (call : RunCall) (status : Status) (old new : Outside) : Type 0 where

@@ -65,4 +65,4 @@ KeepsAskedLaws words status old new = KeepsLawsOf words (asked_call words) statu
 -- how a call ends whose words give no command: they are refused, or memory ran out
 abbrev pub words_ending : WordsFault → Ending
 words_ending (fault.Refused reason) = ended.Refused (words_refusal reason)
-words_ending fault.NoMemory = ended.NoMemory
+words_ending (fault.NoMemory refused) = ended.NoMemory refused

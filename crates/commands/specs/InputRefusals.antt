@@ -38,7 +38,7 @@ build_ending (build.Twice place name) = wrong_at place (codes " twice " ++ name)
 build_ending (build.Undefined place name) = wrong_at place (codes " undefined " ++ name)
 build_ending (build.Loop place name) = wrong_at place (codes " loop " ++ name)
 build_ending (build.TooDeep place name) = wrong_at place (codes " too deep " ++ name)
-build_ending build.NoMemory = NoMemory
+build_ending (build.NoMemory refused) = NoMemory refused
 
 -- how one ends for which NET has no circuit
 abbrev pub netlist_ending : BenchFault → Ending
@@ -48,7 +48,7 @@ netlist_ending (bench.Syntax place) = wrong_at place (codes " syntax")
 netlist_ending (bench.UnknownKind place) = wrong_at place (codes " unknown kind")
 netlist_ending (bench.FanIn place) = wrong_at place (codes " fan-in")
 netlist_ending (bench.Build fault) = build_ending fault
-netlist_ending bench.NoMemory = NoMemory
+netlist_ending (bench.NoMemory refused) = NoMemory refused
 
 -- a row of DELAYS, and what is wrong there
 abbrev pub wrong_in : ℕ → List ℕ → Ending
@@ -61,7 +61,7 @@ delays_ending (delay.Fields row) = wrong_in row (codes " fields")
 delays_ending (delay.UnknownGate row) = wrong_in row (codes " unknown gate")
 delays_ending (delay.BadPin row) = wrong_in row (codes " bad pin")
 delays_ending (delay.BadNumber row) = wrong_in row (codes " bad number")
-delays_ending delay.NoMemory = NoMemory
+delays_ending (delay.NoMemory refused) = NoMemory refused
 
 -- a line of SCAN, and what is wrong there
 abbrev pub wrong_scan_line : ℕ → List ℕ → Ending
@@ -76,7 +76,7 @@ abbrev pub scan_ending : Circuit → ScanFault → Ending
 scan_ending c (scan.Unknown place) = wrong_scan_line place (codes " unknown")
 scan_ending c (scan.Twice place) = wrong_scan_line place (codes " twice")
 scan_ending c (scan.Missing flop) = Refused (missing_flop (name_at c flop.0))
-scan_ending c scan.NoMemory = NoMemory
+scan_ending c (scan.NoMemory refused) = NoMemory refused
 
 -- the texts of the paths may be too long: the product that bounds them
 abbrev pub long_path_text : ℕ → Refusal

@@ -1,5 +1,6 @@
 -- What holds of a call of `make`, beside what holds of every call (this project's own).
 use Rattle.std.specs.Prelude.{◌≡◌}
+use Rattle.pd_base.specs.Memory.{out_of_memory}
 use Rattle.pd_io.specs.Seen.{FilesSeen, Outside}
 use Rattle.pd_io.specs.Telling.{Tells}
 use Rattle.calls.specs.declared.status.Status.{Status}
@@ -9,7 +10,7 @@ use Rattle.calls.specs.declared.status.Status.TheVariants as exit
 pub data AnswersMake (status : Status) : Type 0 where
   done : status ≡ exit.Done → AnswersMake status
   unprinted : status ≡ exit.WriteFault → AnswersMake status
-  no_memory : status ≡ exit.NoMemory → AnswersMake status
+  no_memory : status ≡ exit.NoMemory out_of_memory → AnswersMake status
 
 -- no file was touched: the folder that is told is as before, and so are the counts of failed calls
 pub record TouchesNoFile (old new : FilesSeen) : Type 0 where

@@ -36,7 +36,7 @@ pub record IsFirstTestOf (c : Circuit) (waves : PairWaves) (tests : List Test) (
 -- the text of a replay is refused only at that test and that line, or for want of memory
 abbrev pub RefusesTestsOf : Circuit → PairWaves → List Test → ReplayTextFault → Type 0
 RefusesTestsOf c waves tests (TooManyChanges number line) = IsFirstTestOf c waves tests number line.0
-RefusesTestsOf c waves tests NoMemory = ⊤
+RefusesTestsOf c waves tests (NoMemory _) = ⊤
 
 -- the same, where each pin has one delay
 abbrev pub HaveFewChanges : Circuit → Delays → List Test → Type 0
@@ -51,7 +51,7 @@ RefusesTests c delays = RefusesTestsOf c (λ pair. wave_of c pair delays)
 -- the fault of a text at the test of this number
 abbrev pub replay_text_fault : ℕ → ReplayFault → ReplayTextFault
 replay_text_fault number (replay.TooManyChanges line) = TooManyChanges number line
-replay_text_fault number replay.NoMemory = NoMemory
+replay_text_fault number (replay.NoMemory refused) = NoMemory refused
 
 -- under the pair of the test of this number the line of this name changes too often
 abbrev pub changes_too_often : ℕ → List ℕ → Refusal

@@ -65,6 +65,6 @@ fn words_ending(fault: WordsFault) -> Ending
 {
     match fault {
         WordsFault::Refused(reason) => Ending::Refused(words_refusal(reason)),
-        WordsFault::NoMemory => Ending::NoMemory,
+        WordsFault::NoMemory(refused) => Ending::NoMemory(refused),
     }
 }

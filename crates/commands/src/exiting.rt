@@ -10,8 +10,9 @@ ghost use Rattle.commands.specs.Exits.{ExitsFor, ExitsWithoutMemory};
 
 use crate::calling::run;
 use calls::{Ending, Status, tell};
+use pd_base::OutOfMemory;
 use pd_io::{Files, Sink};
-use std::alloc::{AllocError, Global};
+use std::alloc::Global;
 use std::io;
 use std::io::ErrorKind;
 use std::process::ExitCode;
@@ -39,11 +40,18 @@ pub fn exit_code<F: Files, O: Sink, E: Sink>(
     let status = match arguments {
         Ok(given) => call_with(alloc, given.as_slice(), files, out, err),
         Err(error) => match error.kind() {
-            ErrorKind::OutOfMemory => tell(&Ending::NoMemory, err),
+            ErrorKind::OutOfMemory => tell(&Ending::NoMemory(refused_memory(error)), err),
             _ => run(alloc, &[], files, out, err),
         },
     };
     ExitCode::from(status.number())
+}
+
+// The want of memory that an error of the arguments tells of, by its kind.
+fn refused_memory(_error: io::Error) -> OutOfMemory
+    requires { error_kind _error ≡ ErrorKind.OutOfMemory }
+{
+    OutOfMemory::reported()
 }
 
 // A call with these arguments as its words.
@@ -60,12 +68,12 @@ fn call_with<F: Files, O: Sink, E: Sink>(
 {
     match words_of(alloc, arguments) {
         Ok(words) => run(alloc, words.as_slice(), files, out, err),
-        Err(AllocError) => tell(&Ending::NoMemory, err),
+        Err(refused) => tell(&Ending::NoMemory(refused), err),
     }
 }
 
 // These arguments, borrowed.
-fn words_of(alloc: Global, arguments: &[String]) -> Result<Vec<&str>, AllocError>
+fn words_of(alloc: Global, arguments: &[String]) -> Result<Vec<&str>, OutOfMemory>
     ensures { IfOk result (λ words. bytes_of_words words.items ≡ map string_bytes arguments.now) }
 {
     let mut words = Vec::with_capacity(alloc, arguments.len())?;

@@ -35,7 +35,7 @@ pub(crate) fn make<O: Sink>(alloc: Global, command: &MakeCommand, out: &mut O) -
 {
     match made_line(alloc, command.stages) {
         Ok(text) => print(text.as_slice(), out),
-        Err(OutOfMemory) => Ending::NoMemory,
+        Err(refused) => Ending::NoMemory(refused),
     }
 }
 

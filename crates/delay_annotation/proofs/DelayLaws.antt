@@ -1,5 +1,6 @@
 -- Laws of delay files: a file that has delays is not refused, all its delays agree, and there is one reason at most to refuse it.
 use Rattle.std.proofs.Common.{◌≡◌, ◌≢◌, inl, inr, ⊎_elim, ◌⊎◌, ℕ, ◌+◌, List, [], ◌∷◌, ◌++◌, length, refl, sym, ap, subst, ◌∙◌, arith, append_assoc, length-append}
+use Rattle.pd_base.specs.Memory.{out_of_memory}
 use Rattle.pd_base.specs.declared.fault.Direction.{Direction}
 use Rattle.pd_base.specs.declared.fault.Direction.TheVariants.{Rise}
 use Rattle.pd_base.specs.declared.ids.PinRef.{PinRef}
@@ -82,7 +83,7 @@ module _ (c : Circuit) (columns : Columns) (circuit : IsCircuit c) where
 
   -- a file that has delays is refused for no reason but want of memory
   pub file_not_refused : (direction : Direction) (bytes : List ℕ) (delays : Delays) (why : DelayFault)
-      → HasDelaysOn c columns direction bytes delays → RefusesFile c columns bytes why → why ≡ fault.NoMemory
+      → HasDelaysOn c columns direction bytes delays → RefusesFile c columns bytes why → why ≡ fault.NoMemory out_of_memory
   file_not_refused direction bytes delays why has (no_memory is) = is
   file_not_refused direction bytes delays why has (no_row none is) =
       let same = all_rows_once bytes [] (has.titles ∷ has.rows) none has.all_rows in cc same
@@ -122,7 +123,7 @@ module _ (c : Circuit) (columns : Columns) (circuit : IsCircuit c) where
       absurd (omega (arith, long, total, ap length front.1))
 
   -- a file has one reason at most, beside want of memory, to be refused
-  pub refused_once_only : (bytes : List ℕ) (a b : DelayFault) → a ≢ fault.NoMemory → b ≢ fault.NoMemory
+  pub refused_once_only : (bytes : List ℕ) (a b : DelayFault) → a ≢ fault.NoMemory out_of_memory → b ≢ fault.NoMemory out_of_memory
       → RefusesFile c columns bytes a → RefusesFile c columns bytes b → a ≡ b
   refused_once_only bytes a b memory memory' (no_memory is) refuses = absurd (memory is)
   refused_once_only bytes a b memory memory' refuses (no_memory is) = absurd (memory' is)
@@ -140,7 +141,7 @@ module _ (c : Circuit) (columns : Columns) (circuit : IsCircuit c) where
 module _ (c : Circuit) (circuit : IsCircuit c) where
   -- a file that has one delay for each pin is refused for no reason but want of memory
   pub delays_not_refused : (bytes : List ℕ) (delays : Delays) (why : DelayFault) → HasDelays c bytes delays
-      → RefusesDelays c bytes why → why ≡ fault.NoMemory
+      → RefusesDelays c bytes why → why ≡ fault.NoMemory out_of_memory
   delays_not_refused = file_not_refused c column.Delay circuit Rise
 
   -- and its delays agree

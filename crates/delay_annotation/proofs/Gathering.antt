@@ -1,6 +1,7 @@
 -- The rows of a file while csv reads them, and what was taken of them when a row is refused or the file ends.
 use Rattle.std.proofs.Common.{Bor, ◌≡◌, ◌≢◌, inl, inr, ℕ, ◌+◌, ◌≤◌, length-append, true, false, List, [], ◌∷◌, ◌++◌, length, ◌<◌, Some, None, refl, sym, ap, ◌∙◌, arith}
 use Rattle.std.specs.Prelude.{Result, Ok, Err, MatchResult}
+use Rattle.pd_base.specs.Memory.{out_of_memory}
 use Rattle.csv.specs.Reading.{ReadRecord, Reached, Ready, default_config, names_headers, reader_config, reader_headers, reader_state, reader_trim, source_of, strip_bom, RowStep}
 use Rattle.csv.specs.Records.{Row as Record, fields_of}
 use Rattle.csv.specs.declared.error.Error.{Error}
@@ -137,7 +138,7 @@ module _ (c : Circuit) (columns : Columns) (bytes : List ℕ) (a b : BytesReader
   -- and the file is refused, where it is not
   pub read_refused : (left : ℕ) (read : Result Record Error) (why : DelayFault)
       → RowStep (λ (s : Bor (List ℕ)). Some s.now) a b left (Some read)
-      → MatchResult read (λ row. RefusesTaken c columns (number + 1) (fields_of row) kept why) (λ _. why ≡ fault.NoMemory)
+      → MatchResult read (λ row. RefusesTaken c columns (number + 1) (fields_of row) kept why) (λ _. why ≡ fault.NoMemory out_of_memory)
       → RefusesFile c columns bytes why
   read_refused left (Ok row) why step refuses = taken_refused (fields_of row) why step.0 step.1 refuses
   read_refused left (Err error) why step refuses = no_memory refuses

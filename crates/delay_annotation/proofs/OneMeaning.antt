@@ -1,5 +1,5 @@
 -- A row says one thing at most, or is refused for one reason, and never both.
-use Rattle.std.proofs.Common.{◌≡◌, ◌≢◌, ⊎_elim, ℕ, ◌<◌, List, [], ◌∷◌, length, refl, sym, ap, ap₂, subst, ◌∙◌, arith}
+use Rattle.std.proofs.Common.{◌≡◌, ◌≢◌, ⊎_elim, ℕ, ◌<◌, List, [], ◌∷◌, refl, sym, ap, ap₂, subst, ◌∙◌, arith}
 use Rattle.std.proofs.lemmas.Bool.{cases_lt}
 use Rattle.netlist.specs.Circuit.{Circuit, gate_count, gate_line}
 use Rattle.netlist.specs.Lawful.{IsCircuit}

@@ -1,6 +1,7 @@
 -- Delay files: which delays a file gives the pins of a circuit, and for which first row it gives none (this project's own
 -- format). The rows are the records that csv reads, so blank lines are skipped and not counted.
 use Rattle.std.specs.Prelude.{◌≡◌, ⊤, ℕ, ◌+◌, ◌==◌, ◌&&◌, Bool, true, false, List, [], ◌∷◌, ◌++◌, length, map, filter}
+use Rattle.pd_base.specs.Memory.{out_of_memory}
 use Rattle.csv.specs.Reading.{AreRecords, Reached, default_config, strip_bom}
 use Rattle.csv.specs.declared.parser.State.{State}
 use Rattle.csv.specs.declared.parser.State.TheVariants as state
@@ -118,7 +119,7 @@ pub data RefusesFile (c : Circuit) (columns : Columns) (bytes : List ℕ) (why :
   no_row : AreAllRows bytes [] → why ≡ fault.Header → RefusesFile c columns bytes why
   row_refused : (before : List Row) (row : Row) → AreFirstRows bytes (before ++ row ∷ []) → ArePassed c columns before
       → RefusesNext c columns before row why → RefusesFile c columns bytes why
-  no_memory : why ≡ fault.NoMemory → RefusesFile c columns bytes why
+  no_memory : why ≡ fault.NoMemory out_of_memory → RefusesFile c columns bytes why
 
 -- why a file with one delay for each pin is refused
 abbrev pub RefusesDelays : Circuit → List ℕ → DelayFault → Type 0

@@ -29,7 +29,7 @@ pub enum DelayFault {
     BadNumber(u32),
     /// Memory ran out.
     #[error("want of memory")]
-    NoMemory,
+    NoMemory(OutOfMemory),
 }
 
 // A row's fault, with the number of the row.
@@ -47,9 +47,9 @@ pub(crate) fn at_row(fault: RowFault, number: u32) -> DelayFault
 impl From<OutOfMemory> for DelayFault {
     ghost use Rattle.delay_annotation.specs.declared.fault.DelayFault.TheVariants.{NoMemory};
 
-    ghost from_gives = { λ _ fault. fault ≡ NoMemory };
+    ghost from_gives = { λ refused fault. fault ≡ NoMemory refused };
 
-    fn from(_: OutOfMemory) -> DelayFault {
-        DelayFault::NoMemory
+    fn from(refused: OutOfMemory) -> DelayFault {
+        DelayFault::NoMemory(refused)
     }
 }

@@ -1,5 +1,6 @@
 // The rows of a delay file, in turn: the titles, then rows that are kept by their form.
 ghost use Rattle.std.specs.Prelude.{◌≡◌, ◌≢◌, ◌≤◌, ◌↔◌, [], ◌∷◌, length, IfErr, IsTrue, MatchOption, MatchResult, OnOk};
+ghost use Rattle.pd_base.specs.Memory.{out_of_memory};
 ghost use Rattle.csv.specs.Records.{fields_of};
 ghost use Rattle.delay_annotation.specs.Rows.{AreTitles, IsSetting, RefusesRow};
 ghost use Rattle.delay_annotation.specs.LastRows.{HasRoomForRows, KeepsLast};
@@ -11,6 +12,7 @@ use crate::last::LastRows;
 use crate::row::{are_four_titles, are_titles, read_row, read_row_of_four};
 use crate::setting::{Columns, RowFault, Setting};
 use csv::{ByteRecord, Error, ReaderBuilder};
+use csv_errors::refused_memory;
 use netlist::Netlist;
 use std::alloc::Global;
 
@@ -55,11 +57,11 @@ fn take_read(
     ensures places { HasRoomForRows net.now kept.new }
     ensures ok { OnOk result (MatchResult read (λ row. TakesRow net.now columns number (fields_of row) kept.old kept.new) (λ _. ⊥)) }
     ensures err { IfErr result (λ why. MatchResult read
-        (λ row. RefusesTaken net.now columns number (fields_of row) kept.old why) (λ _. why ≡ DelayFault.NoMemory)) }
+        (λ row. RefusesTaken net.now columns number (fields_of row) kept.old why) (λ _. why ≡ DelayFault.NoMemory out_of_memory)) }
 {
     match read {
         Ok(row) => take_row(net, columns, number, &row, kept),
-        Err(_) => Err(DelayFault::NoMemory),
+        Err(error) => Err(DelayFault::NoMemory(refused_memory(error))),
     }
 }
 

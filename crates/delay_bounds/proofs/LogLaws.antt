@@ -2,6 +2,7 @@
 use Rattle.std.proofs.Common.{◌≡◌, ℕ, ◌+◌, List, [], ◌∷◌, ◌++◌, length, All, sym, ap, subst, ◌∙◌, append_assoc}
 use Rattle.std.proofs.lemmas.List.Elements.{All-from_recursion}
 use Rattle.std.specs.List.{AllByRecursion}
+use Rattle.pd_base.specs.Memory.{out_of_memory}
 use Rattle.delay_annotation.specs.DelayFile.{Row}
 use Rattle.delay_annotation.specs.Fields.{SpellsNumber, trimmed}
 use Rattle.delay_annotation.proofs.FirstRows.{all_rows_once, front_of_all}
@@ -56,7 +57,7 @@ passed_not_refused tests (first ∷ front) row rest (titles ∷ rows) why same p
 
 -- a file that has rows is refused for no reason but want of memory
 pub log_not_refused : (tests : ℕ) (bytes : List ℕ) (log : List LogRow) (why : LogFault) → IsLog tests bytes log
-    → RefusesLog tests bytes why → why ≡ fault.NoMemory
+    → RefusesLog tests bytes why → why ≡ fault.NoMemory out_of_memory
 log_not_refused tests bytes log why has (no_memory is) = is
 log_not_refused tests bytes log why has (no_row none is) =
     let same = all_rows_once bytes [] (has.titles ∷ has.rows) none has.all_rows in cc same

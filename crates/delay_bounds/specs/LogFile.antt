@@ -1,6 +1,7 @@
 -- Logs: which rows a file has, and for which first row it has none (this project's own format). The rows are the records that csv reads,
 -- so blank lines are skipped and not counted.
 use Rattle.std.specs.Prelude.{◌≡◌, ⊤, ℕ, ◌+◌, List, [], ◌∷◌, ◌++◌, length}
+use Rattle.pd_base.specs.Memory.{out_of_memory}
 use Rattle.delay_annotation.specs.DelayFile.{AreAllRows, AreFirstRows, Row}
 use Rattle.delay_bounds.specs.LogRows.{AreTitles, IsLogRow, RefusesRow}
 use Rattle.delay_bounds.specs.declared.log_fault.LogFault.{LogFault}
@@ -39,4 +40,4 @@ pub data RefusesLog (tests : ℕ) (bytes : List ℕ) (why : LogFault) : Type 0 w
   no_row : AreAllRows bytes [] → why ≡ fault.Header → RefusesLog tests bytes why
   row_refused : (before : List Row) (row : Row) → AreFirstRows bytes (before ++ row ∷ []) → ArePassed tests before
       → RefusesNext tests before row why → RefusesLog tests bytes why
-  no_memory : why ≡ fault.NoMemory → RefusesLog tests bytes why
+  no_memory : why ≡ fault.NoMemory out_of_memory → RefusesLog tests bytes why

@@ -25,15 +25,15 @@ pub enum LogFault {
     BadResult(u32),
     /// Memory ran out.
     #[error("want of memory")]
-    NoMemory,
+    NoMemory(OutOfMemory),
 }
 
 impl From<OutOfMemory> for LogFault {
     ghost use Rattle.delay_bounds.specs.declared.log_fault.LogFault.TheVariants.{NoMemory};
 
-    ghost from_gives = { λ _ fault. fault ≡ NoMemory };
+    ghost from_gives = { λ refused fault. fault ≡ NoMemory refused };
 
-    fn from(_: OutOfMemory) -> LogFault {
-        LogFault::NoMemory
+    fn from(refused: OutOfMemory) -> LogFault {
+        LogFault::NoMemory(refused)
     }
 }

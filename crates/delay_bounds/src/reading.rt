@@ -1,5 +1,6 @@
 // From the bytes of a log to its rows: by csv, but where all fields are bare (bare.rt).
 ghost use Rattle.std.specs.Prelude.{◌≡◌, ◌≤◌, true, Some, [], ◌∷◌, ◌++◌, length, IfErr, IfOk, MatchResult, OnOk};
+ghost use Rattle.pd_base.specs.Memory.{out_of_memory};
 ghost use Rattle.csv.specs.Reading.{Ready, ReadRecord, reader_trim, took_first};
 ghost use Rattle.csv.specs.Records.{fields_of};
 ghost use Rattle.csv.specs.declared.reader.Trim.TheVariants as trim;
@@ -12,6 +13,7 @@ use crate::bare::bare_log;
 use crate::row::{are_titles, read_row};
 use crate::{LogFault, LogRow};
 use csv::{ByteRecord, Reader, ReaderBuilder};
+use csv_errors::refused_memory;
 use delay_annotation::three_fields;
 use pd_base::OutOfMemory;
 use std::alloc::Global;
@@ -59,11 +61,11 @@ fn read_next(reader: &mut Reader<&[u8]>, row: &mut ByteRecord) -> Result<bool, L
     requires ready { Ready reader.old }
     ensures first { IfOk result (λ _. took_first reader.new ≡ true) }
     ensures reads { IfOk result (λ found. ReadRecord (λ s. Some s.now) reader.old reader.new found (fields_of row.new)) }
-    ensures memory { IfErr result (λ why. why ≡ LogFault.NoMemory) }
+    ensures memory { IfErr result (λ why. why ≡ LogFault.NoMemory out_of_memory) }
 {
     match reader.read_byte_record(row) {
         Ok(found) => Ok(found),
-        Err(_) => Err(LogFault::NoMemory),
+        Err(error) => Err(LogFault::NoMemory(refused_memory(error))),
     }
 }
 

@@ -114,4 +114,4 @@ few_by_fan_in Buff pins is = omega arith
 -- a wave that is the same at each time is refused likewise
 pub refuses_same : (wave other : Wave) → ((time : ℤ) → wave time ≡ other time) → (fault : WaveFault) → RefusesWave wave fault → RefusesWave other fault
 refuses_same wave other same TooMany refuses = over_same wave other MOST_CHANGES same refuses
-refuses_same wave other same NoMemory refuses = tt
+refuses_same wave other same (NoMemory _) refuses = tt

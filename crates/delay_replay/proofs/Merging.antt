@@ -148,7 +148,7 @@ module _ (waves : List Changes) (values : ℤ → List Bool) (kind : GateKind) (
 
         -- at the last change of its time, one change too many
         pub refused : (fault : WaveFault) → RefusesChange wave value fault → RefusesWave (λ time. gate_value kind (values time)) fault
-        refused NoMemory refuses = tt
+        refused (NoMemory _) refuses = tt
         refused TooMany refuses =
             over_by_one (λ time. gate_value kind (values time)) wave soonest.time MOST_CHANGES merged.rising
             (λ k d inside. before_soonest (get_or wave.times k d) (merged.within k d inside))

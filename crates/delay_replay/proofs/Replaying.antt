@@ -308,7 +308,7 @@ module _ (c : Circuit) (pair : Vectors) (copy : PinCopy) where
           pub turn_refused : (fault : ReplayFault)
               → RefusesGate (gate_wave copy c gate.0 (line_wave waves)) own_line total fault
               → RefusesWaves c (wave_under copy c pair) fault
-          turn_refused NoMemory refuses = tt
+          turn_refused (NoMemory _) refuses = tt
           turn_refused (TooManyChanges line) refuses =
               subst (IsFirstOf c (wave_under copy c pair)) (sym refuses.0) (first_too_much (over_much refuses.1))
 

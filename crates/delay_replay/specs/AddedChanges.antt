@@ -17,4 +17,4 @@ pub record IsTurned (old new : Changes) (time : ℤ) (value : Bool) : Type 0 whe
 abbrev pub RefusesChange : Changes → Bool → WaveFault → Type 0
 RefusesChange old value TooMany =
     (MOST_CHANGES ≤ length old.times) × ((time : ℤ) → All (λ change. change ≤ℤ time) old.times → wave_at old time ≢ value)
-RefusesChange old value NoMemory = ⊤
+RefusesChange old value (NoMemory _) = ⊤

@@ -53,7 +53,7 @@ pub record IsFirstOf (c : Circuit) (wave : ℕ → Wave) (line : ℕ) : Type 0 w
 -- a replay is refused only at that line, or for want of memory
 abbrev pub RefusesWaves : Circuit → (ℕ → Wave) → ReplayFault → Type 0
 RefusesWaves c wave (TooManyChanges line) = IsFirstOf c wave line.0
-RefusesWaves c wave NoMemory = ⊤
+RefusesWaves c wave (NoMemory _) = ⊤
 
 -- the same, where each pin has one delay
 abbrev pub HasFewChanges : Circuit → Vectors → Delays → Type 0

@@ -25,4 +25,4 @@ delayed_gate_wave c kept gate waves = gate_wave (delay_copy (delays_of c kept)) 
 -- a wave is refused only where it has too many changes, or for want of memory
 abbrev pub RefusesWave : Wave → WaveFault → Type 0
 RefusesWave wave TooMany = ChangesOver wave MOST_CHANGES
-RefusesWave wave NoMemory = ⊤
+RefusesWave wave (NoMemory _) = ⊤

@@ -32,4 +32,4 @@ pub data IsOver (wave : Wave) (total : ℕ) : Type 0 where
 -- the turn of a gate whose line has this number is refused for its line's changes, or for want of memory
 abbrev pub RefusesGate : Wave → ℕ → ℕ → ReplayFault → Type 0
 RefusesGate wave own total (TooManyChanges line) = (line.0 ≡ own) × IsOver wave total
-RefusesGate wave own total NoMemory = ⊤
+RefusesGate wave own total (NoMemory _) = ⊤

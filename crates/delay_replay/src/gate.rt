@@ -1,6 +1,7 @@
 // The wave of a gate, made of the waves of the lines that its pins read, in one pass over their changes. Those of one time are
 // taken together, and a change of the gate's value is counted before it is kept.
 ghost use Rattle.std.specs.Prelude.{◌≡◌, ◌<◌, ◌≤◌, length, All, IfOk, IfErr};
+ghost use Rattle.pd_base.specs.Memory.{out_of_memory};
 ghost use Rattle.netlist.specs.Circuit.{gate_count, line_count};
 ghost use Rattle.netlist.specs.Lawful.{IsFanIn};
 ghost use Rattle.delay_annotation.specs.Annotation.{Fits};
@@ -27,26 +28,26 @@ pub enum WaveFault {
     /// The wave changes more than `MOST_CHANGES` times.
     TooMany,
     /// Memory ran out.
-    NoMemory,
+    NoMemory(OutOfMemory),
 }
 
 impl From<OutOfMemory> for WaveFault {
     ghost use Rattle.delay_replay.specs.declared.gate.WaveFault.TheVariants.{NoMemory};
 
-    ghost from_gives = { λ _ fault. fault ≡ NoMemory };
+    ghost from_gives = { λ refused fault. fault ≡ NoMemory refused };
 
-    fn from(_: OutOfMemory) -> WaveFault {
-        WaveFault::NoMemory
+    fn from(refused: OutOfMemory) -> WaveFault {
+        WaveFault::NoMemory(refused)
     }
 }
 
 impl<T: Drop> From<AllocFailed<T>> for WaveFault {
     ghost use Rattle.delay_replay.specs.declared.gate.WaveFault.TheVariants.{NoMemory};
 
-    ghost from_gives = { λ _ fault. fault ≡ NoMemory };
+    ghost from_gives = { λ _ fault. fault ≡ NoMemory out_of_memory };
 
-    fn from(_: AllocFailed<T>) -> WaveFault {
-        WaveFault::NoMemory
+    fn from(error: AllocFailed<T>) -> WaveFault {
+        WaveFault::NoMemory(error.into())
     }
 }
 

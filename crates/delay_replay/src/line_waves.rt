@@ -29,16 +29,16 @@ pub enum ReplayFault {
     /// than `MOST_CHANGES_OF_ALL` together.
     TooManyChanges(LineId),
     /// Memory ran out.
-    NoMemory,
+    NoMemory(OutOfMemory),
 }
 
 impl From<OutOfMemory> for ReplayFault {
     ghost use Rattle.delay_replay.specs.declared.line_waves.ReplayFault.TheVariants.{NoMemory};
 
-    ghost from_gives = { λ _ fault. fault ≡ NoMemory };
+    ghost from_gives = { λ refused fault. fault ≡ NoMemory refused };
 
-    fn from(_: OutOfMemory) -> ReplayFault {
-        ReplayFault::NoMemory
+    fn from(refused: OutOfMemory) -> ReplayFault {
+        ReplayFault::NoMemory(refused)
     }
 }
 
@@ -158,7 +158,7 @@ fn next_wave<M: DelayModel>(
     let wave = match delays.wave_of_gate(alloc, net, gate, waves) {
         Ok(wave) => wave,
         Err(WaveFault::TooMany) => return Err(ReplayFault::TooManyChanges(line)),
-        Err(WaveFault::NoMemory) => return Err(ReplayFault::NoMemory),
+        Err(WaveFault::NoMemory(refused)) => return Err(ReplayFault::NoMemory(refused)),
     };
     let over = total + wave.changes().len() > MOST_CHANGES_OF_ALL;
     if over {

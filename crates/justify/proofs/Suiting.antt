@@ -64,7 +64,7 @@ setting_restored first last restored = record { net = restored.net; rules = rest
 -- what a search may have ended by is so wherever the setting is the same
 pub may_end_before : (target : Target) (first last : Standing) → IsSameSetting first last → (error : Unfinished)
     → MayEndBy target last error → MayEndBy target first error
-may_end_before target first last same NoMemory may = tt
+may_end_before target first last same (NoMemory _) may = tt
 may_end_before target first last same Undecided may = λ tells. may (λ source support.
     told_after first last same source (tells source (supported_after target last first (setting_back first last same) source support)))
 

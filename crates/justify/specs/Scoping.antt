@@ -51,5 +51,5 @@ TellsSupport target standing = (source : ℕ) → IsInSupport standing.net stand
 -- What a search may have ended by with nothing found: want of memory; or nothing is known, only where the engine doesn't tell all sources of
 -- the support.
 abbrev pub MayEndBy : Target → Standing → Unfinished → Type 0
-MayEndBy target standing NoMemory = ⊤
+MayEndBy target standing (NoMemory _) = ⊤
 MayEndBy target standing Undecided = ¬ TellsSupport target standing

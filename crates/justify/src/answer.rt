@@ -21,17 +21,17 @@ pub enum Found {
 #[derive(Clone, Copy, Debug, PartialEq, Eq)]
 pub enum Unfinished {
     /// Memory ran out.
-    NoMemory,
+    NoMemory(OutOfMemory),
     /// The engine doesn't tell all sources in the support of the path, and by those that it tells nothing was shown. A search on an engine
     /// that tells them all doesn't end so.
     Undecided,
 }
 
 impl From<OutOfMemory> for Unfinished {
-    ghost from_gives = { λ _ unfinished. unfinished ≡ NoMemory };
+    ghost from_gives = { λ refused unfinished. unfinished ≡ NoMemory refused };
 
-    fn from(_: OutOfMemory) -> Unfinished {
-        Unfinished::NoMemory
+    fn from(refused: OutOfMemory) -> Unfinished {
+        Unfinished::NoMemory(refused)
     }
 }
 

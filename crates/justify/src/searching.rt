@@ -62,7 +62,7 @@ pub fn search<S: Setting>(
     };
     match search_at(alloc, scope, &mut desk, &target, budget) {
         Ok(found) => Ok(found),
-        Err(Unfinished::NoMemory) => Err(OutOfMemory),
+        Err(Unfinished::NoMemory(refused)) => Err(refused),
         // without links all sources of the support are told
         Err(Unfinished::Undecided) => unreachable!(),
     }

@@ -1,5 +1,5 @@
 -- A name looked up among lines that stand in the order of their names.
-use Rattle.std.proofs.Common.{◌≡◌, ⊎_elim, ℕ, ◌<◌, ◌≤◌, true, List, [], length, get_or, Contains, refl, sym, ap, ◌∙◌, subst, true≢false, arith}
+use Rattle.std.proofs.Common.{◌≡◌, ⊎_elim, ℕ, ◌<◌, ◌≤◌, true, List, [], length, get_or, Contains, refl, sym, ap, ◌∙◌, true≢false, arith}
 use Rattle.std.specs.List.{HoldsAt}
 use Rattle.std.specs.List.Sorted.{IsNonDecreasingBy, IsPartitionPoint}
 use Rattle.std.specs.Cmp.Lexicographic.{slice_cmp}

@@ -1,5 +1,5 @@
 -- Links between sources and lines of a circuit, and the pairs of vectors that keep them (this project's own).
-use Rattle.std.specs.Prelude.{◌≡◌, ◌≢◌, ℕ, ◌<◌, List, All, AllPairs}
+use Rattle.std.specs.Prelude.{◌≡◌, ◌≢◌, ℕ, ◌<◌, All, AllPairs}
 use Rattle.pd_base.specs.Pair.{Vectors}
 use Rattle.pd_base.specs.Links.{LinkList, links_of, IsLink}
 use Rattle.pd_base.specs.declared.rules.Rules.{Rules}

@@ -9,11 +9,11 @@ ghost use Rattle.path_laws.specs.Growth.{HasGrown, HasHeads, IsFed, IsNextEntry,
 use crate::lists::NodeLists;
 use crate::timing_graph::TimingGraph;
 use path_laws::{NONE, WalkEntry};
-use std::alloc::AllocError;
+use pd_base::OutOfMemory;
 
 impl NodeLists {
     // Adds the next walk from a node to its list; says whether there was one.
-    pub(crate) fn grow(&mut self, graph: &TimingGraph, node: u32) -> Result<bool, AllocError>
+    pub(crate) fn grow(&mut self, graph: &TimingGraph, node: u32) -> Result<bool, OutOfMemory>
         requires graph { IsGraph graph.now }
         requires short { HasShortWalks graph.now }
         requires node { node < node_count graph.now }
@@ -47,7 +47,7 @@ impl NodeLists {
     }
 
     // Adds the next walk from a node to its list, where all is known for it; says whether there was one.
-    fn take(&mut self, graph: &TimingGraph, node: u32) -> Result<bool, AllocError>
+    fn take(&mut self, graph: &TimingGraph, node: u32) -> Result<bool, OutOfMemory>
         requires graph { IsGraph graph.now }
         requires short { HasShortWalks graph.now }
         requires node { node < node_count graph.now }
@@ -81,7 +81,7 @@ impl NodeLists {
     }
 
     // Adds the next walk from a node to its list, where all of its arcs are ready; says whether there was one.
-    pub(crate) fn take_ready(&mut self, graph: &TimingGraph, node: u32) -> Result<bool, AllocError>
+    pub(crate) fn take_ready(&mut self, graph: &TimingGraph, node: u32) -> Result<bool, OutOfMemory>
         requires graph { IsGraph graph.now }
         requires node { node < node_count graph.now }
         requires linked { IsLinked graph.now self.old }

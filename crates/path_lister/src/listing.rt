@@ -11,7 +11,8 @@ ghost use Rattle.path_laws.specs.Listed.{AreFirstPlaces, HasNext};
 use crate::lists::NodeLists;
 use crate::timing_graph::TimingGraph;
 use path_laws::{NONE, WalkEntry};
-use std::alloc::{AllocError, Global};
+use pd_base::OutOfMemory;
+use std::alloc::Global;
 use std::marker::Model;
 
 /// Walks in their order, the first at place 0. A walk is the list of its arcs.
@@ -42,7 +43,7 @@ impl Listing {
     }
 
     /// The arcs of the walk at this place, from its first one on. The one error is that memory ran out.
-    pub(crate) fn walk(&self, alloc: Global, place: usize) -> Result<Vec<u32>, AllocError>
+    pub(crate) fn walk(&self, alloc: Global, place: usize) -> Result<Vec<u32>, OutOfMemory>
         requires { place < length self.now }
         ensures { IfOk result (λ walk. walk.items ≡ slice_index_or self.now place []) }
     {
@@ -58,7 +59,7 @@ pub(crate) fn first_walks(
     alloc: Global,
     graph: &TimingGraph,
     count: u32,
-) -> Result<Listing, AllocError>
+) -> Result<Listing, OutOfMemory>
     requires { HasShortWalks graph.now }
     ensures { IfOk result (λ listing. AreFirstWalks graph.now 0 count listing) }
 {
@@ -76,7 +77,7 @@ fn first_places(
     graph: &TimingGraph,
     lists: &mut NodeLists,
     count: u32,
-) -> Result<Vec<u32>, AllocError>
+) -> Result<Vec<u32>, OutOfMemory>
     requires graph { IsGraph graph.now }
     requires short { HasShortWalks graph.now }
     requires begun { IsBegun graph.now lists.old 0 }
@@ -95,7 +96,7 @@ fn first_places(
 }
 
 // The place of the next walk from node 0, or `NONE` where all are listed.
-fn next_place(graph: &TimingGraph, lists: &mut NodeLists) -> Result<u32, AllocError>
+fn next_place(graph: &TimingGraph, lists: &mut NodeLists) -> Result<u32, OutOfMemory>
     requires graph { IsGraph graph.now }
     requires short { HasShortWalks graph.now }
     requires going { IsGoing graph.now lists.old 0 }
@@ -110,7 +111,7 @@ fn next_place(graph: &TimingGraph, lists: &mut NodeLists) -> Result<u32, AllocEr
 }
 
 // The walk of the entry at a place.
-fn walk_from(alloc: Global, entries: &[WalkEntry], place: u32) -> Result<Vec<u32>, AllocError>
+fn walk_from(alloc: Global, entries: &[WalkEntry], place: u32) -> Result<Vec<u32>, OutOfMemory>
     requires tails { AreTailsEarlier entries.now }
     requires place { place < length entries.now }
     ensures { IfOk result (λ walk. walk.items ≡ walk_at entries.now place) }

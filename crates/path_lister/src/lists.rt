@@ -6,7 +6,8 @@ ghost use Rattle.path_laws.specs.Entries.{entry_at};
 
 use crate::timing_graph::TimingGraph;
 use path_laws::{NONE, WalkEntry};
-use std::alloc::{AllocError, Global};
+use pd_base::OutOfMemory;
+use std::alloc::Global;
 use std::marker::Model;
 
 // The entries of all nodes, and what the next walk of a node is chosen by. The keys of a node's arcs stand side by side, since
@@ -36,7 +37,7 @@ impl Model for NodeLists {
 
 impl NodeLists {
     // No node has a walk, and no arc a head.
-    pub(crate) fn new(alloc: Global, graph: &TimingGraph) -> Result<NodeLists, AllocError>
+    pub(crate) fn new(alloc: Global, graph: &TimingGraph) -> Result<NodeLists, OutOfMemory>
         ensures { IfOk result (λ lists. lists ≡ empty_lists graph.now) }
     {
         Ok(NodeLists {
@@ -106,8 +107,8 @@ impl NodeLists {
         };
     }
 
-    // Adds an entry behind all others. `AllocError` comes also where no number for it is left.
-    pub(crate) fn push(&mut self, entry: WalkEntry) -> Result<(), AllocError>
+    // Adds an entry behind all others. It is refused also where no number for it is left.
+    pub(crate) fn push(&mut self, entry: WalkEntry) -> Result<(), OutOfMemory>
         requires node { entry.node < length self.old.lasts }
         requires free { entry.node < length self.old.free }
         requires nexts { length self.old.nexts ≡ length self.old.entries }
@@ -117,7 +118,7 @@ impl NodeLists {
     {
         let place = self.entries.len();
         if place >= NONE as usize {
-            return Err(AllocError);
+            return Err(OutOfMemory::of_size(place + 1, 1));
         }
         let last = self.lasts[entry.node as usize];
         if last != NONE {

@@ -7,11 +7,12 @@ ghost use Rattle.path_laws.specs.Growth.{IsBegun};
 
 use crate::lists::NodeLists;
 use crate::timing_graph::TimingGraph;
-use std::alloc::{AllocError, Global};
+use pd_base::OutOfMemory;
+use std::alloc::Global;
 
 impl NodeLists {
     // Each node has its first walk, where there is one.
-    pub(crate) fn start(alloc: Global, graph: &TimingGraph) -> Result<NodeLists, AllocError>
+    pub(crate) fn start(alloc: Global, graph: &TimingGraph) -> Result<NodeLists, OutOfMemory>
         requires { HasShortWalks graph.now }
         ensures graph { OnOk result (IsGraph graph.now) }
         ensures begun { IfOk result (λ lists. IsBegun graph.now lists 0) }
@@ -24,7 +25,7 @@ impl NodeLists {
     }
 
     // Gives a node its first walk, where all greater nodes have theirs.
-    fn begin(&mut self, graph: &TimingGraph, node: u32) -> Result<(), AllocError>
+    fn begin(&mut self, graph: &TimingGraph, node: u32) -> Result<(), OutOfMemory>
         requires graph { IsGraph graph.now }
         requires short { HasShortWalks graph.now }
         requires node { node < node_count graph.now }

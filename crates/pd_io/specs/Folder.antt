@@ -36,7 +36,7 @@ pub record Reader : Type 0 where
 abbrev pub names_after_asking : Result ⊤ FileFault → List (List ℕ) → List ℕ → List (List ℕ)
 names_after_asking (Ok done) asked name = asked ++ name ∷ []
 names_after_asking (Err Failed) asked name = asked ++ name ∷ []
-names_after_asking (Err NoMemory) asked name = asked
+names_after_asking (Err (NoMemory refused)) asked name = asked
 
 -- the reader after a `read`: moved by the bytes that it gave; an error leaves it
 abbrev pub reader_after : Option Reader → Result ℕ FileFault → Option Reader

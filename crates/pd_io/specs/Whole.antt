@@ -1,5 +1,6 @@
 -- What stands after a whole file was read or written, and after all bytes went to a sink (this project's own).
 use Rattle.std.specs.Prelude.{◌≡◌, ◌≢◌, ℕ, List, [], ◌∷◌, ◌++◌, Result, Err}
+use Rattle.pd_base.specs.Memory.{out_of_memory}
 use Rattle.pd_io.specs.declared.fault.ReadFault.{ReadFault}
 use Rattle.pd_io.specs.declared.fault.ReadFault.TheVariants.{NoMemory}
 use Rattle.pd_io.specs.Folder.{Folder, put, HoldsFront}
@@ -13,7 +14,7 @@ pub data AsksFor {T : Type 0} (result : Result T ReadFault) (name : List ℕ) (o
   -- the name was asked once
   asked : new ≡ folder_after_asking old name → AsksFor result name old new
   -- memory ran out before the name was asked
-  no_memory : result ≡ Err NoMemory → new ≡ old → AsksFor result name old new
+  no_memory : result ≡ Err (NoMemory out_of_memory) → new ≡ old → AsksFor result name old new
 
 -- the folder with these bytes under this name
 abbrev pub folder_with : Folder → List ℕ → List ℕ → Folder

@@ -1,5 +1,6 @@
 // Why a call of the outside fails, and how the error of one call becomes that of a whole file.
 ghost use Rattle.std.specs.Prelude.{◌≡◌};
+ghost use Rattle.pd_base.specs.Memory.{out_of_memory};
 ghost use Rattle.pd_io.specs.Fault.{read_fault_of, write_fault_of};
 ghost use Rattle.pd_io.specs.declared.fault.FileFault.TheVariants as call;
 ghost use Rattle.pd_io.specs.declared.fault.ReadFault.TheVariants as reading;
@@ -14,7 +15,7 @@ pub enum FileFault {
     /// The outside failed, and its count of failed calls rose in this call or stands at 2^64 - 1.
     Failed,
     /// Memory ran out. No count of failed calls changed.
-    NoMemory,
+    NoMemory(OutOfMemory),
 }
 
 /// Why a whole file was not read.
@@ -28,7 +29,7 @@ pub enum ReadFault {
     TooLong,
     /// Memory ran out.
     #[error("want of memory")]
-    NoMemory,
+    NoMemory(OutOfMemory),
 }
 
 /// Why a whole file was not written.
@@ -39,7 +40,7 @@ pub enum WriteFault {
     Failed,
     /// Memory ran out.
     #[error("want of memory")]
-    NoMemory,
+    NoMemory(OutOfMemory),
 }
 
 impl From<FileFault> for ReadFault {
@@ -48,16 +49,16 @@ impl From<FileFault> for ReadFault {
     fn from(fault: FileFault) -> ReadFault {
         match fault {
             FileFault::Failed => ReadFault::Failed,
-            FileFault::NoMemory => ReadFault::NoMemory,
+            FileFault::NoMemory(refused) => ReadFault::NoMemory(refused),
         }
     }
 }
 
 impl From<AllocError> for ReadFault {
-    ghost from_gives = { λ _ error. error ≡ reading.NoMemory };
+    ghost from_gives = { λ _ error. error ≡ reading.NoMemory out_of_memory };
 
-    fn from(_: AllocError) -> ReadFault {
-        ReadFault::NoMemory
+    fn from(error: AllocError) -> ReadFault {
+        ReadFault::NoMemory(error.into())
     }
 }
 
@@ -67,23 +68,23 @@ impl From<FileFault> for WriteFault {
     fn from(fault: FileFault) -> WriteFault {
         match fault {
             FileFault::Failed => WriteFault::Failed,
-            FileFault::NoMemory => WriteFault::NoMemory,
+            FileFault::NoMemory(refused) => WriteFault::NoMemory(refused),
         }
     }
 }
 
 impl From<OutOfMemory> for FileFault {
-    ghost from_gives = { λ _ error. error ≡ call.NoMemory };
+    ghost from_gives = { λ refused error. error ≡ call.NoMemory refused };
 
-    fn from(_: OutOfMemory) -> FileFault {
-        FileFault::NoMemory
+    fn from(refused: OutOfMemory) -> FileFault {
+        FileFault::NoMemory(refused)
     }
 }
 
 impl From<AllocError> for FileFault {
-    ghost from_gives = { λ _ error. error ≡ call.NoMemory };
+    ghost from_gives = { λ _ error. error ≡ call.NoMemory out_of_memory };
 
-    fn from(_: AllocError) -> FileFault {
-        FileFault::NoMemory
+    fn from(error: AllocError) -> FileFault {
+        FileFault::NoMemory(error.into())
     }
 }

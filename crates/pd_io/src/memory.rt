@@ -1,5 +1,6 @@
 // Files and a sink in memory of which single calls can be planned to fail, for tests.
 ghost use Rattle.std.specs.Prelude.{◌≡◌, ◌↔◌, ◌<◌, ◌≤◌, ◌++◌, false, length, [], Some, None, Err, IsTrue, IsSome, IfOk, OnOk, OnErr, IsErrOf, option_copied};
+ghost use Rattle.pd_base.specs.Memory.{out_of_memory};
 ghost use Rattle.pd_io.specs.Counts.{HasCause};
 ghost use Rattle.pd_io.specs.Folder.{empty_folder, names_after_asking, reader_after, GivesNext, contents_after_begin, contents_after_write, bytes_taken};
 ghost use Rattle.pd_io.specs.Whole.{folder_with};
@@ -165,7 +166,7 @@ impl Files for MemoryFiles {
         // It fails exactly where that is planned, and it never answers want of memory.
         ensures failed { (result ≡ Err FileFault.Failed)
             ↔ IsTrue (fails_next (memory_plans self.old).read) }
-        ensures memory { IsErrOf result FileFault.NoMemory → ⊥ }
+        ensures memory { IsErrOf result (FileFault.NoMemory out_of_memory) → ⊥ }
         ensures plans { memory_plans self.new ≡ record (memory_plans self.old) {
           read = plan_after_call (memory_plans self.old).read;
         } }
@@ -246,7 +247,7 @@ impl Files for MemoryFiles {
         // It fails exactly where that is planned, and it never answers want of memory.
         ensures failed { (result ≡ Err FileFault.Failed)
             ↔ IsTrue (fails_next (memory_plans self.old).finish) }
-        ensures memory { IsErrOf result FileFault.NoMemory → ⊥ }
+        ensures memory { IsErrOf result (FileFault.NoMemory out_of_memory) → ⊥ }
         ensures plans { memory_plans self.new ≡ record (memory_plans self.old) {
           finish = plan_after_call (memory_plans self.old).finish;
         } }

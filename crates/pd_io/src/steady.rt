@@ -1,5 +1,6 @@
 // Files and a sink in memory whose calls succeed unless memory runs out. Their counts of failed calls stay 0.
 ghost use Rattle.std.specs.Prelude.{◌≡◌, ◌<◌, ◌≤◌, ◌++◌, length, [], Some, None, Err, IsSome, IsOk, IfOk, OnOk, OnErr, option_copied};
+ghost use Rattle.pd_base.specs.Memory.{out_of_memory};
 ghost use Rattle.pd_io.specs.Folder.{empty_folder, reader_after, GivesNext, contents_after_write, bytes_taken};
 ghost use Rattle.pd_io.specs.Whole.{folder_with};
 ghost use Rattle.pd_io.specs.Steady.{steady_folder, steady_reader, steady_writer, steady_bytes};
@@ -98,7 +99,7 @@ impl Files for SteadyFiles {
         } }
         ensures writer { steady_writer self.new ≡ steady_writer self.old }
         ensures reader { steady_reader self.new ≡ steady_reader self.old }
-        ensures memory { OnErr result (result ≡ Err FileFault.NoMemory) }
+        ensures memory { OnErr result (result ≡ Err (FileFault.NoMemory out_of_memory)) }
     {
         Ok(self.shelf.write(bytes)?)
     }
@@ -153,7 +154,7 @@ impl Sink for SteadySink {
         ensures most { IfOk result (λ count. count ≤ MOST_AT_ONCE) }
         ensures told { steady_bytes self.new
             ≡ steady_bytes self.old ++ bytes_taken result bytes.now }
-        ensures memory { OnErr result (result ≡ Err FileFault.NoMemory) }
+        ensures memory { OnErr result (result ≡ Err (FileFault.NoMemory out_of_memory)) }
     {
         Ok(take_front(&mut self.bytes, bytes)?)
     }

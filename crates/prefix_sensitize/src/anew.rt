@@ -44,7 +44,7 @@ pub(crate) fn decide<A: Algebra, S: Setting>(
     let target = target_along(path, aim);
     match search_at(alloc, scope, desk, &target, aim.budget) {
         Ok(found) => Ok(found),
-        Err(Unfinished::NoMemory) => Err(OutOfMemory),
+        Err(Unfinished::NoMemory(refused)) => Err(refused),
         Err(Unfinished::Undecided) => {
             let setting = RuledNetlist {
                 net: scope.net(),
@@ -145,7 +145,7 @@ fn search_from_source<A: Algebra, S: Setting>(
     let target = target_along(path, aim);
     match search_at(alloc, scope, desk, &target, aim.budget) {
         Ok(found) => Ok(found),
-        Err(Unfinished::NoMemory) => Err(OutOfMemory),
+        Err(Unfinished::NoMemory(refused)) => Err(refused),
         // all sources of the support are told
         Err(Unfinished::Undecided) => unreachable!(),
     }

@@ -33,7 +33,7 @@ fn add_refusal(fault: DelayFault, answer: &mut Text) {
         DelayFault::UnknownGate(row) => add_row_refusal(row, " unknown gate\n", answer),
         DelayFault::BadPin(row) => add_row_refusal(row, " bad pin\n", answer),
         DelayFault::BadNumber(row) => add_row_refusal(row, " bad number\n", answer),
-        DelayFault::NoMemory => answer.add("  refused want of memory\n"),
+        DelayFault::NoMemory(_) => answer.add("  refused want of memory\n"),
     }
 }
 

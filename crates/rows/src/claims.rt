@@ -52,7 +52,7 @@ fn add_tests(alloc: Global, net: &Netlist, text: &[u8], answer: &mut Text) -> Re
     match count_tests(alloc, net, text) {
         Ok(count) => answer.add_number("  tests ", count as u64),
         Err(TextFault::Malformed(line)) => add_malformed(line, answer),
-        Err(TextFault::NoMemory) => return Err(Trouble::NoMemory),
+        Err(TextFault::NoMemory(refused)) => return Err(refused.into()),
     }
     answer.add("\n");
     Ok(())
@@ -73,7 +73,7 @@ fn add_report(alloc: Global, net: &Netlist, text: &[u8], answer: &mut Text) -> R
     match count_paths(alloc, net, text) {
         Ok(count) => answer.add_number("  paths ", count as u64),
         Err(TextFault::Malformed(line)) => add_malformed(line, answer),
-        Err(TextFault::NoMemory) => return Err(Trouble::NoMemory),
+        Err(TextFault::NoMemory(refused)) => return Err(refused.into()),
     }
     answer.add("\n");
     Ok(())
@@ -97,7 +97,7 @@ fn add_proofs(alloc: Global, net: &Netlist, text: &[u8], answer: &mut Text) -> R
             answer.add_number(" proofs ", count as u64);
         }
         Err(TextFault::Malformed(line)) => add_malformed(line, answer),
-        Err(TextFault::NoMemory) => return Err(Trouble::NoMemory),
+        Err(TextFault::NoMemory(refused)) => return Err(refused.into()),
     }
     answer.add("\n");
     Ok(())

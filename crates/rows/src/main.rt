@@ -144,14 +144,22 @@ fn called_with(
         Manner::Kept => table.keep(words, answer),
         Manner::Counted => Ok(table.count(words, answer)?),
         Manner::Unfailing => Ok(table.call_unfailing(words, answer)?),
-        Manner::Full => {
-            call_unfailing(alloc, words, &mut FullFiles::new(alloc), answer);
-            Ok(())
-        }
+        Manner::Full => call_full(alloc, words, answer),
         Manner::Long(name, length) => Ok(table.call_long(name, length, words, answer)?),
         Manner::Cuts(name) => series::cuts(alloc, table, name, words, answer),
         Manner::Repeats(name) => series::repeats(alloc, table, name, words, answer),
         Manner::Failing(object) => series::failing(alloc, table, object, words, answer),
+    }
+}
+
+// The same where memory is full: a request that no memory meets stands for those of the call.
+fn call_full(alloc: Global, words: &[&str], answer: &mut Text) -> Result<(), Trouble> {
+    match search_answers::ask_room(alloc, usize::BITS - 1) {
+        Ok(()) => Err(Trouble::NoRow),
+        Err(refused) => {
+            call_unfailing(alloc, words, &mut FullFiles::new(alloc, refused), answer);
+            Ok(())
+        }
     }
 }
 

@@ -3,6 +3,7 @@ use crate::answer_lines::add_came;
 use crate::claims;
 use calls::{Ending, tell};
 use netlist::Netlist;
+use pd_base::OutOfMemory;
 use pd_io::MemorySink;
 use row_answers::{Text, Trouble, number_of};
 use std::alloc::Global;
@@ -42,17 +43,17 @@ pub fn asked(
 
 // Whether there is room for a trail of two to this power notes, or else the status and the line of a call that ends for want of memory.
 fn add_room(alloc: Global, power: u32, answer: &mut Text) {
-    if search_answers::has_room(alloc, power) {
+    let Err(refused) = search_answers::ask_room(alloc, power) else {
         answer.add_yes_or_no(true);
         return;
-    }
+    };
     let mut err = MemorySink::new(alloc);
-    let status = without_memory(&mut err);
+    let status = without_memory(refused, &mut err);
     add_came(status, err.bytes(), &[], answer);
 }
 
 // The status of a call that ends for want of memory, told on err. It promises nothing, so that what is printed is not proved over again
 // under the contract of `tell`.
-fn without_memory(err: &mut MemorySink) -> u8 {
-    tell(&Ending::NoMemory, err).number()
+fn without_memory(refused: OutOfMemory, err: &mut MemorySink) -> u8 {
+    tell(&Ending::NoMemory(refused), err).number()
 }

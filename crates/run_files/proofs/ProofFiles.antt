@@ -136,7 +136,7 @@ module _ (c : Circuit) where
       record { found = tt; only = λ file spelled is. absurd (none-some _ (file_read None lines.0 file spelled is).1) },
       subst (λ (n : ℕ). IsFirstBadProofLine c text n) (sym lines.1.1) (no_proof version rest lines.1.0 reads_version.found.1 lines.1.2),
     )
-    lines_fault_answer NoMemory lines = tt
+    lines_fault_answer (NoMemory _) lines = tt
 
   -- two lists of proofs with one text are one, and their files have one version
   pub proofs_once : source_count c < 2 ^ 64 → (version other : ProofsVersion) (proofs others : List Proof) → AreSpelledProofs c proofs

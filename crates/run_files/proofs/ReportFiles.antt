@@ -177,4 +177,4 @@ module _ (c : Circuit) where
       subst (λ (n : ℕ). IsFirstBadLine (report_form c) report_start report_headings text n) (sym lines.1.1)
           (bad_behind (report_form c) report_start report_headings text rest lines.1.0 headings lines.1.2),
     )
-    lines_answer (Err NoMemory) lines = tt
+    lines_answer (Err (NoMemory _)) lines = tt

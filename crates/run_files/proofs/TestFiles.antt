@@ -43,12 +43,12 @@ module _ (c : Circuit) where
     subst (λ (n : ℕ). IsFirstBadLine (tests_form c) 1 (tests_headings c) text n) (sym lines.1.1)
         (bad_behind (tests_form c) 1 (tests_headings c) text rest lines.1.0 is lines.1.2),
   )
-  file_answer text rest (Err NoMemory) is lines = tt
+  file_answer text rest (Err (NoMemory _)) is lines = tt
 
   -- so is what is answered where a heading is missing
   pub no_headings_answer : (text : List ℕ) (fault : TextFault) → HeadingsAnswer c text (Err fault) → TestsAnswer c text (Err fault)
   no_headings_answer text (Malformed number) headings = (no_tests_read text headings.0, headings.1)
-  no_headings_answer text NoMemory headings = tt
+  no_headings_answer text (NoMemory _) headings = tt
 
   -- two lists of lawful tests with one text are one
   pub tests_once : (tests others : List Test) → AreLawfulTests c tests → AreLawfulTests c others → tests_text c tests ≡ tests_text c others → tests ≡ others

@@ -53,7 +53,7 @@ abbrev pub ProofsAnswer : Circuit → List ℕ → Result (ℕ × Vec Proof) Tex
 ProofsAnswer c text (Ok read) =
     (version : ProofsVersion) × (read.0 ≡ version_number version) × ReadsProofs c text (Some (version, read.1.items))
 ProofsAnswer c text (Err (Malformed number)) = ReadsProofs c text None × IsFirstBadProofLine c text number
-ProofsAnswer c text (Err NoMemory) = ⊤
+ProofsAnswer c text (Err (NoMemory _)) = ⊤
 
 -- what is answered of the lines behind the first
 abbrev pub ProofLinesAnswer : Circuit → List ℕ → Result (Vec Proof) TextFault → Type 0
@@ -61,7 +61,7 @@ ProofLinesAnswer c text (Ok proofs) = Reads (lines_text (spelled_form c) 1) (IsW
 ProofLinesAnswer c text (Err (Malformed number)) =
     Reads (lines_text (spelled_form c) 1) (IsWhole (spelled_form c) 1) text None
     × ((above : ℕ) × (number ≡ above + 1) × LacksForm (spelled_form c) 1 text above)
-ProofLinesAnswer c text (Err NoMemory) = ⊤
+ProofLinesAnswer c text (Err (NoMemory _)) = ⊤
 
 -- the first line of a version, and a text behind it
 abbrev pub version_at_front : ProofsVersion × List ℕ → List ℕ

@@ -28,7 +28,7 @@ abbrev pub ReportAnswer : Circuit → List ℕ → Result (Vec ListedPath) TextF
 ReportAnswer c text (Ok paths) = Reads (report_text c) (IsSpelledReport c) text (Some paths.items)
 ReportAnswer c text (Err (Malformed number)) =
     Reads (report_text c) (IsSpelledReport c) text None × IsFirstBadLine (report_form c) report_start report_headings text number
-ReportAnswer c text (Err NoMemory) = ⊤
+ReportAnswer c text (Err (NoMemory _)) = ⊤
 
 -- what is answered of the lines behind the first
 abbrev pub PathLinesAnswer : Circuit → List ℕ → Result (Vec ListedPath) TextFault → Type 0
@@ -37,7 +37,7 @@ PathLinesAnswer c text (Ok paths) =
 PathLinesAnswer c text (Err (Malformed number)) =
     Reads (lines_text (report_form c) report_start) (IsWhole (report_form c) report_start) text None
     × ((above : ℕ) × (number ≡ above + 1) × LacksForm (report_form c) report_start text above)
-PathLinesAnswer c text (Err NoMemory) = ⊤
+PathLinesAnswer c text (Err (NoMemory _)) = ⊤
 
 -- the fields of a line for a transition, where what it tells of the path and what is behind it are these
 abbrev pub fields_with : ℕ → Direction → (List ℕ × List ℕ × List ℕ) × List (List ℕ) → List (List ℕ)

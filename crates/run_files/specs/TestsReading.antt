@@ -22,14 +22,14 @@ abbrev pub TestsAnswer : Circuit → List ℕ → Result (Vec Test) TextFault �
 TestsAnswer c text (Ok tests) = Reads (tests_text c) (AreLawfulTests c) text (Some tests.items)
 TestsAnswer c text (Err (Malformed number)) =
     Reads (tests_text c) (AreLawfulTests c) text None × IsFirstBadLine (tests_form c) 1 (tests_headings c) text number
-TestsAnswer c text (Err NoMemory) = ⊤
+TestsAnswer c text (Err (NoMemory _)) = ⊤
 
 -- what is answered of the headings: the text behind them, or the first that does not stand there
 abbrev pub HeadingsAnswer : Circuit → List ℕ → Result (Bor (List ℕ)) TextFault → Type 0
 HeadingsAnswer c text (Ok rest) = text ≡ headed (tests_headings c) rest.now
 HeadingsAnswer c text (Err (Malformed number)) =
     ((rest : List ℕ) → text ≢ headed (tests_headings c) rest) × IsFirstBadLine (tests_form c) 1 (tests_headings c) text number
-HeadingsAnswer c text (Err NoMemory) = ⊤
+HeadingsAnswer c text (Err (NoMemory _)) = ⊤
 
 -- what is answered of the lines behind the headings
 abbrev pub TestLinesAnswer : Circuit → List ℕ → Result (Vec Test) TextFault → Type 0
@@ -37,7 +37,7 @@ TestLinesAnswer c text (Ok tests) = Reads (lines_text (tests_form c) 1) (IsWhole
 TestLinesAnswer c text (Err (Malformed number)) =
     Reads (lines_text (tests_form c) 1) (IsWhole (tests_form c) 1) text None
     × ((number' : ℕ) × (number ≡ number' + 3) × LacksForm (tests_form c) 1 text number')
-TestLinesAnswer c text (Err NoMemory) = ⊤
+TestLinesAnswer c text (Err (NoMemory _)) = ⊤
 
 -- the words of a test's number and of its path's, where those behind them are these
 abbrev pub numbered_path_words : ℕ → ℕ × List (List ℕ) → List (List ℕ)

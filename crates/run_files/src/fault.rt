@@ -1,5 +1,6 @@
 // Why a text of one of the three files was not read.
 ghost use Rattle.std.specs.Prelude.{◌≡◌};
+ghost use Rattle.pd_base.specs.Memory.{out_of_memory};
 ghost use Rattle.run_files.specs.declared.fault.TextFault.TheVariants.{NoMemory};
 
 use pd_base::OutOfMemory;
@@ -11,21 +12,21 @@ pub enum TextFault {
     /// The line of this number, from 1, is the first one that lacks its form, or that is missing at the end.
     Malformed(u32),
     /// Memory ran out.
-    NoMemory,
+    NoMemory(OutOfMemory),
 }
 
 impl From<OutOfMemory> for TextFault {
-    ghost from_gives = { λ _ e. e ≡ NoMemory };
+    ghost from_gives = { λ refused e. e ≡ NoMemory refused };
 
-    fn from(_: OutOfMemory) -> TextFault {
-        TextFault::NoMemory
+    fn from(refused: OutOfMemory) -> TextFault {
+        TextFault::NoMemory(refused)
     }
 }
 
 impl<T: Drop> From<AllocFailed<T>> for TextFault {
-    ghost from_gives = { λ _ e. e ≡ NoMemory };
+    ghost from_gives = { λ _ e. e ≡ NoMemory out_of_memory };
 
-    fn from(_: AllocFailed<T>) -> TextFault {
-        TextFault::NoMemory
+    fn from(error: AllocFailed<T>) -> TextFault {
+        TextFault::NoMemory(error.into())
     }
 }

@@ -8,6 +8,7 @@ ghost use Rattle.run_files.specs.ReportText.{path_rows, report_rows, report_text
 use crate::rows::{PathTexts, digits_of, write_fault, write_header};
 use crate::steps::steps_text;
 use csv::{Writer, WriterBuilder};
+use csv_errors::refused_memory;
 use itoa::Buffer;
 use netlist::Netlist;
 use pd_base::{Direction, OutOfMemory};
@@ -99,7 +100,7 @@ fn text_of(rows: Writer<Vec<u8>>) -> Result<Vec<u8>, OutOfMemory>
 {
     match rows.into_inner() {
         Ok(text) => Ok(text),
-        Err(_) => Err(OutOfMemory),
+        Err(error) => Err(refused_memory(error.into_error())),
     }
 }
 

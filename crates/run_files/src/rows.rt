@@ -6,6 +6,7 @@ ghost use Rattle.run_files.specs.ReportRows.{ArePlain, IsBetweenRows, fault_text
 ghost use Rattle.run_files.specs.ReportText.{header_fields, row_line, verdict_fields};
 
 use csv::Writer;
+use csv_errors::refused_memory;
 use itoa::Buffer;
 use pd_base::{Direction, OutOfMemory};
 use runs::Verdict;
@@ -153,6 +154,6 @@ fn write_row(rows: &mut Writer<Vec<u8>>, fields: &[&[u8]]) -> Result<(), OutOfMe
 {
     match rows.write_fields(fields) {
         Ok(()) => Ok(()),
-        Err(_) => Err(OutOfMemory),
+        Err(error) => Err(refused_memory(error)),
     }
 }

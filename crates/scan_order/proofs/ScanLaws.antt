@@ -3,6 +3,7 @@
 use Rattle.std.proofs.Common.{◌≡◌, ◌<◌, ℕ, List, ◌∷◌, Contains, refl, sym, subst, arith}
 use Rattle.std.proofs.lemmas.List.Elements.{Contains-append_right}
 use Rattle.std.proofs.lemmas.Option.{none-some, same_Some}
+use Rattle.pd_base.specs.Memory.{out_of_memory}
 use Rattle.pd_base.specs.declared.ids.LineId.{LineId}
 use Rattle.netlist.specs.Circuit.{Circuit, line_count}
 use Rattle.netlist.specs.Lawful.{IsCircuit}
@@ -17,7 +18,7 @@ use Rattle.scan_order.proofs.Refused.{chains_read}
 
 -- it is refused for want of memory alone
 pub scan_not_refused : (c : Circuit) (text : List ℕ) (chains : List (List LineId)) (why : ScanFault) → HasChains c text chains
-    → RefusesScan c text why → why ≡ fault.NoMemory
+    → RefusesScan c text why → why ≡ fault.NoMemory out_of_memory
 scan_not_refused c text chains why has (fails failing reads) = absurd (none-some chains (reads.only chains has.are has.is_text))
 scan_not_refused c text chains why has (no_memory none) = none
 

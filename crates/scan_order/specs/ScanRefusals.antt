@@ -1,6 +1,7 @@
 -- Why a text is refused as a scan file: at the first line that fails, or else for the first flip-flop that stands nowhere (this project's
 -- own format).
 use Rattle.std.specs.Prelude.{◌≡◌, ◌≢◌, ⊤, ℕ, ◌+◌, ◌<◌, List, [], ◌∷◌, ◌++◌, length, All, Contains, None}
+use Rattle.pd_base.specs.Memory.{out_of_memory}
 use Rattle.pd_base.specs.declared.ids.LineId.{LineId}
 use Rattle.netlist.specs.Circuit.{Circuit, line_count}
 use Rattle.netlist.specs.Names.{name_at}
@@ -69,7 +70,7 @@ pub data FailsAs (c : Circuit) (text : List ℕ) : ScanFault → Type 0 where
 -- Why the text is refused: it fails so, and no chains of the circuit have it as their file; or, with no claim on it, memory ran out.
 pub data RefusesScan (c : Circuit) (text : List ℕ) (why : ScanFault) : Type 0 where
   fails : FailsAs c text why → Reads (scan_text c) (AreChainsOf c) text None → RefusesScan c text why
-  no_memory : why ≡ fault.NoMemory → RefusesScan c text why
+  no_memory : why ≡ fault.NoMemory out_of_memory → RefusesScan c text why
 
 -- a fault names a line of the circuit, if it names a flip-flop
 abbrev pub NamesFlop : Circuit → ScanFault → Type 0

@@ -1,5 +1,6 @@
 // Why a scan file is refused.
 ghost use Rattle.std.specs.Prelude.{◌≡◌};
+ghost use Rattle.pd_base.specs.Memory.{out_of_memory};
 
 use pd_base::{LineId, OutOfMemory};
 use std::alloc::AllocFailed;
@@ -19,25 +20,25 @@ pub enum ScanFault {
     Missing(LineId),
     /// Memory ran out.
     #[error("want of memory")]
-    NoMemory,
+    NoMemory(OutOfMemory),
 }
 
 impl From<OutOfMemory> for ScanFault {
     ghost use Rattle.scan_order.specs.declared.scan_fault.ScanFault.TheVariants.{NoMemory};
 
-    ghost from_gives = { λ _ fault. fault ≡ NoMemory };
+    ghost from_gives = { λ refused fault. fault ≡ NoMemory refused };
 
-    fn from(_: OutOfMemory) -> ScanFault {
-        ScanFault::NoMemory
+    fn from(refused: OutOfMemory) -> ScanFault {
+        ScanFault::NoMemory(refused)
     }
 }
 
 impl<T: Drop> From<AllocFailed<T>> for ScanFault {
     ghost use Rattle.scan_order.specs.declared.scan_fault.ScanFault.TheVariants.{NoMemory};
 
-    ghost from_gives = { λ _ fault. fault ≡ NoMemory };
+    ghost from_gives = { λ _ fault. fault ≡ NoMemory out_of_memory };
 
-    fn from(_: AllocFailed<T>) -> ScanFault {
-        ScanFault::NoMemory
+    fn from(error: AllocFailed<T>) -> ScanFault {
+        ScanFault::NoMemory(error.into())
     }
 }

@@ -34,5 +34,5 @@ pub use nesting::walk;
 pub use searching::searched;
 pub use stages::staged;
 pub use steady_lines::{is_steady_at_one, steady_bit};
-pub use trails::{has_room, undone};
+pub use trails::{ask_room, undone};
 pub use walks::walked;

@@ -2,6 +2,7 @@
 ghost use Rattle.std.specs.Prelude.{◌≡◌};
 ghost use Rattle.search_answers.specs.declared.trails.TheConstants.{ROOM};
 
+use pd_base::OutOfMemory;
 use row_answers::{Text, Trouble, number_of};
 use std::alloc::Global;
 use undo_trail::Trail;
@@ -20,9 +21,10 @@ pub fn undone(alloc: Global, row: &str, answer: &mut Text) -> Result<(), Trouble
     Ok(())
 }
 
-/// Whether memory has room for a trail of two to this power notes.
-pub fn has_room(alloc: Global, power: u32) -> bool {
-    power < usize::BITS && Trail::<u32>::new(alloc, 1 << power).is_ok()
+/// Asks memory for a trail of two to this power notes, at most 2^63.
+pub fn ask_room(alloc: Global, power: u32) -> Result<(), OutOfMemory> {
+    Trail::<u32>::new(alloc, 1 << power.min(usize::BITS - 1))?;
+    Ok(())
 }
 
 // The values of a row.

@@ -1,7 +1,7 @@
 -- Six states tell the first value of a line.
-use Rattle.std.proofs.Common.{◌≡◌, Bool, true, false, not, cond, refl, sym, ap₂, subst, ◌∙◌}
+use Rattle.std.proofs.Common.{◌≡◌, Bool, true, false, not, cond, refl, sym, ap₂, ◌∙◌}
 use Rattle.state_sets.specs.StateAlgebra.{MaySteady}
-use Rattle.state_sets.specs.SixStates.{six_states, six_state, six_first, six_last}
+use Rattle.state_sets.specs.SixStates.{six_states, six_state, six_first}
 use Rattle.state_sets.specs.SixLaws.{six_laws}
 use Rattle.state_sets.specs.FirstValues.{TellsFirst}
 

@@ -3,7 +3,7 @@ use Rattle.std.proofs.Common.{◌≡◌, true, length, refl}
 use Rattle.state_sets.specs.declared.six_tables.TheConstants.{AND_STATES, OR_STATES, XOR_STATES, AND_SETS, OR_SETS, XOR_SETS, AND_SUPPORTS, OR_SUPPORTS, XOR_SUPPORTS, INVERTED_SETS}
 use Rattle.state_sets.specs.OpTables.{by_op}
 use Rattle.state_sets.specs.SixStates.{six_states}
-use Rattle.state_sets.proofs.UnitedSets.{set_joins, set_supports, set_inversion, join_number}
+use Rattle.state_sets.proofs.UnitedSets.{set_joins, set_supports, join_number}
 use Rattle.state_sets.proofs.NumberTables.{all_are, by_rows}
 use Rattle.state_sets.proofs.OpTables.{Tables, AreTables, of_each}
 

@@ -1,6 +1,6 @@
 -- Sets of states as numbers, united out of parts: what operations make of two sets, and which states support a target, as numbers
 -- that are computed from those of single states. For every kind of states.
-use Rattle.std.proofs.Common.{◌≡◌, ℕ, zero, suc, ◌+◌, ◌*◌, ◌/◌, ◌%◌, ◌<◌, ◌^◌, ◌==◌, ◌↔◌, ◌⊎◌, inl, inr, ⊎_elim, Bool, true, false, cond, max, bit_or, refl, sym, ap, subst, ◌∙◌, arith}
+use Rattle.std.proofs.Common.{◌≡◌, ℕ, zero, suc, ◌<◌, ◌^◌, ◌==◌, ◌⊎◌, inl, inr, ⊎_elim, Bool, true, false, cond, max, bit_or, sym, ap, subst, ◌∙◌, arith}
 use Rattle.std.specs.Int.{bit_at}
 use Rattle.std.proofs.lemmas.Bool.{cases_eq, cond-true, cond-false, eq-eqb, ne_eqb}
 use Rattle.std.proofs.lemmas.Nat.{or_lt, pow_pos, pow_below}
@@ -8,9 +8,8 @@ use Rattle.std.proofs.lemmas.Nat.Bits.{bit_at_or, bit_at-lt, bit_at-zero, bit_at
 use Rattle.state_sets.specs.declared.state.State.{State}
 use Rattle.state_sets.specs.declared.state.StateSet.{StateSet}
 use Rattle.netlist.specs.declared.op.Op.{Op}
-use Rattle.state_sets.specs.States.{Has}
 use Rattle.state_sets.specs.StateAlgebra.{StateAlgebra, HasLaws}
-use Rattle.state_sets.specs.StateSets.{IsJoin, AreJoins, JoinsInto, AreSupporting, AreInversions}
+use Rattle.state_sets.specs.StateSets.{AreJoins, AreSupporting, AreInversions}
 use Rattle.state_sets.specs.ComputedLaws.{state_of}
 
 -- the first of these sets, united

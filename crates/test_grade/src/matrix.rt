@@ -84,5 +84,8 @@ fn blocks_of(count: usize) -> usize
 fn word_count(blocks: usize, faults: usize) -> Result<usize, OutOfMemory>
     ensures { IfOk result (λ count. count ≡ blocks * faults) }
 {
-    blocks.checked_mul(faults).ok_or(OutOfMemory)
+    match blocks.checked_mul(faults) {
+        Some(count) => Ok(count),
+        None => Err(OutOfMemory::of_size(blocks, faults)),
+    }
 }

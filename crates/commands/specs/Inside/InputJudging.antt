@@ -1,6 +1,7 @@
 -- What was found of an input, as the functions say it that read and judge inputs (this project's own).
 use Rattle.std.specs.Prelude.{◌≡◌, ℕ, List, None, Some, Vec}
 use Rattle.std.specs.declared.alloc.Global.{Global}
+use Rattle.pd_base.specs.Memory.{out_of_memory}
 use Rattle.pd_base.specs.declared.test.Test.{Test}
 use Rattle.pd_io.specs.Seen.{FilesSeen}
 use Rattle.netlist.specs.Circuit.{Circuit}
@@ -39,7 +40,7 @@ pub data FailsFor (Refuses : Refusal → Type 0) (ending : Ending) : Type 0 wher
   -- they are refused
   refused : (refusal : Refusal) → ending ≡ Refused refusal → Refuses refusal → FailsFor Refuses ending
   -- memory ran out
-  no_memory : ending ≡ NoMemory → FailsFor Refuses ending
+  no_memory : ending ≡ NoMemory out_of_memory → FailsFor Refuses ending
 
 -- there is no netlist
 abbrev pub FailsNet : List ℕ → Ending → Type 0
@@ -56,7 +57,7 @@ FailsChains c scan ending = FailsFor (HasNoChainsFor c scan) ending
 -- a call ends so for a fault of SCAN; memory may run out while it is told, too
 pub data EndsForScan (c : Circuit) (fault : ScanFault) (ending : Ending) : Type 0 where
   scan_told : ending ≡ scan_ending c fault → EndsForScan c fault ending
-  scan_untold : ending ≡ NoMemory → EndsForScan c fault ending
+  scan_untold : ending ≡ NoMemory out_of_memory → EndsForScan c fault ending
 
 -- there are no tests, as the command of this word says
 abbrev pub FailsTests : List ℕ → Circuit → List ℕ → Ending → Type 0

@@ -17,7 +17,7 @@ pub(crate) fn log_ending(fault: LogFault) -> Ending
         LogFault::NoTest(row) => wrong_row(row, b" test"),
         LogFault::BadTime(row) => wrong_row(row, b" time"),
         LogFault::BadResult(row) => wrong_row(row, b" result"),
-        LogFault::NoMemory => Ending::NoMemory,
+        LogFault::NoMemory(refused) => Ending::NoMemory(refused),
     }
 }
 

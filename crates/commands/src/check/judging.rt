@@ -13,7 +13,6 @@ use claim_check::{Claim, Reason, check_run};
 use command_line::RunCommand;
 use delay_annotation::Delays;
 use netlist::Netlist;
-use pd_base::OutOfMemory;
 use runs::Run;
 use std::alloc::Global;
 
@@ -35,7 +34,7 @@ pub(crate) fn judge_run(
     match check_run(alloc, net, delays, command.paths, command.budget, run) {
         Ok(Claim::Holds) => Ok(()),
         Ok(Claim::Fails(item, flaw)) => Err(Ending::Refused(flawed(item, flaw))),
-        Err(OutOfMemory) => Err(Ending::NoMemory),
+        Err(refused) => Err(Ending::NoMemory(refused)),
     }
 }
 

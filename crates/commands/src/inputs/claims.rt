@@ -52,7 +52,7 @@ pub(crate) fn tests_in(
         Err(TextFault::Malformed(line)) => {
             Err(Ending::Refused(malformed(command, Role::Tests, line)))
         }
-        Err(TextFault::NoMemory) => Err(Ending::NoMemory),
+        Err(TextFault::NoMemory(refused)) => Err(Ending::NoMemory(refused)),
     }
 }
 
@@ -73,7 +73,7 @@ pub(crate) fn report_in(
         Err(TextFault::Malformed(line)) => {
             Err(Ending::Refused(malformed(command, Role::Report, line)))
         }
-        Err(TextFault::NoMemory) => Err(Ending::NoMemory),
+        Err(TextFault::NoMemory(refused)) => Err(Ending::NoMemory(refused)),
     }
 }
 
@@ -103,7 +103,7 @@ pub(crate) fn proofs_in(
         Err(TextFault::Malformed(line)) => {
             Err(Ending::Refused(malformed(command, Role::Proofs, line)))
         }
-        Err(TextFault::NoMemory) => Err(Ending::NoMemory),
+        Err(TextFault::NoMemory(refused)) => Err(Ending::NoMemory(refused)),
     }
 }
 

@@ -17,7 +17,7 @@ pub(crate) fn delays_ending(fault: DelayFault) -> Ending
         DelayFault::UnknownGate(row) => wrong_in(row, b" unknown gate"),
         DelayFault::BadPin(row) => wrong_in(row, b" bad pin"),
         DelayFault::BadNumber(row) => wrong_in(row, b" bad number"),
-        DelayFault::NoMemory => Ending::NoMemory,
+        DelayFault::NoMemory(refused) => Ending::NoMemory(refused),
     }
 }
 

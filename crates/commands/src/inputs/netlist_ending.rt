@@ -18,7 +18,7 @@ pub(crate) fn netlist_ending(fault: BenchFault) -> Ending
         BenchFault::UnknownKind(place) => wrong_at(place, b" unknown kind"),
         BenchFault::FanIn(place) => wrong_at(place, b" fan-in"),
         BenchFault::Build(fault) => build_ending(fault),
-        BenchFault::NoMemory => Ending::NoMemory,
+        BenchFault::NoMemory(refused) => Ending::NoMemory(refused),
     }
 }
 
@@ -33,7 +33,7 @@ fn build_ending(fault: BuildFault) -> Ending
         BuildFault::Undefined(place, name) => wrong_name_at(place, b" undefined ", name),
         BuildFault::Loop(place, name) => wrong_name_at(place, b" loop ", name),
         BuildFault::TooDeep(place, name) => wrong_name_at(place, b" too deep ", name),
-        BuildFault::NoMemory => Ending::NoMemory,
+        BuildFault::NoMemory(refused) => Ending::NoMemory(refused),
     }
 }
 

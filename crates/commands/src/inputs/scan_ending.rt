@@ -8,7 +8,7 @@ ghost use Rattle.commands.specs.InputRefusals.{missing_flop, wrong_scan_line};
 use crate::copied::copied;
 use calls::{Cause, Ending, Part, Refusal};
 use netlist::Netlist;
-use pd_base::{Items, OutOfMemory};
+use pd_base::Items;
 use scan_order::ScanFault;
 use std::alloc::Global;
 
@@ -22,9 +22,9 @@ pub(crate) fn scan_ending(alloc: Global, net: &Netlist, fault: ScanFault) -> End
         ScanFault::Twice(place) => wrong_scan_line(place, b" twice"),
         ScanFault::Missing(flop) => match copied(alloc, net.name(flop)) {
             Ok(name) => Ending::Refused(missing_flop(name)),
-            Err(OutOfMemory) => Ending::NoMemory,
+            Err(refused) => Ending::NoMemory(refused),
         },
-        ScanFault::NoMemory => Ending::NoMemory,
+        ScanFault::NoMemory(refused) => Ending::NoMemory(refused),
     }
 }
 

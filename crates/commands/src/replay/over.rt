@@ -16,16 +16,16 @@ pub(crate) enum ReplayTextFault {
     /// The first test, by its number from 1, under whose pair some line changes too often, and the first such line in rank order.
     TooManyChanges(u32, LineId),
     /// Memory ran out.
-    NoMemory,
+    NoMemory(OutOfMemory),
 }
 
 impl From<OutOfMemory> for ReplayTextFault {
     ghost use Rattle.commands.specs.declared.replay.over.ReplayTextFault.TheVariants.{NoMemory};
 
-    ghost from_gives = { λ _ fault. fault ≡ NoMemory };
+    ghost from_gives = { λ refused fault. fault ≡ NoMemory refused };
 
-    fn from(_: OutOfMemory) -> ReplayTextFault {
-        ReplayTextFault::NoMemory
+    fn from(refused: OutOfMemory) -> ReplayTextFault {
+        ReplayTextFault::NoMemory(refused)
     }
 }
 
@@ -35,7 +35,7 @@ pub(crate) fn replay_text_fault(number: u32, fault: ReplayFault) -> ReplayTextFa
 {
     match fault {
         ReplayFault::TooManyChanges(line) => ReplayTextFault::TooManyChanges(number, line),
-        ReplayFault::NoMemory => ReplayTextFault::NoMemory,
+        ReplayFault::NoMemory(refused) => ReplayTextFault::NoMemory(refused),
     }
 }
 
@@ -47,9 +47,9 @@ pub(crate) fn ending_for(alloc: Global, net: &Netlist, fault: ReplayTextFault) -
     match fault {
         ReplayTextFault::TooManyChanges(number, line) => match copied(alloc, net.name(line)) {
             Ok(name) => Ending::Refused(changes_too_often(number, name)),
-            Err(OutOfMemory) => Ending::NoMemory,
+            Err(refused) => Ending::NoMemory(refused),
         },
-        ReplayTextFault::NoMemory => Ending::NoMemory,
+        ReplayTextFault::NoMemory(refused) => Ending::NoMemory(refused),
     }
 }
 

@@ -1,5 +1,6 @@
 -- Rows taken one by one: the rows so far pass, and say what stands in the log (this project's own).
 use Rattle.std.specs.Prelude.{◌≡◌, ℕ, ◌+◌, List, [], ◌∷◌, ◌++◌, length}
+use Rattle.pd_base.specs.Memory.{out_of_memory}
 use Rattle.delay_annotation.specs.DelayFile.{Row}
 use Rattle.delay_bounds.specs.LogFile.{AreLogRows, RefusesNext}
 use Rattle.delay_bounds.specs.LogRows.{AreTitles}
@@ -21,4 +22,4 @@ TakesRow tests number row old new =
 pub data FailsToTake (tests number : ℕ) (row : Row) (log : List LogRow) (why : LogFault) : Type 0 where
   refused : ((rows : List Row) → number ≡ length rows + 1 → AreTaken tests rows log → RefusesNext tests rows row why)
       → FailsToTake tests number row log why
-  no_memory : why ≡ fault.NoMemory → FailsToTake tests number row log why
+  no_memory : why ≡ fault.NoMemory out_of_memory → FailsToTake tests number row log why

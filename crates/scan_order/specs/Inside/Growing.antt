@@ -1,5 +1,6 @@
 -- Chains as far as they are read (this project's own).
 use Rattle.std.specs.Prelude.{◌≡◌, ◌≢◌, ◌↔◌, ℕ, ◌<◌, ◌≤◌, false, IsTrue, List, [], ◌∷◌, ◌++◌, length, All, AllPairs, Contains, slice_index_or}
+use Rattle.pd_base.specs.Memory.{out_of_memory}
 use Rattle.pd_base.specs.declared.ids.LineId.{LineId}
 use Rattle.netlist.specs.Circuit.{Circuit, source_count}
 use Rattle.netlist.specs.Lawful.{IsCircuit}
@@ -44,7 +45,7 @@ pub record TakesLine (c : Circuit) (text : List ℕ) (old new : Growing) (behind
 pub data FailsToTakeLine (c : Circuit) (number : ℕ) (text : List ℕ) (old : Growing) : ScanFault → Type 0 where
   unknown : IsUnknownLine c (lines_so_far c old) text → FailsToTakeLine c number text old (fault.Unknown number)
   twice : IsRepeatedLine c (lines_so_far c old) text → FailsToTakeLine c number text old (fault.Twice number)
-  no_memory : FailsToTakeLine c number text old fault.NoMemory
+  no_memory : FailsToTakeLine c number text old (fault.NoMemory out_of_memory)
 
 -- this is the first of the lines that is not inside
 pub record IsFirstOutside (inside lines : List LineId) (line : LineId) : Type 0 where
@@ -57,4 +58,4 @@ pub record IsFirstOutside (inside lines : List LineId) (line : LineId) : Type 0 
 -- why the chains may not end here
 pub data FailsToEnd (c : Circuit) (growing : Growing) : ScanFault → Type 0 where
   missing : (flop : LineId) → IsMissingFlop c (lines_so_far c growing) flop → FailsToEnd c growing (fault.Missing flop)
-  no_memory : FailsToEnd c growing fault.NoMemory
+  no_memory : FailsToEnd c growing (fault.NoMemory out_of_memory)

@@ -1,5 +1,6 @@
 -- The words are the arguments; or there was no memory for them.
 use Rattle.std.proofs.Common.{ℕ, List, refl, ap, subst, ◌∙◌}
+use Rattle.pd_base.specs.Memory.{out_of_memory}
 use Rattle.pd_io.specs.Seen.{outside}
 use Rattle.command_line.specs.Commands.{bytes_of_words}
 use Rattle.calls.specs.declared.ending.Ending.TheVariants.{NoMemory}
@@ -17,7 +18,7 @@ returns-in-Ok g c =
 
 pub returns-in-Err : goal.returns-in-Err
 returns-in-Err g c = record {
-  ending = NoMemory;
+  ending = NoMemory out_of_memory;
   performed = stopped (stops_for_memory _ (begun _ _) (_, refl)) refl;
   reported = c.tell.ensures;
 }

@@ -1,5 +1,5 @@
 -- Nothing is kept at first.
-use Rattle.std.proofs.Common.{◌≤◌, All, length, refl, sym, ap, subst, ◌∙◌, arith}
+use Rattle.std.proofs.Common.{All, length, refl, sym, ap, subst, ◌∙◌, arith}
 use Rattle.std.proofs.lemmas.List.{length-replicate}
 use Rattle.std.proofs.lemmas.List.Elements.{All-replicate}
 use Rattle.netlist.specs.declared.limits.TheConstants.{MOST_FAN_IN}

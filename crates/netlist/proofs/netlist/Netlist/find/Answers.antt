@@ -1,5 +1,5 @@
 -- A binary search among the lines by name ends at a line that bears the name, or where none does.
-use Rattle.std.proofs.Common.{◌<◌, get_or, length, sym, subst, ap, ◌∙◌, rules}
+use Rattle.std.proofs.Common.{◌<◌, get_or, sym, subst, rules}
 use Rattle.std.proofs.lemmas.Fn.{always_returns_same}
 use Rattle.pd_base.specs.declared.ids.LineId.{LineId}
 use Rattle.netlist.specs.Circuit.{line_names}

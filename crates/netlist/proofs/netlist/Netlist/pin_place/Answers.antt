@@ -1,4 +1,4 @@
-use Rattle.std.proofs.Common.{◌≡◌, ◌+◌, length, sum_by, take, ap, subst, sym, ◌∙◌, arith}
+use Rattle.std.proofs.Common.{◌+◌, ap, ◌∙◌, arith}
 use Rattle.netlist.proofs.PinRow.{place_within}
 use Rattle.netlist.proofs.StoredLists.{stored_of, pins-before}
 use Rattle.netlist.proofs.netlist.Netlist.pin_place.Goals as goal

@@ -1,4 +1,4 @@
-use Rattle.std.proofs.Common.{subst, sym, ap, get_or, [], ◌∙◌, arith}
+use Rattle.std.proofs.Common.{subst, sym, ◌∙◌, arith}
 use Rattle.netlist.specs.Circuit.{HasLines}
 use Rattle.netlist.proofs.StoredLists.{stored_of, pins-length, pins-at}
 use Rattle.netlist.proofs.netlist.Netlist.pins.Goals as goal

@@ -1,5 +1,5 @@
 -- The list stands between its bound and the next.
-use Rattle.std.proofs.Common.{◌≡◌, ℕ, suc, ◌+◌, ◌<◌, [], length, get_or, sym, ap, ap₂, ◌∙◌, add-one, arith}
+use Rattle.std.proofs.Common.{◌+◌, ◌<◌, [], length, get_or, sym, ap, ap₂, ◌∙◌, add-one, arith}
 use Rattle.std.proofs.lemmas.Grind.{get_or_default_zero}
 use Rattle.pd_base.specs.FlatLists.{items_between}
 use Rattle.pd_base.proofs.ListBounds.{lists_count, list_at}
