@@ -84,11 +84,11 @@ names_asked result name (Some before) (Some after) (whole.no_memory why same) =
     ([], (name ∷ [], refl), subst (AsksOnly [] before) (sym same) (asks_none before))
 
 -- memory ran out
-pub out_of_memory : (role : Role) (name : List ℕ) (result : Result (Vec ℕ Global) ReadFault) (old new : FilesSeen)
+pub without_memory : (role : Role) (name : List ℕ) (result : Result (Vec ℕ Global) ReadFault) (old new : FilesSeen)
     → result ≡ Err (reading.NoMemory out_of_memory) → Tells old.folder new.folder (AsksFor result name)
     → HasCause old.read_faults new.read_faults result reading.Failed → new.write_faults ≡ old.write_faults
     → FailsToRead role name (ended.NoMemory out_of_memory) old new
-out_of_memory role name result old new is asked cause write =
+without_memory role name result old new is asked cause write =
     let names = names_asked result name old.folder new.folder asked in
     no_memory names.0 refl names.1 names.2
     (uncounted result (reading.NoMemory out_of_memory) old.read_faults new.read_faults is (λ same. cc) cause) write

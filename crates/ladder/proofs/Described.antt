@@ -11,6 +11,7 @@ use Rattle.net_builder.specs.Refusals.{MayRefuse}
 use Rattle.net_builder.specs.declared.fault.BuildFault.{BuildFault}
 use Rattle.net_builder.specs.declared.fault.BuildFault.TheVariants.{TooManyLines, TooManyPins, Twice, Undefined, Loop, TooDeep, NoMemory}
 use Rattle.net_builder.proofs.Exclusive.{refuses_none}
+use Rattle.pd_base.specs.Memory.{out_of_memory}
 use Rattle.pd_base.specs.declared.limits.TheConstants.{MOST_STAGES}
 use Rattle.ladder.specs.declared.line.Letter.TheVariants.{X}
 use Rattle.ladder.specs.Ladder.{ladder_circuit, ladder_gates, ladder_name, ladder_names, ladder_sources}
@@ -55,8 +56,8 @@ module _ (stages : ℕ) (some : 1 ≤ stages) (few : stages ≤ MOST_STAGES) whe
 
 -- where statements describe a circuit, nothing but memory may be wanting
 pub only_memory : (statements : List Numbered) (c : Circuit) → Describes statements c → (fault : BuildFault) → MayRefuse statements fault
-    → fault ≡ NoMemory
-only_memory statements c describes NoMemory may = refl
+    → fault ≡ NoMemory out_of_memory
+only_memory statements c describes (NoMemory refused) may = refl
 only_memory statements c describes (TooManyLines count) may = absurd (refuses_none statements c (TooManyLines count) describes may)
 only_memory statements c describes (TooManyPins count) may = absurd (refuses_none statements c (TooManyPins count) describes may)
 only_memory statements c describes (Twice line name) may = absurd (refuses_none statements c (Twice line name) describes may)

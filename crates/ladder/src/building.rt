@@ -1,5 +1,6 @@
 // The ladder as a netlist.
 ghost use Rattle.std.specs.Prelude.{◌≡◌, ◌≤◌, IfOk, IfErr};
+ghost use Rattle.pd_base.specs.Memory.{out_of_memory};
 ghost use Rattle.pd_base.specs.declared.limits.TheConstants.{MOST_STAGES};
 ghost use Rattle.ladder.specs.Ladder.{ladder_circuit};
 
@@ -17,7 +18,11 @@ pub fn ladder(alloc: Global, stages: u32) -> Result<Netlist, OutOfMemory>
     ensures { IfOk result (λ net. net ≡ ladder_circuit stages) }
 {
     // The statements of a ladder describe a circuit, so nothing but memory can be wanting.
-    built_ladder(alloc, stages).map_err(|_| OutOfMemory)
+    match built_ladder(alloc, stages) {
+        Ok(net) => Ok(net),
+        Err(BuildFault::NoMemory(refused)) => Err(refused),
+        Err(_) => unreachable!(),
+    }
 }
 
 // The same, with the answer of the builder, which never refuses the statements.
@@ -25,7 +30,7 @@ fn built_ladder(alloc: Global, stages: u32) -> Result<Netlist, BuildFault>
     requires some { 1 ≤ stages }
     requires few { stages ≤ MOST_STAGES }
     ensures circuit { IfOk result (λ net. net ≡ ladder_circuit stages) }
-    ensures memory { IfErr result (λ fault. fault ≡ BuildFault.NoMemory) }
+    ensures memory { IfErr result (λ fault. fault ≡ BuildFault.NoMemory out_of_memory) }
 {
     let raw = ladder_statements(alloc, stages)?;
     build(alloc, &raw)

@@ -3,7 +3,7 @@ use Rattle.std.proofs.Common.{◌≡◌, ◌≢◌, inl, inr, ℕ, ◌<◌, List
 use Rattle.std.specs.List.{AllPairs, Contains, flat_map, swap}
 use Rattle.std.specs.List.Sorted.{IsPermutation}
 use Rattle.std.proofs.lemmas.Bool.{cases_lt}
-use Rattle.std.proofs.lemmas.List.{map-append}
+use Rattle.std.proofs.lemmas.List.{get_or_append_left, length-append, map-append}
 use Rattle.std.proofs.lemmas.List.Edits.{length-swap}
 use Rattle.std.proofs.lemmas.List.Sorted.{IsPermutation-append_comm, IsPermutation-append_left, IsPermutation-append_right, IsPermutation-keeps, IsPermutation-refl, IsPermutation-sym, IsPermutation-trans, Contains-permutation, length_permutation}
 use Rattle.indexmap.proofs.ReorderLemmas.{exchange, exchange-twice, exchange-within, get_or-swap}
@@ -27,6 +27,13 @@ module _ {X : Type 0} where
         | inl before ↦ differ i j d before within_j same
         | inr behind ↦ differ j i d (omega (arith, apart)) within_i (sym same)
       ]
+
+  -- those of the front of such a list differ
+  pub front_differs : (xs ys : List X) → Differ (xs ++ ys) → Differ xs
+  front_differs xs ys differ i j d before within same =
+      let long = length-append xs ys in
+      differ i j d before (omega (arith, long))
+      (get_or_append_left xs ys d i (omega arith) ∙ same ∙ sym (get_or_append_left xs ys d j within))
 
   -- two in each other's places
   swap_differ : (l : List X) (a b : ℕ) → a < length l → b < length l → Differ l → Differ (swap l a b)
@@ -133,6 +140,11 @@ module _ (statements : List Numbered) where
   lines_distinct =
       order_differ (names_by_line statements) (defined_names statements)
       (IsPermutation-sym (defined_names statements) (names_by_line statements) reordered)
+
+  -- where each is defined once, the names of the groups up to any differ
+  pub groups_differ : AreDistinct statements → (front rest : List (List ℕ)) → (first ++ second) ++ third ≡ front ++ rest → Differ front
+  groups_differ distinct front rest cut =
+      front_differs front rest (subst Differ (sym by_groups ∙ cut) (lines_differ distinct))
 
   module _ (none one two three : List (List ℕ)) (empty : none ≡ []) (is_one : one ≡ none ++ first)
       (is_two : two ≡ one ++ second) (is_three : three ≡ two ++ third) where

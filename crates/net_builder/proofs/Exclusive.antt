@@ -128,7 +128,7 @@ refuses_none statements c (TooDeep line name) describes refused =
     let inside = is_gate statements (IsTooDeep d) (record { line = line; name = name }) first in
     let below = below_greatest_level d (gate_line d first.gate) (omega (arith, inside)) in
     omega (arith, few, below, first.is)
-refuses_none statements c NoMemory describes refused = refused
+refuses_none statements c (NoMemory _) describes refused = refused
 
 -- statements describe one circuit at most
 pub describes_one : (statements : List Numbered) (c d : Circuit) → Describes statements c → Describes statements d → c ≡ d

@@ -15,6 +15,7 @@ mod Inserting
 pub mod KnownUses
 pub mod Levelled
 mod Looking
+mod NameFaults
 mod NameParts
 mod NameSort
 mod Naming

@@ -14,4 +14,4 @@ pub record IsFirstLooped (c : Circuit) (gate : ℕ) : Type 0 where
 -- the circuit may be refused so: want of memory is always allowed
 abbrev pub MayFault : Circuit → LevelFault → Type 0
 MayFault c (Loop gate) = IsFirstLooped c gate.0
-MayFault c NoMemory = ⊤
+MayFault c (NoMemory _) = ⊤

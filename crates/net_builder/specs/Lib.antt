@@ -5,6 +5,7 @@ pub mod Filling
 pub mod Groups
 pub mod KeyNames
 pub mod KnownNames
+pub mod NameFaults
 pub mod NameLists
 pub mod NameOrder
 pub mod OrderedNames

@@ -86,9 +86,9 @@ Refuses statements (Twice line name) = RefusesTwice statements (mention_of line 
 Refuses statements (Undefined line name) = RefusesUndefined statements (mention_of line name)
 Refuses statements (Loop line name) = RefusesLoop statements (mention_of line name)
 Refuses statements (TooDeep line name) = RefusesDepth statements (mention_of line name)
-Refuses statements NoMemory = ⊥
+Refuses statements (NoMemory _) = ⊥
 
 -- an answer that is no netlist: a reason, or want of memory
 abbrev pub MayRefuse : List Numbered → BuildFault → Type 0
-MayRefuse statements NoMemory = ⊤
+MayRefuse statements (NoMemory _) = ⊤
 MayRefuse statements fault = Refuses statements fault

@@ -24,11 +24,11 @@ pub(crate) fn distinct_names(alloc: Global, raw: &RawNet) -> Result<NameSet, Bui
 {
     match names_of_lines(alloc, raw) {
         Ok(names) => Ok(names),
-        Err(NameFault::NoMemory) => Err(BuildFault::NoMemory),
+        Err(NameFault::NoMemory(refused)) => Err(BuildFault::NoMemory(refused)),
         Err(NameFault::Repeated) => {
             // The first in the order of the statements; it is found, since there is one.
             check_distinct(alloc, raw)?;
-            Err(BuildFault::NoMemory)
+            unreachable!()
         }
     }
 }

@@ -29,35 +29,37 @@ pub enum BuildFault {
     TooDeep(u32, Items<u8>),
     /// Memory ran out.
     #[error("want of memory")]
-    NoMemory,
+    NoMemory(OutOfMemory),
 }
 
 impl From<OutOfMemory> for BuildFault {
     ghost use Rattle.net_builder.specs.declared.fault.BuildFault.TheVariants.{NoMemory};
 
-    ghost from_gives = { λ _ fault. fault ≡ NoMemory };
+    ghost from_gives = { λ refused fault. fault ≡ NoMemory refused };
 
-    fn from(_: OutOfMemory) -> BuildFault {
-        BuildFault::NoMemory
+    fn from(refused: OutOfMemory) -> BuildFault {
+        BuildFault::NoMemory(refused)
     }
 }
 
 impl From<AllocError> for BuildFault {
     ghost use Rattle.net_builder.specs.declared.fault.BuildFault.TheVariants.{NoMemory};
+    ghost use Rattle.pd_base.specs.Memory.{out_of_memory};
 
-    ghost from_gives = { λ _ fault. fault ≡ NoMemory };
+    ghost from_gives = { λ _ fault. fault ≡ NoMemory out_of_memory };
 
-    fn from(_: AllocError) -> BuildFault {
-        BuildFault::NoMemory
+    fn from(error: AllocError) -> BuildFault {
+        BuildFault::NoMemory(error.into())
     }
 }
 
 impl<T: Drop> From<AllocFailed<T>> for BuildFault {
     ghost use Rattle.net_builder.specs.declared.fault.BuildFault.TheVariants.{NoMemory};
+    ghost use Rattle.pd_base.specs.Memory.{out_of_memory};
 
-    ghost from_gives = { λ _ fault. fault ≡ NoMemory };
+    ghost from_gives = { λ _ fault. fault ≡ NoMemory out_of_memory };
 
-    fn from(_: AllocFailed<T>) -> BuildFault {
-        BuildFault::NoMemory
+    fn from(error: AllocFailed<T>) -> BuildFault {
+        BuildFault::NoMemory(OutOfMemory::from(error))
     }
 }

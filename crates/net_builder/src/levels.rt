@@ -19,16 +19,16 @@ pub(crate) enum LevelFault {
     /// The gate of the least number that lies on a loop or is fed by one.
     Loop(GateId),
     /// Memory ran out.
-    NoMemory,
+    NoMemory(OutOfMemory),
 }
 
 impl From<OutOfMemory> for LevelFault {
     ghost use Rattle.net_builder.specs.declared.levels.LevelFault.TheVariants.{NoMemory};
 
-    ghost from_gives = { λ _ fault. fault ≡ NoMemory };
+    ghost from_gives = { λ refused fault. fault ≡ NoMemory refused };
 
-    fn from(_: OutOfMemory) -> LevelFault {
-        LevelFault::NoMemory
+    fn from(refused: OutOfMemory) -> LevelFault {
+        LevelFault::NoMemory(refused)
     }
 }
 

@@ -1,7 +1,7 @@
 // A list of names in one text: a netlist has many short names, and a vector for each would take more room than its bytes. The end of each
 // name is kept in four bytes: names of 2^32 bytes together count as want of memory, and a text that is read, of at most 33,554,432 bytes,
 // is far from it.
-ghost use Rattle.std.specs.Prelude.{◌≡◌, ◌+◌, ◌<◌, List, ℕ, [], ◌∷◌, ◌++◌, length, map, slice_index_or, IfSome, OnOk, OnErr};
+ghost use Rattle.std.specs.Prelude.{◌≡◌, ◌+◌, ◌^◌, ◌<◌, ◌≤◌, List, ℕ, [], ◌∷◌, ◌++◌, length, map, slice_index_or, MatchOption, OnOk, OnErr};
 ghost use Rattle.netlist.specs.NameTexts.{bytes_of};
 ghost use Rattle.net_builder.specs.NameLists.{HasMoreNames, parts, Reach};
 
@@ -69,7 +69,7 @@ impl NameList {
         ensures kept { OnErr result (self.new ≡ self.old) }
     {
         let Some(end) = end_of(self.text.len(), name.len()) else {
-            return Err(OutOfMemory);
+            return Err(OutOfMemory::of_size(self.text.len() + name.len(), 1));
         };
         self.ends.reserve(1)?;
         self.text.extend_from_slice(name)?;
@@ -125,7 +125,7 @@ fn start_of(ends: &[u32], place: usize) -> usize
 
 // Where a name of this length ends behind a text of that length, if that is below 2^32.
 fn end_of(text: usize, name: usize) -> Option<u32>
-    ensures { IfSome result (λ end. end ≡ text + name) }
+    ensures { MatchOption result (2 ^ 32 ≤ text + name) (λ end. end ≡ text + name) }
 {
     u32::try_from(text.checked_add(name)?).ok()
 }

@@ -1,10 +1,11 @@
 // A set of names, each with its number: the names in the order in which they came.
-ghost use Rattle.std.specs.Prelude.{◌≡◌, ◌≢◌, ◌<◌, ◌≤◌, [], ◌∷◌, ◌++◌, length, position, slice_index_or, MatchBool, IfOk, OnOk, Contains};
+ghost use Rattle.std.specs.Prelude.{◌≡◌, ◌≢◌, ◌<◌, ◌≤◌, [], ◌∷◌, ◌++◌, length, position, slice_index_or, MatchBool, IfOk, IfErr, OnOk, Contains};
 ghost use Rattle.std.specs.Str.{bytes_eq};
 ghost use Rattle.netlist.specs.declared.limits.TheConstants.{MOST_LINES};
 ghost use Rattle.netlist.specs.Description.{line_named};
 ghost use Rattle.net_builder.specs.KeyNames.{key_names};
 ghost use Rattle.net_builder.specs.KnownNames.{known_names};
+ghost use Rattle.net_builder.specs.NameFaults.{TellsRepeated};
 
 use crate::RawNet;
 use crate::agreeing::hashes_agree;
@@ -26,30 +27,45 @@ pub(crate) enum NameFault {
     /// A name came before.
     Repeated,
     /// Memory ran out.
-    NoMemory,
-}
-
-impl From<AllocError> for NameFault {
-    fn from(_: AllocError) -> NameFault {
-        NameFault::NoMemory
-    }
+    NoMemory(OutOfMemory),
 }
 
 impl From<OutOfMemory> for NameFault {
-    fn from(_: OutOfMemory) -> NameFault {
-        NameFault::NoMemory
+    ghost use Rattle.net_builder.specs.declared.name_set.NameFault.TheVariants.{NoMemory};
+
+    ghost from_gives = { λ refused fault. fault ≡ NoMemory refused };
+
+    fn from(refused: OutOfMemory) -> NameFault {
+        NameFault::NoMemory(refused)
+    }
+}
+
+impl From<AllocError> for NameFault {
+    ghost use Rattle.net_builder.specs.declared.name_set.NameFault.TheVariants.{NoMemory};
+    ghost use Rattle.pd_base.specs.Memory.{out_of_memory};
+
+    ghost from_gives = { λ _ fault. fault ≡ NoMemory out_of_memory };
+
+    fn from(error: AllocError) -> NameFault {
+        NameFault::NoMemory(error.into())
     }
 }
 
 impl<T: Drop> From<AllocFailed<T>> for NameFault {
-    fn from(_: AllocFailed<T>) -> NameFault {
-        NameFault::NoMemory
+    ghost use Rattle.net_builder.specs.declared.name_set.NameFault.TheVariants.{NoMemory};
+    ghost use Rattle.pd_base.specs.Memory.{out_of_memory};
+
+    ghost from_gives = { λ _ fault. fault ≡ NoMemory out_of_memory };
+
+    fn from(error: AllocFailed<T>) -> NameFault {
+        NameFault::NoMemory(OutOfMemory::from(error))
     }
 }
 
 /// No names, where those will come that the statements define.
 pub(crate) fn no_names(alloc: Global, raw: &RawNet) -> Result<NameSet, NameFault>
-    ensures { IfOk result (λ names. known_names names ≡ []) }
+    ensures names { IfOk result (λ names. known_names names ≡ []) }
+    ensures repeated { IfErr result (TellsRepeated ⊥) }
 {
     if hashes_agree(alloc, raw)? {
         return Ok(NameSet::Ordered(OrderedNames::new(alloc)));
@@ -108,6 +124,7 @@ fn place_of(names: &NameSet, name: &[u8]) -> Option<usize>
 /// Puts a name last, if the set has it not.
 pub(crate) fn add_name(alloc: Global, names: &mut NameSet, name: &[u8]) -> Result<(), NameFault>
     ensures fresh { OnOk result (¬ Contains (known_names names.old) name.now) }
+    ensures repeated { IfErr result (TellsRepeated (Contains (known_names names.old) name.now)) }
     ensures names { OnOk result (known_names names.new ≡ known_names names.old ++ name.now ∷ []) }
 {
     match names {
@@ -119,6 +136,7 @@ pub(crate) fn add_name(alloc: Global, names: &mut NameSet, name: &[u8]) -> Resul
 // Puts a name last, if it is none of these.
 fn add_hashed(alloc: Global, names: &mut IndexSet<Vec<u8>>, name: &[u8]) -> Result<(), NameFault>
     ensures fresh { OnOk result (¬ Contains (key_names names.old.keys) name.now) }
+    ensures repeated { IfErr result (TellsRepeated (Contains (key_names names.old.keys) name.now)) }
     ensures names { OnOk result (key_names names.new.keys ≡ key_names names.old.keys ++ name.now ∷ []) }
 {
     if names.insert(Vec::from_slice(alloc, name)?)? {
@@ -134,6 +152,7 @@ pub(crate) fn push_name(alloc: Global, names: &mut NameSet, name: &[u8]) -> Resu
 {
     match add_name(alloc, names, name) {
         Ok(()) => Ok(()),
-        Err(_) => Err(OutOfMemory),
+        Err(NameFault::NoMemory(refused)) => Err(refused),
+        Err(NameFault::Repeated) => unreachable!(),
     }
 }

@@ -1,9 +1,10 @@
 // The names of the lines by their numbers: inputs, then flip-flops, then gates, each in the order of the statements.
-ghost use Rattle.std.specs.Prelude.{◌≡◌, ◌≢◌, ◌<◌, [], ◌∷◌, ◌++◌, length, AllPairs, MatchOption, IfOk, OnOk};
+ghost use Rattle.std.specs.Prelude.{◌≡◌, ◌≢◌, ◌<◌, [], ◌∷◌, ◌++◌, length, AllPairs, Contains, MatchOption, IfOk, IfErr, OnOk};
 ghost use Rattle.netlist.specs.Description.{AreDistinct, names_by_line};
 ghost use Rattle.net_builder.specs.Reading.{statement_at};
 ghost use Rattle.net_builder.specs.Groups.{group_in, group_names};
 ghost use Rattle.net_builder.specs.KnownNames.{known_names};
+ghost use Rattle.net_builder.specs.NameFaults.{TellsRepeated};
 
 use crate::RawNet;
 use crate::name_set::{NameFault, NameSet, add_name, no_names};
@@ -22,6 +23,7 @@ pub(crate) enum Group {
 pub(crate) fn names_of_lines(alloc: Global, raw: &RawNet) -> Result<NameSet, NameFault>
     ensures names { IfOk result (λ names. known_names names ≡ names_by_line raw.now) }
     ensures distinct { IfOk result (λ _. AreDistinct raw.now) }
+    ensures repeated { IfErr result (TellsRepeated (¬ AreDistinct raw.now)) }
 {
     let mut names = no_names(alloc, raw)?;
     add_lines(alloc, raw, &mut names)?;
@@ -33,6 +35,7 @@ fn add_lines(alloc: Global, raw: &RawNet, names: &mut NameSet) -> Result<(), Nam
     requires { known_names names.old ≡ [] }
     ensures names { OnOk result (known_names names.new ≡ names_by_line raw.now) }
     ensures distinct { OnOk result (AreDistinct raw.now) }
+    ensures repeated { IfErr result (TellsRepeated (¬ AreDistinct raw.now)) }
 {
     add_group(alloc, raw, Group::Inputs, names)?;
     add_group(alloc, raw, Group::Flops, names)?;
@@ -50,6 +53,8 @@ fn add_group(
     requires { AllPairs (λ a b. a ≢ b) (known_names names.old) }
     ensures names { OnOk result (known_names names.new ≡ known_names names.old ++ group_names group raw.now) }
     ensures distinct { OnOk result (AllPairs (λ a b. a ≢ b) (known_names names.new)) }
+    ensures repeated { IfErr result (TellsRepeated
+        (¬ AllPairs (λ a b. a ≢ b) (known_names names.old ++ group_names group raw.now))) }
 {
     for place in 0..raw.len() {
         add_member(alloc, raw, place, group, names)?;
@@ -69,6 +74,8 @@ fn add_member(
     requires distinct { AllPairs (λ a b. a ≢ b) (known_names names.old) }
     ensures names { OnOk result (known_names names.new ≡ known_names names.old ++ group_in group (statement_at raw.now place)) }
     ensures distinct { OnOk result (AllPairs (λ a b. a ≢ b) (known_names names.new)) }
+    ensures repeated { IfErr result (TellsRepeated
+        (¬ AllPairs (λ a b. a ≢ b) (known_names names.old ++ group_in group (statement_at raw.now place)))) }
 {
     let Some(name) = member(raw, place, group) else {
         return Ok(());

@@ -1,7 +1,8 @@
 // Names that are found by their order: in as many steps as the logarithm of their number, however they were chosen.
-ghost use Rattle.std.specs.Prelude.{◌≡◌, [], ◌∷◌, ◌++◌, position, None, OnOk, Contains};
+ghost use Rattle.std.specs.Prelude.{◌≡◌, [], ◌∷◌, ◌++◌, position, None, IfErr, OnOk, Contains};
 ghost use Rattle.std.specs.Str.{bytes_eq};
 ghost use Rattle.net_builder.specs.KeyNames.{key_names};
+ghost use Rattle.net_builder.specs.NameFaults.{TellsRepeated};
 
 use crate::name_set::NameFault;
 use pd_base::OutOfMemory;
@@ -57,6 +58,7 @@ impl OrderedNames {
     /// Puts a name last, if it is none of these.
     pub(crate) fn add(&mut self, alloc: Global, name: &[u8]) -> Result<(), NameFault>
         ensures fresh { OnOk result (¬ Contains self.old name.now) }
+        ensures repeated { IfErr result (TellsRepeated (Contains self.old name.now)) }
         ensures names { OnOk result (self.new ≡ self.old ++ name.now ∷ []) }
     {
         match self.place_of(name) {

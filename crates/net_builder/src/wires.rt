@@ -62,7 +62,7 @@ fn loop_free_levels(
 {
     match levels_of(alloc, sources, pins, fanouts) {
         Ok(levels) => Ok(levels),
-        Err(LevelFault::NoMemory) => Err(BuildFault::NoMemory),
+        Err(LevelFault::NoMemory(refused)) => Err(BuildFault::NoMemory(refused)),
         Err(LevelFault::Loop(gate)) => {
             let (line, name) = mention_of_gate(alloc, raw, gate.0)?;
             Err(BuildFault::Loop(line, name))

@@ -2,7 +2,7 @@
 use Rattle.std.proofs.Common.{ap, ◌∙◌}
 use Rattle.std.specs.Prelude.{Err}
 use Rattle.pd_io.specs.Seen.{files_seen}
-use Rattle.calls.proofs.Inputs.{too_long, out_of_memory}
+use Rattle.calls.proofs.Inputs.{too_long, without_memory}
 use Rattle.calls.proofs.reading.read_input.Goals as goal
 
 pub returns-in-Err-TooLong-clause-read : goal.returns-in-Err-TooLong-clause-read
@@ -15,6 +15,6 @@ returns-in-Err-TooLong-clause-read g c =
 pub returns-in-Err-NoMemory-clause-failed : goal.returns-in-Err-NoMemory-clause-failed
 returns-in-Err-NoMemory-clause-failed g c =
     let is = c.in-Err-NoMemory.is ∙ ap Err c.in-Err-NoMemory.field-0-is in
-    out_of_memory c.args.role c.args.name.now c.read_whole.result (files_seen g.F.Files c.args.files.now)
+    without_memory c.args.role c.args.name.now c.read_whole.result (files_seen g.F.Files c.args.files.now)
     (files_seen g.F.Files c.read_whole.new.files) is c.read_whole.ensures.told c.read_whole.ensures.cause
     c.read_whole.ensures.write_faults
