@@ -57,7 +57,7 @@ module _ (stages : ℕ) (some : 1 ≤ stages) (few : stages ≤ MOST_STAGES) whe
 -- where statements describe a circuit, nothing but memory may be wanting
 pub only_memory : (statements : List Numbered) (c : Circuit) → Describes statements c → (fault : BuildFault) → MayRefuse statements fault
     → fault ≡ NoMemory out_of_memory
-only_memory statements c describes (NoMemory refused) may = refl
+only_memory statements c _ (NoMemory refused) _ = refl
 only_memory statements c describes (TooManyLines count) may = absurd (refuses_none statements c (TooManyLines count) describes may)
 only_memory statements c describes (TooManyPins count) may = absurd (refuses_none statements c (TooManyPins count) describes may)
 only_memory statements c describes (Twice line name) may = absurd (refuses_none statements c (Twice line name) describes may)

@@ -1,5 +1,5 @@
 -- The names of the lines by number are the names that are defined, in another order, so either differ where the others do.
-use Rattle.std.proofs.Common.{◌≡◌, ◌≢◌, inl, inr, ℕ, ◌<◌, List, [], ◌∷◌, ◌++◌, length, map, get_or, refl, sym, ap, subst, ◌∙◌, append_assoc, arith}
+use Rattle.std.proofs.Common.{◌≡◌, ◌≢◌, inl, inr, ℕ, ◌+◌, ◌<◌, List, [], ◌∷◌, ◌++◌, length, map, take, drop, get_or, refl, sym, ap, subst, ◌∙◌, append_assoc, arith}
 use Rattle.std.specs.List.{AllPairs, Contains, flat_map, swap}
 use Rattle.std.specs.List.Sorted.{IsPermutation}
 use Rattle.std.proofs.lemmas.Bool.{cases_lt}
@@ -13,6 +13,7 @@ use Rattle.netlist.specs.Description.{AreDistinct, defined_names, flop_in, gate_
 use Rattle.netlist.specs.Statements.{Numbered, defined_by}
 use Rattle.net_builder.specs.declared.names.Group.TheVariants.{Inputs, Flops, Gates}
 use Rattle.net_builder.specs.Groups.{group_in, group_names}
+use Rattle.net_builder.proofs.Pieces.{flat_split}
 
 -- the elements of a list are all different
 abbrev pub Differ : {X : Type 0} → List X → Type 0
@@ -81,6 +82,17 @@ flat_agree : {X A : Type 0} (f g : X → List A) → ((x : X) → f x ≡ g x) �
 flat_agree f g same [] = refl
 flat_agree f g same (x ∷ xs) = ap (λ l. l ++ flat_map f xs) (same x) ∙ ap (λ l. g x ++ l) (flat_agree f g same xs)
 
+-- where two are the same in a list with pieces put behind it up to any, so are two with all pieces
+pub pieces_repeated : {X A : Type 0} (f : X → List A) (xs : List X) (i : ℕ) (d : X) → i < length xs → (none some : List A)
+    → some ≡ none ++ flat_map f (take i xs) → ¬ Differ (some ++ f (get_or xs i d)) → ¬ Differ (none ++ flat_map f xs)
+pieces_repeated f xs i d within none some is repeated differ =
+    let before = flat_map f (take i xs) in
+    let own = f (get_or xs i d) in
+    let behind = flat_map f (drop (i + 1) xs) in
+    let cut = ap (λ l. none ++ l) (flat_split f xs i d within) ∙ sym (append_assoc none before (own ++ behind))
+    ∙ ap (λ l. l ++ (own ++ behind)) (sym is) ∙ sym (append_assoc some own behind) in
+    repeated (front_differs (some ++ own) behind (subst Differ cut differ))
+
 -- images of pieces
 pub map_flat : {X A B : Type 0} (h : A → B) (f : X → List A) (xs : List X)
     → map h (flat_map f xs) ≡ flat_map (λ x. map h (f x)) xs
@@ -141,10 +153,31 @@ module _ (statements : List Numbered) where
       order_differ (names_by_line statements) (defined_names statements)
       (IsPermutation-sym (defined_names statements) (names_by_line statements) reordered)
 
-  -- where each is defined once, the names of the groups up to any differ
-  pub groups_differ : AreDistinct statements → (front rest : List (List ℕ)) → (first ++ second) ++ third ≡ front ++ rest → Differ front
-  groups_differ distinct front rest cut =
-      front_differs front rest (subst Differ (sym by_groups ∙ cut) (lines_differ distinct))
+  -- and those of the groups one behind another
+  groups_differ : AreDistinct statements → Differ ((first ++ second) ++ third)
+  groups_differ distinct = subst Differ (sym by_groups) (lines_differ distinct)
+
+  module _ (none : List (List ℕ)) (empty : none ≡ []) where
+    -- a name repeated in the first group is defined twice
+    pub first_repeated : ¬ Differ (none ++ first) → ¬ AreDistinct statements
+    first_repeated repeated distinct =
+        repeated (subst Differ (ap (λ l. l ++ first) (sym empty))
+        (front_differs first second (front_differs (first ++ second) third (groups_differ distinct))))
+
+    module _ (one : List (List ℕ)) (is_one : one ≡ none ++ first) where
+      one_is : one ≡ first
+      one_is = is_one ∙ ap (λ l. l ++ first) empty
+
+      -- and so is one repeated in the first two
+      pub second_repeated : ¬ Differ (one ++ second) → ¬ AreDistinct statements
+      second_repeated repeated distinct =
+          repeated (subst Differ (ap (λ l. l ++ second) (sym one_is))
+          (front_differs (first ++ second) third (groups_differ distinct)))
+
+      -- and one in all three
+      pub third_repeated : (two : List (List ℕ)) → two ≡ one ++ second → ¬ Differ (two ++ third) → ¬ AreDistinct statements
+      third_repeated two is_two repeated distinct =
+          repeated (subst Differ (ap (λ l. l ++ third) (sym (is_two ∙ ap (λ l. l ++ second) one_is))) (groups_differ distinct))
 
   module _ (none one two three : List (List ℕ)) (empty : none ≡ []) (is_one : one ≡ none ++ first)
       (is_two : two ≡ one ++ second) (is_three : three ≡ two ++ third) where

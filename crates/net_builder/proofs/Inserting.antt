@@ -4,10 +4,11 @@ use Rattle.std.specs.List.{Contains}
 use Rattle.std.specs.List.{list_any}
 use Rattle.std.specs.Str.{bytes_eq}
 use Rattle.std.specs.Global.{Vec}
-use Rattle.std.proofs.lemmas.Bool.{cond-false, false_from_ne_true}
+use Rattle.std.proofs.lemmas.Bool.{cond-false, false_from_ne_true, not-false}
 use Rattle.std.proofs.lemmas.List.{map_push, get_or_default}
 use Rattle.std.proofs.lemmas.List.Elements.{All-from_get_or}
 use Rattle.std.proofs.lemmas.List.Folds.{list_any_at, list_any_none}
+use Rattle.std.proofs.lemmas.Map.Views.{Contains-from_any}
 use Rattle.std.proofs.lemmas.Slice.Eq.{bytes_eq-Decides}
 use Rattle.indexmap.specs.IndexSet.{insert_key}
 use Rattle.net_builder.specs.KeyNames.{key_names}
@@ -42,3 +43,12 @@ not_listed keys v name is new has =
     let found : list_any (λ k. bytes_eq v.items k.items) keys ≡ true =
     any_in_names (bytes_eq v.items) keys ∙ ap (λ n. list_any (bytes_eq n) (key_names keys)) is ∙ listed in
     true≢false (new ∙ ap not found)
+
+-- a name that was not new to the set is one of those before
+pub listed : (keys : List (Vec ℕ)) (v : Vec ℕ) (name : List ℕ) → v.items ≡ name
+    → false ≡ not (list_any (λ k. bytes_eq v.items k.items) keys) → Contains (key_names keys) name
+listed keys v name is old =
+    let found = not-false (list_any (λ k. bytes_eq v.items k.items) keys) (sym old) in
+    let named : list_any (bytes_eq name) (key_names keys) ≡ true =
+    ap (λ n. list_any (bytes_eq n) (key_names keys)) (sym is) ∙ sym (any_in_names (bytes_eq v.items) keys) ∙ found in
+    Contains-from_any (λ x y same. (bytes_eq-Decides x y).0 same) name (key_names keys) named

@@ -1,5 +1,5 @@
 // The names of the lines by their numbers: inputs, then flip-flops, then gates, each in the order of the statements.
-ghost use Rattle.std.specs.Prelude.{◌≡◌, ◌≢◌, ◌<◌, [], ◌∷◌, ◌++◌, length, AllPairs, Contains, MatchOption, IfOk, IfErr, OnOk};
+ghost use Rattle.std.specs.Prelude.{◌≡◌, ◌≢◌, ◌<◌, [], ◌∷◌, ◌++◌, length, AllPairs, MatchOption, IfOk, IfErr, OnOk};
 ghost use Rattle.netlist.specs.Description.{AreDistinct, names_by_line};
 ghost use Rattle.net_builder.specs.Reading.{statement_at};
 ghost use Rattle.net_builder.specs.Groups.{group_in, group_names};
