@@ -67,8 +67,8 @@ pub record RefutesOnPrefix (c : Circuit) (run : Run) (target : Target) (number :
   pub refutes : IsRefutation c run.rules (target_of prefix target.direction target.kind) proof.tree
 
 -- The proof of this number has a tree that spent exactly the budget on a test for the target, under the rules of the run. And the tree shows
--- this, at each split and each open leaf: every pair that has the least states of the hull there at the sources of the support, whatever it
--- has at other sources, is no pair of the rules or fails the conditions.
+-- this, at each split and each open leaf: some pair has the least states of the hull there at the sources of the support, and every pair that
+-- has them, whatever it has at other sources, is no pair of the rules or fails the conditions.
 pub record SpendsBudget (c : Circuit) (budget : ℕ) (run : Run) (target : Target) (number : ℕ) : Type 0 where
   pub proof : Proof
   pub is_proof : IsNumber run.proofs number proof

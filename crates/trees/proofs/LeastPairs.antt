@@ -1,22 +1,25 @@
 -- The pair of vectors that takes the least states of labels at the sources, as far as the rules allow: each source has the first bit of
 -- its least state, and the last bit too, but where it is linked; there it has the value that its line has under the first vector. So it is
--- always a pair of the rules, and it takes the least states wherever states that may be linked stand there.
-use Rattle.std.proofs.Common.{◌≡◌, ◌≢◌, ◌⊎◌, ⊎_elim, inl, inr, ℕ, zero, suc, ◌<◌, ◌≤◌, ◌^◌, Bool, true, false, not, cond, Option, Some, None, List, [], map, refl, sym, ap, subst, ◌∙◌, arith}
+-- always a pair of the rules, and it takes the least states wherever states that may be linked stand there, and so where any pair of the
+-- rules takes them.
+use Rattle.std.proofs.Common.{◌≡◌, ◌≢◌, ◌⊎◌, ⊎_elim, inl, inr, ℕ, zero, suc, ◌<◌, ◌≤◌, ◌^◌, Bool, true, false, not, cond, Option, Some, None, List, [], map, refl, sym, ap, ap₂, subst, ◌∙◌, arith}
 use Rattle.std.specs.Int.{bit_at}
 use Rattle.std.specs.List.{range_with_len}
 use Rattle.std.proofs.lemmas.Bool.{cases_eq}
 use Rattle.std.proofs.lemmas.List.FromFn.{get_or-map-range_with_len}
 use Rattle.pd_base.specs.Links.{LinkList, IsLink, links_of}
 use Rattle.pd_base.specs.Pair.{Vectors}
+use Rattle.pd_base.specs.Route.{Route}
 use Rattle.pd_base.specs.Target.{Target}
 use Rattle.pd_base.specs.declared.rules.Rules.{Rules}
 use Rattle.pd_base.specs.declared.rules.Rules.TheVariants.{One, Two, Linked}
-use Rattle.netlist.specs.Circuit.{Circuit, source_count}
+use Rattle.netlist.specs.Circuit.{Circuit, kind_at, line_count, pins_at, source_count}
 use Rattle.netlist.specs.Lawful.{IsCircuit}
 use Rattle.netlist.specs.LinkedPairs.{AreLinksOf, FitRules, IsOfRules, IsSupported}
 use Rattle.netlist.specs.Paths.{end_of}
 use Rattle.netlist.specs.Steadiness.{is_steady}
 use Rattle.netlist.specs.Values.{bit_of, value}
+use Rattle.netlist.proofs.Evaluation.{line_induction, map_agree}
 use Rattle.path_laws.proofs.GateValues.{value_of_source}
 use Rattle.state_sets.specs.declared.state.State.{State}
 use Rattle.state_sets.specs.declared.state.StateSet.{StateSet}
@@ -24,21 +27,25 @@ use Rattle.state_sets.specs.FirstValues.{TellsFirst}
 use Rattle.state_sets.specs.Hulls.{HasNoEmptySet}
 use Rattle.state_sets.specs.Labellings.{label_at}
 use Rattle.state_sets.specs.LineStates.{state_under}
+use Rattle.state_sets.specs.Narrowing.{gate_state}
 use Rattle.state_sets.specs.StateAlgebra.{StateAlgebra, same_bit}
 use Rattle.state_sets.specs.Starts.{IsLeast}
 use Rattle.state_sets.specs.States.{Has, no_states}
 use Rattle.state_sets.proofs.SixFirst.{six_tells_first}
 use Rattle.state_laws.specs.declared.half.Half.{Half}
 use Rattle.state_laws.specs.Nodes.{IsNodeHull}
-use Rattle.state_laws.proofs.Linked.{linked_source, none_linked}
+use Rattle.state_laws.proofs.Linked.{linked_line, linked_source, none_linked}
 use Rattle.state_laws.proofs.LinkedSets.{found_is_link, line_of, linked_once, none_found}
-use Rattle.state_laws.proofs.PairStates.{line_may}
+use Rattle.state_laws.proofs.Pairs.{pair_linked}
+use Rattle.state_laws.proofs.PairStates.{gate_state_under, line_may}
 use Rattle.state_laws.proofs.Sets.{label_within, no_state_left}
 use Rattle.state_laws.proofs.SourceStates.{source_state, state_read_off}
+use Rattle.state_laws.proofs.Supports.{linked_supported, pin_supported}
 use Rattle.trees.specs.Algebras.{algebra_of}
 use Rattle.trees.specs.Spent.{IsInSupport}
-use Rattle.trees.specs.Tried.{TakesLeast}
+use Rattle.trees.specs.Tried.{TakesLeast, TakesLeastOfRules}
 use Rattle.trees.proofs.Refuting.{laws_of}
+use Rattle.trees.proofs.Trials.{least_is_one}
 
 module _ (count : ℕ) where
   -- the least state of a set among the first ones, or none of these is in the set
@@ -148,6 +155,25 @@ module _ (c : Circuit) (rules : Rules) (hull : List StateSet) where
   pub is_of_rules : FitRules c rules → IsOfRules c rules pair_of_rules
   is_of_rules fit = least_keeps_links (algebra_of rules) c (links_of rules) hull fit
 
+-- pairs that have the same states at the sources of the support have the same ones at all of its lines
+module _ (c : Circuit) (circuit : IsCircuit c) (rules : Rules) (path : Route) (x y : Vectors)
+    (same : (source : ℕ) → IsInSupport c rules path source → state_under (algebra_of rules) c x source ≡ state_under (algebra_of rules) c y source) where
+  abbrev IsSame : ℕ → Type 0
+  IsSame line = IsSupported c (links_of rules) (end_of c path) line
+      → state_under (algebra_of rules) c x line ≡ state_under (algebra_of rules) c y line
+
+  same_in_support : (line : ℕ) → line < line_count c → IsSame line
+  same_in_support =
+      line_induction c circuit.reads_lines IsSame
+      (λ source within supported. same source (record { is_source = within; supported = supported }))
+      (λ gate within pins supported.
+      gate_state_under (algebra_of rules) (laws_of rules) c circuit x gate within
+      ∙ ap (gate_state (algebra_of rules) (kind_at c gate))
+      (map_agree (λ pin. state_under (algebra_of rules) c x pin.0) (λ pin. state_under (algebra_of rules) c y pin.0) (pins_at c gate)
+      (λ k d inside. pins k d inside (pin_supported c (links_of rules) (end_of c path) gate within supported k d inside)))
+      ∙ sym (gate_state_under (algebra_of rules) (laws_of rules) c circuit y gate within))
+      circuit.loop_free
+
 module _ (c : Circuit) (rules : Rules) (target : Target) (halves : List Half) (hull : List StateSet)
     (is_hull : IsNodeHull (algebra_of rules) c rules target halves hull) (none_empty : HasNoEmptySet c hull) where
   abbrev a : StateAlgebra
@@ -212,3 +238,29 @@ module _ (c : Circuit) (rules : Rules) (target : Target) (halves : List Half) (h
     pub of_rules_takes : TakesLeast c rules target.path hull bound
     of_rules_takes source support =
         subst (IsLeast a.count (label_at hull source)) (sym (same_state source support)) (unlinked_takes source support)
+
+  -- it takes them where any pair of the rules does
+  module _ (circuit : IsCircuit c) (fit : FitRules c rules) (other : Vectors) (of : IsOfRules c rules other)
+      (other_takes : TakesLeast c rules target.path hull other) where
+    as_other : (source : ℕ) → IsInSupport c rules target.path source → state_under a c other source ≡ state_under a c free source
+    as_other source support =
+        least_is_one a.count (label_at hull source) (state_under a c other source) (state_under a c free source) (other_takes source support)
+        (unlinked_takes source support)
+
+    may_be_linked : (source line : ℕ) → IsSupported c (links_of rules) (end_of c target.path) source → IsLink (links_of rules) source line
+        → a.link (state_under a c free source) (state_under a c free line) ≡ true
+    may_be_linked source line supported link =
+        let at_source = as_other source (record { is_source = linked_source c (links_of rules) fit source line link; supported = supported }) in
+        let at_line = same_in_support c circuit rules target.path other free as_other line (linked_line c (links_of rules) fit source line link)
+        (linked_supported c (links_of rules) (end_of c target.path) source line supported link) in
+        sym (ap₂ a.link at_source at_line)
+        ∙ (pair_linked a (laws_of rules) c circuit other target.kind (links_of rules) fit of source line link).2
+
+    takes_as_other : TakesLeast c rules target.path hull bound
+    takes_as_other = of_rules_takes circuit may_be_linked
+
+  pub takes_least_of_rules : IsCircuit c → FitRules c rules → TakesLeastOfRules c rules target.path hull bound
+  takes_least_of_rules circuit fit = record {
+    of_rules = is_of_rules c rules hull fit;
+    takes = takes_as_other circuit fit;
+  }

@@ -39,7 +39,7 @@ use Rattle.trees.specs.Tried.{TakesLeast}
 use Rattle.trees.proofs.Refuting.{laws_of}
 
 -- a set has one least state
-least_is_one : (count : ℕ) (set : StateSet) (x y : State) → IsLeast count set x → IsLeast count set y → x ≡ y
+pub least_is_one : (count : ℕ) (set : StateSet) (x y : State) → IsLeast count set x → IsLeast count set y → x ≡ y
 least_is_one count set x y first second =
     let same : x.0 ≡ y.0 = omega (arith, first.least y second.has, second.least x first.has) in
     ap (λ n. record { 0 = n }) same

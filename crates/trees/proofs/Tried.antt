@@ -1,4 +1,5 @@
--- A spent tree shows at each split and each open leaf that the pairs that are tried there fail: all splits are on sources of the support.
+-- A spent tree shows at each split and each open leaf that there are pairs to try, and that they fail: no set of the hull there is empty, and
+-- all splits are on sources of the support.
 use Rattle.std.proofs.Common.{ℕ, true, false, List, [], sym, subst, ◌∙◌}
 use Rattle.std.specs.List.{All}
 use Rattle.std.proofs.lemmas.List.Elements.{All-nil, All-push}
@@ -17,6 +18,7 @@ use Rattle.trees.proofs.Preorders.{preorder_unique}
 use Rattle.trees.specs.Refutations.{below}
 use Rattle.trees.specs.Spent.{IsInSupport, IsOpen, IsSpentBelow, IsSpent}
 use Rattle.trees.specs.Tried.{LeastPairsFailAt, LeastPairsFailBelow, ShowsFailures}
+use Rattle.trees.proofs.LeastPairs.{pair_of_rules, takes_least_of_rules, unlinked_pair, unlinked_takes}
 use Rattle.trees.proofs.Trials.{open_fails}
 
 module _ (c : Circuit) (circuit : IsCircuit c) (rules : Rules) (fit : FitRules c rules) (target : Target) (is : IsPrefix c target.path) where
@@ -28,6 +30,11 @@ module _ (c : Circuit) (circuit : IsCircuit c) (rules : Rules) (fit : FitRules c
   node_fails halves on hull open_here = record {
     hull = hull;
     is_hull = open_here.is_hull;
+    some = (unlinked_pair c rules hull, unlinked_takes c rules target halves hull open_here.is_hull open_here.none_empty);
+    some_of_rules = (
+      pair_of_rules c rules hull,
+      takes_least_of_rules c rules target halves hull open_here.is_hull open_here.none_empty circuit fit,
+    );
     fails = open_fails c circuit rules fit target is halves hull open_here on;
   }
 

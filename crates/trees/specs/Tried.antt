@@ -27,11 +27,19 @@ TakesLeast c rules path labels pair =
     (source : ℕ) → IsInSupport c rules path source
     → IsLeast (algebra_of rules).count (label_at labels source) (state_under (algebra_of rules) c pair source)
 
--- at the node below these halves every pair that has the least states of the hull at the sources of the support, whatever it has at other
--- sources, is no pair of the rules or fails the conditions
+-- the pair is one of the rules, and it has the least states there where any pair of the rules has them
+pub record TakesLeastOfRules (c : Circuit) (rules : Rules) (path : Route) (labels : List StateSet) (pair : Vectors) : Type 0 where
+  pub of_rules : IsOfRules c rules pair
+  pub takes : (other : Vectors) → IsOfRules c rules other → TakesLeast c rules path labels other → TakesLeast c rules path labels pair
+
+-- At the node below these halves there is a pair that has the least states of the hull at the sources of the support, and it is no test:
+-- every pair that has them, whatever it has at other sources, is no pair of the rules or fails the conditions. Where any pair of the rules
+-- has them, so that links ask for no other states there, one is named.
 pub record LeastPairsFailAt (c : Circuit) (rules : Rules) (target : Target) (halves : List Half) : Type 0 where
   pub hull : List StateSet
   pub is_hull : IsNodeHull (algebra_of rules) c rules target halves hull
+  pub some : (pair : Vectors) × TakesLeast c rules target.path hull pair
+  pub some_of_rules : (pair : Vectors) × TakesLeastOfRules c rules target.path hull pair
   pub fails : (pair : Vectors) → TakesLeast c rules target.path hull pair → IsOfRules c rules pair → ¬ Meets c target pair
 
 -- it is so at each split and each open leaf of these cases
