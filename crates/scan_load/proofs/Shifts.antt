@@ -1,15 +1,16 @@
--- What bits that are shifted in leave, and what one shift more does to the first vector of a pair.
-use Rattle.std.proofs.Common.{◌≡◌, ◌≢◌, ◌∙◌, ◌+◌, ◌-◌, ◌<◌, ◌≤◌, ℕ, zero, suc, Bool, true, false, not, List, [], ◌∷◌, ◌++◌, length, get_or, take, reverse, refl, sym, ap, ap₂, subst, append_assoc, append-nil, arith}
+-- What bits that are shifted in leave, and what one shift more does to the first vector of a pair; and that only a pair whose bits move on
+-- along the chain can be loaded.
+use Rattle.std.proofs.Common.{◌≡◌, ◌≢◌, ◌∙◌, ◌+◌, ◌-◌, ◌<◌, ◌≤◌, ◌↔◌, ℕ, zero, suc, Bool, true, false, not, List, [], ◌∷◌, ◌++◌, length, get_or, take, drop, reverse, refl, sym, ap, ap₂, subst, append_assoc, append-nil, arith}
 use Rattle.std.specs.Bool.{beq}
 use Rattle.std.specs.List.{All, AllByRecursion}
-use Rattle.std.proofs.lemmas.List.{get_or-map, get_or-reverse, length-append, length-map, length-reverse, length-take, reverse-append, reverse-reverse, take_all, take_at, take_more, take-take}
-use Rattle.std.proofs.lemmas.List.Elements.{All-push, recursion_from_All}
+use Rattle.std.proofs.lemmas.List.{get_or-map, get_or-reverse, length-append, length-drop, length-map, length-reverse, length-take, reverse-append, reverse-reverse, take_all, take_at, take_more, take-append-drop, take-take}
+use Rattle.std.proofs.lemmas.List.Elements.{All-from_recursion, All-push, recursion_from_All}
 use Rattle.pd_base.specs.Pair.{Vectors}
 use Rattle.pd_base.specs.declared.ids.LineId.{LineId}
 use Rattle.netlist.specs.Values.{bit_of}
 use Rattle.scan_order.specs.SkewedLinks.{links_along}
 use Rattle.scan_order.proofs.Linked.{links_along-next}
-use Rattle.scan_load.specs.Shifting.{Loads, ShiftsOn, after_shifts, chain_bits, load_bits, shift}
+use Rattle.scan_load.specs.Shifting.{IsLoadable, Loads, ShiftsOn, after_shifts, chain_bits, load_bits, shift}
 
 -- bits that are shifted in stand there in reverse, before what is left of the state
 shifted_in : (bits state : List Bool) → length bits ≤ length state → after_shifts state bits ≡ reverse bits ++ take (length state - length bits) state
@@ -85,6 +86,49 @@ first_bit (line ∷ chain) d vector some = refl
 pub loads_by_bits : (pair : Vectors) (chain : List LineId) → 1 ≤ length chain → ShiftsOn chain pair → Loads chain pair (load_bits chain pair)
 loads_by_bits pair [] some shifts = absurd (omega arith)
 loads_by_bits pair (line ∷ chain) some shifts = loads pair line chain shifts
+
+-- ---- and no other pair is loaded by any bits
+
+-- where the second vector's bits are those of the first but the last, each link has moved a bit on
+moved_back : (pair : Vectors) (line : LineId) (chain : List LineId)
+    → chain_bits chain pair.second ≡ take (length chain) (chain_bits (line ∷ chain) pair.first)
+    → AllByRecursion (λ link. bit_of pair.second link.0.0 ≡ bit_of pair.first link.1.0) (links_along (line ∷ chain))
+moved_back pair line [] same = tt
+moved_back pair line (next ∷ chain) same =
+    (ap (λ (bits : List Bool). get_or bits 0 false) same, moved_back pair next chain (ap (λ (bits : List Bool). drop 1 bits) same))
+
+-- what one bit more leaves of a loaded vector
+one_shift : (loaded more after : List Bool) → length more ≡ 1 → after_shifts loaded more ≡ after → drop 1 after ≡ take (length loaded - 1) loaded
+one_shift loaded [] after one is = absurd (omega arith)
+one_shift loaded (bit ∷ []) after one is = ap (λ (bits : List Bool). drop 1 bits) (sym is)
+one_shift loaded (bit ∷ next ∷ more) after one is = absurd (omega arith)
+
+-- where some string loads the pair, its bits move on
+pub loaded_shifts_on : (pair : Vectors) (chain : List LineId) (string : List Bool) → Loads chain pair string → ShiftsOn chain pair
+loaded_shifts_on pair [] string by = λ k d within. absurd (omega arith)
+loaded_shifts_on pair (line ∷ chain) string by =
+    All-from_recursion _ (links_along (line ∷ chain)) (moved_back pair line chain
+    (one_shift bits (drop (length (line ∷ chain)) string) (chain_bits (line ∷ chain) pair.second)
+    (omega (arith, length-drop (length (line ∷ chain)) string, by.count))
+    (ap (λ (loaded : List Bool). after_shifts loaded (drop (length (line ∷ chain)) string)) (sym (by.first bits long))
+    ∙ sym (after_shifts-append bits (take (length (line ∷ chain)) string) (drop (length (line ∷ chain)) string))
+    ∙ ap (after_shifts bits) (take-append-drop (length (line ∷ chain)) string)
+    ∙ by.second bits long)
+    ∙ ap (λ (n : ℕ). take n bits) (let one_less : length bits - 1 ≡ length chain = omega (arith, long) in one_less)))
+  where
+    bits : List Bool
+    bits = chain_bits (line ∷ chain) pair.first
+
+    long : length bits ≡ length (line ∷ chain)
+    long = length-map (line ∷ chain) (λ l. bit_of pair.first l.0)
+
+-- so the bits of a pair move on along chains exactly where some bits load it into each
+pub shifting_is_loadable : (chains : List (List LineId)) → All (λ chain. 1 ≤ length chain) chains → (pair : Vectors)
+    → All (λ chain. ShiftsOn chain pair) chains ↔ All (λ chain. IsLoadable chain pair) chains
+shifting_is_loadable chains some pair = (
+  λ shifts k d within. (load_bits (get_or chains k d) pair, loads_by_bits pair (get_or chains k d) (some k d within) (shifts k d within)),
+  λ loadable k d within. let by = loadable k d within in loaded_shifts_on pair (get_or chains k d) by.0 by.1,
+)
 
 -- ---- links along a chain, one by one
 

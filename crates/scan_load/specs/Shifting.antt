@@ -29,6 +29,10 @@ pub record Loads (chain : List LineId) (pair : Vectors) (string : List Bool) : T
       → after_shifts state (take (length chain) string) ≡ chain_bits chain pair.first
   pub second : (state : List Bool) → length state ≡ length chain → after_shifts state string ≡ chain_bits chain pair.second
 
+-- some string loads the pair into the chain
+abbrev pub IsLoadable : List LineId → Vectors → Type 0
+IsLoadable chain pair = (string : List Bool) × Loads chain pair string
+
 -- the bits that are shifted in for a pair: the first vector's at the flip-flops of the chain, the last flip-flop's first, and then the second
 -- vector's at the first flip-flop
 abbrev pub load_bits : List LineId → Vectors → List Bool
