@@ -1,9 +1,9 @@
 -- What a cut of one line does to a board, and what undoing does.
-use Rattle.std.proofs.Common.{◌≡◌, ◌≢◌, ℕ, ◌*◌, ◌<◌, ◌≤◌, ◌^◌, inl, inr, bit_and, List, [], ◌∷◌, ◌++◌, Option, length, take, drop, refl, sym, ap, ap₂, ◌∙◌, subst, arith}
+use Rattle.std.proofs.Common.{◌≡◌, ◌≢◌, ℕ, ◌*◌, ◌<◌, ◌≤◌, ◌^◌, inr, bit_and, List, [], ◌∷◌, ◌++◌, Option, length, take, drop, refl, sym, ap, ap₂, ◌∙◌, subst, arith}
 use Rattle.std.proofs.Math.ListN.{set}
 use Rattle.std.specs.List.{All}
 use Rattle.std.proofs.lemmas.Nat.{and_le_l}
-use Rattle.std.proofs.lemmas.List.{length-set, set-set, set-get_or, append-nil, take-append-drop}
+use Rattle.std.proofs.lemmas.List.{length-set, set-set, set-get_or, take-append-drop}
 use Rattle.std.proofs.lemmas.List.Elements.{All-set, All-push, All-take, All-drop}
 use Rattle.pd_base.specs.Links.{LinkList}
 use Rattle.pd_base.specs.declared.ids.GateId.{GateId}
@@ -39,22 +39,6 @@ module _ (count : ℕ) (labels : List StateSet) (notes : List (Note StateSet)) (
 
       old_within : (label_at labels line).0 < 2 ^ count
       old_within = is.within line no_states inside
-
-      -- a cut that takes nothing
-      module _ (same : bit_and (label_at labels line).0 to.0 ≡ (label_at labels line).0) where
-        uncut : cut ≡ labels
-        uncut = ap (λ (n : ℕ). set labels line (record { 0 = n })) same ∙ set-get_or labels line no_states
-
-        pub not_moved : (c : Circuit) (passed : Option GateId) → IsCutTo count c passed line to board board
-        not_moved c passed = record {
-          labels = sym uncut;
-          within = is.within;
-          inside = refl;
-          links = refl;
-          follows = record { more = []; notes = sym (append-nil notes); back = refl };
-          stays = λ gate waits. waits;
-          moves = inl refl;
-        }
 
       -- a cut that takes states
       module _ (differs : bit_and (label_at labels line).0 to.0 ≢ (label_at labels line).0) where
@@ -145,17 +129,3 @@ module _ (count : ℕ) (labels : List StateSet) (notes : List (Note StateSet)) (
           enough = subst (λ (n : ℕ). n * count ≤ room) (sym (length-undone (drop mark notes) labels)) is.enough;
           few = let h = ap length g in omega arith;
         }))
-
-    -- a set is written while nothing is noted
-    pub written_is : (line : ℕ) (to : StateSet) → to.0 < 2 ^ count → notes ≡ [] → (written : List StateSet) → written ≡ set labels line to
-        → IsBoard count (record board { labels = written }) room
-    written_is line to small none written e =
-        subst (λ (l : List StateSet). IsBoard count (record board { labels = l }) room) (sym e)
-        (record {
-          within = All-set (λ (s : StateSet). s.0 < 2 ^ count) labels line to small is.within;
-          olds = is.olds;
-          on_lines = subst (λ (n : ℕ). All (λ (m : Note StateSet). m.index < n) notes) (sym (length-set labels line to)) is.on_lines;
-          falls = subst (λ (ns : List (Note StateSet)). Falls count ns (set labels line to)) (sym none) tt;
-          enough = subst (λ (n : ℕ). n * count ≤ room) (sym (length-set labels line to)) is.enough;
-          few = is.few;
-        })

@@ -7,11 +7,6 @@ use Rattle.pd_base.specs.Links.{LinkList}
 use Rattle.hulls.specs.Links.{IsInChain, IsChained, chained_line, link_at}
 use Rattle.hulls.specs.Links.IsInChain.{here, later}
 
--- no link stands in the chain that has ended
-pub on_none : (nexts : List ℕ) (link : ℕ) → IsInChain nexts link 0 → ⊥
-on_none nexts link (here is) = absurd (omega (arith, is))
-on_none nexts link (later other is rest) = absurd (omega (arith, is))
-
 -- no links stand in no chains
 pub chained_none : (second : Bool) (links : LinkList) (bound : ℕ) (heads nexts : List ℕ) → bound ≡ 0 → heads ≡ [] → nexts ≡ []
     → IsChained second links bound heads nexts

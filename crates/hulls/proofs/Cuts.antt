@@ -1,9 +1,9 @@
 -- What cutting the sets of lines does to a labelling: which states are left, and whether any was lost.
-use Rattle.std.proofs.Common.{◌≡◌, ◌≢◌, ℕ, ◌+◌, ◌<◌, ◌≤◌, ⊎_elim, Bool, true, false, ◌||◌, List, length, get_or, slice_get, Some, refl, sym, ap, ◌∙◌, subst, arith}
+use Rattle.std.proofs.Common.{◌≡◌, ◌≢◌, ℕ, ◌+◌, ◌<◌, ◌≤◌, ⊎_elim, Bool, true, false, ◌||◌, List, length, get_or, slice_get, Some, sym, ap, ◌∙◌, subst, arith}
 use Rattle.std.proofs.Math.ListN.{set}
 use Rattle.std.proofs.lemmas.List.{get_or-set_same, get_or-set_other, set-get_or, length-set, get_or_default}
 use Rattle.std.proofs.lemmas.Option.{same_Some}
-use Rattle.std.proofs.lemmas.Bool.{cases_eq, false≢true, or_cases, or_parts}
+use Rattle.std.proofs.lemmas.Bool.{cases_eq, or_cases, or_parts}
 use Rattle.pd_base.specs.declared.ids.LineId.{LineId}
 use Rattle.state_sets.specs.declared.state.State.{State}
 use Rattle.state_sets.specs.declared.state.StateSet.{StateSet}
@@ -12,15 +12,6 @@ use Rattle.state_sets.specs.Labellings.{label_at}
 use Rattle.hulls.specs.Sets.{set_at}
 use Rattle.hulls.specs.Changes.{Lessens, HasPinsKept}
 use Rattle.hulls.proofs.Sets.{has_both, both_have}
-
--- nothing changed
-pub lessens_none : (labels : List StateSet) → Lessens labels labels false
-lessens_none labels = record {
-  one_each = refl;
-  falls = λ line. omega arith;
-  same = λ none. refl;
-  lower = λ yes. absurd (false≢true yes);
-}
 
 -- one change after another
 pub lessens_on : (old mid new : List StateSet) (first second changed : Bool) → changed ≡ (first || second)

@@ -7,7 +7,7 @@ use Rattle.std.proofs.lemmas.List.{length-set, length_push, get_or-set_same, get
 use Rattle.std.proofs.lemmas.List.Elements.{All-push, All-head, All-tail, Contains-append_left, Contains-push}
 use Rattle.std.proofs.lemmas.List.Sums.{sum_by-le, sum_by-set}
 use Rattle.hulls.specs.declared.turn.Turn.{Turn}
-use Rattle.hulls.specs.Awaiting.{Awaited, is_inside, one_if, IsFlagged, IsMore, IsWoken}
+use Rattle.hulls.specs.Awaiting.{Awaited, is_inside, one_if, IsFlagged, IsWoken}
 
 one_if_le : (b : Bool) → one_if b ≤ 1
 one_if_le true = omega arith
@@ -33,16 +33,9 @@ module _ (inside flags : List Bool) (waiting : List Turn) (room : ℕ) (is : IsF
   abbrev awaited : Awaited
   awaited = record { inside = inside; waiting = waiting }
 
-  same_gates : IsMore awaited awaited
-  same_gates = record { inside = refl; stays = λ other waits. waits; few = λ few. few }
-
   module _ (turn : Turn) (within : turn.0 < length inside) where
     flag_within : turn.0 < length flags
     flag_within = let e = is.one_each in omega arith
-
-    -- what waits already, or stands outside
-    pub already : get_or flags turn.0 false ≡ true → IsWoken turn awaited awaited
-    already up = record { more = same_gates; waits = λ here. is.flagged turn.0 here up }
 
     -- one that is inside and does not wait
     module _ (down : get_or flags turn.0 false ≡ false) where

@@ -460,21 +460,3 @@ module _ (a : StateAlgebra) (c : Circuit) (on : Entered) (circuit : IsCircuit c)
       (pins_as a c gate seen old.labels same told (condition_at on.kind on.steps gate) is kept at_pins)
       (gate_as a c gate seen old.labels same told (condition_at on.kind on.steps gate) is given at_gate_set)
       mid new pins own line may.awake
-
-module _ (a : StateAlgebra) (c : Circuit) (kind : Kind) (steps : List PinRef) where
-  -- labels at rest, and then cuts: each gate inside and each link waits or rests
-  pub awake_of_rest : (old new : OnBoard) → new.inside ≡ old.inside → new.links ≡ old.links → Wakes c None old new
-      → IsAtRest a c (IsNarrowingIn c (is_inside old.inside) old.links kind steps) old.labels → IsAwake a c kind steps new
-  awake_of_rest old new same_inside same_links wakes rest =
-      let awake_old : IsAwakeBut a c kind steps (gate_count c + length old.links) old = record {
-        gates = λ gate within here away. inr (rest (at_gate gate (condition_at kind steps gate)) (within, here, refl));
-        links = λ link inside away.
-            inr (rest (along_link (link_at old.links link).0.0 (link_at old.links link).1.0) (link_stands old.links link inside));
-      } in
-      let awake_new = awake_on a c kind steps (gate_count c + length old.links) None tt old new same_inside same_links wakes awake_old in
-      record {
-        gates = λ gate within here. awake_new.gates gate within here (λ same. absurd (omega arith));
-        links = λ link inside.
-            let within : link < length old.links = subst (λ (ls : LinkList). link < length ls) same_links inside in
-            awake_new.links link inside (λ same. absurd (omega (arith, same, within)));
-      }

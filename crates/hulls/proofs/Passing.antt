@@ -26,10 +26,6 @@ module _ (a : StateAlgebra) (laws : HasLaws a) where
   inverted_twice false s within = refl
   inverted_twice true s within = laws.invert_twice s within
 
-  pub inverted_within : (inverting : Bool) (s : State) → s.0 < a.count → (inverted_if a inverting s).0 < a.count
-  inverted_within false s within = within
-  inverted_within true s within = laws.invert_within s within
-
   module _ (kind : GateKind) (sets : List StateSet) (own target : StateSet)
       (hits : Means a.count target (λ s. (s.0 < a.count) × Has a.count own (inverted_if a (is_inverting kind) s)))
       (condition : Option Condition) where

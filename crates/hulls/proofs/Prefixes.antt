@@ -8,7 +8,7 @@ use Rattle.pd_base.specs.declared.fault.Kind.{Kind}
 use Rattle.netlist.specs.declared.kind.GateKind.{GateKind}
 use Rattle.netlist.specs.declared.kind.GateKind.TheVariants.{And, Nand, Or, Nor, Xor, Xnor, Not, Buff}
 use Rattle.netlist.specs.declared.limits.TheConstants.{MOST_FAN_IN}
-use Rattle.netlist.specs.Circuit.{Circuit, gate_count, gate_line, line_count, kind_at, pins_at}
+use Rattle.netlist.specs.Circuit.{Circuit, gate_line, line_count, kind_at, pins_at}
 use Rattle.netlist.specs.Lawful.{IsCircuit, IsFanIn}
 use Rattle.netlist.specs.Levels.{level, greatest_level}
 use Rattle.netlist.specs.Paths.{Connects}
@@ -35,9 +35,6 @@ pub none_at : (kind : Kind) (steps : List PinRef) (gate : ℕ) → PassBy steps 
 none_at kind steps gate pass = condition_marked kind steps gate ∙ ap (marked_condition kind) (mark_none steps gate pass)
 
 module _ (c : Circuit) (circuit : IsCircuit c) where
-  pub pins_few : (gate : ℕ) → gate < gate_count c → length (pins_at c gate) ≤ MOST_FAN_IN
-  pins_few gate inside = fan_in_few (kind_at c gate) (length (pins_at c gate)) (circuit.fan_in gate inside)
-
   -- the pin of a step is below the most pins of a gate
   pub pin_fits : (step : PinRef) → IsPin c step → step.pin < MOST_FAN_IN
   pin_fits step is =

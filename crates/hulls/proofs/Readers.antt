@@ -1,5 +1,5 @@
 -- Letting gates wait, one more and at the end all that have the line among theirs.
-use Rattle.std.proofs.Common.{◌≡◌, ◌≢◌, ℕ, ◌<◌, ◌+◌, length, sym, ⊎_elim, Bool, true, List, Option, Some, refl, ap, ◌∙◌, subst, arith}
+use Rattle.std.proofs.Common.{◌≡◌, ◌≢◌, ℕ, ◌<◌, ◌+◌, length, sym, ⊎_elim, Bool, true, List, Option, Some, ap, ◌∙◌, subst, arith}
 use Rattle.std.specs.List.{All, Contains}
 use Rattle.std.proofs.lemmas.List.Elements.{All-contains, All-weaker, Contains-push_cases}
 use Rattle.std.proofs.lemmas.Option.{slice_get-get_or}
@@ -13,9 +13,6 @@ use Rattle.hulls.specs.declared.turn.Turn.{Turn}
 use Rattle.hulls.specs.Awaiting.{Awaited, IsMore, is_inside, gate_turn}
 use Rattle.hulls.specs.Settling.{AreWaiting, AreLinksWaiting}
 use Rattle.hulls.specs.Links.{link_lines}
-
-pub more_none : (awaited : Awaited) → IsMore awaited awaited
-more_none awaited = record { inside = refl; stays = λ turn waits. waits; few = λ few. few }
 
 pub more_on : (old mid new : Awaited) → IsMore old mid → IsMore mid new → IsMore old new
 more_on old mid new before after = record {
@@ -35,10 +32,6 @@ WaitsIn inside passed waiting gate = is_inside inside gate.0 ≡ true → passed
 module _ (c : Circuit) (line : ℕ) (readers : List PinRef) (fanout : IsFanout c line readers) where
   abbrev this : LineId
   this = record { 0 = line }
-
-  -- the readers are gates of the circuit
-  pub readers_in : (gates : ℕ) → gates ≡ gate_count c → All (λ (pin : PinRef). pin.gate.0 < gates) readers
-  readers_in gates is k d inside = let e = (fanout.on_line k d inside).in_circuit in omega arith
 
   module _ (inside : List Bool) (passed : Option GateId) (waiting : List Turn)
       (all : All (λ (pin : PinRef). WaitsIn inside passed waiting pin.gate) readers) where

@@ -1,7 +1,7 @@
 -- Sets of states that are gathered state by state, and what cuts and unions of sets have.
 use Rattle.std.proofs.Common.{◌≡◌, ◌≢◌, ℕ, ◌+◌, ◌<◌, ◌≤◌, ◌^◌, ◌⊎◌, ◌↔◌, inl, inr, ⊎_elim, Bool, true, false, not, eqb, bit_and, bit_or, refl, sym, ap, ◌∙◌, subst, arith}
 use Rattle.std.specs.Int.{bit_at, w8}
-use Rattle.std.proofs.lemmas.Nat.{or_lt, pow_below, pow_pos, and_le_l, and_le_r}
+use Rattle.std.proofs.lemmas.Nat.{or_lt, pow_below, and_le_r}
 use Rattle.std.proofs.lemmas.Nat.Bits.{bit_at-zero, bit_at-lt, bit_at_and, bit_at_or, bit_at-pow_same, bit_at-pow_other, bit_at_above, bit_at_ones, bit_at-trailing_zeros}
 use Rattle.std.proofs.lemmas.Bool.{cases_eq, false≢true, cases_lt, eq-eqb, ne_eqb, eqb-true, not-false}
 use Rattle.std.specs.Int.{trailing_zeros}
@@ -97,9 +97,6 @@ cut_to_all count set cut all is is_all state = (
 pub cut_within : (count : ℕ) (a b : StateSet) (cut : StateSet) → cut.0 ≡ bit_and a.0 b.0 → b.0 < 2 ^ count → cut.0 < 2 ^ count
 cut_within count a b cut is within = let f = and_le_r a.0 b.0 in omega arith
 
-pub cut_within_left : (count : ℕ) (a b : StateSet) (cut : StateSet) → cut.0 ≡ bit_and a.0 b.0 → a.0 < 2 ^ count → cut.0 < 2 ^ count
-cut_within_left count a b cut is within = let f = and_le_l a.0 b.0 in omega arith
-
 -- a set of one state has it, and no other
 pub only_has : (count : ℕ) (set : StateSet) (state : State) → set.0 ≡ 2 ^ state.0 → state.0 < count → Has count set state
 only_has count set state is within =
@@ -134,13 +131,6 @@ pub some_not_none : (count : ℕ) (set : StateSet) (state : State) → Has count
 some_not_none count set state has none = has_none count state (subst (λ s. Has count s state) none has)
 
 module _ (count : ℕ) (Q : State → Type 0) where
-  -- before the first state nothing is gathered
-  pub gathers_none : Gathers count no_states Q 0
-  gathers_none = record {
-    within = pow_pos count;
-    each = λ state. ((λ has. absurd (has_none count state has)), λ both. absurd (let h = both.0 in omega arith));
-  }
-
   module _ (set : StateSet) (k : ℕ) (below : k < count) (before : Gathers count set Q k) where
     -- one more state that passes
     gathers_more : (found : StateSet) → found.0 ≡ bit_or set.0 (2 ^ k) → Q (state_of k) → Gathers count found Q (k + 1)
@@ -181,15 +171,6 @@ module _ (count : ℕ) (Q : State → Type 0) where
     gathers_next true tells told found is = gathers_more found (ap (λ (s : StateSet). s.0) is) (tells refl)
     gathers_next false tells told found is =
         subst (λ s. Gathers count s Q (k + 1)) (sym is) (gathers_skip (λ q. false≢true (told q)))
-
-  -- after the last state the set means what is gathered
-  pub gathered : (set : StateSet) (k : ℕ) → k ≡ count → Gathers count set Q k
-      → Means count set (λ s. (s.0 < count) × Q s)
-  gathered set k all is = subst (λ n. Means count set (λ s. (s.0 < n) × Q s)) all is.each
-
--- a state whose bit is 1, below the count, is in the set
-pub has_if_bit : (count : ℕ) (set : StateSet) (state : State) → state.0 < count → bit_at set.0 state.0 ≡ 1 → Has count set state
-has_if_bit count set state within bit = record { in_range = within; bit = bit }
 
 -- what a comparison of two numbers tells
 pub ne_tells : (r : Bool) (m n : ℕ) → r ≡ not (eqb m n) → r ≡ true → m ≢ n

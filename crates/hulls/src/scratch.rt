@@ -3,10 +3,8 @@ ghost use Rattle.std.specs.Prelude.{◌≡◌, ◌<◌, ◌+◌};
 ghost use Rattle.netlist.specs.declared.limits.TheConstants.{MOST_FAN_IN};
 ghost use Rattle.hulls.specs.Sets.{set_at};
 
-use netlist::{MOST_FAN_IN, Netlist};
-use pd_base::OutOfMemory;
+use netlist::MOST_FAN_IN;
 use state_sets::StateSet;
-use std::alloc::Global;
 use std::marker::Model;
 
 // A place for each pin of any gate, and one past the last.
@@ -39,13 +37,13 @@ impl Model for NarrowScratch {
 }
 
 impl NarrowScratch {
-    /// Room for any gate of the netlist.
-    pub fn new(_alloc: Global, _net: &Netlist) -> Result<NarrowScratch, OutOfMemory> {
-        Ok(NarrowScratch {
+    /// Room for any gate of any netlist. It takes no memory.
+    pub fn new() -> NarrowScratch {
+        NarrowScratch {
             cut: [StateSet::EMPTY; PLACES],
             suffixes: [StateSet::EMPTY; PLACES],
             kept: [StateSet::EMPTY; PLACES],
-        })
+        }
     }
 
     /// The states that the last call of `kept_at` kept at a pin of its gate.

@@ -49,7 +49,7 @@ impl<A: Algebra> BoardParts<A> {
             ≡ record { kind = Robust; gates = gate_count net.now; room = greatest_level net.now; steps = [] }) }
     {
         let conditions = Conditions::new(alloc, net, Kind::Robust)?;
-        let mut scratch = NarrowScratch::new(alloc, net)?;
+        let mut scratch = NarrowScratch::new();
         let mut board = Board::within(alloc, net, inside, &[])?;
         let idle = IdleLabels::new(alloc, net, rules, &mut board, &conditions, &mut scratch)?;
         // the idle labels are computed before the links stand

@@ -40,7 +40,7 @@ pub(crate) fn swept(
     net: &Netlist,
     assumed: &Assumed,
 ) -> Result<Option<Labels<FourStates>>, OutOfMemory> {
-    let mut scratch = NarrowScratch::new(alloc, net)?;
+    let mut scratch = NarrowScratch::new();
     let mut labels = started(alloc, net, assumed)?;
     // each round but the last takes some state away
     for _ in 0..=4 * net.lines() as u64 {

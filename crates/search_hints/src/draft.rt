@@ -68,7 +68,7 @@ impl Draft {
         ensures { IfOk result (IsSizedFor net.now) }
     {
         // What has most parts is made last, since each refusal drops what was made before.
-        let scratch = NarrowScratch::new(alloc, net)?;
+        let scratch = NarrowScratch::new();
         let labels = vec![in alloc; every_state::<A>(); net.lines() as usize]?;
         let waiting = Waiting::new(alloc, vec![in alloc; true; net.gates() as usize]?)?;
         Ok(Draft {

@@ -52,7 +52,7 @@ impl Grounds {
         ensures { IfOk result (λ g. g ≡ line_count net.now) }
     {
         let lines = net.lines() as usize;
-        let scratch = NarrowScratch::new(alloc, net)?;
+        let scratch = NarrowScratch::new();
         let labels = vec![in alloc; StateSet::EMPTY; lines]?;
         let matters = FoundLines::new(alloc, lines)?;
         Ok(Grounds {
