@@ -9,6 +9,7 @@ use Rattle.runs.specs.Lawful.{IsLawfulRun}
 use Rattle.good_runs.specs.GoodRun.{IsGoodRun}
 use Rattle.good_runs.specs.Promises.{AllKeepPromises}
 use Rattle.good_runs.specs.Shortest.{IsShortestRun}
+use Rattle.good_runs.specs.ZeroOutside.{LeavesZeroOutside}
 use Rattle.bench_reader.specs.Circuits.{HasCircuit}
 use Rattle.delay_annotation.specs.DelayFile.{HasDelays}
 use Rattle.run_files.specs.TestsText.{tests_text}
@@ -53,7 +54,8 @@ gen_products call c run = record { files = run_files call c run; out = summary_t
 
 -- the products are the texts of one good run under the rules of the launch, for the paths and the budget that are asked for, which the files
 -- can spell: its tests are numbered in the order of the report, and each proof where it is first named; its verdicts keep their promises,
--- and a refutation whose prefix implication alone refutes is one closed leaf at the shortest such prefix
+-- a refutation whose prefix implication alone refutes is one closed leaf at the shortest such prefix, and a test leaves the sources outside
+-- the support of its path at 0, as far as no link gives them their bits
 pub record GivesProductsOf (call : RunCall) (c : Circuit) (delays : Delays) (launch : Launch) (products : Products) : Type 0 where
   pub run : Run
   pub rules : run.rules ≡ searched_rules launch c
@@ -61,6 +63,7 @@ pub record GivesProductsOf (call : RunCall) (c : Circuit) (delays : Delays) (lau
   pub lawful : IsLawfulRun c run
   pub promises : AllKeepPromises c call.budget run
   pub shortest : IsShortestRun c run
+  pub zero_outside : LeavesZeroOutside c run
   pub texts : products ≡ gen_products call c run
 
 -- the texts are short, and the products are those of a good run

@@ -11,6 +11,7 @@ ghost use Rattle.commands.specs.Gen.{CanBeWritten, GivesProductsOf, GivesShort, 
 ghost use Rattle.commands.specs.ModeRules.{FitsLaunch};
 ghost use Rattle.good_runs.specs.GoodRun.{IsGoodRun};
 ghost use Rattle.good_runs.specs.Shortest.{IsShortestRun};
+ghost use Rattle.good_runs.specs.ZeroOutside.{LeavesZeroOutside};
 ghost use Rattle.prefix_sensitize.specs.Walks.{IsBudget};
 ghost use Rattle.netlist.specs.LinkedPairs.{FitRules};
 ghost use Rattle.netlist.specs.Lawful.{IsCircuit};
@@ -119,6 +120,7 @@ pub(crate) fn run_of(
     ensures rules { IfOk result (λ run. run.rules ≡ rules) }
     ensures lawful { IfOk result (λ run. IsLawfulRun net.now run) }
     ensures shortest { IfOk result (λ run. IsShortestRun net.now run) }
+    ensures zero_outside { IfOk result (λ run. LeavesZeroOutside net.now run) }
 {
     let first = first_paths(alloc, net, delays, paths)?;
     let mut steps = Steps::start(());

@@ -22,6 +22,7 @@ pub mod Restoring
 pub mod Told
 pub mod MoreAssumed
 pub mod Entered
+pub mod AlongPrefix
 pub mod AssumedHalves
 pub mod ScopeLabels
 pub mod NodeScopes

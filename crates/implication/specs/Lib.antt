@@ -2,6 +2,7 @@ pub mod Assumptions
 pub mod Standing
 pub mod FirstStates
 pub mod Moves
+pub mod AlongPrefix
 pub mod Clients
 pub mod Inside
 pub mod Reached

@@ -7,13 +7,15 @@ ghost use Rattle.pd_base.specs.Links.{links_of};
 ghost use Rattle.netlist.specs.Circuit.{source_count, line_count, gate_count, gate_line};
 ghost use Rattle.netlist.specs.LinkedPairs.{FitRules, AreLinksOf};
 ghost use Rattle.hulls.specs.Awaiting.{is_inside};
-ghost use Rattle.netlist.specs.Paths.{Connects, line_after};
+ghost use Rattle.netlist.specs.Paths.{Connects, IsPrefix, end_of, line_after};
 ghost use Rattle.netlist.specs.Pins.{IsPinOn};
 ghost use Rattle.state_sets.specs.States.{AreWithin};
 ghost use Rattle.trees.specs.Algebras.{algebra_of};
 ghost use Rattle.implication.specs.Standing.{idle_on, told_ends, IsIdle, IsFree, IsLabels, IsTold, TellsLabels, IsEmptiedIn, IsOpenIn, end_of_scope};
 ghost use Rattle.implication.specs.Moves.{with_entered, with_assumed, grown, closed_at, back_at, left_behind, idle_again, HasBegun};
-ghost use Rattle.implication.specs.Clients.{ExtendsStanding};
+ghost use Rattle.implication.specs.AlongPrefix.{HasBegunAt, HasEnteredAlong, HasEnteredTo};
+ghost use Rattle.implication.specs.Clients.{ExtendsStanding, TellsOfConflict};
+ghost use Rattle.implication.specs.Settings.{IsSameSetting};
 ghost use Rattle.implication.specs.FirstStates.{HasFirstValues};
 ghost use Rattle.implication.specs.Kept.{IsListFrom, IsLeftBefore, AreEnough, AreToldLines};
 
@@ -23,7 +25,7 @@ use crate::making::{BoardParts, Lists};
 use crate::narrowing_on::{leave_step, narrow_on, put_back, take_from};
 use crate::{Assumption, Beginning, Conflict, Origin, Setting};
 use netlist::Netlist;
-use pd_base::{GateId, LineId, OutOfMemory, PinRef, Rules};
+use pd_base::{Direction, GateId, Kind, LineId, OutOfMemory, Path, PinRef, Rules};
 use state_sets::{Algebra, StateSet};
 use std::alloc::Global;
 use std::marker::Model;
@@ -265,6 +267,43 @@ impl<A: Algebra, S: Setting> Engine<A, S> {
             &self.parts.conditions,
             &mut self.parts.scratch,
         );
+    }
+
+    // Opens the outermost scope at the last line of a prefix, with its pins entered up to the first conflict, if one comes.
+    pub(crate) fn begin_at(&mut self, prefix: &Path, direction: Direction, kind: Kind)
+        requires idle { self.old.beginning ≡ None }
+        requires prefix { IsPrefix self.old.net prefix.now }
+        requires told { IsTold self.old (end_of self.old.net prefix.now) }
+        ensures begun { HasBegunAt prefix.now direction kind self.old self.new }
+        ensures idle { IsIdle self.old }
+        ensures tells { TellsOfConflict A.algebra self.new }
+    {
+        self.begin(Beginning {
+            source: prefix.source(),
+            direction,
+            kind,
+        });
+        if self.conflict().is_some() {
+            return;
+        }
+        self.enter_all(prefix);
+    }
+
+    // Enters the pins of a prefix, at whose source a scope has just begun, up to the first conflict.
+    fn enter_all(&mut self, prefix: &Path)
+        requires prefix { IsPrefix self.old.net prefix.now }
+        requires told { IsTold self.old (end_of self.old.net prefix.now) }
+        requires start { HasEnteredTo A.algebra prefix.now 0 self.old }
+        ensures setting { IsSameSetting self.old self.new }
+        ensures beginning { self.new.beginning ≡ self.old.beginning }
+        ensures along { HasEnteredAlong prefix.now self.old.closings self.new }
+        ensures tells { TellsOfConflict A.algebra self.new }
+    {
+        for pin in prefix.steps() {
+            if self.enter(*pin).is_err() {
+                return;
+            }
+        }
     }
 
     // For each line a set that has its states.

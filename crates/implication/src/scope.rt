@@ -3,15 +3,17 @@
 ghost use Rattle.std.specs.Prelude.{All, [], ◌≡◌, ◌<◌, ◌≤◌, ◌+◌, List, Some, None, IfSome, IfNone, IsSome, length};
 ghost use Rattle.pd_base.specs.Links.{links_of};
 ghost use Rattle.netlist.specs.Circuit.{source_count, line_count, gate_line};
+ghost use Rattle.netlist.specs.Paths.{IsPrefix, end_of};
 ghost use Rattle.netlist.specs.Pins.{IsPinOn};
 ghost use Rattle.state_sets.specs.States.{IsWithin, AreWithin};
 ghost use Rattle.implication.specs.Standing.{Standing, IsIdle, IsLabels, IsTold, TellsLabel, TellsLabels, IsEmptiedIn, IsOpenIn, end_of_scope};
+ghost use Rattle.implication.specs.AlongPrefix.{HasBegunAt};
 ghost use Rattle.implication.specs.Moves.{with_entered, with_assumed, back_at, left_behind, HasBegun, start_at};
 ghost use Rattle.implication.specs.Clients.{ExtendsStanding, IsRestored, TellsOfConflict, TellsOfMore};
 
 use crate::{Beginning, Conflict, Engine, Origin, Setting};
 use netlist::Netlist;
-use pd_base::{Direction, Kind, LineId, PinRef, Rules, Steps};
+use pd_base::{Direction, Kind, LineId, Path, PinRef, Rules, Steps};
 use state_sets::{Algebra, StateSet};
 use undo_trail::Note;
 
@@ -73,6 +75,31 @@ impl<'e, A: Algebra, S: Setting> Scope<'e, A, S> {
             direction,
             kind,
         });
+        Scope {
+            engine,
+            origin: Origin::Begun,
+        }
+    }
+
+    /// The same at the last line of a prefix, with all its pins at once: no step is counted. The labels are then those of a scope that
+    /// has begun at the prefix's source and has entered its pins. Where a conflict comes before all of them are entered, it stands from
+    /// here on, and is counted.
+    pub fn begin_at(
+        engine: &'e mut Engine<A, S>,
+        prefix: &Path,
+        direction: Direction,
+        kind: Kind,
+    ) -> Scope<'e, A, S>
+        requires idle { engine.old.beginning ≡ None }
+        requires prefix { IsPrefix engine.old.net prefix.now }
+        requires told { IsTold engine.old (end_of engine.old.net prefix.now) }
+        ensures same_engine { result.engine.ghost_name ≡ engine.entry.ghost_name }
+        ensures begun { HasBegunAt prefix.now direction kind engine.old (standing result) }
+        ensures idle { IsIdle engine.old }
+        ensures origin { result.origin ≡ Origin.Begun }
+        ensures tells { TellsOfConflict A.algebra (standing result) }
+    {
+        engine.begin_at(prefix, direction, kind);
         Scope {
             engine,
             origin: Origin::Begun,

@@ -9,7 +9,8 @@ use trees::Tree;
 /// What a search found for a path, a transition and a kind of test.
 #[derive(Drop)]
 pub enum Found {
-    /// A pair of vectors that meets the conditions. Sources outside the support of the path are 0 under both vectors.
+    /// A pair of vectors that meets the conditions. A source outside the support of the path is 0 under the first one, and under the second
+    /// it has what its link asks, or else 0.
     Test(Pair),
     /// A tree of cases that refutes them: no pair meets them. It has at most as many splits as the budget.
     Refuted(Tree),

@@ -21,6 +21,8 @@ use Rattle.netlist.specs.Paths.{IsPath}
 use Rattle.runs.specs.declared.run.Proof.{Proof}
 use Rattle.runs.specs.declared.run.Verdict.TheVariants.{Robust, Nonrobust, Untestable, Aborted}
 use Rattle.good_runs.specs.Faults.{HasProof, IsNumber}
+use Rattle.justify.specs.Tests.{IsFitTest}
+use Rattle.trees.specs.ZeroOutside.{IsZeroOutside}
 use Rattle.good_runs.specs.Faults.HasProof.{refuted, spent}
 use Rattle.good_runs.specs.GoodRun.{HasTest}
 use Rattle.good_runs.proofs.Applying.{applying_excludes}
@@ -29,7 +31,7 @@ use Rattle.prefix_sensitize.specs.Answers.{AddsTest, AreWritten, HasCited, IsAns
 use Rattle.prefix_sensitize.specs.declared.outcome.RowOutcome.{RowOutcome}
 use Rattle.prefix_sensitize.specs.declared.outcome.RowOutcome.TheVariants.{Proved}
 use Rattle.prefix_sensitize.specs.Numbering.{Cites}
-use Rattle.prefix_sensitize.specs.Outcomes.{IsFoundProof, IsOutcome, IsTestPair}
+use Rattle.prefix_sensitize.specs.Outcomes.{IsFoundProof, IsOutcome}
 use Rattle.prefix_sensitize.specs.Searches.{AreSearches, Searches}
 use Rattle.prefix_sensitize.proofs.Citing.{IsCitedOn, citation}
 
@@ -104,12 +106,12 @@ module _ (c : Circuit) (searches : Searches) (are : AreSearches c searches) (pat
   record HasAdded (kind : Kind) (pair : Vectors) (old new : List Test) (number : ℕ) : Type 0 where
     pub has : HasTest c new path_number (target_of path direction kind) number
     pub of_pair : has.test.pair ≡ pair
-    pub tests : All (IsNumberedTest c searches.rules) new
+    pub tests : All (IsNumberedTest c searches) new
     pub keeps : (own : ℕ) (test : Test) → IsNumber old own test → IsNumber new own test
     pub grown : length new ≡ length old + 1
 
-  test_is_added : (kind : Kind) (pair : Vectors) (old new : List Test) (number : ℕ) → All (IsNumberedTest c searches.rules) old
-      → IsTestPair c searches.rules (target_of path direction kind) pair → AddsTest old new path_number direction kind pair number
+  test_is_added : (kind : Kind) (pair : Vectors) (old new : List Test) (number : ℕ) → All (IsNumberedTest c searches) old
+      → IsFitTest c searches.rules (target_of path direction kind) pair → AddsTest old new path_number direction kind pair number
       → HasAdded kind pair old new number
   test_is_added kind pair old new number all for adds =
       let some = listed.positive in
@@ -134,13 +136,18 @@ module _ (c : Circuit) (searches : Searches) (are : AreSearches c searches) (pat
           };
         };
         of_pair = adds.of_pair;
-        tests = All-push (IsNumberedTest c searches.rules) old test all (record {
+        tests = All-push (IsNumberedTest c searches) old test all (record {
           path = record { positive = omega arith; within = omega arith };
           first = first;
           second = second;
           of_rules = subst (IsOfRules c searches.rules) (sym adds.of_pair) for.of_rules;
           some_source = omega (arith, listed_path.prefix.source);
           some_observed = omega (arith, listed_path.observed.1);
+          zero_outside = λ route its.
+              (let N : ℕ → Type 0 = λ n. IsNumber searches.routes n route in
+              let own : path ≡ route = number_same searches.routes path_number path route listed (subst N same its) in
+              let Z : Route → Type 0 = λ r. IsZeroOutside c searches.rules r test.pair in
+              subst Z own (subst (IsZeroOutside c searches.rules path) (sym adds.of_pair) for.zero_outside));
         });
         keeps = λ own other is. number_kept old (test ∷ []) own other is;
         grown = length_push old test;
@@ -155,7 +162,7 @@ module _ (c : Circuit) (searches : Searches) (are : AreSearches c searches) (pat
 
   module _ (old : Written) (is : AreWritten c searches old) where
     -- by a robust test
-    pub robust_answers : (tests : List Test) (pair : Vectors) (number : ℕ) → IsTestPair c searches.rules (target_of path direction kinds.Robust) pair
+    pub robust_answers : (tests : List Test) (pair : Vectors) (number : ℕ) → IsFitTest c searches.rules (target_of path direction kinds.Robust) pair
         → AddsTest old.tests tests path_number direction kinds.Robust pair number
         → IsAnswered c searches path_number direction path old (record { tests = tests; cited = old.cited }) (Robust number)
     robust_answers tests pair number for adds =
@@ -179,7 +186,7 @@ module _ (c : Circuit) (searches : Searches) (are : AreSearches c searches) (pat
     -- by a nonrobust test, and the proof that there is no robust one
     pub nonrobust_answers : (cited : List ℕ) (tests : List Test) (index proof : ℕ) (pair : Vectors) (number : ℕ)
         → HasProof searches.routes searches.proofs path_number (target_of path direction kinds.Robust) (index + 1)
-        → Cites old.cited cited index proof → IsTestPair c searches.rules (target_of path direction kinds.Nonrobust) pair
+        → Cites old.cited cited index proof → IsFitTest c searches.rules (target_of path direction kinds.Nonrobust) pair
         → ¬ Meets c (target_of path direction kinds.Robust) pair
         → AddsTest old.tests tests path_number direction kinds.Nonrobust pair number
         → IsAnswered c searches path_number direction path old (record { tests = tests; cited = cited }) (Nonrobust number proof)

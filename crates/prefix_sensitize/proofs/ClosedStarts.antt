@@ -1,6 +1,6 @@
 -- A start that closes at a source, before a pin is entered: one closed leaf refutes all paths from there. The walk has passed none of
 -- them, since no test, no spent tree and no refutation of a longer prefix can stand on such a path.
-use Rattle.std.proofs.Common.{◌≡◌, ⊎_elim, ℕ, ◌+◌, ◌<◌, ◌≤◌, true, false, true≢false, List, [], ◌∷◌, take, Option, Some, None, refl, sym, ap, subst, subst₂, ◌∙◌, arith}
+use Rattle.std.proofs.Common.{◌≡◌, ⊎_elim, ℕ, ◌+◌, ◌<◌, ◌≤◌, true, false, true≢false, List, [], ◌∷◌, map, take, Option, Some, None, refl, sym, ap, subst, subst₂, ◌∙◌, arith}
 use Rattle.std.specs.Prelude.{is_some, IfNone, IfSome, slice_index_or}
 use Rattle.std.proofs.lemmas.Bool.{cases_Bool, cases_lt}
 use Rattle.pd_base.specs.declared.fault.Direction.{Direction}
@@ -26,6 +26,7 @@ use Rattle.trees.specs.Trees.{split_count}
 use Rattle.trees.specs.Trees.Cases.{closed}
 use Rattle.trees.proofs.Refuting.{refutation_excludes_path}
 use Rattle.implication.specs.declared.assumption.Assumption.{Assumption}
+use Rattle.implication.specs.declared.assumption.Assumption.TheVariants.{Entered}
 use Rattle.implication.specs.declared.assumption.Beginning.{Beginning}
 use Rattle.implication.specs.declared.assumption.Conflict.{Conflict}
 use Rattle.implication.specs.Standing.{ToldEnds, Standing, IsEmptiedFrom, IsEmptiedIn}
@@ -55,19 +56,20 @@ use Rattle.prefix_sensitize.proofs.OrderPlaces.{all_at}
 use Rattle.prefix_sensitize.proofs.Passing.{come_alone, come_from, keeps_added}
 use Rattle.prefix_sensitize.proofs.Reached.{HasReached}
 
--- where a scope that has begun leaves some line no state, the start closes at its source
-module _ (a : StateAlgebra) (standing : Standing) (of_rules : a ≡ algebra_of standing.rules) (path : Route) (aim : Aim)
+-- where a scope leaves some line no state that has begun for the aim and entered the first pins of a path, the start of the prefix closes
+module _ (a : StateAlgebra) (standing : Standing) (of_rules : a ≡ algebra_of standing.rules) (path : Route) (aim : Aim) (count : ℕ)
     (began : standing.beginning ≡ Some (record { source = path.source; direction = aim.direction; kind = aim.kind }))
-    (nothing : standing.assumptions ≡ []) where
-  begun_closes : (line : ℕ) → IsEmptiedIn a standing line → ClosesAtStart standing.net standing.rules (target_for aim (prefix_of 0 path))
+    (entered : standing.assumptions ≡ map Entered (take count path.steps)) where
+  begun_closes : (line : ℕ) → IsEmptiedIn a standing line → ClosesAtStart standing.net standing.rules (target_for aim (prefix_of count path))
   begun_closes line emptied =
       let begun : Beginning = record { source = path.source; direction = aim.direction; kind = aim.kind } in
       let P : Option Beginning → List Assumption → Type 0 = λ b list. IsEmptiedFrom a standing.net standing.rules b list line in
-      let here : IsEmptiedFrom a standing.net standing.rules (Some begun) [] line = subst₂ P began nothing emptied in
-      closes_at a standing.net standing.rules of_rules begun path refl 0 line here.0 here.1
+      let here : IsEmptiedFrom a standing.net standing.rules (Some begun) (map Entered (take count path.steps)) line =
+      subst₂ P began entered emptied in
+      closes_at a standing.net standing.rules of_rules begun path refl count line here.0 here.1
 
   pub conflict_closes : (found : Option Conflict) → is_some found ≡ true → IfSome found (λ conflict. IsEmptiedIn a standing conflict.0.0)
-      → ClosesAtStart standing.net standing.rules (target_for aim (prefix_of 0 path))
+      → ClosesAtStart standing.net standing.rules (target_for aim (prefix_of count path))
   conflict_closes None some emptied = absurd (true≢false (sym some))
   conflict_closes (Some conflict) some emptied = begun_closes conflict.0.0 emptied
 

@@ -143,8 +143,7 @@ module _ (a : StateAlgebra) (old : Standing) (of_rules : a ≡ algebra_of old.ru
       -- what it finds ends the search for a test of the path
       ends_with : (answer : Found) → IsFound old.net old.rules (target_for aim path) aim.budget answer
           → IsFoundAlong old.net old.rules aim path (record { found = answer; steps = kept })
-      ends_with (found.Test pair) test =
-          record { first_fits = test.first_fits; second_fits = test.second_fits; of_rules = test.of_rules; meets = test.meets }
+      ends_with (found.Test pair) test = test
       ends_with (found.Spent tree) spent = spent
       ends_with (found.Refuted tree) refutes = record {
         has_steps = at.within;

@@ -1,4 +1,5 @@
--- The listed paths with what is written of them make a good run, each refutation of which stands at its shortest.
+-- The listed paths with what is written of them make a good run, each refutation of which stands at its shortest, and each test of which
+-- leaves the sources outside the support of its path at 0.
 use Rattle.std.proofs.Common.{◌≡◌, ℕ, ◌+◌, ◌<◌, max, true, false, List, length, map, get_or, refl, sym, ap, subst, ◌∙◌, arith}
 use Rattle.std.specs.List.{All, count_by}
 use Rattle.std.specs.Prelude.{Contains}
@@ -28,6 +29,8 @@ use Rattle.runs.specs.Verdicts.{verdicts_of}
 use Rattle.good_runs.specs.Faults.{CitesRefutation, CitesSpent, HasProof, IsNumber, NoneApplies, routes_of, verdict_for}
 use Rattle.good_runs.specs.GoodRun.{HasNonrobustTest, HasTest, IsGoodRun, IsVerdict, greatest_cited, is_tested}
 use Rattle.good_runs.specs.Shortest.{IsShortestRun}
+use Rattle.good_runs.specs.ZeroOutside.{LeavesZeroOutside}
+use Rattle.trees.specs.ZeroOutside.{IsZeroOutside}
 use Rattle.good_runs.proofs.Numbers.{all_at_number, number_in_map, number_of_place}
 use Rattle.prefix_sensitize.specs.Answers.{HasCited, IsBackedVerdict, Written}
 use Rattle.logic_values.specs.Expected.{expecting}
@@ -197,3 +200,15 @@ module _ (c : Circuit) (delays : Delays) (searches : Searches) (are : AreSearche
   -- and each of its refutations stands at its shortest
   pub run_is_shortest : IsShortestRun c run
   run_is_shortest place d within refutes = ((found_at place d within).refutes refutes).1
+
+  -- and its tests leave the sources outside the supports at 0
+  pub run_leaves_zero : LeavesZeroOutside c run
+  run_leaves_zero =
+      let Leaves : Rules → List Route → Test → Type 0 =
+      λ rules routes test. (path : Route) → IsNumber routes test.path path → IsZeroOutside c rules path test.pair in
+      let P : Rules → Type 0 = λ rules. All (Leaves rules (routes_of run)) run.tests in
+      let Q : List Route → Type 0 = λ routes. All (Leaves searches.rules routes) run.tests in
+      subst P (sym is.rules) (subst Q (sym routes_are)
+      (subst (All (Leaves searches.rules searches.routes)) (sym is.tests)
+      (All-map (Leaves searches.rules searches.routes) (expecting c) written.tests
+      (λ place d within. (all.are_written.tests place d within).zero_outside))))

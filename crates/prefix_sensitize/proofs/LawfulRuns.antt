@@ -107,8 +107,8 @@ module _ (c : Circuit) where
             )
 
   -- a test that was written is lawful with the bits that it expects
-  test_is_lawful : (rules : Rules) (test : Test) → IsNumberedTest c rules test → IsLawfulTest c (expecting c test)
-  test_is_lawful rules test is = record {
+  test_is_lawful : (searches : Searches) (test : Test) → IsNumberedTest c searches test → IsLawfulTest c (expecting c test)
+  test_is_lawful searches test is = record {
     path = is.path;
     first = is.first;
     second = is.second;
@@ -151,7 +151,7 @@ module _ (c : Circuit) (circuit : IsCircuit c) (delays : Delays) (searches : Sea
   run_is_lawful = record {
     tests = subst (All (IsLawfulTest c)) (sym is.tests)
         (All-map (IsLawfulTest c) (expecting c) written.tests
-        (λ place d within. test_is_lawful c searches.rules (get_or written.tests place d) (all.are_written.tests place d within)));
+        (λ place d within. test_is_lawful c searches (get_or written.tests place d) (all.are_written.tests place d within)));
     report = record {
       nameable = λ place d within.
           path_is_nameable c (get_or run.paths place d).path (All-from_map (IsPath c) run.paths route_is_path place d within);

@@ -86,7 +86,7 @@ module _ (c : Circuit) (delays : Delays) (searches : Searches) where
         are_written = record {
           found = All-nil (λ index. index < length searches.proofs);
           once = λ number other index one two. absurd (none_numbered number index one);
-          tests = All-nil (IsNumberedTest c searches.rules);
+          tests = All-nil (IsNumberedTest c searches);
         };
         answers = λ number entry direction own. absurd (none_numbered number entry own);
         numbered = tt;

@@ -1,4 +1,4 @@
--- A path that can be entered again from its source, in words that are spoken inside this crate alone (this project's own).
+-- A path at whose end a scope can begin, in words that are spoken inside this crate alone (this project's own).
 use Rattle.std.specs.Prelude.{ℕ, ◌≤◌, length}
 use Rattle.pd_base.specs.Route.{Route}
 use Rattle.pd_base.specs.declared.rules.Rules.{Rules}

@@ -1,7 +1,6 @@
 -- What a verdict asks of what is written so far, and what stays of it as more is written, in words that are spoken inside this crate
 -- alone (this project's own).
 use Rattle.std.specs.Prelude.{◌≡◌, ℕ, ◌+◌, ◌<◌, ◌≤◌, ◌^◌, true, false, List, [], ◌∷◌, ◌++◌, length, slice_get, Some, All}
-use Rattle.pd_base.specs.declared.rules.Rules.{Rules}
 use Rattle.netlist.specs.LinkedPairs.{IsOfRules}
 use Rattle.pd_base.specs.Pair.{Vectors}
 use Rattle.pd_base.specs.Route.{Route}
@@ -15,6 +14,7 @@ use Rattle.pair_judging.specs.Judges.{IsJudgeOf}
 use Rattle.runs.specs.declared.run.Proof.{Proof}
 use Rattle.runs.specs.declared.run.Verdict.{Verdict}
 use Rattle.runs.specs.declared.run.Verdict.TheVariants.{Robust, Nonrobust, Untestable, Aborted}
+use Rattle.trees.specs.ZeroOutside.{IsZeroOutside}
 use Rattle.runs.specs.Lawful.{IsPathNumber, Named, NamesOn, named_with}
 use Rattle.good_runs.specs.Faults.{HasProof, IsNumber}
 use Rattle.good_runs.specs.GoodRun.{HasNonrobustTest, HasTest}
@@ -27,21 +27,23 @@ pub record Written : Type 0 where
   pub tests : List Test
   pub cited : List ℕ
 
--- a test names a path, is a pair of the rules, and has one bit per source in each vector, where there is a source and an observed line. Of the bits that it
--- expects nothing is said
-pub record IsNumberedTest (c : Circuit) (rules : Rules) (test : Test) : Type 0 where
+-- A test names a path, is a pair of the rules, and has one bit per source in each vector, where there is a source and an observed line; and
+-- it leaves the sources outside the support of its path at 0, as far as no link gives them their bits. Of the bits that it expects nothing
+-- is said.
+pub record IsNumberedTest (c : Circuit) (searches : Searches) (test : Test) : Type 0 where
   pub path : IsPathNumber test.path
   pub first : length test.pair.first ≡ source_count c
   pub second : length test.pair.second ≡ source_count c
-  pub of_rules : IsOfRules c rules test.pair
+  pub of_rules : IsOfRules c searches.rules test.pair
   pub some_source : 0 < source_count c
   pub some_observed : 0 < length (observed_lines c)
+  pub zero_outside : (path : Route) → IsNumber searches.routes test.path path → IsZeroOutside c searches.rules path test.pair
 
 -- what is written is of these searches: each cited proof was found, and has one number
 pub record AreWritten (c : Circuit) (searches : Searches) (written : Written) : Type 0 where
   pub found : All (λ index. index < length searches.proofs) written.cited
   pub once : HaveOneNumber written.cited
-  pub tests : All (IsNumberedTest c searches.rules) written.tests
+  pub tests : All (IsNumberedTest c searches) written.tests
 
 -- numbers stay, those of tests and those of proofs
 pub record KeepsNumbers (old new : Written) : Type 0 where

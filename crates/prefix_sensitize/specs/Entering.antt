@@ -16,12 +16,13 @@ use Rattle.implication.specs.Standing.{IsTold, Standing}
 use Rattle.state_sets.specs.StateAlgebra.{StateAlgebra}
 use Rattle.justify.specs.declared.desk.Desk.{Desk}
 use Rattle.justify.specs.Desks.{IsDeskFor}
+use Rattle.justify.specs.Tests.{IsFitTest}
 use Rattle.justify.specs.declared.answer.Found.{Found}
 use Rattle.justify.specs.declared.answer.Found.TheVariants.{Test, Spent, Refuted}
 use Rattle.good_runs.specs.Shortest.{ClosesAtStart}
 use Rattle.prefix_sensitize.specs.declared.outcome.Aim.{Aim}
 use Rattle.prefix_sensitize.specs.declared.descent.FoundAlong.{FoundAlong}
-use Rattle.prefix_sensitize.specs.Outcomes.{IsTestPair, target_for}
+use Rattle.prefix_sensitize.specs.Outcomes.{target_for}
 use Rattle.prefix_sensitize.specs.PathOrder.{ShareSteps}
 use Rattle.prefix_sensitize.specs.Walks.{IsBudget}
 
@@ -56,7 +57,7 @@ pub record RefutesPrefix (c : Circuit) (rules : Rules) (aim : Aim) (path : Route
 
 -- what a search for a test of a path found when it had tried so many of its steps
 abbrev pub IsFoundUpTo : Circuit → Rules → Aim → Route → ℕ → Found → Type 0
-IsFoundUpTo c rules aim path steps (Test pair) = IsTestPair c rules (target_for aim path) pair
+IsFoundUpTo c rules aim path steps (Test pair) = IsFitTest c rules (target_for aim path) pair
 IsFoundUpTo c rules aim path steps (Spent tree) = IsSpent c rules (target_for aim path) aim.budget tree
 IsFoundUpTo c rules aim path steps (Refuted tree) = RefutesPrefix c rules aim path steps tree
 

@@ -1,17 +1,15 @@
 -- What searches promise of their outcomes and of the proofs that they found, in words that are spoken inside this crate
 -- alone (this project's own).
 use Rattle.std.specs.Prelude.{◌≡◌, ℕ, ◌+◌, true, false, Bool, List, ◌++◌, length, slice_get, slice_index_or, Some, All, Contains}
-use Rattle.pd_base.specs.Pair.{Vectors}
 use Rattle.pd_base.specs.Route.{Route}
 use Rattle.pd_base.specs.Target.{Target, target_of}
 use Rattle.pd_base.specs.declared.rules.Rules.{Rules}
-use Rattle.netlist.specs.Circuit.{Circuit, source_count}
-use Rattle.netlist.specs.Conditions.{Meets}
-use Rattle.netlist.specs.LinkedPairs.{IsOfRules}
+use Rattle.netlist.specs.Circuit.{Circuit}
 use Rattle.runs.specs.declared.run.Proof.{Proof}
 use Rattle.good_runs.specs.Faults.{Applies, HasProof, IsAbout, IsNumber}
 use Rattle.good_runs.specs.GoodRun.{IsGoodRefutation, IsGoodSpent}
 use Rattle.good_runs.specs.Shortest.{IsShortest}
+use Rattle.justify.specs.Tests.{IsFitTest}
 use Rattle.prefix_sensitize.specs.declared.outcome.Aim.{Aim}
 use Rattle.prefix_sensitize.specs.declared.outcome.RowOutcome.{RowOutcome}
 use Rattle.prefix_sensitize.specs.declared.outcome.RowOutcome.TheVariants.{Unsearched, Tested, Proved}
@@ -36,17 +34,10 @@ pub record AreFoundProofs (c : Circuit) (rules : Rules) (budget : ℕ) (routes :
   pub each : All (IsFoundProof c rules budget routes) proofs
   pub apart : AreApart routes proofs
 
--- the pair is one of the rules, and a test for the target
-pub record IsTestPair (c : Circuit) (rules : Rules) (target : Target) (pair : Vectors) : Type 0 where
-  pub first_fits : length pair.first ≡ source_count c
-  pub second_fits : length pair.second ≡ source_count c
-  pub of_rules : IsOfRules c rules pair
-  pub meets : Meets c target pair
-
 -- what the outcome of a search for a target tells, whose path stands in this row of the list
 abbrev pub IsOutcome : Circuit → Rules → List Route → List Proof → ℕ → Target → RowOutcome → Type 0
 IsOutcome c rules routes proofs row target Unsearched = ⊥
-IsOutcome c rules routes proofs row target (Tested pair) = IsTestPair c rules target pair
+IsOutcome c rules routes proofs row target (Tested pair) = IsFitTest c rules target pair
 IsOutcome c rules routes proofs row target (Proved index) = HasProof routes proofs (row + 1) target (index + 1)
 
 -- the outcome of this row

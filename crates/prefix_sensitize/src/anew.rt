@@ -1,26 +1,24 @@
 // The search for a test of a path whose pins are entered. Where the engine tells only a part of the path's support, it may end with nothing
-// known; it then begins anew, on an engine of its own that tells the whole support of this path.
-ghost use Rattle.std.specs.Prelude.{◌≡◌, ◌<◌, [], None, IfOk};
+// known; it then begins anew, on an engine of its own that tells the whole support of this path. There its scope begins at the path's end.
+ghost use Rattle.std.specs.Prelude.{◌≡◌, ◌<◌, None, IfOk};
 ghost use Rattle.netlist.specs.Circuit.{line_count};
 ghost use Rattle.netlist.specs.Paths.{end_of};
 ghost use Rattle.implication.specs.Clients.{IsRestored};
-ghost use Rattle.implication.specs.Standing.{IsOpenIn, IsTold, FollowsLinks};
+ghost use Rattle.implication.specs.Standing.{IsTold, FollowsLinks};
 ghost use Rattle.implication.specs.Scopes.{IsSameScope, standing};
 ghost use Rattle.justify.specs.Answers.{IsFound};
 ghost use Rattle.justify.specs.Desks.{IsDeskFor};
 ghost use Rattle.justify.specs.Scoping.{CanBegin};
 ghost use Rattle.pair_judging.specs.Targets.{seen_target};
-ghost use Rattle.prefix_sensitize.specs.Entering.{HasGone};
 ghost use Rattle.prefix_sensitize.specs.Anew.{CanBeEntered};
 ghost use Rattle.prefix_sensitize.specs.Outcomes.{target_for};
 ghost use Rattle.prefix_sensitize.specs.Walks.{IsBudget};
 
-use crate::descent::Descent;
 use crate::outcome::Aim;
 use implication::{Engine, RuledNetlist, Scope, Setting};
 use justify::{Desk, Found, Unfinished, search_at};
 use pair_judging::Target;
-use pd_base::{LineId, OutOfMemory, Path, Steps};
+use pd_base::{LineId, OutOfMemory, Path};
 use state_sets::Algebra;
 use std::alloc::Global;
 
@@ -91,7 +89,7 @@ fn search_anew<A: Algebra>(
     found
 }
 
-// Begins a scope at the path's source, and searches there.
+// Begins a scope at the path's end, with all its pins at once, and searches there. No pin is entered, and none is counted again.
 fn search_begun<A: Algebra, S: Setting>(
     alloc: Global,
     engine: &mut Engine<A, S>,
@@ -108,40 +106,29 @@ fn search_begun<A: Algebra, S: Setting>(
     ensures desk { IsDeskFor A.algebra engine.old.net engine.old.rules desk.new }
     ensures found { IfOk result (IsFound engine.old.net engine.old.rules (target_for aim path.now) aim.budget) }
 {
-    let mut scope = Scope::begin(engine, path.source(), aim.direction, aim.kind);
+    let mut scope = Scope::begin_at(engine, path, aim.direction, aim.kind);
     // no start of a prefix of the path closes
     if scope.conflict().is_some() {
         unreachable!()
     }
-    search_from_source(alloc, &mut scope, desk, path, aim)
+    search_told(alloc, &mut scope, desk, path, aim)
 }
 
-// Enters the pins of the path behind its source, at which the scope has begun, and searches for a test of it.
-fn search_from_source<A: Algebra, S: Setting>(
+// Searches for a test of the path at whose end the scope stands, where the engine tells the path's whole support.
+fn search_told<A: Algebra, S: Setting>(
     alloc: Global,
     scope: &mut Scope<A, S>,
     desk: &mut Desk,
     path: &Path,
     aim: Aim,
 ) -> Result<Found, OutOfMemory>
-    requires gone { HasGone (standing scope.old) path.now aim [] }
-    requires left_open { IsOpenIn A.algebra (standing scope.old) }
+    requires can { CanBegin (target_for aim path.now) aim.budget (standing scope.old) }
     requires told { IsTold (standing scope.old) (end_of (standing scope.old).net path.now) }
     requires follows { FollowsLinks (standing scope.old).ends }
-    requires enter { CanBeEntered (standing scope.old).net (standing scope.old).rules aim path.now }
-    requires budget { IsBudget aim.budget }
     requires desk { IsDeskFor A.algebra (standing scope.old).net (standing scope.old).rules desk.old }
     ensures desk { IsDeskFor A.algebra (standing scope.old).net (standing scope.old).rules desk.new }
     ensures found { IfOk result (IsFound (standing scope.old).net (standing scope.old).rules (target_for aim path.now) aim.budget) }
 {
-    // these pins were counted when they were first entered
-    let mut steps = Steps::start(());
-    let mut descent = Descent::new(alloc);
-    let count = path.steps().len();
-    let kept = descent.go_on(scope, path, 0, &mut steps)?;
-    if kept < count {
-        unreachable!()
-    }
     let target = target_along(path, aim);
     match search_at(alloc, scope, desk, &target, aim.budget) {
         Ok(found) => Ok(found),

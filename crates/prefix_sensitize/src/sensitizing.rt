@@ -35,11 +35,12 @@ use std::alloc::Global;
 /// under these rules (this project's own), which fit the circuit. The run can be written as files. A refutation whose prefix implication
 /// alone refutes is one closed leaf, at the shortest prefix of its path that implication alone refutes. Under linked rules that may be the
 /// source alone, before a pin is entered: the refutation has 0 steps then, and serves all paths from the source. A refutation with splits
-/// stands at its whole path, or at a prefix that the path shares with others; at which of them is not promised.
+/// stands at its whole path, or at a prefix that the path shares with others; at which of them is not promised. In a test a source outside
+/// the support of its path is 0 under the first vector, and under the second it has what its link asks, or else 0.
 ///
 /// `steps` stands at no more than 2^63, and counts the pins that are entered: at most four times as many as the paths have different
-/// prefixes of at least one step, once for each transition and kind of test, whatever the answer is. Not counted are those of a path whose
-/// search, under linked rules, is begun anew on an engine of its own. The one error is that memory ran out.
+/// prefixes of at least one step, once for each transition and kind of test, whatever the answer is. A search that is begun anew, under
+/// linked rules, begins at its path's end on an engine of its own, and enters none. The one error is that memory ran out.
 pub fn sensitize_all<L>(
     alloc: Global,
     net: &Netlist,

@@ -7,7 +7,8 @@ ghost use Rattle.netlist.specs.Lawful.{IsCircuit};
 ghost use Rattle.netlist.specs.Paths.{IsPrefix};
 ghost use Rattle.pair_judging.specs.Judges.{IsJudgeOf};
 ghost use Rattle.good_runs.specs.Faults.{HasProof};
-ghost use Rattle.prefix_sensitize.specs.Outcomes.{IsOutcome, IsTestPair};
+ghost use Rattle.justify.specs.Tests.{IsFitTest};
+ghost use Rattle.prefix_sensitize.specs.Outcomes.{IsOutcome};
 ghost use Rattle.prefix_sensitize.specs.Searches.{AreFaultOutcomes, Searches};
 ghost use Rattle.prefix_sensitize.specs.Numbering.{AreCited, HaveOneNumber};
 ghost use Rattle.prefix_sensitize.specs.Answers.{AddsTest, IsAnswered, IsAsked, IsWriterFor, written_by};
@@ -136,7 +137,7 @@ impl Writer {
         ghost searches: { Searches }
         requires asked { IsAsked net.now searches fault.now.number fault.now.path.now self.old }
         requires robust { HasProof searches.routes searches.proofs fault.now.number (target_of fault.now.path.now fault.now.direction Kind.Robust) (proof + 1) }
-        requires nonrobust { IsTestPair net.now searches.rules (target_of fault.now.path.now fault.now.direction Kind.Nonrobust) pair }
+        requires nonrobust { IsFitTest net.now searches.rules (target_of fault.now.path.now fault.now.direction Kind.Nonrobust) pair }
         ensures answered { IfOk result (λ verdict. IsAnswered net.now searches fault.now.number fault.now.direction fault.now.path.now (written_by self.old) (written_by self.new) verdict) }
         ensures writer { IfOk result (λ _. IsWriterFor net.now searches self.new) }
     {

@@ -1,41 +1,28 @@
--- What an engine tells it tells under the same setting; and what its ends tell.
+-- What an engine tells of sources and supports it tells under the same setting; and what its ends tell.
 use Rattle.std.proofs.Common.{◌≡◌, ℕ, ◌<◌, length, Option, None, sym, subst, subst₂, arith}
 use Rattle.pd_base.specs.Links.{links_of}
 use Rattle.pd_base.specs.Route.{Route}
 use Rattle.pd_base.specs.declared.rules.Rules.{Rules}
 use Rattle.netlist.specs.Circuit.{Circuit, source_count}
 use Rattle.netlist.specs.LinkedPairs.{IsSupported}
-use Rattle.netlist.specs.Paths.{IsPrefix, end_of}
-use Rattle.state_laws.proofs.FanIns.{leads_in_fan_in}
+use Rattle.netlist.specs.Paths.{end_of}
 use Rattle.trees.specs.declared.tree.Node.{Node}
 use Rattle.trees.specs.declared.tree.Node.TheVariants.{Closed, Waiting, Value, Steadiness}
-use Rattle.implication.specs.declared.assumption.Beginning.{Beginning}
-use Rattle.implication.specs.Moves.{HasBegun}
 use Rattle.implication.specs.Settings.{IsSameSetting}
 use Rattle.implication.specs.Standing.{Standing, ToldEnds, IsSupportTold, IsTold, IsToldBy}
-use Rattle.implication.proofs.Told.{free_told, told_in_fan_in}
+use Rattle.implication.proofs.Settings.{told_there}
+use Rattle.implication.proofs.Told.{free_told}
 use Rattle.refutation_check.specs.Walks.{IsToldAt}
 
 module _ (before now : Standing) (same : IsSameSetting before now) where
   pub source_there : (source : ℕ) → source < source_count before.net → source < source_count now.net
   source_there source within = let P : Circuit → Type 0 = λ c. source < source_count c in subst P (sym same.net) within
 
-  pub told_there : (line : ℕ) → IsTold before line → IsTold now line
-  told_there line told =
-      let P : Circuit → Type 0 = λ c. IsToldBy c (links_of now.rules) now.ends line in
-      let Q : Rules → Option ToldEnds → Type 0 = λ rules ends. IsToldBy before.net (links_of rules) ends line in
-      subst P (sym same.net) (subst₂ Q (sym same.rules) (sym same.ends) told)
-
-  pub end_told_there : (path : Route) → IsTold before (end_of before.net path) → IsTold now (end_of now.net path)
-  end_told_there path told =
-      let P : Circuit → Type 0 = λ c. IsTold now (end_of c path) in
-      subst P (sym same.net) (told_there (end_of before.net path) told)
-
-  -- so is the whole support of an end
+  -- the whole support of an end is told there
   pub support_told_there : (path : Route) → IsSupportTold before (end_of before.net path) → IsSupportTold now (end_of now.net path)
   support_told_there path told line supported =
       let P : Circuit → Rules → Type 0 = λ c rules. IsSupported c (links_of rules) (end_of c path) line in
-      told_there line (told line (subst₂ P same.net same.rules supported))
+      told_there before now same line (told line (subst₂ P same.net same.rules supported))
 
   -- so is the source of each split that is
   source_back : (source : ℕ) → source < source_count now.net → source < source_count before.net
@@ -44,19 +31,8 @@ module _ (before now : Standing) (same : IsSameSetting before now) where
   pub told_at_there : (node : Node) → IsToldAt before node → IsToldAt now node
   told_at_there Closed told = tt
   told_at_there Waiting told = tt
-  told_at_there (Value source) told = λ within. told_there source (told (source_back source within))
-  told_at_there (Steadiness source) told = λ within. told_there source (told (source_back source within))
-
--- a scope that begins has the setting of its engine
-pub begun_same : (begun : Beginning) (old new : Standing) → HasBegun begun old new → IsSameSetting old new
-begun_same begun old new is = record { net = is.net; rules = is.rules; ends = is.ends }
-
--- the source of a path is told where its end is
-pub own_told : (standing : Standing) (path : Route) → IsPrefix standing.net path → IsTold standing (end_of standing.net path)
-    → IsTold standing path.source.0
-own_told standing path is told =
-    told_in_fan_in standing.net (links_of standing.rules) standing.ends (end_of standing.net path) path.source.0 told
-    (leads_in_fan_in standing.net path.source.0 path.steps is.connects)
+  told_at_there (Value source) told = λ within. told_there before now same source (told (source_back source within))
+  told_at_there (Steadiness source) told = λ within. told_there before now same source (told (source_back source within))
 
 -- where no ends are given, all lines are told
 pub all_are_told : (standing : Standing) → standing.ends ≡ None → (line : ℕ) → IsTold standing line

@@ -10,7 +10,8 @@ use Rattle.implication.specs.Standing.{Standing, IsTold}
 use Rattle.implication.proofs.Restoring.{extends_itself, extends_trans}
 use Rattle.refutation_check.specs.declared.walk.Pending.{Pending}
 use Rattle.refutation_check.specs.Walks.{LeadBack, IsWalkFrom}
-use Rattle.refutation_check.proofs.SameSettings.{source_there, told_there}
+use Rattle.implication.proofs.Settings.{told_there}
+use Rattle.refutation_check.proofs.SameSettings.{source_there}
 
 -- what stands at the root is the setting of what goes on from it
 setting_on : (root now : Standing) → ExtendsStanding root now → IsSameSetting root now

@@ -1,5 +1,4 @@
 pub mod Walks
-pub mod Entering
 pub mod Entered
 pub mod TrialStates
 pub mod Blames

@@ -1,5 +1,5 @@
-// The hull at a node of a tree of cases: a scope of an engine that tells all lines enters the pins of a prefix, assumes the halves above
-// the node, and gives its labels. How a scope comes to the root of a tree stands in entering.rt, and how it goes down in walk.rt. No
+// The hull at a node of a tree of cases: a scope of an engine that tells all lines begins with the pins of a prefix, assumes the halves above
+// the node, and gives its labels. How a scope comes to the root of a tree stands in root.rt, and how it goes down in walk.rt. No
 // command asks for this hull. It is a scope, so that there is one start and one way to settle.
 ghost use Rattle.std.specs.Prelude.{◌≡◌, ◌<◌, [], List, None, All, IfOk, length};
 ghost use Rattle.pd_base.specs.Target as seen;
@@ -15,7 +15,7 @@ ghost use Rattle.pair_judging.specs.Targets.{seen_target};
 ghost use Rattle.refutation_check.specs.Walks.{IsScopeAt};
 
 use crate::Hull;
-use crate::entering::enter_root;
+use crate::root::begin_root;
 use crate::walk::assume_half;
 use implication::{Engine, RuledNetlist, Scope, Setting};
 use netlist::Netlist;
@@ -115,9 +115,7 @@ fn hull_on<A: Algebra, S: Setting>(
     requires sources { All (λ half. half.source < source_count engine.old.net) halves.now }
     ensures { IfOk result (IsFoundAt A.algebra engine.old.net engine.old.rules (seen_target target.now) halves.now) }
 {
-    let prefix = target.path;
-    let mut scope = Scope::begin(engine, prefix.source(), target.direction, target.kind);
-    enter_root(&mut scope, prefix);
+    let mut scope = begin_root(engine, target);
     assume_halves(&mut scope, halves);
     hull_of(alloc, &scope)
 }

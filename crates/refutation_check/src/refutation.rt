@@ -14,7 +14,7 @@ ghost use Rattle.refutation_check.specs.Walks.{IsScopeAt, IsToldAt, IsOnTold};
 ghost use Rattle.refutation_check.specs.Answers.{TellsOfNodes, IsIdleOn};
 
 use crate::TreeCheck;
-use crate::entering::enter_root;
+use crate::root::begin_root;
 use crate::walk::{Pending, pass};
 use implication::{Engine, Scope, Setting};
 use pair_judging::Target;
@@ -37,9 +37,7 @@ pub(crate) fn refutes<A: Algebra, S: Setting>(
     ensures idle { IsIdleOn engine.old engine.new }
     ensures tells { IfOk result (TellsOfNodes (RefutesAtNode A.algebra engine.old.net engine.old.rules (seen_target target.now)) tree.now) }
 {
-    let prefix = target.path;
-    let mut scope = Scope::begin(engine, prefix.source(), target.direction, target.kind);
-    enter_root(&mut scope, prefix);
+    let mut scope = begin_root(engine, target);
     walk_refutation(&mut scope, pending, tree)
 }
 

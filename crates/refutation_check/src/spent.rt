@@ -15,7 +15,7 @@ ghost use Rattle.refutation_check.specs.Walks.{IsScopeAt, IsOnTold};
 
 use crate::TreeCheck;
 use crate::due::{Split, is_due};
-use crate::entering::enter_root;
+use crate::root::begin_root;
 use crate::trial::{TrialRoom, is_open};
 use crate::walk::{Pending, pass};
 use implication::{Engine, Scope, Setting};
@@ -42,11 +42,9 @@ pub(crate) fn spends<A: Algebra, S: Setting>(
     ensures tells { IfOk result (TellsIf (IsSupportTold engine.old (end_of engine.old.net target.now.path.now))
         (IsRightInSpent engine.old.net engine.old.rules (seen_target target.now)) tree.now) }
 {
-    let path = target.path;
-    let mut scope = Scope::begin(engine, path.source(), target.direction, target.kind);
-    enter_root(&mut scope, path);
+    let mut scope = begin_root(engine, target);
     let net = scope.net();
-    room.cone.set_end(net, end_of(net, path));
+    room.cone.set_end(net, end_of(net, target.path));
     room.failed = false;
     walk_spent(&mut scope, pending, room, target, tree)
 }

@@ -3,6 +3,7 @@ pub mod Algebras
 pub mod Unlinked
 pub mod Refutations
 pub mod Spent
+pub mod ZeroOutside
 pub mod Bounds
 pub mod Halves
 pub mod Faults

@@ -6,6 +6,7 @@ use Rattle.runs.specs.Lawful.{IsLawfulRun}
 use Rattle.runs.specs.declared.run.Run.{Run}
 use Rattle.good_runs.specs.GoodRun.{IsGoodRun}
 use Rattle.good_runs.specs.Shortest.{IsShortestRun}
+use Rattle.good_runs.specs.ZeroOutside.{LeavesZeroOutside}
 use Rattle.prefix_sensitize.specs.SearchedRuns.{IsSearchedRun}
 use Rattle.commands.proofs.preparing.run_of.Goals as goal
 
@@ -41,3 +42,10 @@ returns-clause-shortest c =
     IfOk-weaker c.sensitize_all.result
     (IsSearchedRun net (delays_of net c.args.delays.now) c.in_ok-first.first.items c.args.budget c.args.rules) (IsShortestRun net)
     (λ run is. is.shortest) c.sensitize_all.ensures.run
+
+pub returns-clause-zero_outside : goal.returns-clause-zero_outside
+returns-clause-zero_outside c =
+    let net = c.args.net.now in
+    IfOk-weaker c.sensitize_all.result
+    (IsSearchedRun net (delays_of net c.args.delays.now) c.in_ok-first.first.items c.args.budget c.args.rules) (LeavesZeroOutside net)
+    (λ run is. is.zero_outside) c.sensitize_all.ensures.run

@@ -15,5 +15,6 @@ returns-clause-gives c = record {
   promises = good_run_keeps c.args.inputs.now.net c.requires.circuit _ _ _ c.in_ok-run.run'
       (subst (FitRules c.args.inputs.now.net) (sym c.in_ok-run.ensures.rules) c.in_ok-rules.ensures.fit) c.in_ok-run.ensures.good;
   shortest = c.in_ok-run.ensures.shortest;
+  zero_outside = c.in_ok-run.ensures.zero_outside;
   texts = λ i. record { files = run_files (run_call_of c.args.command.now) c.args.inputs.now.net c.in_ok-run.run'; out = c.in_ok-summary.ensures i };
 }

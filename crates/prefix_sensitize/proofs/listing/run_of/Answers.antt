@@ -5,7 +5,7 @@ use Rattle.runs.specs.declared.run.Run.{Run}
 use Rattle.prefix_sensitize.specs.Answers.{written_by}
 use Rattle.prefix_sensitize.specs.Listed.{IsRunWith}
 use Rattle.prefix_sensitize.specs.SearchedRuns.{IsSearchedRun}
-use Rattle.prefix_sensitize.proofs.GoodRuns.{run_is_good, run_is_shortest}
+use Rattle.prefix_sensitize.proofs.GoodRuns.{run_is_good, run_is_shortest, run_leaves_zero}
 use Rattle.prefix_sensitize.proofs.LawfulRuns.{run_is_lawful}
 use Rattle.prefix_sensitize.proofs.listing.run_of.Goals as goal
 
@@ -25,5 +25,6 @@ returns g c =
           run_is_lawful net c.in_ok-writer.ensures.circuit delays g.searches are listed written c.in_ok-listed.ensures.listed run is;
       of_rules = is.rules;
       shortest = run_is_shortest net delays g.searches are listed written c.in_ok-listed.ensures.listed run is;
+      zero_outside = run_leaves_zero net delays g.searches are listed written c.in_ok-listed.ensures.listed run is;
     })
     c.run_with.ensures

@@ -146,7 +146,7 @@ module _ (g : Over) (c : After-settle_start g) where
       let Closing : Circuit → Rules → Type 0 = λ n r. ClosesAtStart n r (target_for course.aim (prefix_of 0 route)) in
       let closes : Closing old.net old.rules =
       subst₂ Closing begun.net begun.rules
-      (conflict_closes g.A.Algebra.algebra new of_rules route course.aim began begun.nothing c.conflict.result
+      (conflict_closes g.A.Algebra.algebra new of_rules route course.aim 0 began begun.nothing c.conflict.result
       (sym c.is_some.ensures ∙ c.if-is_some.true) c.conflict.ensures.emptied) in
       IfOk-weaker c.settle_start.result
       (λ (end : ℕ). (row : ℕ) (route : Route) → StandsInOrder course.paths.now course.order.now place row route

@@ -10,8 +10,8 @@ use Rattle.hulls.specs.Boards.{OnBoard}
 use Rattle.implication.specs.Idling.{IsNewBoard}
 use Rattle.implication.proofs.making.BoardParts.new.Goals as goal
 
-pub new-requires-3-clause-board : goal.new-requires-3-clause-board
-new-requires-3-clause-board g c =
+pub new-requires-2-clause-board : goal.new-requires-2-clause-board
+new-requires-2-clause-board g c =
     subst (λ (b : OnBoard). IsNewBoard g.A.Algebra.algebra.count c.args.net.now b) (sym c.in_ok-board.ensures)
     (record {
       labels = refl;
@@ -30,7 +30,7 @@ returns-clause-inside g c =
 
 pub returns-clause-idle : goal.returns-clause-idle
 returns-clause-idle g c =
-    let flags = c.args.inside.items in let old = c.new-3.new.board in
+    let flags = c.args.inside.items in let old = c.new-2.new.board in
     let inside : old.inside ≡ flags =
     c.in_ok-idle.ensures.board.inside ∙ ap (λ (b : OnBoard). b.inside) c.in_ok-board.ensures ∙ append-nil flags in
     idle_linked g.A.Algebra.algebra c.args.net.now c.new.ensures.circuit c.args.rules.now c.in_ok-idle.idle old c.in_ok-board-2.board

@@ -45,7 +45,13 @@ returns-then-is_robust-clause-answered g c =
     let test = c.requires.1.1 in
     robust_answers c.args.net.now g.searches asked.are_searches c.args.fault.now.number c.args.fault.now.path.now asked.is_listed c.args.fault.now.direction
     (written_by c.args.self.now) asked.are_written c.add_test.new.tests.items c.args.pair c.in_ok-test.test
-    (record { first_fits = test.first_fits; second_fits = test.second_fits; of_rules = test.of_rules; meets = c.is_robust.ensures.robust.0 c.if-is_robust.true })
+    (record {
+      first_fits = test.first_fits;
+      second_fits = test.second_fits;
+      of_rules = test.of_rules;
+      meets = c.is_robust.ensures.robust.0 c.if-is_robust.true;
+      zero_outside = test.zero_outside;
+    })
     c.in_ok-test.ensures
 
 pub returns-clause-answered : goal.returns-clause-answered
