@@ -13,7 +13,7 @@ use Rattle.calls.specs.declared.role.Role.TheVariants as role
 use Rattle.calls.specs.Passing.{Accepts}
 use Rattle.commands.specs.Grading.{IsFirstWithout}
 use Rattle.commands.specs.InputRequirements.{WellFormed, WithinLimit, own}
-use Rattle.commands.specs.Scan.{AreScanned, IsOfLastShift, LaunchesPairs, scan_command, scan_work}
+use Rattle.commands.specs.Scan.{AreScanned, CanBeLoaded, LaunchesPairs, scan_command, scan_work}
 use Rattle.commands.specs.SpelledTests.{SpellsTests}
 use Rattle.commands.proofs.FirstWithout.{none_without}
 use Rattle.commands.proofs.GradedStages.{same_tests}
@@ -36,16 +36,15 @@ module _ (call : ScanCall) (net scan tests : List ℕ) where
   accepts_tests c has listed spells =
       accepts_form (scan_command call) role.Tests 2 net (scan ∷ tests ∷ []) (tests_formed net c has tests listed spells)
 
-  -- the last shift launches their pairs
+  -- some bits load their pairs
   pub accepts_pairs : (c : Circuit) (chains : List (List LineId)) (listed : List Test) → AreScanned net scan tests c chains listed
-      → All (IsOfLastShift c chains) listed → Accepts (scan_work call) (own LaunchesPairs) scanned_inputs
-  accepts_pairs c chains listed are shifted refusal it =
-      let P : Circuit → Type 0 = λ d.
-      AreScanned net scan tests d it.chains it.listed × IsFirstWithout (IsOfLastShift d it.chains) it.listed it.number in
-      let here : P c = subst P (one_circuit net it.circuit c it.are.has are.has) (it.are, it.first) in
-      let of_chains : IsFirstWithout (IsOfLastShift c chains) it.listed it.number =
-      subst (λ (given : List (List LineId)). IsFirstWithout (IsOfLastShift c given) it.listed it.number)
-      (chains_once c (is_circuit net c are.has) scan it.chains chains here.0.gives are.gives) here.1 in
-      none_without (IsOfLastShift c chains) listed it.number shifted
-      (subst (λ (l : List Test). IsFirstWithout (IsOfLastShift c chains) l it.number)
-      (same_tests c tests it.listed listed here.0.spells are.spells) of_chains)
+      → All (CanBeLoaded chains) listed → Accepts (scan_work call) (own LaunchesPairs) scanned_inputs
+  accepts_pairs c chains listed are loadable refusal it =
+      let P : Circuit → Type 0 = λ d. AreScanned net scan tests d it.chains it.listed in
+      let here : P c = subst P (one_circuit net it.circuit c it.are.has are.has) it.are in
+      let of_chains : IsFirstWithout (CanBeLoaded chains) it.listed it.number =
+      subst (λ (given : List (List LineId)). IsFirstWithout (CanBeLoaded given) it.listed it.number)
+      (chains_once c (is_circuit net c are.has) scan it.chains chains here.gives are.gives) it.first in
+      none_without (CanBeLoaded chains) listed it.number loadable
+      (subst (λ (l : List Test). IsFirstWithout (CanBeLoaded chains) l it.number)
+      (same_tests c tests it.listed listed here.spells are.spells) of_chains)

@@ -1,5 +1,5 @@
 -- Which inputs `scan` accepts: what can be scanned, and the tests that gen left in mode skewed, with the same NET and SCAN.
-use Rattle.std.proofs.Common.{◌≡◌, ℕ, ◌≤◌, List, [], ◌∷◌, ◌++◌, All, length, map, Some, refl, sym, ap, subst, ◌∙◌, arith}
+use Rattle.std.proofs.Common.{◌≡◌, ℕ, ◌≤◌, List, [], ◌∷◌, ◌++◌, All, get_or, length, map, Some, refl, sym, ap, subst, ◌∙◌, arith}
 use Rattle.pd_base.specs.declared.limits.TheConstants.{MOST_BYTES}
 use Rattle.pd_io.specs.Folder.{Folder, bytes_at}
 use Rattle.pd_io.specs.Seen.{Outside}
@@ -28,6 +28,7 @@ use Rattle.commands.proofs.GoodTexts.{CanBeRead, readable_texts}
 use Rattle.commands.proofs.InputStages.{accepts_net}
 use Rattle.commands.proofs.ModeRules.{of_mode}
 use Rattle.commands.proofs.ScanAccepting.{accepts_pairs, accepts_tests, accepts_tests_size, scanned_inputs}
+use Rattle.commands.proofs.ScanStages.{loadable}
 use Rattle.commands.proofs.StageReads.{accepts_size}
 
 module _ (call : ScanCall) (now : Folder) where
@@ -65,7 +66,7 @@ module _ (call : ScanCall) (now : Folder) where
                   accepts_tests_size call net scan tests can.tests_within,
                   (
                     accepts_tests call net scan tests can.circuit can.are.has can.listed can.are.spells,
-                    (accepts_pairs call net scan tests can.circuit can.chains can.listed can.are can.shifted, refl),
+                    (accepts_pairs call net scan tests can.circuit can.chains can.listed can.are can.loadable, refl),
                   ),
                 ),
               ),
@@ -106,7 +107,9 @@ module _ (run : RunCall) (numbers : HasRunNumbers run) (left now : Folder) (it :
       gives = shifted_by.has;
       spells = record { lawful = it.lawful.tests; is_text = finds.same_tests ∙ it.tests_is };
     };
-    shifted = λ place d within. of_mode it.circuit it.run.rules (Skewed shifted_by.chains) of_launch _ (it.good.of_rules place d within);
+    loadable = λ place d within.
+        (loadable it.circuit (is_circuit it.net it.circuit it.has) shifted_by.chains shifted_by.has.are (get_or it.run.tests place d)).1
+        (of_mode it.circuit it.run.rules (Skewed shifted_by.chains) of_launch _ (it.good.of_rules place d within));
     net_within = subst (λ (bytes : List ℕ). length bytes ≤ INPUT_LIMIT) (sym (finds.same_net ∙ it.net_is)) it.net_within;
     scan_within =
         (subst (All (λ (bytes : List ℕ). length bytes ≤ INPUT_LIMIT)) scans_are it.scans_within) 0 [] (omega arith);
@@ -116,6 +119,7 @@ module _ (run : RunCall) (numbers : HasRunNumbers run) (left now : Folder) (it :
 -- what holds of a call of scan
 pub scan_laws : (call : ScanCall) (status : Status) (old new : Outside) → Ends (scan_work call) status old new → KeepsScanLaws call status old new
 scan_laws call status old new ends = record {
+  loadable = λ net scan c chains has gives test. loadable c (is_circuit net c has) chains gives.are test;
   complete = λ now can told none.
       completes (scan_work call) status old new ends
       (subst (HasAcceptedInputs (scan_work call)) (sym told) (scan_accepted call now can)) none;

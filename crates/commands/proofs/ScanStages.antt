@@ -1,5 +1,5 @@
 -- The stages of `scan` behind NET: what is passed up to its text, and how the call ends there.
-use Rattle.std.proofs.Common.{◌≡◌, ℕ, List, [], ◌∷◌, ◌++◌, All, codes, get_or, take, ◌<◌, Result, Ok, Err, IfErr, IfOk, refl, sym, ap, subst, ◌∙◌}
+use Rattle.std.proofs.Common.{◌≡◌, ℕ, List, [], ◌∷◌, ◌++◌, All, codes, get_or, take, ◌<◌, ◌↔◌, Result, Ok, Err, IfErr, IfOk, refl, sym, ap, subst, ◌∙◌}
 use Rattle.std.specs.Prelude.{Vec}
 use Rattle.std.specs.declared.alloc.Global.{Global}
 use Rattle.pd_base.specs.declared.ids.LineId.{LineId}
@@ -12,7 +12,7 @@ use Rattle.runs.specs.Lawful.{AreLawfulTests}
 use Rattle.scan_order.specs.Chains.{AreChainsOf}
 use Rattle.scan_order.proofs.CircuitChains.{sources_in_each}
 use Rattle.scan_load.proofs.LaunchedPairs.{keeps_shifts, shifts_keep}
-use Rattle.scan_load.proofs.Shifts.{loads_by_bits}
+use Rattle.scan_load.proofs.Shifts.{loads_by_bits, shifting_is_loadable}
 use Rattle.command_line.specs.Words.{ScanCall}
 use Rattle.calls.specs.declared.role.Role.TheVariants as role
 use Rattle.calls.specs.declared.ending.Ending.{Ending}
@@ -27,7 +27,7 @@ use Rattle.commands.specs.Inside.InputJudging.{FailsFor, FailsToGiveChains, Fail
 use Rattle.commands.specs.Inside.InputJudging as judging
 use Rattle.commands.specs.Inside.ScanJudging.{HasBitsFor, HaveUnlaunchedPair, ShiftsInAll}
 use Rattle.commands.specs.Printed.{printed_text}
-use Rattle.commands.specs.Scan.{AreLoaded, AreScanned, IsOfLastShift, LaunchesPairs, ScanRequirement, scan_front, scan_command, scan_work}
+use Rattle.commands.specs.Scan.{AreLoaded, AreScanned, CanBeLoaded, IsOfLastShift, LaunchesPairs, ScanRequirement, scan_front, scan_command, scan_work}
 use Rattle.commands.specs.ScanText.{load_text}
 use Rattle.commands.specs.SpelledTests.{IsMalformedTests}
 use Rattle.commands.proofs.ChainStages.{chains_fail, chains_passed}
@@ -49,17 +49,27 @@ module _ (c : Circuit) (is : IsCircuit c) (chains : List (List LineId)) (are : A
   launched : (test : Test) → ShiftsInAll chains test → IsOfLastShift c chains test
   launched test = shifts_keep c is chains are test.pair
 
-  -- so it is the first test that is not launched
-  pub first_unlaunched : (tests : List Test) (number : ℕ) → IsFirstWithout (ShiftsInAll chains) tests number
-      → IsFirstWithout (IsOfLastShift c chains) tests number
-  first_unlaunched tests number first = record {
+  -- and exactly where some bits load it
+  loaded : (test : Test) → ShiftsInAll chains test ↔ CanBeLoaded chains test
+  loaded test = shifting_is_loadable chains are.are.some test.pair
+
+  pub loadable : (test : Test) → CanBeLoaded chains test ↔ IsOfLastShift c chains test
+  loadable test = (λ can. launched test ((loaded test).1 can), λ is_launched. (loaded test).0 (shifts test is_launched))
+
+  -- so it is the first test that can't be loaded
+  pub first_unloadable : (tests : List Test) (number : ℕ) → IsFirstWithout (ShiftsInAll chains) tests number
+      → IsFirstWithout (CanBeLoaded chains) tests number
+  first_unloadable tests number first = record {
     place = first.place;
     item = first.item;
     at = first.at;
-    lacks = λ kept. first.lacks (shifts first.item kept);
-    earlier = λ k d within. launched (get_or (take first.place tests) k d) (first.earlier k d within);
+    lacks = λ can. first.lacks ((loaded first.item).1 can);
+    earlier = λ k d within. (loaded (get_or (take first.place tests) k d)).0 (first.earlier k d within);
     counted = first.counted;
   }
+
+  pub all_loadable : (tests : List Test) → All (ShiftsInAll chains) tests → All (CanBeLoaded chains) tests
+  all_loadable tests all k d within = (loaded (get_or tests k d)).0 (all k d within)
 
   pub all_launched : (tests : List Test) → All (ShiftsInAll chains) tests → All (IsOfLastShift c chains) tests
   all_launched tests all k d within = launched (get_or tests k d) (all k d within)
@@ -137,7 +147,7 @@ module _ (call : ScanCall) (c : Circuit) (old mid new : FilesSeen) (net : GivesN
             listed = listed;
             are = are_scanned;
             number = why.number;
-            first = first_unlaunched c circuit chains gives.holds.are listed why.number why.first;
+            first = first_unloadable c circuit chains gives.holds.are listed why.number why.first;
             is = why.is;
           }) fails
 
@@ -148,7 +158,7 @@ module _ (call : ScanCall) (c : Circuit) (old mid new : FilesSeen) (net : GivesN
         inputs = inputs tests.text.items;
         passed = then_required (scan_work call) (own LaunchesPairs) formed
             (accepts_pairs call net.text.items gives.text.items tests.text.items c chains listed are_scanned
-            (all_launched c circuit chains gives.holds.are listed all));
+            (all_loadable c circuit chains gives.holds.are listed all));
         gives = record {
           circuit = c;
           chains = chains;

@@ -7,7 +7,7 @@ use Rattle.pd_base.specs.declared.test.Test.{Test}
 use Rattle.netlist.specs.Circuit.{Circuit}
 use Rattle.bench_reader.specs.Circuits.{HasCircuit}
 use Rattle.scan_order.specs.ScanFile.{HasChains}
-use Rattle.scan_load.specs.Shifting.{Loads, load_bits}
+use Rattle.scan_load.specs.Shifting.{IsLoadable, Loads, load_bits}
 use Rattle.command_line.specs.Words.{ScanCall}
 use Rattle.calls.specs.CauseAndText.{refusal_for}
 use Rattle.calls.specs.declared.cause.Cause.TheVariants as cause
@@ -46,18 +46,22 @@ pub record AreScanned (net scan tests : List ℕ) (c : Circuit) (chains : List (
 abbrev pub IsOfLastShift : Circuit → List (List LineId) → Test → Type 0
 IsOfLastShift c chains test = IsOfMode (Skewed chains) c test.pair
 
--- the pair of the test of this number is not
+-- in each of these chains some bits load the pair of the test
+abbrev pub CanBeLoaded : List (List LineId) → Test → Type 0
+CanBeLoaded chains test = All (λ chain. IsLoadable chain test.pair) chains
+
+-- the pair of the test of this number can't be loaded
 abbrev pub unlaunched_pair : ℕ → Refusal
 unlaunched_pair number = refusal_for cause.Pair (codes "scan: test " ++ decimal number ++ codes " pair")
 
--- the last shift does not launch the pair of some test, which is refused for the first such test
+-- in some chain no bits load the pair of some test, which is refused for the first such test
 pub record HasUnlaunchedPair (net scan tests : List ℕ) (refusal : Refusal) : Type 0 where
   pub circuit : Circuit
   pub chains : List (List LineId)
   pub listed : List Test
   pub are : AreScanned net scan tests circuit chains listed
   pub number : ℕ
-  pub first : IsFirstWithout (IsOfLastShift circuit chains) listed number
+  pub first : IsFirstWithout (CanBeLoaded chains) listed number
   pub is : refusal ≡ unlaunched_pair number
 
 -- what scan refuses by a requirement of its own

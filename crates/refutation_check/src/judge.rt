@@ -17,6 +17,7 @@ ghost use Rattle.trees.specs.Faults.{IsRightInRefutation, IsRightInSpent};
 ghost use Rattle.trees.specs.Refutations.{IsRefutation};
 ghost use Rattle.trees.specs.Spent.{IsSpent};
 ghost use Rattle.trees.specs.Bounds.{IsBelowBound};
+ghost use Rattle.trees.specs.Tried.{ShowsFailures};
 ghost use Rattle.refutation_check.specs.Answers.{TellsOfNodes, TellsOfRefutation, TellsOfSpent};
 ghost use Rattle.pair_judging.specs.Targets.{seen_target};
 
@@ -167,7 +168,12 @@ impl<'n, A: Algebra> TreeJudge<'n, A> {
         ensures exactly { IfOk result (λ check.
             (check ≡ TreeCheck.Yes) ↔ IsSpent self.old.net self.old.rules (target_of path.now dir kind) budget tree.now) }
         ensures bound { result ≡ Ok TreeCheck.Yes → IsBelowBound self.old.net self.old.rules path.now budget }
+        // at each split and each open leaf there is a pair with the least states, and it is no test
+        ensures shows { result ≡ Ok TreeCheck.Yes
+            → ShowsFailures self.old.net self.old.rules (target_of path.now dir kind) tree.now }
     {
+        // a netlist knows itself as a circuit
+        let _ = self.engine.net().sources();
         if tree.splits() != budget || !has_open(tree.nodes()) {
             return Ok(TreeCheck::No(0));
         }
@@ -193,6 +199,7 @@ impl<'n, A: Algebra> TreeJudge<'n, A> {
     fn spends_near(&mut self, target: &Target, tree: &Tree) -> Result<bool, OutOfMemory>
         requires prefix { IsPrefix self.old.net target.now.path.now }
         ensures same { self.new ≡ self.old }
+        ensures fit { FitRules self.old.net self.old.rules }
         ensures right { IfOk result (λ right. IsTrue right
             → TellsOfNodes (IsRightInSpent self.old.net self.old.rules (seen_target target.now)) tree.now TreeCheck.Yes) }
     {

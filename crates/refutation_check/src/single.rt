@@ -12,6 +12,7 @@ ghost use Rattle.trees.specs.Faults.{IsRightInRefutation};
 ghost use Rattle.trees.specs.Refutations.{IsRefutation};
 ghost use Rattle.trees.specs.Spent.{IsSpent};
 ghost use Rattle.trees.specs.Bounds.{IsBelowBound};
+ghost use Rattle.trees.specs.Tried.{ShowsFailures};
 ghost use Rattle.refutation_check.specs.Answers.{TellsOfNodes, TellsOfRefutation, TellsOfSpent};
 ghost use Rattle.pair_judging.specs.Targets.{seen_target};
 
@@ -106,7 +107,11 @@ pub fn check_spent(
     ensures exactly { IfOk result (λ check.
         (check ≡ TreeCheck.Yes) ↔ IsSpent net.now rules.now (target_of path.now dir kind) budget tree.now) }
     ensures bound { result ≡ Ok TreeCheck.Yes → IsBelowBound net.now rules.now path.now budget }
+    // at each split and each open leaf there is a pair with the least states, and it is no test
+    ensures shows { result ≡ Ok TreeCheck.Yes → ShowsFailures net.now rules.now (target_of path.now dir kind) tree.now }
 {
+    // a netlist knows itself as a circuit
+    let _ = net.lines();
     let target = Target {
         path,
         direction: dir,

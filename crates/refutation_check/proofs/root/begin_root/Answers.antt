@@ -6,5 +6,5 @@ use Rattle.refutation_check.proofs.root.begin_root.Goals as goal
 
 pub returns-clause-root : goal.returns-clause-root
 returns-clause-root g c =
-    begun_at_root g.A.Algebra.algebra (seen_target c.args.target.now) c.args.engine.now (standing c.begin_at-scope.result)
-    c.begin_at-scope.ensures.begun c.begin_at-scope.ensures.tells
+    begun_at_root g.A.Algebra.algebra (seen_target c.args.target.now) c.args.engine.now (standing c.begin_at.result)
+    c.begin_at.ensures.begun c.begin_at.ensures.tells

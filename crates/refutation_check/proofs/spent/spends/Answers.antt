@@ -16,15 +16,15 @@ use Rattle.refutation_check.proofs.spent.spends.Goals as goal
 pub walk_spent-requires-clause-prefix : goal.walk_spent-requires-clause-prefix
 walk_spent-requires-clause-prefix g c =
     let P : Circuit → Type 0 = λ n. IsPrefix n c.args.target.now.path.now in
-    subst P (sym c.begin_root.ensures.setting.net) c.requires.prefix
+    subst P (sym c.begin_root-scope.ensures.setting.net) c.requires.prefix
 
 pub walk_spent-requires-clause-root : goal.walk_spent-requires-clause-root
-walk_spent-requires-clause-root g c = c.begin_root.ensures.root
+walk_spent-requires-clause-root g c = c.begin_root-scope.ensures.root
 
 pub returns-clause-tells : goal.returns-clause-tells
 returns-clause-tells g c =
-    let setting = c.begin_root.ensures.setting in
-    let engine = c.args.engine.now in let root = standing c.begin_root.result in let path = c.args.target.now.path.now in
+    let setting = c.begin_root-scope.ensures.setting in
+    let engine = c.args.engine.now in let root = standing c.begin_root-scope.result in let path = c.args.target.now.path.now in
     let Is = IsRightInSpent engine.net engine.rules (seen_target c.args.target.now) in
     let P : Circuit → Rules → Type 0 = λ n rules. IfOk c.walk_spent.result
     (TellsIf (IsSupportTold root (end_of root.net path)) (IsRightInSpent n rules (seen_target c.args.target.now)) c.args.tree.now) in
