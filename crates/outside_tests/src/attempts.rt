@@ -67,8 +67,8 @@ pub(crate) fn are_copied<F: Files>(
 /// What is tried of the files of the system. One function makes these for all attempts, since it is dear to prove.
 #[derive(Clone, Copy)]
 pub(crate) enum Attempt<'a> {
-    /// A file is written with this text of 9,000 bytes, read again, and too long for less.
-    Again(&'a [u8]),
+    /// A file of this name is written with this text, read again, and too long for a byte less.
+    Again(&'a str, &'a [u8]),
     /// A file of this name is written.
     Written(&'a str),
     /// Folders and absent files are not read; folders, the full device and files in absent folders are not written.
@@ -79,18 +79,19 @@ impl Attempt<'_> {
     /// Whether that holds of these files.
     pub(crate) fn holds<F: Files>(self, alloc: Global, files: &mut F) -> bool {
         match self {
-            Attempt::Again(text) => is_again(alloc, files, text),
+            Attempt::Again(name, text) => is_again(alloc, files, name, text),
             Attempt::Written(name) => writes(files, name, b"text"),
             Attempt::Refused => all_fail_to_read(alloc, files) && all_fail_to_write(files),
         }
     }
 }
 
-// Whether a file is written with 9,000 bytes, read again, and too long for a limit of a byte less.
-fn is_again<F: Files>(alloc: Global, files: &mut F, text: &[u8]) -> bool {
-    writes(files, "name", text)
-        && reads(alloc, files, "name", 9000, text)
-        && is_too_long(alloc, files, "name", 8999)
+// Whether a file is written with a text, read again, and too long for a limit of a byte less.
+fn is_again<F: Files>(alloc: Global, files: &mut F, name: &str, text: &[u8]) -> bool {
+    let limit = text.len();
+    writes(files, name, text)
+        && reads(alloc, files, name, limit, text)
+        && is_too_long(alloc, files, name, limit.saturating_sub(1))
 }
 
 // Whether reading a folder, or what is absent, fails.

@@ -19,13 +19,30 @@ fn real_files_are_written_and_read(rt: HostRuntime) {
 // Whether a file is written with 9,000 bytes, read again, and too long for a limit of a byte less.
 fn is_written_and_read(rt: &HostRuntime) -> io::Result<bool> {
     let text = vec![in rt.alloc(); 7u8; 9000]?;
-    Ok(holds_of_system(rt, Attempt::Again(text.as_slice())))
+    Ok(holds_of_system(rt, Attempt::Again("name", text.as_slice())))
 }
 
 // Whether what is said at an attempt holds of the files of the system.
 fn holds_of_system(rt: &HostRuntime, attempt: Attempt) -> bool {
     let mut files = StdFiles::new(rt.alloc(), rt);
     attempt.holds(rt.alloc(), &mut files)
+}
+
+// A name of 200 bytes, in a folder.
+const LONG_NAME: &str =
+    "folder/a-name-of-a-file-that-is-quite-as-long-as-the-longest-names-which-tools-make-of-a-whole-hierarchy-of-blocks.u_core.u_execute.u_multiplier.u_stage_three.u_carry_save_adders_of_64_bits.path_delays.tests";
+
+#[test]
+fn a_long_file_is_held_under_its_long_name(rt: HostRuntime) {
+    assert!(rt; is_so(is_held(&rt)));
+}
+
+// Whether a file with a long name is written with 2,000,000 bytes, and read again, also by std.
+fn is_held(rt: &HostRuntime) -> io::Result<bool> {
+    fs::create_dir(rt, "folder")?;
+    let text = b"0123456789".repeat(rt.alloc(), 200_000)?;
+    let is_again = holds_of_system(rt, Attempt::Again(LONG_NAME, text.as_slice()));
+    Ok(is_again && fs::read(rt, LONG_NAME)?.as_slice() == text.as_slice())
 }
 
 #[test]

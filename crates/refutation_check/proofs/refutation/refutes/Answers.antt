@@ -11,13 +11,13 @@ use Rattle.refutation_check.proofs.refutation.refutes.Goals as goal
 
 pub walk_refutation-requires-clause-splits : goal.walk_refutation-requires-clause-splits
 walk_refutation-requires-clause-splits g c = λ place d inside.
-    told_at_there c.args.engine.now (standing c.begin_root.result) c.begin_root.ensures.setting
+    told_at_there c.args.engine.now (standing c.begin_root-scope.result) c.begin_root-scope.ensures.setting
     (get_or c.args.tree.now place d) (c.requires.splits place d inside)
 
 pub returns-clause-tells : goal.returns-clause-tells
 returns-clause-tells g c =
     let target = seen_target c.args.target.now in
-    let setting = c.begin_root.ensures.setting in
+    let setting = c.begin_root-scope.ensures.setting in
     let P : Circuit → Rules → Type 0 =
     λ n rules. IfOk c.walk_refutation.result (TellsOfNodes (RefutesAtNode g.A.Algebra.algebra n rules target) c.args.tree.now) in
-    subst₂ P setting.net setting.rules (c.walk_refutation.ensures.tells target c.begin_root.ensures.root)
+    subst₂ P setting.net setting.rules (c.walk_refutation.ensures.tells target c.begin_root-scope.ensures.root)
