@@ -1,6 +1,6 @@
-//! Answers to rows of tests, as texts: what a netlist and a delay file say, values, five values, cones, paths, tests, waves, hulls, and
-//! what the judge says of trees. Stands on the readers, the models, the lister, the replay and refutation_check, and is no part of the
-//! product. The program rows prints the answers; it and search_answers read netlists, paths and words of their rows by it.
+//! Answers to rows of tests, as texts: what a netlist and a delay file say, values, five values, cones, paths, tests, links and scan chains,
+//! waves, hulls, and what the judge says of trees. Stands on the readers, the models, the lister, the replay and refutation_check, and is no
+//! part of the product. The program rows prints the answers; it and search_answers read netlists, paths and words of their rows by it.
 #![tactic(auto)]
 
 mod asked_cones;
@@ -12,7 +12,9 @@ mod fives;
 mod halves;
 mod judged_trees;
 mod line_values;
+mod linked_pairs;
 mod listed_paths;
+mod loads;
 mod nodes;
 mod paths;
 mod replays;
@@ -31,9 +33,11 @@ pub use fives::five_values;
 pub use halves::{add_labels, halves_of, hull_at};
 pub use judged_trees::{deep, judged, judged_spent, refutes, spent};
 pub use line_values::{steadiness, support_of, values};
+pub use linked_pairs::keeps;
 pub use listed_paths::listing;
+pub use loads::loaded;
 pub use paths::{accepted_delays, path};
-pub use replays::{samples, sides, waves};
+pub use replays::{samples, seen_by_pin, sides, waves};
 pub use rules::{rules_of, unlinked_rules_of};
 pub use single_paths::{comparison, path_facts, verdict};
 pub use text::Text;

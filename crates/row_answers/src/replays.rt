@@ -1,17 +1,18 @@
 // What a replay of a pair of vectors shows: the waves of all lines, samples, and settled sides.
-ghost use Rattle.std.specs.Prelude.{◌≡◌, length, vec_len, IfOk};
+ghost use Rattle.std.specs.Prelude.{◌≡◌, All, length, vec_len, IfOk};
 ghost use Rattle.delay_annotation.specs.Annotation.{Fits};
+ghost use Rattle.delay_replay.specs.Changes.{IsBounded};
 ghost use Rattle.netlist.specs.Circuit.{line_count};
 
 use crate::circuits::pair;
 use crate::paths::{accepted_delays, path};
 use crate::text::Text;
-use crate::texts::parted;
+use crate::texts::{number_of, parted};
 use crate::trouble::Trouble;
 use delay_annotation::Delays;
-use delay_replay::{Wave, replay, sample, settled};
+use delay_replay::{Wave, pin_copy, replay, sample, settled};
 use netlist::Netlist;
-use pd_base::LineId;
+use pd_base::{LineId, OutOfMemory};
 use std::alloc::{AllocError, Global};
 
 /// Adds a line for each line of the circuit under these vectors: its name, its value before all changes, and the times of its changes.
@@ -58,13 +59,56 @@ fn replayed(
     second: &str,
 ) -> Result<Vec<Wave>, Trouble>
     requires { Fits net.now delays.now }
-    ensures { IfOk result (λ waves. vec_len waves ≡ line_count net.now) }
+    ensures lines { IfOk result (λ waves. vec_len waves ≡ line_count net.now) }
+    ensures bounded { IfOk result (λ waves. All IsBounded waves.items) }
 {
     let pair = pair(alloc, net, first, second)?;
     match replay(alloc, net, delays, &pair) {
         Ok(waves) => Ok(waves),
         Err(_) => Err(Trouble::NoRow),
     }
+}
+
+/// Adds what a pin sees of the line that it reads, as its value before all changes and the times of the changes: the delay of the pin, both
+/// vectors, and the name of the line.
+pub fn seen_by_pin(
+    alloc: Global,
+    net: &Netlist,
+    file: Option<&str>,
+    row: &str,
+    answer: &mut Text,
+) -> Result<(), Trouble> {
+    let (delay, rest) = parted(row)?;
+    let (first, rest) = parted(rest)?;
+    let (second, name) = parted(rest)?;
+    let line = net.find(name.as_bytes()).ok_or(Trouble::NoRow)?;
+    let delays = accepted_delays(alloc, net, file)?;
+    let waves = replayed(alloc, net, &delays, first, second)?;
+    add_copy(alloc, waves.as_slice(), line, number_of(delay)?, answer)
+}
+
+// What a pin with this delay sees of a line.
+fn add_copy(
+    alloc: Global,
+    waves: &[Wave],
+    line: LineId,
+    delay: u32,
+    answer: &mut Text,
+) -> Result<(), Trouble>
+    requires { All IsBounded waves.now }
+{
+    let wave = waves.get(line.0 as usize).ok_or(Trouble::NoRow)?;
+    let copy = copied(alloc, wave, delay)?;
+    answer.add(" ");
+    add_wave(&copy, answer);
+    Ok(())
+}
+
+// The same as a wave. It promises nothing, so that the answer is not proved over again under the contract of `pin_copy`.
+fn copied(alloc: Global, wave: &Wave, delay: u32) -> Result<Wave, OutOfMemory>
+    requires { IsBounded wave.now }
+{
+    pin_copy(alloc, wave, delay)
 }
 
 /// Adds what the observed lines have at a time under two vectors, in their order.

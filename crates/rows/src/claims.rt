@@ -1,8 +1,10 @@
-// What is read of the files that a run leaves: how many tests, paths or proofs they have, or the first line that lacks its form. The
-// calls of the readers stand alone, in functions that promise nothing, so that the answers are not proved over again under their contracts.
+// What is read of the files that a run leaves: how many tests, paths or proofs they have, or the first line that lacks its form. What is
+// read is spelled again in spelling.rt. The calls of the readers stand alone, in functions that promise nothing, so that the answers are not
+// proved over again under their contracts.
 ghost use Rattle.std.specs.Prelude.{◌≤◌, length};
 ghost use Rattle.rows.specs.declared.claims.TheConstants.{MOST_BYTES};
 
+use crate::spelling;
 use netlist::Netlist;
 use row_answers::{Text, Trouble, spelled_out};
 use run_files::{TextFault, read_proofs, read_report, read_tests};
@@ -11,8 +13,8 @@ use std::alloc::Global;
 // The most bytes of a text that a row may have.
 const MOST_BYTES: usize = 65_536;
 
-/// Adds how many tests, paths or proofs such a file has, a proofs file with its version; or the first line that lacks its form.
-/// Another word is none of a row.
+/// Adds how many tests, paths or proofs such a file has, a proofs file with its version; or the first line that lacks its form; or its
+/// text, spelled anew of what was read. Another word is none of a row.
 pub fn read(
     alloc: Global,
     net: &Netlist,
@@ -38,6 +40,9 @@ fn add_claim(
     requires { length text.now ≤ MOST_BYTES }
 {
     match word {
+        "spell_tests" => spelling::add_tests(alloc, net, text, answer),
+        "spell_report" => spelling::add_report(alloc, net, text, answer),
+        "spell_proofs" => spelling::add_proofs(alloc, net, text, answer),
         "tests" => add_tests(alloc, net, text, answer),
         "report" => add_report(alloc, net, text, answer),
         "proofs" => add_proofs(alloc, net, text, answer),

@@ -1,22 +1,21 @@
 //! Plays rows and prints what came of each: what a netlist's text says, values, delays, paths and tests, waves, hulls and trees of cases,
 //! searches; what is read of the files of a run; and whole calls over files and streams in memory, alone and in series, on small netlists
-//! and on large ones that it makes. The rows are this crate's stdin; what they have to print, its stdout, was worked out by hand. In the end
+//! and on larger ones that it makes. The rows are this crate's stdin; what they have to print, its stdout, was worked out by hand. In the end
 //! it is the program `pdfgen` once more, for the words that it was called with (the file `args`), which ask for tests of c17 (the folder
 //! `data`): so the last line is the summary, and the status is 0. pd_tool is run with words that are refused. Stands on row_answers,
-//! search_answers, run_files, ladder and commands, and is no part of the product.
+//! search_answers, run_files and commands, and is no part of the product.
 #![tactic(auto)]
 
 mod answer_lines;
 mod claims;
 mod full_files;
-mod large_texts;
-mod long_files;
 mod outside;
 mod questions;
 mod row;
 mod searches;
 mod series;
 mod shape;
+mod spelling;
 mod standing;
 mod subject;
 mod table;
@@ -66,6 +65,7 @@ fn play(
         Row::Put(name, text) => table.put(name, text)?,
         Row::Build(shape, size) => build(rt.alloc(), table, shape, size)?,
         Row::Remove(name) => table.remove(name),
+        Row::Exchange(name, parts) => table.exchange(name, parts)?,
         Row::Show(names) => table.show(names)?,
         Row::Fail(object, nth) => table.fail(object, nth)?,
         row => play_aloud(rt, table, subject, line, row)?,
@@ -76,8 +76,8 @@ fn play(
 // From now on each call finds a text of this shape and size.
 fn build(alloc: Global, table: &mut Table, shape: Shape, size: u32) -> Result<(), Trouble> {
     let mut text = Text::new(alloc);
-    shape.add(alloc, size, &mut text)?;
-    table.put_as_is(shape.file(), text.read()?)?;
+    shape.add(size, &mut text);
+    table.put_as_is("net", text.read()?)?;
     Ok(())
 }
 
@@ -142,10 +142,8 @@ fn called_with(
     match manner {
         Manner::Planned => Ok(table.call(words, answer)?),
         Manner::Kept => table.keep(words, answer),
-        Manner::Counted => Ok(table.count(words, answer)?),
         Manner::Unfailing => Ok(table.call_unfailing(words, answer)?),
         Manner::Full => call_full(alloc, words, answer),
-        Manner::Long(name, length) => Ok(table.call_long(name, length, words, answer)?),
         Manner::Cuts(name) => series::cuts(alloc, table, name, words, answer),
         Manner::Repeats(name) => series::repeats(alloc, table, name, words, answer),
         Manner::Failing(object) => series::failing(alloc, table, object, words, answer),

@@ -1,5 +1,5 @@
 // What a call finds and leaves: files, out and err, all in memory; and the call itself.
-use crate::answer_lines::{add_came, add_counted};
+use crate::answer_lines::add_came;
 use crate::row::Object;
 use commands::exit_code;
 use pd_base::OutOfMemory;
@@ -53,12 +53,6 @@ impl Outside {
     pub fn call(&mut self, words: &[&str], answer: &mut Text) {
         let status = self.status(words);
         add_came(status, self.err.bytes(), self.out.bytes(), answer);
-    }
-
-    /// A call with these words: adds the number with which it ends, what err took, and how many lines out took, by the word at their end.
-    pub fn count(&mut self, words: &[&str], answer: &mut Text) {
-        let status = self.status(words);
-        add_counted(status, self.err.bytes(), self.out.bytes(), answer);
     }
 
     /// A call whose words can't be had, with an error of this kind: adds the number with which it ends, and what err and out took.

@@ -5,8 +5,8 @@ use netlist::Netlist;
 use row_answers::{Text, Trouble};
 use std::alloc::Global;
 
-/// Adds what came of a question. In those about cones, hulls and trees the word linked and the links may stand first, for rules with these,
-/// or in the last two the word two, for rules Two.
+/// Adds what came of a question. In those about cones, hulls, trees and searches the word linked and the links may stand first, for rules
+/// with these, or in all but the first the word two, for rules Two.
 pub fn asked(
     alloc: Global,
     subject: &Subject,
@@ -38,8 +38,14 @@ pub fn asked(
         "compare" => row_answers::comparison(alloc, net, delays, row, answer),
         // whether a pair is a test: transition, kind, both vectors, and the path
         "meets" => row_answers::verdict(alloc, net, row, answer),
+        // whether a pair keeps the links of linked rules: these, and both vectors
+        "keeps" => row_answers::keeps(alloc, net, row, answer),
+        // the bits that load a pair into scan chains: the text of the scan file, and both vectors
+        "load" => row_answers::loaded(alloc, net, row, answer),
         // the waves of all lines under two vectors
         "waves" => row_answers::waves(alloc, net, delays, row, answer),
+        // what a pin with a delay sees of a line: the delay, both vectors, and the line
+        "pin" => row_answers::seen_by_pin(alloc, net, delays, row, answer),
         // what the observed lines have: the time, and both vectors
         "sample" => row_answers::samples(alloc, net, delays, row, answer),
         // whether the sides of a path have settled: the time, both vectors, and the path

@@ -38,15 +38,10 @@ pub enum Manner<'a> {
     Planned,
     /// One call whose files are not told: what it leaves in them is what later calls find.
     Kept,
-    /// One call, whose answer counts the lines on out that end with `same`, and those that end with `differs`.
-    Counted,
     /// One over files and streams whose calls never fail.
     Unfailing,
     /// One over files for which there is no memory, and streams whose calls never fail.
     Full,
-    /// One over files and streams whose calls never fail, but the file of this name has so many bytes, each of them `#`, which are made
-    /// as they are read.
-    Long(&'a str, usize),
     /// Calls in which the file of this name is cut to nothing, then behind each of its bytes but the last.
     Cuts(&'a str),
     /// Calls in which one line after another of the file of this name stands twice.
@@ -62,10 +57,13 @@ pub enum Row<'a> {
     Heading,
     /// From now on each call finds this text under this name; `\n` stands for LF (texts.rt has all signs).
     Put(&'a str, &'a str),
-    /// From now on each call finds the text of this shape and size, a netlist under the name `net`.
+    /// From now on each call finds the netlist of this shape and size, under the name `net`.
     Build(Shape, u32),
     /// From now on the name is absent.
     Remove(&'a str),
+    /// From now on each call finds another text at one place of what stands under this name: the text there, and behind a slash between two
+    /// spaces the other one.
+    Exchange(&'a str, &'a str),
     /// From now on, of the files that a call changes only these are told, single spaces between.
     Show(&'a str),
     /// In the next call the call of this number fails.
@@ -98,8 +96,7 @@ impl<'a> Row<'a> {
             "unfailing" => Ok(Row::Call(Manner::Unfailing, rest)),
             "full" => Ok(Row::Call(Manner::Full, rest)),
             "keep" => Ok(Row::Call(Manner::Kept, rest)),
-            "count" => Ok(Row::Call(Manner::Counted, rest)),
-            "put" | "build" | "fail" | "long" | "cuts" | "repeats" | "failing" => {
+            "put" | "build" | "exchange" | "fail" | "cuts" | "repeats" | "failing" => {
                 let (first, more) = rest.split_once(' ').ok_or(Trouble::NoRow)?;
                 of_two_parts(word, first, more)
             }
@@ -121,13 +118,9 @@ fn lack_of(word: &str) -> Result<ErrorKind, Trouble> {
 fn of_two_parts<'a>(word: &str, first: &'a str, more: &'a str) -> Result<Row<'a>, Trouble> {
     match word {
         "put" => Ok(Row::Put(first, more)),
+        "exchange" => Ok(Row::Exchange(first, more)),
         "build" => Ok(Row::Build(Shape::of(first)?, number_of(more)?)),
         "fail" => Ok(Row::Fail(Object::of(first)?, u64::from(number_of(more)?))),
-        "long" => {
-            let (length, words) = more.split_once(' ').ok_or(Trouble::NoRow)?;
-            let length = number_of(length)? as usize;
-            Ok(Row::Call(Manner::Long(first, length), words))
-        }
         "cuts" => Ok(Row::Call(Manner::Cuts(first), more)),
         "repeats" => Ok(Row::Call(Manner::Repeats(first), more)),
         "failing" => {

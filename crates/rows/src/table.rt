@@ -1,6 +1,5 @@
 // What stands between two calls: the files that a call finds, and what is to fail in the next one.
 use crate::answer_lines::{add, add_line};
-use crate::long_files::LongFiles;
 use crate::outside::{Outside, call_unfailing};
 use crate::row::Object;
 use pd_base::OutOfMemory;
@@ -49,6 +48,14 @@ impl Table {
     /// Makes a name absent.
     pub fn remove(&mut self, name: &str) {
         self.held.remove(name);
+    }
+
+    /// Exchanges the first place of what stands under a name that has a text, for another one: both, a slash between two spaces between.
+    pub fn exchange(&mut self, name: &str, parts: &str) -> Result<(), Trouble> {
+        let (old, new) = parts.split_once(" / ").ok_or(Trouble::NoRow)?;
+        let changed = exchanged(self.alloc, self.text(name), old, new)?;
+        self.put_as_is(name, changed.as_str())?;
+        Ok(())
     }
 
     /// What stands under a name.
@@ -128,32 +135,10 @@ impl Table {
         Ok(())
     }
 
-    /// A call with these words: adds its status, what err took, and how many lines out took, by the word at their end.
-    pub fn count(&self, words: &[&str], answer: &mut Text) -> Result<(), OutOfMemory> {
-        let mut outside = self.outside()?;
-        outside.count(words, answer);
-        Ok(())
-    }
-
     /// A call with these words over files and streams whose calls never fail: adds its status, and what err and out took.
     pub fn call_unfailing(&self, words: &[&str], answer: &mut Text) -> Result<(), OutOfMemory> {
         let mut files = SteadyFiles::new(self.alloc);
         self.put_steady(&mut files)?;
-        call_unfailing(self.alloc, words, &mut files, answer);
-        Ok(())
-    }
-
-    /// The same, but the file of this name has so many bytes, each of them `#`.
-    pub fn call_long(
-        &self,
-        name: &str,
-        length: usize,
-        words: &[&str],
-        answer: &mut Text,
-    ) -> Result<(), OutOfMemory> {
-        let mut files = SteadyFiles::new(self.alloc);
-        self.put_steady(&mut files)?;
-        let mut files = LongFiles::new(self.alloc, files, name, length)?;
         call_unfailing(self.alloc, words, &mut files, answer);
         Ok(())
     }
@@ -232,4 +217,14 @@ fn has_word(words: &str, word: &str) -> bool {
         }
     }
     false
+}
+
+// A text with another one at its first place that has an old one.
+fn exchanged(alloc: Global, text: Option<&str>, old: &str, new: &str) -> Result<String, Trouble> {
+    let text = text.ok_or(Trouble::NoRow)?;
+    let (front, back) = text.split_once(old).ok_or(Trouble::NoRow)?;
+    let mut changed = String::from_str(alloc, front)?;
+    changed.push_str(new)?;
+    changed.push_str(back)?;
+    Ok(changed)
 }

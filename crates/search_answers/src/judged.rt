@@ -1,6 +1,6 @@
 // Whether the tree that a search found has as many splits as it may have, and the judge of trees accepts it.
+ghost use Rattle.netlist.specs.LinkedPairs.{FitRules};
 ghost use Rattle.netlist.specs.Paths.{IsPath};
-ghost use Rattle.trees.specs.Unlinked.{IsUnlinked};
 
 use crate::found::Wanted;
 use justify::Found;
@@ -19,7 +19,7 @@ pub(crate) fn is_accepted(
     found: &Found,
 ) -> Result<bool, OutOfMemory>
     requires path { IsPath net.now wanted.now.path.now }
-    requires unlinked { IsUnlinked wanted.now.ruled.rules.now }
+    requires fit { FitRules net.now wanted.now.ruled.rules.now }
 {
     match found {
         Found::Test(_) => Ok(true),
@@ -29,7 +29,6 @@ pub(crate) fn is_accepted(
 }
 
 // Whether a tree refutes within the budget.
-#[tactic(auto, using(crate::proofs::Told::fits))]
 fn is_refutation(
     alloc: Global,
     net: &Netlist,
@@ -37,17 +36,16 @@ fn is_refutation(
     tree: &Tree,
 ) -> Result<bool, OutOfMemory>
     requires path { IsPath net.now wanted.now.path.now }
-    requires unlinked { IsUnlinked wanted.now.ruled.rules.now }
+    requires fit { FitRules net.now wanted.now.ruled.rules.now }
 {
     let told = judged(alloc, net, wanted.path, wanted.ruled, tree)?;
     Ok(tree.splits() <= wanted.budget && matches!(told, TreeCheck::Yes))
 }
 
 // Whether a tree spent the budget.
-#[tactic(auto, using(crate::proofs::Told::fits))]
 fn is_spent(alloc: Global, net: &Netlist, wanted: &Wanted, tree: &Tree) -> Result<bool, OutOfMemory>
     requires path { IsPath net.now wanted.now.path.now }
-    requires unlinked { IsUnlinked wanted.now.ruled.rules.now }
+    requires fit { FitRules net.now wanted.now.ruled.rules.now }
 {
     let budget = wanted.budget;
     let told = judged_spent(alloc, net, wanted.path, wanted.ruled, budget, tree)?;

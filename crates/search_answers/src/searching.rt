@@ -1,9 +1,12 @@
 // Searches for tests of single paths, as callers make them: in a scope that began at the path's source and has entered its pins. What
-// a row tells of one is spelled in found.rt. Each call of a function with a long contract stands in a function of its own that promises
-// little.
-ghost use Rattle.std.specs.Prelude.{◌≡◌, None};
+// a row tells of one is spelled in found.rt; those under linked rules are made in linked_searches.rt. Each call of a function with a long
+// contract stands in a function of its own that promises little.
+ghost use Rattle.std.specs.Prelude.{◌≡◌, None, IsTrue, false};
 ghost use Rattle.pd_base.specs.Target.{target_of};
+ghost use Rattle.netlist.specs.LinkedPairs.{FitRules};
 ghost use Rattle.netlist.specs.Paths.{IsPath, IsPrefix};
+ghost use Rattle.state_sets.specs.SixStates.{six_states};
+ghost use Rattle.trees.specs.Algebras.{algebra_of};
 ghost use Rattle.trees.specs.Unlinked.{IsUnlinked};
 ghost use Rattle.implication.specs.Scopes.{standing};
 ghost use Rattle.justify.specs.Scoping.{IsStart};
@@ -12,15 +15,16 @@ ghost use Rattle.search_answers.specs.Told.{AreMarkedTold};
 use crate::entering::enter_all;
 use crate::found::{Came, Wanted, add_line};
 use crate::judged::is_accepted;
+use crate::linked_searches;
 use implication::{Engine, RuledNetlist, Scope, Setting};
 use justify::{Found, search};
 use netlist::Netlist;
-use pd_base::MOST_BUDGET;
-use row_answers::{Fault, RuledFault, Text, Trouble, fault_of, number_of, path, unlinked_rules_of};
+use pd_base::{MOST_BUDGET, Rules};
+use row_answers::{Fault, RuledFault, Text, Trouble, fault_of, number_of, path, rules_of};
 use state_sets::{FourStates, StateSet};
 use std::alloc::Global;
 
-/// Adds what a search for a test of a path ends with: the rules, which have no links, transition, kind, and the budget.
+/// Adds what a search for a test of a path ends with: the rules, transition, kind, and the budget.
 pub fn searched(
     alloc: Global,
     net: &Netlist,
@@ -28,7 +32,7 @@ pub fn searched(
     row: &str,
     answer: &mut Text,
 ) -> Result<(), Trouble> {
-    let (rules, row) = unlinked_rules_of(row);
+    let (rules, row) = rules_of(alloc, net, row)?;
     let (fault, budget) = fault_of(row)?;
     let budget = number_of(budget)?;
     let path = path(alloc, net, route)?;
@@ -49,26 +53,36 @@ fn add_search(
     answer: &mut Text,
 ) -> Result<(), Trouble>
     requires path { IsPath net.now wanted.now.path.now }
-    requires unlinked { IsUnlinked wanted.now.ruled.rules.now }
+    requires fit { FitRules net.now wanted.now.ruled.rules.now }
 {
-    let came = search_for(alloc, net, wanted)?;
-    add_came(alloc, net, wanted, &came, answer)
+    let came = search_by_rules(alloc, net, wanted)?;
+    let accepted = is_accepted(alloc, net, wanted, &came.found)?;
+    add_line(&came, accepted, answer);
+    Ok(())
 }
 
-// The line of what came of it.
-fn add_came(
-    alloc: Global,
-    net: &Netlist,
-    wanted: &Wanted,
-    came: &Came,
-    answer: &mut Text,
-) -> Result<(), Trouble>
+// Searches with the kind of states that the rules choose.
+fn search_by_rules(alloc: Global, net: &Netlist, wanted: &Wanted) -> Result<Came, Trouble>
     requires path { IsPath net.now wanted.now.path.now }
-    requires unlinked { IsUnlinked wanted.now.ruled.rules.now }
+    requires fit { FitRules net.now wanted.now.ruled.rules.now }
 {
-    let accepted = is_accepted(alloc, net, wanted, &came.found)?;
-    add_line(came, accepted, answer);
-    Ok(())
+    if have_six_states(wanted.ruled.rules) {
+        linked_searches::search_for(alloc, net, wanted)
+    } else {
+        search_for(alloc, net, wanted)
+    }
+}
+
+// Whether the six states are those of the rules.
+fn have_six_states(rules: &Rules) -> bool
+    ensures six { IsTrue result → algebra_of rules.now ≡ six_states }
+    ensures four { result ≡ false → IsUnlinked rules.now }
+{
+    match rules {
+        Rules::One => false,
+        Rules::Two => false,
+        Rules::Linked(_) => true,
+    }
 }
 
 // Searches on an engine of its own, where all lines are marked.
