@@ -1,132 +1,149 @@
 """The files of a run, read by docs/formats.md: TESTS, REPORT and SCAN. A file has one spelling; the first line without it is refused.
 
 Written from the documents alone: it shares no code with the program."""
+from __future__ import annotations
+
 import re
-from typing import NamedTuple
-from refusing import Refused, read_text
+from typing import Callable, List, NamedTuple, Optional, Sequence, Tuple, TypeVar
+
+from pdfgen_tools.bench import Circuit
+from pdfgen_tools.errors import Refused
 
 DIRECTIONS = ("rise", "fall")
 HEADER = "path,direction,length,source,steps,verdict,test,robust_proof,nonrobust_proof"
 NAMES_OF_VERDICT = {  # which it names: a test, a robust proof, a nonrobust proof
     "robust": (True, False, False), "nonrobust": (True, True, False), "untestable": (False, False, True), "aborted": (False, True, True)}
-NUMBER = "0|[1-9][0-9]*"
-TEST = re.compile(f"({NUMBER}) ({NUMBER}) (rise|fall) (robust|nonrobust) ([01]+) ([01]+) ([01]+)")
+NUMBER = re.compile("0|[1-9][0-9]*")
+TEST = re.compile(f"({NUMBER.pattern}) ({NUMBER.pattern}) (rise|fall) (robust|nonrobust) ([01]+) ([01]+) ([01]+)")
+Line = TypeVar("Line")
 
 
 class Test(NamedTuple):
-    """first, second: the bits of the two vectors, one for each source. expected: one for each observed line."""
+    """first, second: the two vectors, a letter 0 or 1 for each source. expected: one for each observed line."""
     number: int
     path: int
     direction: str
     kind: str
-    first: tuple
-    second: tuple
-    expected: tuple
+    first: str
+    second: str
+    expected: str
+
+
+class Step(NamedTuple):
+    """A gate of a path, by its number, and the pin at which the path enters it."""
+    gate: int
+    pin: int
 
 
 class Fault(NamedTuple):
-    """A line of REPORT. source: its line. steps: pairs of a gate and a pin. What the verdict doesn't name is None."""
+    """A line of REPORT. source: its line. What the verdict doesn't name is None."""
     path: int
     direction: str
     length: int
     source: int
-    steps: tuple
+    steps: Tuple[Step, ...]
     verdict: str
-    test: int
-    robust_proof: int
-    nonrobust_proof: int
+    test: Optional[int]
+    robust_proof: Optional[int]
+    nonrobust_proof: Optional[int]
 
 
-def forms(role, text, least, read_line):
-    """What read_line makes of the lines of a file, in order; it answers None where a line lacks its form."""
+def forms(role: str, text: str, least: Callable[[int], int], read_line: Callable[[int, str], Optional[Line]]) -> List[Line]:
+    """What read_line makes of the lines of a file, in order; it answers None where a line lacks its form. least: of how many lines read,
+    how many there have to be."""
     *lines, rest = text.split("\n")
-    read = []
+    read: List[Line] = []
     for number, line in enumerate(lines, 1):
-        read.append(read_line(number, line))
-        if read[-1] is None:
+        found = read_line(number, line)
+        if found is None:
             raise Refused(f"{role} line {number} malformed")
-    if rest or len(lines) < least(read):
+        read.append(found)
+    if rest or len(lines) < least(len(lines)):
         raise Refused(f"{role} line {len(lines) + 1} malformed")
     return read
 
 
-def heading(word, circuit, lines):
+def heading(word: str, circuit: Circuit, lines: Sequence[int]) -> str:
     """A heading of TESTS: the word, then the names of these lines."""
-    return " ".join([word] + [circuit.names[line] for line in lines])
+    return " ".join([word, *(circuit.names[line] for line in lines)])
 
 
-def read_tests(file_name, circuit):
-    """The tests of a file, numbered from 1 in their order."""
+def tests_of(text: str, circuit: Circuit) -> List[Test]:
+    """The tests of TESTS' text, numbered from 1 in their order."""
     headings = ["pdfgen tests 1", heading("sources", circuit, range(circuit.source_count)), heading("observed", circuit, circuit.observed)]
+    tests: List[Test] = []
 
-    def read_line(number, line):
+    def read_line(number: int, line: str) -> Optional[str]:
         if number <= len(headings):
             return line if line == headings[number - 1] else None
-        return read_test(line, number - len(headings), circuit)
+        test = test_of(line, number - len(headings), circuit)
+        if test is None:
+            return None
+        tests.append(test)
+        return line
 
-    return forms("TESTS", read_text(file_name), lambda read: len(headings), read_line)[len(headings):]
+    forms("TESTS", text, lambda count: len(headings), read_line)
+    return tests
 
 
-def read_test(line, number, circuit):
+def test_of(line: str, number: int, circuit: Circuit) -> Optional[Test]:
     """The test of a line, or None."""
     found = TEST.fullmatch(line)
     if not found or found[1] != str(number) or len(found[2]) > 5 or not 1 <= int(found[2]) <= 10000:
         return None
-    bits = [tuple(int(bit) for bit in found[at]) for at in (5, 6, 7)]
-    if [len(vector) for vector in bits] != [circuit.source_count, circuit.source_count, len(circuit.observed)]:
+    if [len(found[at]) for at in (5, 6, 7)] != [circuit.source_count, circuit.source_count, len(circuit.observed)]:
         return None
-    return Test(number, int(found[2]), found[3], found[4], *bits)
+    return Test(number, int(found[2]), found[3], found[4], found[5], found[6], found[7])
 
 
-def read_report(file_name, circuit):
-    """The faults of a report, in its order: of each path the rising one, then the falling one."""
+def faults_of(text: str, circuit: Circuit) -> List[Fault]:
+    """The faults of REPORT's text, in its order: of each path the rising one, then the falling one."""
     counts = {"tests": 0, "proofs": 0}
-    faults = []
+    faults: List[Fault] = []
 
-    def read_line(number, line):
+    def read_line(number: int, line: str) -> Optional[str]:
         if number == 1:
             return line if line == HEADER else None
-        fault = read_fault(line, circuit)
+        fault = fault_of(line, circuit)
         if fault is None or not follows(fault, faults, counts):
             return None
         faults.append(fault)
-        return fault
+        return line
 
-    forms("REPORT", read_text(file_name), lambda read: len(read) + 1 - len(read) % 2, read_line)
+    forms("REPORT", text, lambda count: count + 1 - count % 2, read_line)
     return faults
 
 
-def read_fault(line, circuit):
+def fault_of(line: str, circuit: Circuit) -> Optional[Fault]:
     """The fault of a line by itself, or None."""
     fields = line.split(",")
     if len(fields) != 9 or fields[1] not in DIRECTIONS or fields[5] not in NAMES_OF_VERDICT:
         return None
-    numbers = [int(field) if re.fullmatch(NUMBER, field) and len(field) <= 20 else None for field in fields]
-    named = tuple(number is not None for number in numbers[6:])
-    spelled = all(named[at] or fields[6 + at] == "-" for at in range(3))
+    path, length, *named = (int(fields[at]) if NUMBER.fullmatch(fields[at]) and len(fields[at]) <= 20 else None for at in (0, 2, 6, 7, 8))
+    spelled = all(number is not None or field == "-" for number, field in zip(named, fields[6:]))
     source = circuit.line_of.get(fields[3], circuit.source_count)
-    steps = read_steps(fields[4], circuit)
-    if named != NAMES_OF_VERDICT[fields[5]] or not spelled or source >= circuit.source_count or steps is None:
+    steps = steps_of(fields[4], circuit)
+    if tuple(number is not None for number in named) != NAMES_OF_VERDICT[fields[5]] or not spelled:
         return None
-    if numbers[0] is None or numbers[2] is None or numbers[2] >= 2**64:
+    if path is None or length is None or length >= 2**64 or source >= circuit.source_count or steps is None:
         return None
-    return Fault(numbers[0], fields[1], numbers[2], source, steps, fields[5], *numbers[6:])
+    return Fault(path, fields[1], length, source, steps, fields[5], *named)
 
 
-def read_steps(text, circuit):
+def steps_of(text: str, circuit: Circuit) -> Optional[Tuple[Step, ...]]:
     """The steps of a path, or None. Names may have colons: the last one parts gate and pin."""
-    steps = []
+    steps: List[Step] = []
     for word in text.split(" ") if text != "-" else ():
         name, _, pin = word.rpartition(":")
         line = circuit.line_of.get(name, 0)
         gate = circuit.gate_of(line) if circuit.gates else None
-        if gate is None or not re.fullmatch(NUMBER, pin) or len(pin) > 4 or int(pin) >= len(circuit.gates[gate][1]):
+        if gate is None or not NUMBER.fullmatch(pin) or len(pin) > 4 or int(pin) >= len(circuit.gates[gate].pins):
             return None
-        steps.append((gate, int(pin)))
+        steps.append(Step(gate, int(pin)))
     return tuple(steps)
 
 
-def follows(fault, faults, counts):
+def follows(fault: Fault, faults: Sequence[Fault], counts: "dict[str, int]") -> bool:
     """Whether a fault may stand behind these, by path, direction and the numbers that it names."""
     path, direction = len(faults) // 2 + 1, DIRECTIONS[len(faults) % 2]
     if (fault.path, fault.direction) != (path, direction):
@@ -145,17 +162,18 @@ def follows(fault, faults, counts):
     return True
 
 
-def end_of(fault, circuit):
+def end_of(fault: Fault, circuit: Circuit) -> int:
     """The line at which a fault's path ends."""
-    return circuit.source_count + fault.steps[-1][0] if fault.steps else fault.source
+    return circuit.source_count + fault.steps[-1].gate if fault.steps else fault.source
 
 
-def read_chains(file_name, circuit):
-    """The scan chains of a file: lists of flip-flops, each from its scan-in side."""
+def chains_of(text: str, circuit: Circuit) -> List[List[int]]:
+    """The scan chains of SCAN's text: lists of flip-flops' lines, each from its scan-in side."""
     flip_flops = {circuit.names[line]: line for line, _ in circuit.flip_flops}
-    *lines, rest = read_text(file_name).split("\n")
+    *lines, rest = text.split("\n")
     count = len(lines) + (rest != "")
-    chains, seen = [], set()
+    chains: List[List[int]] = []
+    seen = set()
     for number, name in enumerate(lines, 1):
         parts_chains = name == "" and 1 < number < count and lines[number - 2] != ""
         if not parts_chains and name not in flip_flops:

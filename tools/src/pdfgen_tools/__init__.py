@@ -1,0 +1,1 @@
+"""What stands around pdfgen in a flow. README.md of tools/ maps the modules."""

@@ -1,0 +1,168 @@
+"""Names of a design, as NET and MAP spell them, and MAP, which pdfgen-from-yosys writes: what each port and cell of the design is in NET.
+
+In NET a name has the bytes 33 to 126 without " # ( ) , = and at most 255 of them. Each other byte is written as % and two hexadecimal
+digits, as are % itself and *, which a delay file reads as 'all'.
+
+MAP's first line is `pdfgen map 2`, its second names the columns, what,name,line,value. Then a row each:
+
+    clock,PORT,,rising|falling          the clock, and its active edge
+    held,PORT,,0|1                      an input port that the tester holds at this value, such as a reset: it is no line of NET
+    input,PORT,LINE,                    an input port, and the line of NET that it is
+    output,PORT,LINE,                   an output port, and the line that it shows
+    constant,PORT,,0|1                  an output port that always has this value
+    flip_flop,CELL,LINE,                a flip-flop, and its line
+    settled,CELL,,0|1                   a flip-flop that takes this value by itself and keeps it, as one of a reset synchronizer: no line of NET
+    gate,CELL,LINE,PINS                 a gate, its line, and the names of its pins in NET's order, blanks between
+    setup,CELL,LINE,PIN                 the buffer of NET that carries a flip-flop's setup time, and the pin whose it is
+    clock_to_q,CELL,LINE,PIN            the buffer that carries a flip-flop's delay from the clock, and the clock pin
+    output_wire,PORT,LINE,              the buffer that carries the delay of the wire to an output port
+    still,CELL,,PINS                    pins of a cell at a constant, which NET doesn't have; a cell may have no others
+    alias,NAME,LINE,                    a further name of the design for a line
+
+A cell with `still` may have a `gate` row, too, with its other pins. Names and pins are spelled as in NET."""
+from __future__ import annotations
+
+import re
+from typing import List, NamedTuple, Tuple
+
+from pdfgen_tools.errors import Refused
+
+MAP_HEADS = ("pdfgen map 2", "what,name,line,value")
+NAME_BYTES_AT_MOST = 255
+LONGEST_ENDING = len("%clock_to_q")  # what is put behind names of the design
+PLAIN = set(range(33, 127)) - set(b'"#(),=%*')
+
+
+class Clock(NamedTuple):
+    """edge: rising or falling, the one at which flip-flops take their data."""
+    port: str
+    edge: str
+
+
+class Held(NamedTuple):
+    """A port, or a flip-flop's cell, and the value that it keeps."""
+    name: str
+    value: int
+
+
+class Port(NamedTuple):
+    """A port, and the name of its line in NET."""
+    name: str
+    line: str
+
+
+class Cell(NamedTuple):
+    """A cell, the name of its line in NET, and those of its pins, in NET's order."""
+    name: str
+    line: str
+    pins: Tuple[str, ...]
+
+
+class Map(NamedTuple):
+    """What each port and cell of a design is in NET: lists in MAP's order, names as NET spells them."""
+    clocks: List[Clock]
+    held: List[Held]
+    inputs: List[Port]
+    outputs: List[Port]
+    constants: List[Held]
+    flip_flops: List[Port]
+    settled: List[Held]
+    gates: List[Cell]
+    setups: List[Cell]
+    clock_to_qs: List[Cell]
+    output_wires: List[Port]
+    stills: List[Cell]
+    aliases: List[Port]
+
+    def names_of(self, line: str) -> List[str]:
+        """All names that the design has for a line of NET: that of NET itself first, then the others."""
+        return list(dict.fromkeys([line, *(alias.name for alias in self.aliases if alias.line == line)]))
+
+
+def no_map() -> Map:
+    """A map without rows."""
+    return Map([], [], [], [], [], [], [], [], [], [], [], [], [])
+
+
+class Form(NamedTuple):
+    """How a kind of row is read and written: has_line: whether its third field is a name. value: what its fourth field is like."""
+    has_line: bool
+    value: str
+
+
+FORMS = {
+    "clock": Form(False, "rising|falling"), "held": Form(False, "[01]"), "input": Form(True, ""), "output": Form(True, ""),
+    "constant": Form(False, "[01]"), "flip_flop": Form(True, ""), "settled": Form(False, "[01]"), "gate": Form(True, "[^ ]+( [^ ]+)*"),
+    "setup": Form(True, "[^ ]+"), "clock_to_q": Form(True, "[^ ]+"), "output_wire": Form(True, ""), "still": Form(False, "[^ ]+( [^ ]+)*"),
+    "alias": Form(True, "")}
+
+
+def map_of(text: str) -> Map:
+    """The map of a file's text; Refused with the line that is none of its."""
+    *lines, rest = text.split("\n")
+    for number, head in enumerate(MAP_HEADS, 1):
+        if lines[number - 1:number] != [head]:
+            raise Refused(f"MAP line {number}: not {head}")
+    if rest:
+        raise Refused("MAP: its last line has no end")
+    found = no_map()
+    for number, text_of_row in enumerate(lines[2:], 3):
+        fields = text_of_row.split(",")
+        if len(fields) != 4:
+            raise Refused(f"MAP line {number}: not four fields")
+        add_row(found, number, *fields)
+    return found
+
+
+def add_row(found: Map, number: int, what: str, name: str, line: str, value: str) -> None:
+    """Takes in a row of a map."""
+    if what not in FORMS:
+        raise Refused(f"MAP line {number}: unknown {what}")
+    form = FORMS[what]
+    if not is_name(name) or is_name(line) != form.has_line or (line != "") != form.has_line or not re.fullmatch(form.value, value):
+        raise Refused(f"MAP line {number}: no row of {what}")
+    ports = {"input": found.inputs, "output": found.outputs, "flip_flop": found.flip_flops, "output_wire": found.output_wires, "alias": found.aliases}
+    held = {"held": found.held, "constant": found.constants, "settled": found.settled}
+    cells = {"gate": found.gates, "setup": found.setups, "clock_to_q": found.clock_to_qs, "still": found.stills}
+    if what == "clock":
+        found.clocks.append(Clock(name, value))
+    elif what in ports:
+        ports[what].append(Port(name, line))
+    elif what in held:
+        held[what].append(Held(name, int(value)))
+    else:
+        cells[what].append(Cell(name, line, tuple(value.split(" "))))
+
+
+def text_of(map_: Map) -> str:
+    """The text of a map."""
+    rows = [("clock", port, "", edge) for port, edge in map_.clocks]
+    for what, held in (("held", map_.held), ("constant", map_.constants), ("settled", map_.settled)):
+        rows += [(what, name, "", str(value)) for name, value in held]
+    for what, ports in (("input", map_.inputs), ("output", map_.outputs), ("flip_flop", map_.flip_flops)):
+        rows += [(what, name, line, "") for name, line in ports]
+    for what, cells in (("gate", map_.gates), ("setup", map_.setups), ("clock_to_q", map_.clock_to_qs), ("still", map_.stills)):
+        rows += [(what, name, line, " ".join(pins)) for name, line, pins in cells]
+    for what, ports in (("output_wire", map_.output_wires), ("alias", map_.aliases)):
+        rows += [(what, name, line, "") for name, line in ports]
+    return "".join(line + "\n" for line in (*MAP_HEADS, *(",".join(row) for row in rows)))
+
+
+def is_name(text: str) -> bool:
+    """Whether NET can have this name."""
+    return re.fullmatch(r"[!$-'*+\--<>-~]{1,255}", text) is not None
+
+
+def escaped(name: str) -> str:
+    """A name of the design, a letter for each byte, as NET and MAP spell it."""
+    if any(ord(letter) > 255 for letter in name):
+        raise Refused(f"a name has what is no byte: {ascii(name[:40])}")
+    text = "".join(chr(byte) if byte in PLAIN else f"%{byte:02X}" for byte in name.encode("latin-1"))
+    if not 1 <= len(text) <= NAME_BYTES_AT_MOST - LONGEST_ENDING:
+        raise Refused(f"a name is empty or too long: {name[:40]}")
+    return text
+
+
+def unescaped(name: str) -> str:
+    """The name of the design, a letter for each byte."""
+    return re.sub("%([0-9A-F]{2})", lambda found: chr(int(found[1], 16)), name)

@@ -1,0 +1,1 @@
+"""Delays from SDF (IEEE 1497)."""

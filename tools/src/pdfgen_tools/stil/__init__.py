@@ -1,0 +1,1 @@
+"""Tests as STIL (IEEE 1450)."""
