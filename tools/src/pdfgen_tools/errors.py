@@ -124,6 +124,7 @@ def move(name: str, part: str, undone: contextlib.ExitStack) -> None:
     place, before = os.path.realpath(name), part + ".before"
     try:
         if os.path.lexists(place):
+            undone.callback(remove, before)  # a link to what still stands there isn't moved
             os.link(place, before)
             undone.callback(os.replace, before, place)
         else:

@@ -23,8 +23,9 @@ A cell with `still` may have a `gate` row, too, with its other pins. Names and p
 from __future__ import annotations
 
 import re
-from typing import List, NamedTuple, Tuple
+from typing import List, NamedTuple, Sequence, Set, Tuple
 
+from pdfgen_tools.bench import Circuit
 from pdfgen_tools.errors import Refused
 
 MAP_HEADS = ("pdfgen map 2", "what,name,line,value")
@@ -85,16 +86,20 @@ def no_map() -> Map:
 
 
 class Form(NamedTuple):
-    """How a kind of row is read and written: has_line: whether its third field is a name. value: what its fourth field is like."""
+    """How a kind of row is read. space: in which no name stands twice. has_line: whether the third field is a name. value: what the fourth
+    field is like."""
+    space: str
     has_line: bool
     value: str
 
 
+PIN, PINS = "[^ ]+", "[^ ]+( [^ ]+)*"
 FORMS = {
-    "clock": Form(False, "rising|falling"), "held": Form(False, "[01]"), "input": Form(True, ""), "output": Form(True, ""),
-    "constant": Form(False, "[01]"), "flip_flop": Form(True, ""), "settled": Form(False, "[01]"), "gate": Form(True, "[^ ]+( [^ ]+)*"),
-    "setup": Form(True, "[^ ]+"), "clock_to_q": Form(True, "[^ ]+"), "output_wire": Form(True, ""), "still": Form(False, "[^ ]+( [^ ]+)*"),
-    "alias": Form(True, "")}
+    "clock": Form("input", False, "rising|falling"), "held": Form("input", False, "[01]"), "input": Form("input", True, ""),
+    "output": Form("output", True, ""), "constant": Form("output", False, "[01]"), "flip_flop": Form("cell", True, ""),
+    "settled": Form("cell", False, "[01]"), "gate": Form("cell", True, PINS), "setup": Form("setup", True, PIN),
+    "clock_to_q": Form("clock_to_q", True, PIN), "output_wire": Form("output_wire", True, ""), "still": Form("still", False, PINS),
+    "alias": Form("alias", True, "")}
 
 
 def map_of(text: str) -> Map:
@@ -106,11 +111,15 @@ def map_of(text: str) -> Map:
     if rest:
         raise Refused("MAP: its last line has no end")
     found = no_map()
+    seen: Set[Tuple[str, str]] = set()
     for number, text_of_row in enumerate(lines[2:], 3):
         fields = text_of_row.split(",")
         if len(fields) != 4:
             raise Refused(f"MAP line {number}: not four fields")
         add_row(found, number, *fields)
+        if (FORMS[fields[0]].space, fields[1]) in seen:
+            raise Refused(f"MAP line {number}: twice {fields[1]}")
+        seen.add((FORMS[fields[0]].space, fields[1]))
     return found
 
 
@@ -146,6 +155,26 @@ def text_of(map_: Map) -> str:
     for what, ports in (("output_wire", map_.output_wires), ("alias", map_.aliases)):
         rows += [(what, name, line, "") for name, line in ports]
     return "".join(line + "\n" for line in (*MAP_HEADS, *(",".join(row) for row in rows)))
+
+
+def fit(map_: Map, circuit: Circuit) -> None:
+    """Refuses a map that isn't of this circuit: it has to name each input, output, flip-flop and gate, gates with all of their pins."""
+    gates = [*map_.gates, *map_.setups, *map_.clock_to_qs, *(Cell(port.name, port.line, ("A",)) for port in map_.output_wires)]
+    names = circuit.names
+    covers("inputs", [port.line for port in map_.inputs], [names[line] for line in circuit.inputs])
+    covers("outputs", list(dict.fromkeys(port.line for port in map_.outputs)), [names[line] for line in circuit.outputs])
+    covers("flip-flops", [port.line for port in map_.flip_flops], [names[flip_flop.line] for flip_flop in circuit.flip_flops])
+    covers("gates", [cell.line for cell in gates], names[circuit.source_count:])
+    covers("aliases", [], [alias.line for alias in map_.aliases if alias.line not in circuit.line_of])
+    for cell in gates:
+        if len(cell.pins) != len(circuit.gate_named(cell.line).pins):
+            raise Refused(f"MAP: {cell.name} has other pins in NET")
+
+
+def covers(what: str, lines: Sequence[str], wanted: Sequence[str]) -> None:
+    """Refuses lines that aren't those wanted, each once."""
+    if sorted(lines) != sorted(wanted):
+        raise Refused(f"MAP: its {what} aren't those of NET")
 
 
 def is_name(text: str) -> bool:

@@ -1,0 +1,1 @@
+"""Netlists from designs that yosys mapped to simple gates."""
