@@ -198,3 +198,8 @@ def told(tool: str, line: str, status: int) -> int:
     with contextlib.suppress(OSError):
         print(one_line(f"{tool}: {line}"), file=sys.stderr)
     return status
+
+
+def warn(tool: str, line: str) -> None:
+    """Prints a line on err that changes no status."""
+    told(tool, f"warning: {line}", 0)
