@@ -4,7 +4,7 @@ Written from the documents alone: it shares no code with the program."""
 from __future__ import annotations
 
 import re
-from typing import Callable, List, NamedTuple, Optional, Sequence, Tuple, TypeVar
+from typing import Callable, Collection, List, NamedTuple, Optional, Sequence, Tuple, TypeVar
 
 from pdfgen_tools.bench import Circuit
 from pdfgen_tools.errors import Refused
@@ -167,8 +167,8 @@ def end_of(fault: Fault, circuit: Circuit) -> int:
     return circuit.source_count + fault.steps[-1].gate if fault.steps else fault.source
 
 
-def chains_of(text: str, circuit: Circuit) -> List[List[int]]:
-    """The scan chains of SCAN's text: lists of flip-flops' lines, each from its scan-in side."""
+def chains_of(text: str, circuit: Circuit, unscanned: Collection[str] = ()) -> List[List[int]]:
+    """The scan chains of SCAN's text: lists of flip-flops' lines, each from its scan-in side. Only those called unscanned may be missing."""
     flip_flops = {circuit.names[line]: line for line, _ in circuit.flip_flops}
     *lines, rest = text.split("\n")
     count = len(lines) + (rest != "")
@@ -188,6 +188,6 @@ def chains_of(text: str, circuit: Circuit) -> List[List[int]]:
     if rest:
         raise Refused(f"SCAN line {count}: no LF at its end")
     for name in flip_flops:
-        if name not in seen:
+        if name not in seen and name not in unscanned:
             raise Refused(f"SCAN: missing {name}")
     return chains
