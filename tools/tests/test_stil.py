@@ -70,7 +70,7 @@ class PdfgenStil(StilTest):
         self.assertEqual(self.call(main, *files), "tests 2 chains 1 cells 1\n")
         pathlib.Path(files[4]).unlink()
         for reason, old, new in (("MAP: not one clock", "clock,ck,,falling\n", ""), ("MAP line 4: unknown hold", "held", "hold"),
-                                 ("MAP: r is held at both values", "held,r,,1", "held,r,,1\nheld,r,,0"), ("MAP: z isn't of NET", "output,d,d", "output,z,z"),
+                                 ("MAP line 5: twice r", "held,r,,1", "held,r,,1\nheld,r,,0"), ("MAP: z isn't of NET", "output,d,d", "output,z,z"),
                                  ("MAP: its inputs or outputs aren't those of NET", "input,a,a,\n", ""),
                                  ("MAP: its inputs or outputs aren't those of NET", "input,a,a", "input,a,d"),
                                  ("MAP: its inputs or outputs aren't those of NET", "output,d,d,\n", ""), ("MAP line 6: not four fields", "d,d,", "d,d")):

@@ -151,11 +151,10 @@ def pin_of(port: Port, circuit: Circuit) -> Pin:
 
 
 def held_of(rows: Sequence[Held]) -> Dict[str, int]:
-    """The values of held pins, each once."""
-    held: Dict[str, int] = {}
-    for row in rows:
-        if held.setdefault(unescaped(row.name), row.value) != row.value:
-            raise Refused(f"MAP: {row.name} is held at both values")
+    """The values of held pins."""
+    held = {unescaped(row.name): row.value for row in rows}
+    if len(held) < len(rows):
+        raise Refused("MAP: two held pins have one name")
     return held
 
 
