@@ -11,6 +11,9 @@ from pdfgen_tools.run_files import Fault, Step, Test, end_of
 from pdfgen_tools.stil.chip import Chip
 
 UNKNOWN = Known(0, 0)
+CHIP_LIMITS = "no tests of their paths with this chip's held pins, inversions and flip-flops on no chain"
+SHARED = "a scan input, shared with an input, has to have another value at the launch than under the first vector"
+UNSEEN = "their paths end where nothing is compared"
 
 
 class AppliedPairs:
@@ -83,10 +86,11 @@ class AppliedPairs:
 
 
 class AppliedTests(NamedTuple):
-    """Tests that a chip is given at once, with their values. compared: of each line, under which of them its value is compared.
-    kept: the numbers of those that aren't left out, from 0."""
+    """Tests that a chip is given at once, with their values. compared: of each line, under which of them its value is compared, and
+    at_outputs: the same where it is an output. kept: the numbers of those that aren't left out, from 0."""
     pairs: AppliedPairs
     compared: Dict[int, int]
+    at_outputs: Dict[int, int]
     kept: List[int]
 
 
@@ -100,7 +104,8 @@ class Judge:
         self.seen = lines_seen(circuit, chip, mask_outputs)
         self.place_of = {(fault.path, fault.direction): place for place, fault in enumerate(faults)}
         self.refused: Dict[str, List[int]] = {}
-        self.is_limited = bool(chip.forced or chip.unscanned)
+        inverted = any(cell.inverted for chain in chip.chains for cell in chain.cells[1:])
+        self.is_limited = bool(chip.forced or chip.unscanned or (mode == "skewed" and inverted))
         chains = [[cell.line for cell in chain.cells] for chain in chip.chains]
         self.links = links_of(mode, circuit, chains)
 
@@ -122,7 +127,7 @@ class Judge:
         if self.unmasked:
             compared = {line: pairs.every for line in self.circuit.observed}
         compared = {line: bits & (pairs.after[line].zeros | pairs.after[line].ones) for line, bits in compared.items() if line in self.seen}
-        return AppliedTests(pairs, compared, self.kept(pairs, served, compared))
+        return AppliedTests(pairs, compared, {} if self.mask_outputs else compared, self.kept(pairs, served, compared))
 
     def refuse_wrong(self, pairs: AppliedPairs) -> None:
         """Refuses a test whose own pair isn't of the mode, or which expects wrong bits."""
@@ -148,16 +153,28 @@ class Judge:
 
     def kept(self, pairs: AppliedPairs, served: Sequence[int], compared: Dict[int, int]) -> List[int]:
         """The places of the tests that show something of their own path. The others are refused by number."""
-        kept = []
+        kept, unshared = [], self.unshared(pairs)
         for number, test in enumerate(pairs.tests):
             place = self.place_of[test.path, test.direction]
             if not served[place] >> number & 1:
-                self.refused.setdefault("their paths need other values at held pins, or flip-flops on no chain", []).append(test.number)
+                self.refused.setdefault(CHIP_LIMITS, []).append(test.number)
+            elif unshared >> number & 1:
+                self.refused.setdefault(SHARED, []).append(test.number)
             elif not compared.get(end_of(self.faults[place], self.circuit), 0) >> number & 1:
-                self.refused.setdefault("their paths end where nothing is compared", []).append(test.number)
+                self.refused.setdefault(UNSEEN, []).append(test.number)
             else:
                 kept.append(number)
         return kept
+
+    def unshared(self, pairs: AppliedPairs) -> int:
+        """The tests that a scan input can't be given which is an input, too: the last shift takes in what that has under the first vector."""
+        line_of = {pin.name: pin.line for pin in self.chip.inputs}
+        unshared = 0
+        for chain in self.chip.chains if self.mode == "skewed" else ():
+            if chain.scan_in in line_of:
+                cell = chain.cells[0]
+                unshared |= pairs.before[line_of[chain.scan_in]].ones ^ pairs.after[cell.line][0 if cell.inverted else 1]
+        return unshared
 
 
 def lines_seen(circuit: Circuit, chip: Chip, mask_outputs: bool) -> Set[int]:

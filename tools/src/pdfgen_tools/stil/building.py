@@ -165,7 +165,7 @@ class Builder:
 
     def strobes(self, batch: AppliedTests) -> Sequence[str]:
         """What outputs are compared with, of each test."""
-        return transposed([bits_of(batch.pairs.after[pin.line], batch.compared.get(pin.line, 0), batch.pairs.count) for pin in self.chip.outputs],
+        return transposed([bits_of(batch.pairs.after[pin.line], batch.at_outputs.get(pin.line, 0), batch.pairs.count) for pin in self.chip.outputs],
                           batch.pairs.count)
 
     def launch_and_capture(self, first: str, second: str, launching: str, strobes: str) -> List[Statement]:
