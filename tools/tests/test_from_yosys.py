@@ -64,7 +64,7 @@ class FromYosys(ToolTest):
             "INPUT(in[4])", "INPUT(in[5])", "OUTPUT(y)", "q%280%29 = DFF($auto$9)", "$auto$9 = AND(in[4], q%280%29)", "y = NOT(q%280%29)"))
         self.assertEqual(self.read("map"), lines(
             "pdfgen map 2", "what,name,line,value", "clock,clk,,rising", "held,rst_n,,1", "constant,z,,1", "input,in[4],in[4],",
-            "input,in[5],in[5],", "output,y,y,", "flip_flop,ff,q%280%29,", "gate,u%231,$auto$9,A B", "gate,u2,y,A"))
+            "input,in[5],in[5],", "output,y,y,", "flip_flop,ff,q%280%29,", "gate,u%231,$auto$9,A B", "gate,u2,y,A", "bus,in,,5:4"))
         self.assertEqual(text_of(map_of(self.read("map"))), self.read("map"))
 
     def test_buffers_carry_the_times_of_flip_flops(self) -> None:

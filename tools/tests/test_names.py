@@ -10,7 +10,7 @@ from pdfgen_tools.names import Cell, Clock, Held, Port, fit, map_of, text_of
 
 GOOD = lines("pdfgen map 2", "what,name,line,value", "clock,ck,,falling", "held,r,,1", "constant,z,,0", "settled,s,,1", "input,a,a,",
              "output,y,y%output,", "flip_flop,f,q,", "gate,g,y,A B", "setup,f,q%setup,D", "clock_to_q,f,q%clock_to_q,C", "still,h,,A",
-             "output_wire,y,y%output,", "alias,w,y,")
+             "output_wire,y,y%output,", "bus,a,,7:0", "bus,b,,-1:2", "alias,w,y,")
 
 
 class Maps(unittest.TestCase):
@@ -29,7 +29,7 @@ class Maps(unittest.TestCase):
                 ("MAP line 4: no row of held", "r,,1", "r,x,1"), ("MAP line 3: no row of clock", "falling", "sideways"),
                 ("MAP line 7: no row of input", "a,a,", "a,,"), ("MAP line 7: no row of input", "input,a,a,", "input,,a,"),
                 ("MAP line 7: no row of input", "a,a,", "a,a,x"), ("MAP line 10: no row of gate", "A B", "A  B"),
-                ("MAP line 10: no row of gate", "g,y,A", "g h,y,A"), ("MAP line 15: twice h", "alias,w,y,", "still,h,,B"), ("MAP line 10: twice f", "gate,g", "gate,f")):
+                ("MAP line 10: no row of gate", "g,y,A", "g h,y,A"), ("MAP line 17: twice h", "alias,w,y,", "still,h,,B"), ("MAP line 10: twice f", "gate,g", "gate,f")):
             with self.subTest(new), self.assertRaises(Refused) as raised:
                 map_of(GOOD.replace(old, new, 1))
             self.assertEqual(str(raised.exception), reason)

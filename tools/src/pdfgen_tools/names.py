@@ -17,6 +17,7 @@ MAP's first line is `pdfgen map 2`, its second names the columns, what,name,line
     clock_to_q,CELL,LINE,PIN            the buffer that carries a flip-flop's delay from the clock, and the clock pin
     output_wire,PORT,LINE,              the buffer that carries the delay of the wire to an output port
     still,CELL,,PINS                    pins of a cell at a constant, which NET doesn't have; a cell may have no others
+    bus,PORT,,LEFT:RIGHT                a port of several bits, whose names are PORT[LEFT] to PORT[RIGHT]; each other port has one bit
     alias,NAME,LINE,                    a further name of the design for a line
 
 A cell with `still` may have a `gate` row, too, with its other pins. Names and pins are spelled as in NET."""
@@ -59,6 +60,18 @@ class Cell(NamedTuple):
     pins: Tuple[str, ...]
 
 
+class Bus(NamedTuple):
+    """A port of several bits, and the range that its declaration has."""
+    port: str
+    left: int
+    right: int
+
+    def bits(self) -> List[str]:
+        """The names of its bits, from the left."""
+        step = -1 if self.left > self.right else 1
+        return [f"{self.port}[{place}]" for place in range(self.left, self.right + step, step)]
+
+
 class Map(NamedTuple):
     """What each port and cell of a design is in NET: lists in MAP's order, names as NET spells them."""
     clocks: List[Clock]
@@ -74,6 +87,7 @@ class Map(NamedTuple):
     output_wires: List[Port]
     stills: List[Cell]
     aliases: List[Port]
+    buses: List[Bus]
 
     def names_of(self, line: str) -> List[str]:
         """All names that the design has for a line of NET: that of NET itself first, then the others."""
@@ -82,7 +96,7 @@ class Map(NamedTuple):
 
 def no_map() -> Map:
     """A map without rows."""
-    return Map([], [], [], [], [], [], [], [], [], [], [], [], [])
+    return Map([], [], [], [], [], [], [], [], [], [], [], [], [], [])
 
 
 class Form(NamedTuple):
@@ -93,13 +107,13 @@ class Form(NamedTuple):
     value: str
 
 
-PIN, PINS = "[^ ]+", "[^ ]+( [^ ]+)*"
+PIN, PINS, RANGE = "[^ ]+", "[^ ]+( [^ ]+)*", "(0|-?[1-9][0-9]{0,8}):(0|-?[1-9][0-9]{0,8})"
 FORMS = {
     "clock": Form("input", False, "rising|falling"), "held": Form("input", False, "[01]"), "input": Form("input", True, ""),
     "output": Form("output", True, ""), "constant": Form("output", False, "[01]"), "flip_flop": Form("cell", True, ""),
     "settled": Form("cell", False, "[01]"), "gate": Form("cell", True, PINS), "setup": Form("setup", True, PIN),
     "clock_to_q": Form("clock_to_q", True, PIN), "output_wire": Form("output_wire", True, ""), "still": Form("still", False, PINS),
-    "alias": Form("alias", True, "")}
+    "alias": Form("alias", True, ""), "bus": Form("bus", False, RANGE)}
 
 
 def map_of(text: str) -> Map:
@@ -135,6 +149,9 @@ def add_row(found: Map, number: int, what: str, name: str, line: str, value: str
     cells = {"gate": found.gates, "setup": found.setups, "clock_to_q": found.clock_to_qs, "still": found.stills}
     if what == "clock":
         found.clocks.append(Clock(name, value))
+    elif what == "bus":
+        left, right = map(int, value.split(":"))
+        found.buses.append(Bus(name, left, right))
     elif what in ports:
         ports[what].append(Port(name, line))
     elif what in held:
@@ -152,8 +169,9 @@ def text_of(map_: Map) -> str:
         rows += [(what, name, line, "") for name, line in ports]
     for what, cells in (("gate", map_.gates), ("setup", map_.setups), ("clock_to_q", map_.clock_to_qs), ("still", map_.stills)):
         rows += [(what, name, line, " ".join(pins)) for name, line, pins in cells]
-    for what, ports in (("output_wire", map_.output_wires), ("alias", map_.aliases)):
-        rows += [(what, name, line, "") for name, line in ports]
+    rows += [("output_wire", name, line, "") for name, line in map_.output_wires]
+    rows += [("bus", port, "", f"{left}:{right}") for port, left, right in map_.buses]
+    rows += [("alias", name, line, "") for name, line in map_.aliases]
     return "".join(line + "\n" for line in (*MAP_HEADS, *(",".join(row) for row in rows)))
 
 

@@ -17,7 +17,7 @@ from __future__ import annotations
 
 import os
 import re
-from typing import Dict, List, Optional, Sequence, Tuple
+from typing import Dict, Iterable, List, Optional, Sequence
 
 from pdfgen_tools.bench import circuit_of
 from pdfgen_tools.errors import Files, Refused, Words, run
@@ -27,6 +27,7 @@ from pdfgen_tools.run_files import chains_of, faults_of, tests_of
 from pdfgen_tools.stil.applied import Judge
 from pdfgen_tools.stil.building import Builder, SetUp, Timing
 from pdfgen_tools.stil.chip import Chip, ChipWords, chip_of, pin_and_value, refuse_read_enables, word_as_bytes
+from pdfgen_tools.stil.testbench import Bench
 from pdfgen_tools.stil.text import stil_lines
 
 TOOL = "pdfgen-stil"
@@ -66,6 +67,8 @@ class Call:
         parser.add_argument("--unmasked", action="store_true", help="compare all observed lines")
         parser.add_argument("--mask-outputs", action="store_true", help="compare flip-flops alone")
         parser.add_argument("--leave-out", action="store_true", help="leave out tests that this chip can't be given, or that show nothing there")
+        parser.add_argument("--testbench", metavar="VERILOG", help="a testbench that plays the same on the chip's module")
+        parser.add_argument("--module", metavar="NAME", help="the chip's module")
         found = parser.parse_args(words_of_files(words, files))
         self.net: str = found.net
         self.scan: str = found.scan
@@ -80,6 +83,8 @@ class Call:
         self.unmasked: bool = found.unmasked
         self.mask_outputs: bool = found.mask_outputs
         self.leave_out: bool = found.leave_out
+        self.testbench: Optional[str] = found.testbench
+        self.module: str = word_as_bytes(found.module or "")
         self.chip = ChipWords(found.clock, found.hold, found.scan_enable, found.scan_in, found.scan_out, found.inverted, found.inverted_out,
                               found.unscanned)
         if found.unit < 1 or min(self.timing.at_speed, found.slow) < EDGE_AT_LEAST:
@@ -88,6 +93,8 @@ class Call:
             parser.error(f"--time is at most {TIME_AT_MOST}")
         if max(self.timing.at_speed, found.slow) > PERIOD_AT_MOST:
             parser.error(f"a period is at most {PERIOD_AT_MOST} ps")
+        if (found.testbench is None) != (found.module is None) or (found.module is not None and not re.fullmatch("[!-~]+", found.module)):
+            parser.error("--testbench and --module go together, and a module's name has no blanks")
         if not 0 <= found.strobe < self.timing.at_speed // 2:
             parser.error("--strobe is at least 0, and less than half of the period at speed")
 
@@ -145,6 +152,10 @@ def refuse_left_out(refused: Dict[str, List[int]], leave_out: bool) -> None:
             raise Refused(f"tests {numbers_text(numbers)}: {reason} (--leave-out)")
 
 
+def text_of(lines: Iterable[str]) -> str:
+    return "".join(line + "\n" for line in lines)
+
+
 def notes_of(call: Call, chip: Chip) -> List[str]:
     """What pdfgen-log needs to know of the call."""
     masked = "all observed lines" if call.unmasked and not call.mask_outputs and not chip.unscanned else "some observed lines"
@@ -158,7 +169,8 @@ def work(words: Sequence[str], files: Files) -> None:
     tests = tests_of(files.read(call.tests), circuit)
     faults = faults_of(files.read(call.report), circuit)
     refuse_other_than_paths(faults, circuit)
-    chip = chip_of(circuit, map_of(files.read(call.map)) if call.map is not None else None, chains, call.chip)
+    map_ = map_of(files.read(call.map)) if call.map is not None else None
+    chip = chip_of(circuit, map_, chains, call.chip)
     if call.mode == "skewed":
         refuse_read_enables(circuit, chip)
     set_ups = set_ups_of(files.read(call.setup), chip) if call.setup is not None else []
@@ -166,7 +178,10 @@ def work(words: Sequence[str], files: Files) -> None:
     builder = Builder(circuit, chip, call.mode)
     program = builder.program(f"path delay tests, mode {call.mode}", notes_of(call, chip), call.timing, set_ups, judge.batches(tests))
     refuse_left_out(judge.refused, call.leave_out)
-    files.write((call.stil, "".join(line + "\n" for line in stil_lines(program))))
+    outputs = [(call.stil, text_of(stil_lines(program)))]
+    if call.testbench is not None:
+        outputs.append((call.testbench, text_of(Bench(program, call.module, map_.buses if map_ else []).lines())))
+    files.write(*outputs)
     left_out = sum(map(len, judge.refused.values()))
     print(f"tests {len(tests) - left_out} chains {len(chip.chains)} cells {sum(len(chain.cells) for chain in chip.chains)}")
     for reason, numbers in judge.refused.items():

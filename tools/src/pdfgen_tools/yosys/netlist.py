@@ -4,7 +4,7 @@ from __future__ import annotations
 from typing import Dict, List, NamedTuple, Optional, Sequence, Set, Tuple
 
 from pdfgen_tools.errors import Refused
-from pdfgen_tools.names import Cell, Clock, Held, Map, Port, escaped, no_map
+from pdfgen_tools.names import Bus, Cell, Clock, Held, Map, Port, escaped, no_map
 from pdfgen_tools.yosys.controls import FLIP_FLOP, Roles, is_flip_flop, roles_of
 from pdfgen_tools.yosys.json_file import Bit, Module, Wire, YosysCell
 from pdfgen_tools.yosys.naming import NetNames, names_of_nets
@@ -156,6 +156,9 @@ class Writer:
     def write_port(self, port: Wire) -> None:
         if port.direction not in ("input", "output"):
             raise Refused(f"port {port.name}: neither input nor output")
+        if len(port.bits) > 1 or port.offset:
+            first, last = port.offset + len(port.bits) - 1, port.offset
+            self.map.buses.append(Bus(escaped(port.name), *((last, first) if port.upto else (first, last))))
         for word, bit in port.named_bits():
             if port.direction == "input":
                 self.write_input(escaped(word), bit)
