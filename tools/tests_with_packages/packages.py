@@ -5,16 +5,16 @@ import os
 import pathlib
 import subprocess
 import sys
-from typing import Sequence
+from typing import Optional, Sequence
 
 sys.path.insert(0, str(pathlib.Path(__file__).resolve().parent.parent / "tests"))
 from support import EXAMPLES, REPORT_HEADER, ROOT, TOOLS, Main, ToolTest, called, hazard_files, lines
 
-__all__ = ["EXAMPLES", "PROGRAM", "REPORT_HEADER", "ROOT", "TOOLS", "Main", "ToolTest", "called", "hazard_files", "lines", "printed", "yosys"]
+__all__ = ["EXAMPLES", "PROGRAM", "REPORT_HEADER", "ROOT", "TOOLS", "Main", "ToolTest", "called", "hazard_files", "lines", "mapped", "printed"]
 PROGRAM = os.environ.get("PDFGEN", str(ROOT / "bin" / "pdfgen"))
 
 
-def printed(words: Sequence[str], folder: "pathlib.Path | None" = None) -> str:
+def printed(words: Sequence[str], folder: Optional[pathlib.Path] = None) -> str:
     """What a program prints on out. It has to end with 0 and say nothing on err."""
     ended = subprocess.run(words, cwd=folder, capture_output=True, text=True)
     if ended.returncode or ended.stderr:
@@ -22,6 +22,9 @@ def printed(words: Sequence[str], folder: "pathlib.Path | None" = None) -> str:
     return ended.stdout
 
 
-def yosys(folder: pathlib.Path, script: str = "map.ys") -> str:
-    """The JSON that yosys prints of a script in a folder."""
-    return printed(["yosys", "-q", "-s", script], folder)
+def mapped(folder: pathlib.Path, verilog: str, top: str = "chip") -> str:
+    """The JSON that examples/chip/map.ys makes of a design's text."""
+    (folder / "design.v").write_text(verilog)
+    script = (EXAMPLES / "chip" / "map.ys").read_text().replace("chip.v", "design.v").replace("-top chip", f"-top {top}")
+    (folder / "design.ys").write_text(script)
+    return printed(["yosys", "-q", "-s", "design.ys"], folder)

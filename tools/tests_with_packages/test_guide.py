@@ -1,11 +1,15 @@
 """The guide's part 'From a chip to a tester': every line of it is run, and prints what the guide shows."""
+from __future__ import annotations
+
 import re
 import shutil
 import subprocess
-from calling import EXAMPLES, NEEDS_PROGRAM, NEEDS_YOSYS, PROGRAM, ToolTest
+from typing import Iterator, Tuple
+
+from packages import EXAMPLES, PROGRAM, ROOT, TOOLS, ToolTest
 
 
-def blocks(text):
+def calls(text: str) -> Iterator[Tuple[str, str]]:
     """The calls of the guide's blocks, each with the lines that it prints."""
     for block in re.findall(r"```\n(\$ .*?)```", text, re.DOTALL):
         for call in re.split(r"^\$ ", block, flags=re.MULTILINE)[1:]:
@@ -16,35 +20,26 @@ def blocks(text):
             yield words, printed
 
 
-def missing(words):
-    """What a call needs and isn't there, or None."""
-    if "tools/chart" in words and subprocess.run(["python3", "-c", "import matplotlib"], capture_output=True).returncode:
-        return "matplotlib"
-    return "parallel" if "parallel" in words and not shutil.which("parallel") else None
-
-
 class Guide(ToolTest):
-    @NEEDS_PROGRAM
-    @NEEDS_YOSYS
-    def test_every_line(self):
+    def test_every_line(self) -> None:
         for name in ("bin", "nets", "delays"):
             (self.folder / name).mkdir()
         (self.folder / "examples").symlink_to(EXAMPLES)
+        (self.folder / "tools").symlink_to(TOOLS)
         (self.folder / "bin" / "pdfgen").symlink_to(PROGRAM)
         for name in ("counter", "hazard"):
             shutil.copy(EXAMPLES / f"{name}.bench", self.folder / "nets")
             shutil.copy(EXAMPLES / "unit.csv", self.folder / "delays" / f"{name}.slow.csv")
         self.write("machines", ":\n")
-        guide = (EXAMPLES.parent / "docs" / "guide.md").read_text()
-        part = guide[guide.index("## From a chip to a tester"):]
-        for words, printed in blocks(part):
-            if missing(words):
-                print(f"without {missing(words)}: {words}")
-                continue
-            if "parallel" in words:
-                shutil.rmtree(self.folder / "runs")  # else all stand already
-            ended = subprocess.run(["bash", "-c", words], cwd=self.folder, capture_output=True, text=True)
-            self.assertEqual((ended.returncode, ended.stderr), (0, ""), words)
-            if printed:
-                self.assertEqual(ended.stdout, printed, words)
+        guide = (ROOT / "docs" / "guide.md").read_text()
+        for words, printed in calls(guide[guide.index("## From a chip to a tester"):]):
+            with self.subTest(words):
+                if "parallel" in words:
+                    if not shutil.which("parallel"):
+                        continue
+                    shutil.rmtree(self.folder / "runs")  # else all stand already
+                ended = subprocess.run(["bash", "-c", words], cwd=self.folder, capture_output=True, text=True)
+                self.assertEqual((ended.returncode, ended.stderr), (0, ""))
+                if printed:
+                    self.assertEqual(ended.stdout, printed)
         self.assertTrue((self.folder / "runs" / "hazard.slow.done").exists())
