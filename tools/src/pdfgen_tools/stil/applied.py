@@ -2,13 +2,13 @@
 the second vector is what the chip makes of the first. And which of its bits a tester compares."""
 from __future__ import annotations
 
-from typing import Dict, Iterator, List, NamedTuple, Optional, Sequence, Set, Tuple
+from typing import Dict, FrozenSet, Iterator, List, Mapping, NamedTuple, Sequence, Set
 
 from pdfgen_tools.bench import CONTROLLING, Circuit, Known
 from pdfgen_tools.errors import Refused
 from pdfgen_tools.judging import PAIRS_AT_ONCE, links_of, numbers_of, sources_of
 from pdfgen_tools.run_files import Fault, Step, Test, end_of
-from pdfgen_tools.stil.chip import Chip
+from pdfgen_tools.stil.chip import Chip, ScanChain
 
 UNKNOWN = Known(0, 0)
 CHIP_LIMITS = "no tests of their paths with this chip's held pins, inversions and flip-flops on no chain"
@@ -16,37 +16,44 @@ SHARED = "a scan input, shared with an input, has to have another value at the l
 UNSEEN = "their paths end where nothing is compared"
 
 
+class Given(NamedTuple):
+    """What of a chip makes pairs other than TESTS has them. forced: values that inputs of NET keep. unscanned: flip-flops on no chain."""
+    forced: Mapping[int, int]
+    unscanned: FrozenSet[int]
+    chains: Sequence[ScanChain]
+
+
 class AppliedPairs:
     """The values of all lines under what tests give a chip: before, after, and where steady. Bit n of each integer is of pair n; every has
     a 1 for each pair."""
 
-    def __init__(self, circuit: Circuit, chip: Chip, mode: str, tests: Sequence[Test]) -> None:
+    def __init__(self, circuit: Circuit, given: Given, mode: str, tests: Sequence[Test]) -> None:
         self.circuit = circuit
         self.count = len(tests)
         self.every = (1 << len(tests)) - 1
         self.tests = tests
-        first = self.applied(sources_of([test.first for test in tests], circuit.source_count), chip)
-        for line in chip.unscanned:
+        first = self.applied(sources_of([test.first for test in tests], circuit.source_count), given)
+        for line in given.unscanned:
             first[line] = UNKNOWN
         self.before = circuit.known_values(first, self.every)
-        second = self.applied(sources_of([test.second for test in tests], circuit.source_count), chip)
-        for line, value in self.launched(chip, mode).items():
+        second = self.applied(sources_of([test.second for test in tests], circuit.source_count), given)
+        for line, value in self.launched(given, mode).items():
             second[line] = value
         self.after = circuit.known_values(second, self.every)
         self.steady = circuit.known_values([Known(one.zeros & two.zeros, one.ones & two.ones) for one, two in zip(first, second)], self.every)
 
-    def applied(self, values: Sequence[int], chip: Chip) -> List[Known]:
+    def applied(self, values: Sequence[int], given: Given) -> List[Known]:
         """The sources' values in a vector, those of forced inputs among them."""
         known = [Known(self.every & ~value, value) for value in values]
-        for line, value in chip.forced.items():
+        for line, value in given.forced.items():
             known[line] = Known(0, self.every) if value else Known(self.every, 0)
         return known
 
-    def launched(self, chip: Chip, mode: str) -> Dict[int, Known]:
+    def launched(self, given: Given, mode: str) -> Dict[int, Known]:
         """What the launch makes of the flip-flops: their data lines, or in mode skewed the cells before them, but for the first of chains."""
         launched = {flip_flop.line: self.before[flip_flop.data] for flip_flop in self.circuit.flip_flops}
         if mode == "skewed":
-            for chain in chip.chains:
+            for chain in given.chains:
                 launched.pop(chain.cells[0].line)
                 for cell, ahead in zip(chain.cells[1:], chain.cells):
                     zeros, ones = self.before[ahead.line]
@@ -116,7 +123,7 @@ class Judge:
 
     def judged(self, tests: Sequence[Test]) -> AppliedTests:
         """These tests with their values. Refused where one isn't of the mode, expects wrong bits or is of another run."""
-        pairs = AppliedPairs(self.circuit, self.chip, self.mode, tests)
+        pairs = AppliedPairs(self.circuit, Given(self.chip.forced, self.chip.unscanned, self.chip.chains), self.mode, tests)
         self.refuse_wrong(pairs)
         served = [pairs.serves(fault) for fault in self.faults]
         self.refuse_other_runs(pairs, served)

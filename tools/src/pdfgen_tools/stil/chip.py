@@ -180,7 +180,7 @@ def scan_chains_of(circuit: Circuit, map_: Optional[Map], chains: Sequence[Seque
     for name in words.inverted_outs:
         if name not in scan_outs:
             raise Refused(f"--inverted-out: no scan output {name}")
-    order = [line for chain in chains for line in chain]
+    order = [flip_flop.line for flip_flop in circuit.flip_flops]
     names = dict(zip(order, cell_names((unescaped(circuit.names[line]) if map_ else circuit.names[line], circuit.names[line]) for line in order)))
     return tuple(ScanChain(tuple(ScanCell(line, names[line], line in inverted) for line in chain), scan_out in words.inverted_outs, scan_in, scan_out)
                  for chain, scan_in, scan_out in zip(chains, scan_ins, scan_outs))
