@@ -20,5 +20,8 @@ runs/%.done: delays/%.csv nets/$$(basename $$*).bench
 	$(PDFGEN) check nets/$(basename $*).bench $< runs/$*.tests runs/$*.report runs/$*.proofs $(WORDS) >> runs/$*.out 2>> runs/$*.err
 	touch $@
 
+nets/%.bench:
+	@echo 'corners.mk: no netlist $@, of which delays/ has a file (delays/NAME.CORNER.csv is of nets/NAME.bench)' >&2; exit 1
+
 .PHONY: all
 .SECONDARY:

@@ -33,28 +33,38 @@ def in_verilog(names: Sequence[str], spelled: Dict[str, str]) -> str:
     raise AssertionError(f"no name of {names[0]} in Verilog")
 
 
+def connections(map_: Map) -> List[str]:
+    """What each input port of the design is connected to: the clock, a held value, or bits of `vector`, whose leftmost is that of the first input."""
+    values = {port.name: f"vector[{len(map_.inputs) - 1 - at}]" for at, port in enumerate(map_.inputs)}
+    values.update({clock.port: "clock" for clock in map_.clocks})
+    values.update({held.name: f"{'' if held.value else '!'}released" for held in map_.held})
+    buses = {name: bus for bus in map_.buses for name in bus.bits()}
+    ports: Dict[str, List[str]] = {}
+    for bus in map_.buses:
+        if bus.bits()[0] in values:
+            ports[bus.port] = [values[name] for name in bus.bits()]
+    ports.update({name: [value] for name, value in values.items() if name not in buses})
+    return [f".\\{unescaped(port)} ({{{', '.join(bits)}}})" for port, bits in ports.items()]
+
+
 def run_cycles(folder: pathlib.Path, source: pathlib.Path, top: str, map_: Map, spelled: Dict[str, str], count: int) -> Cycles:
-    """The design under random inputs, from the 12th cycle after its reset on."""
+    """The design under random inputs, so many cycles after its reset, but the first ones, in which something isn't known yet."""
     chance = random.Random(7)
-    clock = map_.clocks[0]
-    inputs = [in_verilog([port.name], spelled) for port in map_.inputs]
     watched = [in_verilog(map_.names_of(state.line), spelled) for state in map_.flip_flops] + [in_verilog([port.name], spelled) for port in map_.outputs]
-    vectors = ["".join(chance.choice("01") for _ in inputs) for _ in range(count)]
-    (folder / "vectors").write_text("\n".join(vectors) + "\n")
-    idle, active = ("0", "1") if clock.edge == "rising" else ("1", "0")
-    free = [f"force {name} = vector[{len(inputs) - 1 - at}];" for at, name in enumerate(inputs)]
-    held = [f"force chip.{port.name} = {{}};" for port in map_.held]
-    text = ["`timescale 1ns/1ns", "module bench;", f"  {top} chip ();", f"  reg [{len(inputs) - 1}:0] vectors [0:{count - 1}], vector;", "  integer at;",
-            "  initial begin", '    $readmemb("vectors", vectors);', "    vector = 0;", f"    force chip.{clock.port} = {idle};",
-            *("    " + line.format(1 - port.value) for line, port in zip(held, map_.held)), *("    " + line for line in free), "    #10;",
-            *("    " + line.format(port.value) for line, port in zip(held, map_.held)),
+    width = len(map_.inputs)
+    (folder / "vectors").write_text("".join("".join(chance.choice("01") for _ in map_.inputs) + "\n" for _ in range(count)))
+    idle, active = ("0", "1") if map_.clocks[0].edge == "rising" else ("1", "0")
+    text = ["`timescale 1ns/1ns", "module bench;", f"  reg [{width - 1}:0] vectors [0:{count - 1}];", f"  reg [{width - 1}:0] vector = 0;",
+            f"  reg clock = {idle}, released = 1;", "  integer at;", f"  {top} chip ({', '.join(connections(map_))});", "  initial begin",
+            '    $readmemb("vectors", vectors);', "    #1 released = 0;", "    #9 released = 1;",
             f"    for (at = 0; at < {count}; at = at + 1) begin", "      vector = vectors[at];", "      #5;",
             f'      if (at >= 12) $display("%b {"%b" * len(watched)}", vector, {", ".join(watched)});',
-            f"      force chip.{clock.port} = {active}; #5; force chip.{clock.port} = {idle}; #5;", "    end", "  end", "endmodule"]
+            f"      clock = {active}; #5; clock = {idle}; #5;", "    end", "  end", "endmodule"]
     (folder / "bench.v").write_text("\n".join(text) + "\n")
     printed(["iverilog", "-g2005", "-o", "bench.vvp", "-s", "bench", "bench.v", str(source)], folder)
     rows = [line.split(" ") for line in printed(["vvp", "-n", "bench.vvp"], folder).splitlines()]
     states = len(map_.flip_flops)
+    del rows[:1 + max((number for number, row in enumerate(rows) if not set(row[1]) <= {"0", "1"}), default=-1)]
     return Cycles([row[0] for row in rows], [row[1][:states] for row in rows], [row[1][states:] for row in rows])
 
 
