@@ -2,13 +2,13 @@
 import json
 import random
 
-from pdfgen_tools import judging, run_files
+from pdfgen_tools import bench, judging, run_files
 
 KINDS = ("AND", "NAND", "OR", "NOR", "XOR", "XNOR", "NOT")
 INPUTS, OUTPUTS = 100, 100
 NEAR = 3000  # how far back a gate reads: so levels are some tens
 REPORT_HEADER = "path,direction,length,source,steps,verdict,test,robust_proof,nonrobust_proof"
-CONTROLLING = {"AND": "0", "NAND": "0", "OR": "1", "NOR": "1"}
+PAIRS = 200
 
 
 def yosys_json(gates, flip_flops, seed=1):
@@ -64,7 +64,7 @@ def sdf(map_rows, circuit, seed=1):
                 driver = circuit.names[read].replace("%clock_to_q", "")
                 cell_of_driver = cells_of_line.get(driver)
                 source = driver if cell_of_driver is None else f"{cell_of_driver}.{'Q' if driver.startswith('state') else 'Y'}"
-                text.append(f"      (INTERCONNECT {source} {name}.{pin} {triple()} {triple()})\n")
+                text.append(f"      (INTERCONNECT {source} {name}.{pin} {triple()})\n")
     text.append("    ))\n  )\n")
     for what, name, line, pins in map_rows:
         if what == "gate":
@@ -79,30 +79,70 @@ def sdf(map_rows, circuit, seed=1):
 def run_of(circuit, count, seed=1):
     """TESTS, REPORT and SCAN of mode skewed: so many tests, each of a path of its own."""
     chance = random.Random(seed)
-    tests, faults = [], []
-    observed = sorted(circuit.observed)
+    drawn = [skewed_pair(circuit, chance) for _ in range(PAIRS)]
+    pairs = judging.JudgedPairs(circuit, drawn)
+    reached = reached_by(pairs, circuit)
+    expected = pairs.values_after(circuit.observed)
+    tests, faults, seen = [], [], set()
     while len(tests) < count:
-        first, second = skewed_pair(circuit, chance)
-        pair = judging.JudgedPairs(circuit, [(first, second)])
-        after = "".join(map(str, pair.after))
-        expected = "".join(after[line] for line in circuit.observed)
-        for end in chance.sample(observed, min(200, len(observed))):
-            steps = traced(circuit, end, after, chance)
-            source = None if steps is None else circuit.gates[steps[0].gate].pins[steps[0].pin]
-            if source is None or first[source] == second[source] or len(tests) == count:
-                continue
-            number, direction = len(tests) + 1, "rise" if second[source] == "1" else "fall"
-            fault = run_files.Fault(number, direction, len(steps), source, steps, "", number, None, None)
-            kind = "robust" if pair.meets(fault, "robust") else "nonrobust"
-            tests.append(f"{number} {number} {direction} {kind} {first} {second} {expected}")
-            named_steps = " ".join(f"{circuit.names[circuit.source_count + gate]}:{pin}" for gate, pin in steps)
-            for way in ("rise", "fall"):
-                verdict = f"{kind},{number},{'-' if kind == 'robust' else 1},-" if way == direction else "untestable,-,-,1"
-                faults.append(f"{number},{way},{len(steps)},{circuit.names[source]},{named_steps},{verdict}")
+        pair, end = chance.randrange(PAIRS), chance.choice(circuit.observed)
+        source, steps = traced(circuit, pairs, reached, pair, end, chance)
+        if not steps or steps in seen:
+            continue
+        seen.add(steps)
+        number, (first, second) = len(tests) + 1, drawn[pair]
+        direction = "rise" if second[source] == "1" else "fall"
+        fault = run_files.Fault(number, direction, len(steps), source, steps, "", number, None, None)
+        kind = "robust" if pairs.meets(fault, "robust") >> pair & 1 else "nonrobust"
+        tests.append(f"{number} {number} {direction} {kind} {first} {second} {expected[pair]}")
+        named_steps = " ".join(f"{circuit.names[circuit.source_count + gate]}:{pin}" for gate, pin in steps)
+        for way in ("rise", "fall"):
+            verdict = f"{kind},{number},{'-' if kind == 'robust' else 1},-" if way == direction else "untestable,-,-,1"
+            faults.append(f"{number},{way},{len(steps)},{circuit.names[source]},{named_steps},{verdict}")
     heads = ["pdfgen tests 1", " ".join(["sources", *circuit.names[:circuit.source_count]]),
              " ".join(["observed", *(circuit.names[line] for line in circuit.observed)])]
     scan = "".join(circuit.names[line] + "\n" for line, _ in circuit.flip_flops)
     return "\n".join(heads + tests) + "\n", "\n".join([REPORT_HEADER, *faults]) + "\n", scan
+
+
+def reached_by(pairs, circuit):
+    """For each line the pairs of which some path to it, whose side pins end noncontrolling, begins at a source that changes."""
+    reached = [pairs.launches(line, "rise") | pairs.launches(line, "fall") for line in range(circuit.source_count)] + [0] * len(circuit.gates)
+    for number in circuit.order:
+        pins = range(len(circuit.gates[number].pins))
+        reached[circuit.source_count + number] = sum_of(reached[circuit.gates[number].pins[pin]] & sides(pairs, number, pin) for pin in pins)
+    return reached
+
+
+def sum_of(bits):
+    found = 0
+    for some in bits:
+        found |= some
+    return found
+
+
+def sides(pairs, number, on_path):
+    """The pairs under which all pins of a gate but one end noncontrolling."""
+    kind, pins = pairs.circuit.gates[number]
+    good = pairs.every
+    for pin, line in enumerate(pins):
+        if pin != on_path and kind in bench.CONTROLLING:
+            good &= pairs.every & ~pairs.after[line] if bench.CONTROLLING[kind] else pairs.after[line]
+    return good
+
+
+def traced(circuit, pairs, reached, pair, end, chance):
+    """The source and the steps of a path to this end of which a pair is a test; no steps where there is none."""
+    steps, line = [], end
+    if not reached[end] >> pair & 1:
+        return line, ()
+    while line >= circuit.source_count:
+        number = line - circuit.source_count
+        pins = circuit.gates[number].pins
+        pin = chance.choice([pin for pin, read in enumerate(pins) if (reached[read] & sides(pairs, number, pin)) >> pair & 1])
+        steps.append(run_files.Step(number, pin))
+        line = pins[pin]
+    return line, tuple(steps[::-1])
 
 
 def skewed_pair(circuit, chance):
@@ -111,17 +151,3 @@ def skewed_pair(circuit, chance):
     bits = [chance.choice("01") for _ in circuit.names[:circuit.source_count]]
     second = [chance.choice("01") for _ in circuit.inputs] + [chance.choice("01")] + bits[inputs:-1]
     return "".join(bits), "".join(second)
-
-
-def traced(circuit, end, after, chance):
-    """A path to this end whose side pins all end noncontrolling, by its steps; None where none was met."""
-    steps, line = [], end
-    while line >= circuit.source_count:
-        kind, pins = circuit.gates[line - circuit.source_count]
-        controlling = [pin for pin, read in enumerate(pins) if after[read] == CONTROLLING.get(kind)]
-        if len(controlling) > 1:
-            return None
-        pin = controlling[0] if controlling else chance.randrange(len(pins))
-        steps.append(run_files.Step(line - circuit.source_count, pin))
-        line = pins[pin]
-    return tuple(steps[::-1]) or None
