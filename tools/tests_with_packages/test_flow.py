@@ -1,37 +1,39 @@
 """The whole way of examples/chip, from Verilog to STIL, and what it wrote played on a good chip."""
+from __future__ import annotations
+
 import re
-import subprocess
-from calling import EXAMPLES, NEEDS_PROGRAM, NEEDS_YOSYS, PROGRAM, ToolTest
-from circuit import read_circuit
-from run_files import read_tests
-from stil_player import Player
+from typing import List
+
+from packages import EXAMPLES, PROGRAM, printed
+from stil_support import StilTest, chip
+from pdfgen_tools.bench import circuit_of
+from pdfgen_tools.names import map_of
+from pdfgen_tools.run_files import tests_of
 
 
-class Flow(ToolTest):
-    def flows(self, mode):
+class Flow(StilTest):
+    def flows(self, mode: str) -> None:
         """Goes the whole way in a mode, and plays what it wrote."""
-        ended = subprocess.run([str(EXAMPLES / "chip" / "flow"), str(self.folder), mode, PROGRAM], capture_output=True, text=True)
-        self.assertEqual((ended.returncode, ended.stderr), (0, ""), ended.stdout)
-        self.assertIn("forgotten 0\n", ended.stdout)
-        self.assertEqual(ended.stdout.count("\ngood\n"), 2)
-        circuit = read_circuit(self.path("chip.bench"))
-        tests = read_tests(self.path("chip.kept"), circuit)
-        player = Player(circuit, self.read("chip.stil")).play()
-        self.assertEqual(player.wrong, [])
-        self.assertEqual(player.launches[::2], [(list(test.first), list(test.second)) for test in tests])
-        self.assertGreaterEqual(player.strobes, len(tests))
+        told = printed([str(EXAMPLES / "chip" / "flow"), str(self.folder), mode, PROGRAM])
+        self.assertIn(" forgotten 0 ", told)
+        self.assertEqual(told.count("\ngood\n"), 2)
+        circuit, found = circuit_of(self.read("chip.bench")), map_of(self.read("chip.map"))
+        tests = tests_of(self.read("chip.kept"), circuit)
+        self.write("stil", self.read("chip.stil"))
+        chains: List[str] = [" ".join(chain.split("\n")) for chain in self.read("chip.scan").strip("\n").split("\n\n")]
+        good = chip(circuit, chains, clock="clk", resets={held.name: 1 - held.value for held in found.held})
+        player = self.played(good, self.strobed())
+        launches = self.launches(player)
+        self.assertEqual([(launch.before, launch.after) for launch in launches], [(test.first, test.second) for test in tests])
+        self.assertEqual({launch.time for launch in launches}, {700})
 
-    @NEEDS_PROGRAM
-    @NEEDS_YOSYS
-    def test_from_verilog_to_stil(self):
+    def strobed(self) -> int:
+        """How many bits STIL compares, counted in its vectors."""
+        vectors = re.findall(r"= *([LHX]+);", self.read("chip.stil"))
+        return sum(letter in "LH" for bits in vectors for letter in bits)
+
+    def test_from_verilog_to_stil(self) -> None:
         self.flows("broadside")
 
-    @NEEDS_PROGRAM
-    @NEEDS_YOSYS
-    def test_launched_by_the_last_shift(self):
+    def test_launched_by_the_last_shift(self) -> None:
         self.flows("skewed")
-        printed = subprocess.run([PROGRAM, "scan", *(self.path(f"chip.{name}") for name in ("bench", "scan", "kept"))], capture_output=True, text=True)
-        loads = re.findall(r'"test ([0-9]+)": Call load_unload { scan_in1=([01]+); scan_in2=([01]+);', self.read("chip.stil"))
-        last_bits = re.findall(r"scan_enable=1; .*scan_ins=([01])([01]);", self.read("chip.stil"))
-        self.assertEqual(printed.stdout, "".join(
-            f"{number} {one}{last_one} {two}{last_two}\n" for (number, one, two), (last_one, last_two) in zip(loads, last_bits)))
