@@ -1,87 +1,127 @@
-"""sdf_to_delays, on SDF written by hand for netlists of examples/ and small ones."""
-from calling import EXAMPLES, ToolTest, lines
+"""pdfgen-sdf, on the small files of sdf_cases.py, and on what they don't have."""
+from __future__ import annotations
 
-MAP_HEADER = "what,name,line,value"
+import re
+from typing import Tuple
+
+import sdf_cases
+from sdf_cases import CASES, DESIGN, GRAMMAR, MAP, NET, Refusal, cell, checks, file
+from support import ToolTest, lines
+from pdfgen_tools.cli.sdf import main
+
+SMALL_NET = lines("INPUT(a)", "OUTPUT(y)", "q = DFF(n)", "n = NOT(a)", "y = AND(q, n)")
+SMALL_MAP = lines("pdfgen map 2", "what,name,line,value", "clock,clk,,falling", "input,a,a,", "output,y,y,", "flip_flop,f,q,", "gate,u1,n,A",
+                  "gate,u2,y,A B", "constant,z,,1", "still,u3,,A B", "settled,s,,1")
 
 
-def sdf(*cells, scale="1ps"):
-    return lines('(DELAYFILE (SDFVERSION "3.0") // made by hand', f"(DIVIDER /) (TIMESCALE {scale})", *cells, ")")
+class Sdf(ToolTest):
+    def words(self, text: str, corner: str = "max", net: str = NET, map_text: str = MAP) -> Tuple[str, ...]:
+        return (self.write("sdf", text), self.write("net", net), self.write("map", map_text), self.path("delays"), "--corner", corner)
 
+    def refuse_text(self, refusal: Refusal) -> None:
+        self.refuse(main, refusal.line, *self.words(file(refusal.text, refusal.header)), "--rise-fall")
 
-def cell(name, *entries):
-    return f"(CELL (CELLTYPE \"any\") (INSTANCE {name}) (DELAY (ABSOLUTE {' '.join(entries)})))"
+    def test_two_delays_of_each_pin(self) -> None:
+        for name, case in CASES.items():
+            with self.subTest(name):
+                told = {**sdf_cases.UNTOLD, **case.told}
+                said = self.call(main, *self.words(file(case.text, case.header), case.corner), "--rise-fall")
+                rows = self.read("delays").splitlines()
+                self.assertEqual(rows[:2], ["gate,pin,rise,fall", "*,*,1000000,1000000"])
+                self.assertEqual(set(rows[2:]), {f"{pin}," + ",".join("1000000" if value is None else str(value) for value in values)
+                                                 for pin, values in told.items()})
+                forgotten, edges = 11 - len(told), sum(None in values for values in told.values())
+                self.assertRegex(said, rf"\Apins 11 forgotten {forgotten} edges {edges} wires [0-9]+ of 10 read [0-9]+ ignored [^\n]+\n\Z")
+                self.assertTrue(said.endswith((case.ignored or "ignored 0") + "\n"), said)
 
+    def test_one_delay_is_the_greater(self) -> None:
+        for name, case in CASES.items():
+            with self.subTest(name):
+                told = {**sdf_cases.UNTOLD, **case.told}
+                self.call(main, *self.words(file(case.text, case.header), case.corner))
+                self.assertEqual(set(self.read("delays").splitlines()), {"gate,pin,delay", "*,*,1000000"} | {
+                    f"{pin},{max(rise, fall)}" for pin, (rise, fall) in told.items() if rise is not None and fall is not None})
 
-class SdfToDelays(ToolTest):
-    def delays(self, net, rows, text, *options):
-        """DELAYS, and what is printed."""
-        words = [self.write("sdf", text), net, self.write("map", lines(MAP_HEADER, *rows)), self.path("delays"), *options]
-        return self.call("sdf_to_delays", *words), self.read("delays")
+    def test_what_is_not_of_the_grammar(self) -> None:
+        for name, refusal in GRAMMAR.items():
+            with self.subTest(name):
+                self.refuse_text(refusal)
 
-    def chain(self, *options, **changes):
-        """Those of n = NOT(a), y = BUFF(n): the inverter's output falls 5 units after a rises, and rises 2 after a falls."""
-        text = sdf(cell("core/u1", "(IOPATH A Y (1:2:4) (3:5:8))"), cell("core/u2", "(IOPATH A Y (7) (3))"), **changes)
-        return self.delays(str(EXAMPLES / "chain.bench"), ["gate,core.u1,n,A", "gate,core.u2,y,A"], text, *options)
+    def test_what_is_not_of_the_netlist(self) -> None:
+        for name, refusal in DESIGN.items():
+            with self.subTest(name):
+                self.refuse_text(refusal)
 
-    def test_two_delays_go_by_the_transition_of_the_pin(self):
-        said, text = self.chain("--rise-fall", "--corner", "typ")
-        self.assertEqual((said, text), ("pins 2 forgotten 0\n", lines("gate,pin,rise,fall", "*,*,1000000,1000000", "n,0,5,2", "y,0,7,3")))
+    def test_all_is_counted(self) -> None:
+        text = file(cell("", "(INTERCONNECT a u1/A (1))", "(INTERCONNECT clk f/C (0))", "(INTERCONNECT rst f/R (5))", "(PORT u1/A (2))")
+                    + cell("u1", "(IOPATH A Y (1) (2) (3))") + cell("u2", "(IOPATH A Y () (2))", "(IOPATH A Y (RETAIN (1)) () (2))")
+                    + checks("(SETUP D C (1))", "(HOLD D C (1))", "(WIDTH C (1))", "(WIDTH C (2))"), "(DIVIDER /) (TIMESCALE 1ps)")
+        self.assertEqual(self.call(main, *self.words(text)), (
+            "pins 11 forgotten 6 edges 1 wires 1 of 10 read 7 ignored 6 (HOLD 1, RETAIN 1, WIDTH 2, resets 1, values for z 1)\n"))
 
-    def test_one_delay_is_the_greater(self):
-        self.assertEqual(self.chain()[1], lines("gate,pin,delay", "*,*,1000000", "n,0,8", "y,0,7"))
-        self.assertEqual(self.chain("--corner", "min")[1], lines("gate,pin,delay", "*,*,1000000", "n,0,3", "y,0,7"))
+    def test_units(self) -> None:
+        text = file(cell("u1", "(IOPATH A Y (30.001) (30))"), "(TIMESCALE 1ps)")
+        for unit, rise, fall in (("1", 30, 31), ("3", 10, 11), ("10", 3, 4), ("31", 1, 1)):
+            self.call(main, *self.words(text), "--rise-fall", "--unit", unit)
+            self.assertIn(f"n,0,{rise},{fall}\n", self.read("delays"))
 
-    def test_units_are_whole_and_rounded_up(self):
-        self.assertEqual(self.chain("--unit", "3")[1], lines("gate,pin,delay", "*,*,1000000", "n,0,3", "y,0,3"))
-        self.assertEqual(self.chain("--unit", "1000", scale="1 ns")[1], lines("gate,pin,delay", "*,*,1000000", "n,0,8", "y,0,7"))
+    def test_the_words(self) -> None:
+        words = self.words(file(cell("u1", "(IOPATH A Y (1))"), ""))
+        self.refuse(main, "words: the following arguments are required: --corner", *words[:4], status=2)
+        self.refuse(main, "words: --unit is at least 1", *words, "--unit", "0", status=2)
+        self.refuse(main, f"{words[1]}: would overwrite another file of this call", *words[:3], words[1], *words[4:])
 
-    def test_wires_edges_and_exclusive_or(self):
-        net = self.write("net", lines("INPUT(a)", "INPUT(b)", "OUTPUT(y)", "x = XOR(a, b)", "y = NAND(x, b)"))
-        rows = ["gate,u1,x,A B", "gate,u2,y,A B"]
-        text = sdf(cell("", "(INTERCONNECT u1/Y u2/A (2) (1))", "(INTERCONNECT u2/Y y (9) (9))"),
-                   cell("u1", "(IOPATH (posedge A) Y (3) (4))", "(IOPATH (negedge A) Y (5) (6))", "(COND !A (IOPATH B Y (1) (2)))",
-                        "(COND A (IOPATH B Y (3) (1)))"),
-                   cell("u2", "(IOPATH A Y (10) (20))", "(IOPATH B Y (30) (40))"))
-        self.assertEqual(self.delays(net, rows, text, "--rise-fall")[1], lines(
-            "gate,pin,rise,fall", "*,*,1000000,1000000", "x,0,4,6", "x,1,3,3", "y,0,22,11", "y,1,40,30"))
+    def test_what_net_has_no_pin_for(self) -> None:
+        wires = ("(INTERCONNECT u1/Y f/D (4))", "(INTERCONNECT u2/Y y (5))", "(INTERCONNECT clk f/C (6))")
+        begin, paths = "SDF line 2: cell ", cell("u1", "(IOPATH A Y (1))")
+        for text, kind, line in (
+                (cell("f", "(IOPATH (negedge C) Q (2))"), "flip-flops", "f: a clock-to-Q time of 2: NET has no buffer for it "
+                 "(--flip-flop-delays of pdfgen-from-yosys; --leave-out flip-flops)"),
+                (checks("(SETUP D (negedge C) (3))"), "flip-flops", "f: a setup time of 3: NET has no buffer for it "
+                 "(--flip-flop-delays of pdfgen-from-yosys; --leave-out flip-flops)"),
+                (cell("", wires[0]), "flip-flops", "-: a wire to f/D of 4: NET has no buffer for it "
+                 "(--flip-flop-delays of pdfgen-from-yosys; --leave-out flip-flops)"),
+                (cell("", wires[1]), "output-wires", "-: a wire to y of 5: NET has no buffer for it "
+                 "(--output-delays of pdfgen-from-yosys; --leave-out output-wires)"),
+                (cell("", wires[2]), "clock-wires", "-: a wire of the clock to f/C of 6: NET has no clock (--leave-out clock-wires)")):
+            words = self.words(file(text + paths, "(DIVIDER /)"), net=SMALL_NET, map_text=SMALL_MAP)
+            self.refuse(main, begin + line, *words)
+            self.refuse(main, begin + line, *words, *(word for other in ("flip-flops", "output-wires", "clock-wires") if other != kind
+                                                     for word in ("--leave-out", other)))
+            self.assertIn(f"ignored 1 (left out: {kind} 1)\n", self.call(main, *words, "--unit", "1000", "--leave-out", kind))
+            none = re.sub(r"\([2-6]\)", "(0.0:0.0:0.0)", text) + paths
+            self.assertIn("read 2 ignored 0\n", self.call(main, *self.words(file(none, "(DIVIDER /)"), net=SMALL_NET, map_text=SMALL_MAP), "--unit", "1000"))
 
-    def test_wires_end_at_pins_that_have_delays(self):
-        text = sdf(cell("", "(INTERCONNECT a core\\.u1/A (2))", "(INTERCONNECT core\\.u1/Y u2/A (3))", "(INTERCONNECT u2/Y y\\.z (9))"),
-                   cell("core\\.u1", "(IOPATH (01 A) Y (1) (2))", "(IOPATH (10 A) Y (3) (4))"), cell("u2", "(PORT A (1))", "(IOPATH A Y (7) (8))"))
-        rows = ["gate,core.u1,n,A", "gate,u2,y,A"]
-        self.assertEqual(self.delays(str(EXAMPLES / "chain.bench"), rows, text, "--rise-fall")[1], lines(
-            "gate,pin,rise,fall", "*,*,1000000,1000000", "n,0,4,5", "y,0,10,11"))
+    def test_another_edge_of_the_clock(self) -> None:
+        text = file(cell("f", "(IOPATH (posedge C) Q (0))"), "")
+        self.refuse(main, "SDF line 2: cell f: (posedge C), and the flip-flop takes its data at the falling edge",
+                    *self.words(text, net=SMALL_NET, map_text=SMALL_MAP))
 
-    def test_flip_flops(self):
-        net = self.write("net", lines("INPUT(a)", "q%setup = BUFF(a)", "q%clock_to_q = BUFF(q)", "q = DFF(q%setup)", "OUTPUT(q%clock_to_q)"))
-        rows = ["flip_flop,f,q,", "setup,f,q%setup,D", "clock_to_q,f,q%clock_to_q,C"]
-        text = sdf('(CELL (CELLTYPE "FF") (INSTANCE f) (DELAY (ABSOLUTE (IOPATH (posedge C) Q (8) (9)))) '
-                   "(TIMINGCHECK (SETUPHOLD (posedge D) (posedge C) (4) (-1)) (SETUPHOLD (negedge D) (posedge C) (-2) (3))))")
-        self.assertEqual(self.delays(net, rows, text, "--rise-fall")[1], lines(
-            "gate,pin,rise,fall", "*,*,1000000,1000000", "q%setup,0,4,0", "q%clock_to_q,0,8,9"))
+    def test_what_net_does_not_have(self) -> None:
+        text = file(cell("u3", "(IOPATH A Y (1))") + cell("s", "(IOPATH (posedge C) Q (1))") + cell("u1", "(IOPATH A Y (1))")
+                    + cell("", "(INTERCONNECT s/Q u3/A (1))", "(INTERCONNECT u3/Y z (2))") + checks("(SETUP D C (0))").replace("f)", "s)"),
+                    "(DIVIDER /) (TIMESCALE 1ps)")
+        self.assertEqual(self.call(main, *self.words(text, net=SMALL_NET, map_text=SMALL_MAP)), (
+            "pins 3 forgotten 2 edges 0 wires 0 of 3 read 1 ignored 5 (cells that NET doesn't have 4, outputs that are constant 1)\n"))
 
-    def test_what_is_forgotten_is_counted(self):
-        said, text = self.delays(str(EXAMPLES / "chain.bench"), ["gate,u1,n,A", "gate,u2,y,A"], sdf(cell("u1", "(IOPATH A Y (1) (2))")))
-        self.assertEqual((said, text), ("pins 2 forgotten 1\n", lines("gate,pin,delay", "*,*,1000000", "n,0,2")))
+    def test_pins_at_a_constant(self) -> None:
+        map_text = SMALL_MAP.replace("gate,u1,n,A\n", "gate,u1,n,A\nstill,u1,,B\n").replace("still,u3,,A B\n", "")
+        text = file(cell("u1", "(IOPATH B Y (9))", "(COND B (IOPATH A Y (1)))", "(COND !B (IOPATH A Y (2)))", kind="$_NAND_")
+                    + cell("", "(INTERCONNECT a u1/B (9))"), "(DIVIDER /) (TIMESCALE 1ps)")
+        self.assertEqual(self.call(main, *self.words(text, net=SMALL_NET, map_text=map_text)), (
+            "pins 3 forgotten 2 edges 0 wires 0 of 3 read 2 ignored 2 (pins at a constant 2)\n"))
+        self.assertIn("n,0,2\n", self.read("delays"))
 
-    def test_bad_input_is_refused(self):
-        rows = lines(MAP_HEADER, "gate,u1,n,A", "gate,u2,y,A")
-        for reason, text, map_text in (
-                ("SDF: not one DELAYFILE", "(CELL)", rows), ("SDF: not one DELAYFILE", "", rows), ("SDF line 2: a parenthesis too many", "()\n)", rows),
-                ("SDF: cell u3 is none of MAP", sdf(cell("u3")), rows), ("SDF: cell u1: INCREMENT is not read", sdf(
-                    "(CELL (INSTANCE u1) (DELAY (INCREMENT (IOPATH A Y (1)))))"), rows),
-                ("SDF: TIMESCALE 2ns", sdf(scale="2ns"), rows), ("SDF: cell u1: a negative delay", sdf(cell("u1", "(IOPATH A Y (-1))")), rows),
-                ("SDF: cell u1: no max value in (1::)", sdf(cell("u1", "(IOPATH A Y (1::))")), rows),
-                ("SDF: cell u1: no max value in (1:2)", sdf(cell("u1", "(IOPATH A Y (1:2))")), rows),
-                ("SDF: cell u1: no pin: (sideways A)", sdf(cell("u1", "(IOPATH (sideways A) Y (1))")), rows),
-                ("SDF: cell u1: MAP has no pin A1 of u1", sdf(cell("u1", "(IOPATH A1 Y (1))")), rows),
-                ("SDF: cell -: MAP has no cell u3", sdf(cell("", "(INTERCONNECT u1/Y u3/A (1))")), rows),
-                ("SDF: cell -: MAP has no pin A1 of u2", sdf(cell("", "(INTERCONNECT u1/Y u2/A1 (1))")), rows),
-                ("SDF: cell -: no cell is named", sdf(cell("", "(IOPATH A Y (1))")), rows), ("SDF: DIVIDER ab", lines("(DELAYFILE (DIVIDER ab))"), rows),
-                ("SDF line 3: unreadable", sdf("/* never ended"), rows), ("SDF line 1: unreadable", "(" * 100000, rows),
-                ("pin 0 of n: 2000000 units, over 1000000 (--unit)", sdf(cell("u1", "(IOPATH A Y (2))"), scale="1us"), rows),
-                ("NET: no gate m", sdf(), lines(MAP_HEADER, "gate,u1,m,A")), ("MAP line 1: not what,name,line,value", sdf(), "u1\n"),
-                ("MAP line 1: not what,name,line,value", sdf(), rows.replace("\n", "\r\n")),
-                ("MAP line 2: unknown gates", sdf(), rows.replace("gate,u1", "gates,u1")), ("NET: no gate n\\r", sdf(), rows.replace(",n,", ",n\r,"))):
-            words = [self.write("sdf", text), str(EXAMPLES / "chain.bench"), self.write("map", map_text), self.path("delays")]
-            self.refuse("sdf_to_delays", reason, *words)
+    def test_names_with_any_bytes(self) -> None:
+        net = lines("INPUT(a%23b[3])", "OUTPUT(y)", "y = BUFF(a%23b[3])")
+        map_text = lines("pdfgen map 2", "what,name,line,value", "input,a%23b[3],a%23b[3],", "output,y,y,", "gate,$abc$1.u/1%25[2],y,A")
+        text = file(cell("", "(INTERCONNECT a\\#b[3] $abc\\$1.u\\/1\\%[2].A (1))", "(PORT $abc$1\\.u\\/1\\%\\[2\\].A (3))")
+                    + cell("\\$abc$1.u\\/1\\%[2]", "(IOPATH A Y (2))"), "(TIMESCALE 1ps)")
+        self.assertEqual(self.call(main, *self.words(text, net=net, map_text=map_text)), (
+            "pins 1 forgotten 0 edges 0 wires 1 of 1 read 3 ignored 0\n"))
+        self.assertIn("y,0,5\n", self.read("delays"))
+
+    def test_maps_of_other_netlists(self) -> None:
+        text = file(cell("u1", "(IOPATH A Y (1))"), "")
+        self.refuse(main, "MAP line 1: not pdfgen map 2", *self.words(text, map_text="u1\n"))
+        self.refuse(main, "MAP: its gates aren't those of NET", *self.words(text, map_text=MAP.replace("gate,u1,n,A", "gate,u1,m,A")))

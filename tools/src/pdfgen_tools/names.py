@@ -212,4 +212,4 @@ def escaped(name: str) -> str:
 
 def unescaped(name: str) -> str:
     """The name of the design, a letter for each byte."""
-    return re.sub("%([0-9A-F]{2})", lambda found: chr(int(found[1], 16)), name)
+    return re.sub("%([0-9A-F]{2})", lambda found: chr(int(found[1], 16)), name) if "%" in name else name

@@ -1,108 +1,118 @@
-#!/usr/bin/env python3
-"""Writes a delay file for pdfgen from SDF, for a netlist and its map that verilog_to_bench wrote.
+"""Writes a delay file for pdfgen from SDF (IEEE 1497), for a netlist and its map that pdfgen-from-yosys wrote.
 
-    sdf_to_delays SDF NET MAP DELAYS [--corner min|typ|max] [--unit PS] [--rise-fall]
+    pdfgen-sdf SDF NET MAP DELAYS --corner min|typ|max [--unit PS] [--rise-fall] [--leave-out KIND]..
 
-Reads IOPATH, INTERCONNECT and PORT of DELAY ABSOLUTE, and SETUP and SETUPHOLD of TIMINGCHECK. A unit is PS picoseconds (1 if not told
-otherwise), rounded up. Where several entries speak of one pin the greatest counts. A wire's delay is added to that of the pin at its end.
-A cell or a pin of a gate that MAP doesn't have is refused, and so is a delay below 0, but that of a setup time counts as 0.
+Reads IOPATH, INTERCONNECT and PORT of DELAY, with COND, CONDELSE and edges, and SETUP and SETUPHOLD of TIMINGCHECK. A later entry stands in
+the place of an earlier one; INCREMENT is added to it. A unit is PS picoseconds (1 if not told otherwise), rounded up. A wire's delay is added
+to that of the pin at its end. What isn't of SDF's grammar, or of this netlist, is refused.
 Without --rise-fall a pin has one delay, the greater of its two. With it, the file is one of rfreplay: SDF tells delays by the transition
 of a gate's output, pdfgen by that of the line that the pin reads, so they change places at inverting gates; at XOR and XNOR, where either
-may come, a pin has the greater one twice, but where SDF tells the edge of the pin.
+may come, a pin has the greater one, but where SDF tells the edge of the pin or the value of the other one.
 
-The first row gives all pins 1,000,000 units: a pin that SDF forgets makes its paths the longest. Prints how many these are."""
-import sys
-from fractions import Fraction
+Delays that NET has no pin for are refused, but where they are 0 or left out: clock-to-Q, setup times and wires to flip-flops where NET has no
+buffers for them (--leave-out flip-flops), wires to outputs (output-wires) and of the clock (clock-wires).
 
-sys.dont_write_bytecode = True
-from circuit import read_circuit
-from names import escaped, read_map
-from pin_delays import FALL, RISE, PinDelays, condition_dropped
-from refusing import Refused, Words, read_text, refuse_overwriting, run, write_text
-from sdf import CORNERS, divider_of, name_of, parts, parts_of_name, picoseconds_of, read_lists, words_of
+The first row gives all pins 1,000,000 units: a pin, or an edge of one, that SDF forgets makes its paths the longest. The line that is printed
+tells how many these are, how many wires SDF tells of how many, how many entries were read, and how many, or parts of entries, were ignored,
+by reason."""
+from __future__ import annotations
 
-FORGOTTEN = 1000000
+from decimal import ROUND_CEILING
+from typing import List, NamedTuple, Optional, Sequence
 
+from pdfgen_tools.bench import Circuit, circuit_of
+from pdfgen_tools.delays import GREATEST_DELAY
+from pdfgen_tools.errors import Files, Refused, Words, run
+from pdfgen_tools.names import fit, map_of
+from pdfgen_tools.sdf.annotation import CORNERS, LEFT_OUT, Annotation
+from pdfgen_tools.sdf.design import Design
+from pdfgen_tools.sdf.reader import read
+from pdfgen_tools.sdf.tables import Delay, exactly
 
-def arguments():
-    parser = Words(__doc__)
-    for name in ("sdf", "net", "map", "delays"):
-        parser.add_argument(name, metavar=name.upper())
-    parser.add_argument("--corner", choices=CORNERS, default="max")
-    parser.add_argument("--unit", type=int, default=1, metavar="PS", help="picoseconds of a delay unit")
-    parser.add_argument("--rise-fall", action="store_true", help="two delays for each pin")
-    words = parser.parse_args()
-    if words.unit < 1:
-        parser.error("--unit is at least 1")
-    return words
+TOOL = "pdfgen-sdf"
+FORGOTTEN = GREATEST_DELAY  # units of a pin that SDF doesn't tell
+FEMTOSECONDS = 1000  # of a picosecond
 
 
-def read_cell(cell, divider, found):
-    """Takes in what a CELL says. What is wrong is told with the name of the cell, - of the whole design."""
-    instance = name_of(words_of(cell, "INSTANCE"), divider)
-    name = escaped(instance) if instance else ""
-    if instance and name not in found.kinds:
-        raise Refused(f"SDF: cell {instance} is none of MAP")
-    try:
-        for delay in parts(cell, "DELAY"):
-            if parts(delay, "INCREMENT"):
-                raise Refused("INCREMENT is not read")
-            for entry in (condition_dropped(entry) for absolute in parts(delay, "ABSOLUTE") for entry in absolute[1:]):
-                read_entry(name, entry, divider, found)
-        for check in (entry for checks in parts(cell, "TIMINGCHECK") for entry in parts(checks, "SETUP", "SETUPHOLD")):
-            found.add_setup(name, check)
-    except Refused as refusal:
-        raise Refused(f"SDF: cell {instance or '-'}: {refusal}")
+class Call:
+    """The words of a call."""
+
+    def __init__(self, words: Sequence[str]) -> None:
+        parser = Words(TOOL, __doc__)
+        parser.files("SDF", "NET", "MAP", "DELAYS")
+        parser.add_argument("--corner", choices=CORNERS, required=True)
+        parser.add_argument("--unit", type=int, default=1, metavar="PS", help="picoseconds of a delay unit")
+        parser.add_argument("--rise-fall", action="store_true", help="two delays for each pin")
+        parser.add_argument("--leave-out", choices=LEFT_OUT, action="append", default=[], help="delays that NET has no pin for")
+        found = parser.parse_args(words)
+        self.sdf: str = found.sdf
+        self.net: str = found.net
+        self.map: str = found.map
+        self.delays: str = found.delays
+        self.corner: str = found.corner
+        self.unit: int = found.unit
+        self.rise_fall: bool = found.rise_fall
+        self.left_out: List[str] = found.leave_out
+        if self.unit < 1:
+            parser.error("--unit is at least 1")
 
 
-def read_entry(cell, entry, divider, found):
-    """Takes in an entry of DELAY ABSOLUTE, of a cell or of the whole design."""
-    word = entry[0].upper() if isinstance(entry, list) and entry and isinstance(entry[0], str) else "an entry without a word"
-    end = {"IOPATH": 1, "INTERCONNECT": 2, "PORT": 1}.get(word)
-    if end is None or len(entry) < end + 2:
-        raise Refused(f"{word} is not read, or too short")
-    if word == "IOPATH":
-        found.add_path(cell, entry)
-    elif isinstance(entry[end], str) and parts_of_name(entry[end], divider):
-        *inside, pin = parts_of_name(entry[end], divider)
-        name = ".".join(([cell] if cell else []) + [escaped(part) for part in inside])
-        found.add_wire(name, pin, [part for part in entry if isinstance(part, list)])
-    else:
-        raise Refused(f"{word} to no pin")
+class Rows(NamedTuple):
+    """rows: of DELAYS, with their titles. told, pins, edges: how many pins SDF tells, how many it forgets, and of how many one edge."""
+    rows: List[str]
+    told: int
+    pins: int
+    edges: int
 
 
-def rows_of(circuit, found, units, rise_fall):
-    """The rows of DELAYS, and how many pins have none."""
-    rows = ["gate,pin,rise,fall", f"*,*,{FORGOTTEN},{FORGOTTEN}"] if rise_fall else ["gate,pin,delay", f"*,*,{FORGOTTEN}"]
-    forgotten = 0
-    for gate, (_, pins) in enumerate(circuit.gates):
+def units_of(delay: Delay, femtoseconds: int, unit: int) -> Optional[int]:
+    """Whole units, rounded up. Rounding up to femtoseconds first makes no difference, as a unit has a whole number of them."""
+    if delay is None:
+        return None
+    return -(-int((delay * femtoseconds).to_integral_value(ROUND_CEILING)) // (unit * FEMTOSECONDS))
+
+
+def rows_of(circuit: Circuit, annotation: Annotation, femtoseconds: int, call: Call) -> Rows:
+    """The rows of DELAYS. A pin has none where none of its edges is told, and, of one delay, where one isn't."""
+    rows = ["gate,pin,rise,fall", f"*,*,{FORGOTTEN},{FORGOTTEN}"] if call.rise_fall else ["gate,pin,delay", f"*,*,{FORGOTTEN}"]
+    told = pins = edges = 0
+    for (gate, pin), *delays in annotation.delays():
         name = circuit.names[circuit.source_count + gate]
-        for number in range(len(pins)):
-            delays = [found.delay((name, number), transition, units) for transition in (RISE, FALL)]
-            if None in delays:
-                forgotten += 1
-            elif max(delays) > FORGOTTEN:
-                raise Refused(f"pin {number} of {name}: {max(delays)} units, over {FORGOTTEN} (--unit)")
-            else:
-                rows.append(f"{name},{number}," + (f"{delays[RISE]},{delays[FALL]}" if rise_fall else str(max(delays))))
-    return rows, forgotten
+        rise, fall = (units_of(delay, femtoseconds, call.unit) for delay in delays)
+        most = max(rise or 0, fall or 0)
+        if most > FORGOTTEN:
+            raise Refused(f"SDF: pin {pin} of {name}: {most} units, over {FORGOTTEN} (--unit)")
+        if rise is None and fall is None:
+            pins += 1
+            continue
+        told += 1
+        edges += rise is None or fall is None
+        if call.rise_fall:
+            rows.append(f"{name},{pin},{FORGOTTEN if rise is None else rise},{FORGOTTEN if fall is None else fall}")
+        elif rise is not None and fall is not None:
+            rows.append(f"{name},{pin},{most}")
+    return Rows(rows, told, pins, edges)
 
 
-def main():
-    words = arguments()
-    circuit = read_circuit(words.net)
-    found = PinDelays(circuit, read_map(words.map), words.corner)
-    file = read_lists(read_text(words.sdf))
-    divider = divider_of(file)
-    for cell in parts(file, "CELL"):
-        read_cell(cell, divider, found)
-    rows, forgotten = rows_of(circuit, found, Fraction(picoseconds_of(file), words.unit), words.rise_fall)
-    if forgotten and len(rows) == 2:
+def work(words: Sequence[str], files: Files) -> None:
+    call = Call(words)
+    circuit = circuit_of(files.read(call.net))
+    map_ = map_of(files.read(call.map))
+    fit(map_, circuit)
+    design = Design(circuit, map_)
+    file, refuse_at = read(files.read(call.sdf))
+    annotation = Annotation(design, call.corner, call.left_out, file.divider, refuse_at)
+    with exactly():
+        annotation.take(file)
+        found = rows_of(circuit, annotation, file.femtoseconds, call)
+    if circuit.gates and not annotation.paths and not annotation.setups:
         raise Refused("SDF: no delay of any pin")
-    refuse_overwriting(words.delays)
-    write_text(words.delays, "".join(row + "\n" for row in rows))
-    print(f"pins {len(rows) - 2 + forgotten} forgotten {forgotten}")
-    return 0
+    files.write((call.delays, "".join(row + "\n" for row in found.rows)))
+    ignored = ", ".join(f"{reason} {count}" for reason, count in sorted(annotation.ignored.items()))
+    print(f"pins {found.told + found.pins} forgotten {found.pins} edges {found.edges} wires {len(annotation.wires)} of {design.wire_count} "
+          f"read {annotation.read} ignored {sum(annotation.ignored.values())}" + (f" ({ignored})" if ignored else ""))
 
 
-run(main)
+def main(words: Optional[Sequence[str]] = None) -> int:
+    """Does a call of pdfgen-sdf with these words (those of the command line if None), and answers its status."""
+    return run(TOOL, work, words)
