@@ -1,7 +1,7 @@
 """pdfgen-log, on fail lists worked out by hand."""
 from __future__ import annotations
 
-from typing import List
+from typing import List, Tuple
 
 from support import lines
 from stil_support import StilTest
@@ -44,8 +44,10 @@ class PdfgenLog(StilTest):
         net = lines("INPUT(a)", "OUTPUT(y)", "OUTPUT(z)", "q = DFF(z)", "y = BUFF(a)", "z = BUFF(a)")
         files = self.files(net, "q\n", lines("1 1 rise robust 00 10 11"), lines("1,rise,1,a,y:0,robust,1,-,-", "1,fall,1,a,y:0,untestable,-,-,1"))
         fails = self.write("fails", lines(HEAD))
-        for words, rows, counts in (((), [], "pass 0 fail 0 left out 1 masked"), (("--unmasked",), ["1,5,pass"], "pass 1 fail 0 left out 0 masked"),
-                                    (("--unmasked", "--mask-outputs", "--leave-out"), [], "pass 0 fail 0 left out 0 masked")):
+        cases: List[Tuple[List[str], List[str], str]] = [
+            ([], [], "pass 0 fail 0 left out 1 masked"), (["--unmasked"], ["1,5,pass"], "pass 1 fail 0 left out 0 masked"),
+            (["--unmasked", "--mask-outputs", "--leave-out"], [], "pass 0 fail 0 left out 0 masked")]
+        for words, rows, counts in cases:
             self.call(stil.main, *files, "--mode", "broadside", "--time", "5", *words)
             said = self.call(log.main, files[0], files[2], files[3], files[4], fails, "--log", self.path("log"))
             self.assertEqual(said, f"log: {counts}, 0 behind the last cycle\n")

@@ -65,7 +65,7 @@ class Place(NamedTuple):
     """Cycles of a program in which something is compared, and the test that has sampled it, by its place among those played. call: the strings
     where these cycles shift, else letters: what is compared in the one cycle that there is."""
     begins: int
-    count: int
+    cycles: int
     test: int
     letters: Mapping[str, str]
     shifts: bool
@@ -172,7 +172,7 @@ class Session:
         """What a fail is of; Refused where the file compares nothing there, or expects just this."""
         at = bisect.bisect_right(self.begins, fail.cycle) - 1
         place = self.places[at] if at >= 0 else None
-        if place is None or fail.cycle >= place.begins + place.count or fail.pin not in place.letters:
+        if place is None or fail.cycle >= place.begins + place.cycles or fail.pin not in place.letters:
             raise Refused(f"FAILS row {fail.row}: nothing is compared at {fail.pin} in this cycle (counted from 0 or 1?)")
         offset = fail.cycle - place.begins
         expected = {"L": "0", "H": "1"}.get(place.letters[fail.pin][offset])

@@ -30,7 +30,8 @@ class Bench:
         self.inputs = {signal.name: place for place, signal in enumerate(signal for signal in program.signals if signal.is_input)}
         self.outputs = {signal.name: place for place, signal in enumerate(signal for signal in program.signals if not signal.is_input)}
         self.clock = program.chains[0].clock
-        self.members = {**{signal.name: (signal.name,) for signal in program.signals}, **{group.name: group.members for group in program.groups}}
+        self.members: Dict[str, Tuple[str, ...]] = {signal.name: (signal.name,) for signal in program.signals}
+        self.members.update((group.name, group.members) for group in program.groups)
         self.buses = {unescaped(bus.port): [unescaped(bit) for bit in bus.bits()] for bus in buses}
         calls = [statement for statement in program.pattern if isinstance(statement, Call)]
         self.shifted = list(calls[0].values) if calls else []
