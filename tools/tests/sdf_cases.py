@@ -45,6 +45,7 @@ module top (a, b, clk, rst, up); input a, b, clk, rst; output [0:1] up; wire n, 
 NOT u1 (.A(a), .Y(n)); NAND u2 (.A(n), .B(b), .Y(m)); DFF f (.D(m), .C(clk), .R(rst), .Q(q));
 DXOR u3 (.A(q), .B(b), .Y(up[0])); inside core (.z(up[0]), .n(n), .w(up[1])); endmodule
 """
+KINDS = {"": "top", "core": "inside", "u1": "NOT", "u2": "NAND", "u3": "DXOR", "core/u4": "AND", "core.u4": "AND", "f": "DFF"}  # of each instance
 PINS = {  # where OpenSTA has the delays of a pin of NET: from which pin to which, and from which the wire to it comes
     "n,0": ("u1/A", "u1/Y", "a"), "m,0": ("u2/A", "u2/Y", "u1/Y"), "m,1": ("u2/B", "u2/Y", "b"), "q%setup,0": ("f/C", "f/D", "u2/Y"),
     "q%clock_to_q,0": ("f/C", "f/Q", ""), "z,0": ("u3/A", "u3/Y", "f/Q"), "z,1": ("u3/B", "u3/Y", "b"),
@@ -74,9 +75,9 @@ class Refusal(NamedTuple):
     header: str = "(DIVIDER /) (TIMESCALE 1ps)"
 
 
-def cell(instance: str, *entries: str, word: str = "ABSOLUTE", kind: str = "any") -> str:
-    """A CELL with these delays."""
-    return f'(CELL (CELLTYPE "{kind}") (INSTANCE {instance}) (DELAY ({word} {" ".join(entries)})))\n'
+def cell(instance: str, *entries: str, word: str = "ABSOLUTE", kind: str = "") -> str:
+    """A CELL with these delays, of the kind that it has in VERILOG if no other is told."""
+    return f'(CELL (CELLTYPE "{kind or KINDS.get(instance, "any")}") (INSTANCE {instance}) (DELAY ({word} {" ".join(entries)})))\n'
 
 
 def checks(*entries: str) -> str:
@@ -110,7 +111,7 @@ CASES: Dict[str, Case] = {
     "nothing": Case(cell("u2", "(IOPATH A Y ())") + cell("u1", "(IOPATH A Y (1))"), {"n,0": (1, 1)}),
     "one edge of a pin": Case(cell("u2", "(IOPATH (posedge A) Y (5) (6))"), {"m,0": (6, None)}),
     "both edges of a pin": Case(cell("u2", "(IOPATH (posedge B) Y (7) (8)) (IOPATH (negedge B) Y (3) (4))"), {"m,1": (8, 3)}),
-    "edges as numbers": Case(cell("u2", "(IOPATH (01 B) Y (7) (8)) (IOPATH (10 B) Y (3) (4))"), {"m,1": (8, 3)}),
+    "edges as numbers": Case(cell("u2", "(IOPATH (01 B) Y (7) (8)) (IOPATH (10 B) Y (3) (4))"), {"m,1": (8, 3)}, judged=False),
     "a gate that doesn't invert": Case(cell("core/u4", "(IOPATH A Y (3) (4)) (IOPATH B Y (5) (6))"), {"w,0": (3, 4), "w,1": (5, 6)}),
     "exclusive or": Case(cell("u3", "(IOPATH A Y (3) (4)) (IOPATH B Y (6) (5))"), {"z,0": (4, 4), "z,1": (6, 6)}),
     "edges of an exclusive or": Case(cell("u3", "(IOPATH (posedge A) Y (3) (4)) (IOPATH (negedge A) Y (5) (6))"), {"z,0": (4, 6)}),
@@ -179,7 +180,8 @@ CASES: Dict[str, Case] = {
     "a header in full": Case(cell("u1", "(IOPATH A Y (1))"), {"n,0": (1, 1)}, header=(
         '(DESIGN "top") (DATE "a (day)") (VENDOR "v") (PROGRAM "p \\" q") (VERSION "1 // 2") (DIVIDER /) (VOLTAGE 1.0:1.1:1.2) (PROCESS "slow")\n'
         "(TEMPERATURE 25) (TIMESCALE 1 ps)"), judged=False),
-    "comments and small letters": Case("/* (CELL\n // */" + cell("u1", "(iopath A Y // (9)\n (1))").replace("CELLTYPE", "celltype"), {"n,0": (1, 1)}),
+    "comments": Case("/* (CELL\n // */" + cell("u1", "(IOPATH A Y // (9)\n (1))"), {"n,0": (1, 1)}),
+    "small letters": Case(cell("u1", "(iopath A Y (1))").replace("CELLTYPE", "celltype"), {"n,0": (1, 1)}, judged=False),
     "backslashes": Case(cell("\\u\\1", "(IOPATH \\A Y (1) (2))") + cell("", "(PORT core\\.u4/A (3))") + cell("core\\.u4", "(IOPATH A Y (1))"),
                         {"n,0": (2, 1), "w,0": (4, 4)}, judged=False),
     "a type of yosys": Case(cell("u1", "(IOPATH A Y (1))", kind="$_NOT_"), {"n,0": (1, 1)}, judged=False),
@@ -198,7 +200,7 @@ GRAMMAR: Dict[str, Refusal] = {
     "colons alone": Refusal(cell("u1", "(IOPATH A Y (::))"), "SDF line 2: (::): a triple without numbers"),
     "no number": Refusal(cell("u1", "(IOPATH A Y (1x))"), "SDF line 2: (1x): not a value"),
     "no value": Refusal(cell("u1", "(IOPATH A Y)"), "SDF line 2: ): not a value"),
-    "thirteen values": Refusal(cell("u1", "(IOPATH A Y " + "(1) " * 13 + ")"), "SDF line 2: (: not )"),
+    "thirteen values": Refusal(cell("u1", "(IOPATH A Y " + "(1) " * 13 + ")"), "SDF line 2: (: not )", judged=False),
     "no output": Refusal(cell("u1", "(IOPATH A (1))"), "SDF line 2: A: not an input and an output"),
     "a bare number": Refusal(cell("u1", "(IOPATH A Y 1)"), "SDF line 2: 1: not a value"),
     "ABSOLUTE misspelled": Refusal(cell("u1", "(IOPATH A Y (1))", word="ABSOLUT"), "SDF line 2: ABSOLUT: not ABSOLUTE or INCREMENT or PATHPULSE or PATHPULSEPERCENT"),
@@ -244,12 +246,12 @@ DESIGN: Dict[str, Refusal] = {
     "the top by its name": Refusal(cell("top", "(PORT u1/A (1))"), "SDF line 2: cell top: none of MAP"),
     "an input that isn't there": Refusal(cell("u1", "(IOPATH A1 Y (1))"), "SDF line 2: cell u1: MAP has no pin A1"),
     "an output that isn't there": Refusal(cell("u1", "(IOPATH A Q (1))"), "SDF line 2: cell u1: MAP has no output Q"),
-    "a path of no cell": Refusal(cell("", "(IOPATH A Y (1))"), "SDF line 2: cell -: an IOPATH of no cell"),
-    "a path of an instance": Refusal(cell("core", "(IOPATH z w (1))"), "SDF line 2: cell core: an IOPATH of no cell"),
+    "a path of no cell": Refusal(cell("", "(IOPATH A Y (1))"), "SDF line 2: cell -: an IOPATH of no cell", judged=False),
+    "a path of an instance": Refusal(cell("core", "(IOPATH z w (1))"), "SDF line 2: cell core: an IOPATH of no cell", judged=False),
     "another kind": Refusal(cell("u1", "(IOPATH A Y (1))", kind="$_BUF_"), "SDF line 2: cell u1: it is of type $_BUF_, and of kind NOT in NET", judged=False),
     "a path from D": Refusal(cell("f", "(IOPATH D Q (1))"), "SDF line 2: cell f: MAP has no path from D"),
     "the other edge of the clock": Refusal(cell("f", "(IOPATH (negedge C) Q (1))"),
-                                           "SDF line 2: cell f: (negedge C), and the flip-flop takes its data at the rising edge"),
+                                           "SDF line 2: cell f: (negedge C), and the flip-flop takes its data at the rising edge", judged=False),
     "setup before the other edge": Refusal(checks("(SETUP D (negedge C) (1))"),
                                            "SDF line 2: cell f: (negedge C), and the flip-flop takes its data at the rising edge", judged=False),
     "setup of the clock": Refusal(checks("(SETUP C (posedge D) (1))"), "SDF line 2: cell f: MAP has no setup time of C before D", judged=False),
