@@ -16,10 +16,11 @@ import re
 import sys
 import tempfile
 import traceback
-from typing import Callable, Counter, Dict, List, NamedTuple, Sequence
+from typing import Callable, Counter, Dict, List, NamedTuple, Sequence, Tuple
 
+import sdf_cases
 from support import EXAMPLES, REPORT_HEADER, Main, called, lines
-from pdfgen_tools.cli import check_tests, explain, from_yosys
+from pdfgen_tools.cli import check_tests, explain, from_yosys, sdf
 
 STATUSES = {0, 1}  # of files that can be read and written
 BYTES = [chr(byte) for byte in (0, 9, 10, 13, 32, 34, 35, 37, 40, 41, 42, 43, 44, 45, 46, 47, 48, 49, 57, 58, 61, 65, 91, 92, 97, 120, 123, 125, 127, 128, 255)]
@@ -126,17 +127,28 @@ def yosys_case() -> Case:
     cells = {"s1": cell("$_DFF_PN0_", C=2, R=3, D="1", Q=6), "s2": cell("$_DFF_PN0_", C=2, R=3, D=6, Q=7),
              "ff": cell("$_DFF_PN0_", C=2, R=7, D=4, Q=8), "n": cell("$_NOT_", A=7, Y=9), "x": cell("$_XOR_", A=8, B=9, Y=11),
              "g": cell("$_NAND_", A=11, B=10, Y=5)}
-    nets = {name: {"bits": bits, "hide_name": 0, **more} for name, bits, more in (
-        ("r", [6, 7], {"offset": 2}), ("q", [8], {}), ("n", [9], {}), ("v w", [11], {}), ("up", [4, 8], {"upto": 1}))}
+    shown: List[Tuple[str, List[int], Dict[str, int]]] = [
+        ("r", [6, 7], {"offset": 2}), ("q", [8], {}), ("n", [9], {}), ("v w", [11], {}), ("up", [4, 8], {"upto": 1})]
+    nets = {name: {"bits": bits, "hide_name": 0, **more} for name, bits, more in shown}
     module = {"attributes": {"top": "1"}, "ports": ports, "cells": cells, "netnames": nets}
     text = json.dumps({"creator": "by hand", "modules": {"top": module}}, indent=1)
     return Case(from_yosys.main, {"json": text}, ["net", "map"], ["json", "net", "map", "--flip-flop-delays", "--hold", "in[1]=1"])
+
+
+def sdf_case() -> Case:
+    """An SDF file with an entry of each kind."""
+    names = ("edges as numbers", "two of three", "conditions in words", "what no condition covers", "wires to ports of a range", "setup under conditions",
+             "limits of pulses", "retained", "other checks", "clock to Q", "added", "wires inside of an instance", "pulses", "what a designer asks for", "comments")
+    text = sdf_cases.file("".join(sdf_cases.CASES[name].text for name in names), sdf_cases.CASES["a header in full"].header)
+    return Case(sdf.main, {"sdf": text, "net": sdf_cases.NET, "map": sdf_cases.MAP}, ["delays"], ["sdf", "net", "map", "delays", "--corner", "max", "--rise-fall"],
+                ["sdf", "sdf", "sdf", "map", "net"])
 
 
 CASES: Dict[str, Callable[[], Case]] = {
     "pdfgen-check-tests": lambda: of_run(check_tests.main, [], "net", "tests", "report"),
     "pdfgen-explain": lambda: of_run(explain.main, [], "net", "tests", "report", "replay", "--delays", "delays"),
     "pdfgen-from-yosys": yosys_case,
+    "pdfgen-sdf": sdf_case,
 }
 
 

@@ -12,7 +12,8 @@ from sdf_cases import MAP, PINS, VERILOG, Told
 ZEROS = " ".join(f'{table} (scalar) {{ values ("0.0"); }}' for table in ("cell_rise", "cell_fall", "rise_transition", "fall_transition"))
 LIMITS = " ".join(f'{table} (scalar) {{ values ("0.0"); }}' for table in ("rise_constraint", "fall_constraint"))
 UNITS = " ".join(f"{name} : {value};" for name, value in (
-    ("delay_model", "table_lookup"), ("time_unit", '"1ps"'), ("voltage_unit", '"1V"'), ("current_unit", '"1mA"'), ("pulling_resistance_unit", '"1kohm"'),
+    ("delay_model", "table_lookup"), ("time_unit", '"1ps"'), ("voltage_unit", '"1V"'), ("current_unit", '"1mA"'),
+    ("pulling_resistance_unit", '"1kohm"'),
     ("nom_voltage", "1.0"), ("nom_temperature", "25"), ("nom_process", "1"), *((f"{way}_threshold_pct_{edge}", "50") for way in ("input", "output")
                                                                                for edge in ("rise", "fall")),
     *((f"slew_{end}_threshold_pct_{edge}", value) for end, value in (("lower", "20"), ("upper", "80")) for edge in ("rise", "fall"))))
@@ -50,9 +51,10 @@ def library() -> str:
              for name, function in PLAIN_GATES.items() for pins in [["A"] if name == "NOT" else ["A", "B"]]]
     sides = "".join(timing(pin, "positive_unate", f'when : "!{side}"; sdf_cond : "!{side}";')
                     + timing(pin, "negative_unate", f'when : "{side}"; sdf_cond : "{side}";')
-                    + timing(pin, "negative_unate", "default_timing : true;") for pin, side in ("AB", "BA"))
+                    + timing(pin, "negative_unate", "default_timing : true;") for pin, side in (("A", "B"), ("B", "A")))
     flip_flop = (
-        'cell (DFF) { ff (IQ, IQN) { clocked_on : "C"; next_state : "D"; clear : "!R"; } pin (C) { direction : input; clock : true; capacitance : 0.0; }\n'
+        'cell (DFF) { ff (IQ, IQN) { clocked_on : "C"; next_state : "D"; clear : "!R"; }\n'
+        'pin (C) { direction : input; clock : true; capacitance : 0.0; }\n'
         f'pin (R) {{ direction : input; capacitance : 0.0; timing () {{ related_pin : "C"; timing_type : recovery_rising; {LIMITS} }} }}\n'
         f'pin (D) {{ direction : input; capacitance : 0.0; timing () {{ related_pin : "C"; timing_type : setup_rising; {LIMITS} }}\n'
         f'timing () {{ related_pin : "C"; timing_type : hold_rising; {LIMITS} }} }}\n'
@@ -72,7 +74,8 @@ def answers(folder: pathlib.Path, files: Dict[str, str]) -> Dict[str, Answer]:
     found = {}
     for name, text in files.items():
         (folder / "file.sdf").write_text(text)
-        ended = subprocess.run(["sta", "-no_init", "-no_splash", "-exit", "script"], cwd=folder, stdout=subprocess.PIPE, stderr=subprocess.STDOUT, text=True)
+        words = ["sta", "-no_init", "-no_splash", "-exit", "script"]
+        ended = subprocess.run(words, cwd=folder, stdout=subprocess.PIPE, stderr=subprocess.STDOUT, text=True)
         found[name] = answer(ended.stdout if ended.returncode == 0 else f"Error: status {ended.returncode}\n")
     return found
 

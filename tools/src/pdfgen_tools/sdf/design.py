@@ -50,8 +50,9 @@ class OutputPort(NamedTuple):
 
 class Design:
     """gates, flip_flops, outputs: by names. left_out: cells that NET doesn't have, as a flip-flop that keeps its value. scopes: names of
-    instances that have cells inside. drivers: the line that each output of a cell and each input port drives, None where NET has no such line. clocks, constants: names of ports. active: the edge at which flip-flops take their data.
-    wire_count: of how many pins of NET the wire's delay may be told. The map has to fit the circuit (names.fit)."""
+    instances that have cells inside. drivers: the line that each output of a cell and each input port drives, None where NET has no such
+    line. clocks, constants: names of ports. active: the edge at which flip-flops take their data. wire_count: of how many pins of NET the
+    wire's delay may be told. The map has to fit the circuit (names.fit)."""
 
     def __init__(self, circuit: Circuit, map_: Map) -> None:
         self.circuit = circuit

@@ -65,10 +65,10 @@ class NamedPatterns(NamedTuple):
 @functools.lru_cache(maxsize=None)
 def named(divider: str) -> NamedPatterns:
     path = rf"{NAME}(?:{re.escape(divider)}{NAME})*"
-    port = rf"(?:\s+({path})|\s*\(\s*({EDGE_WORD})\s+({path})\s*\))"
+    port = rf"(?:\s+({path})\s+|\s*\(\s*({EDGE_WORD})\s+({path})\s*\)\s*)"
     return NamedPatterns(
         divider, path,
-        iopath=re.compile(rf"{port}\s+({path})(?=[\s()])", re.ASCII),
+        iopath=re.compile(rf"{port}({path})(?=[\s()])", re.ASCII),
         wire=re.compile(rf"\s+({path})\s+({path})(?=[\s()])", re.ASCII),
         port=re.compile(rf"\s+({path})(?=[\s()])", re.ASCII),
         port_spec=re.compile(rf"\s*(?:({path})(?=[\s()])|\(\s*({EDGE_WORD})\s+({path})\s*\))", re.ASCII),
