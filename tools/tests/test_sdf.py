@@ -1,6 +1,7 @@
 """pdfgen-sdf, on the small files of sdf_cases.py, and on what they don't have."""
 from __future__ import annotations
 
+import itertools
 import re
 from typing import Tuple
 
@@ -8,6 +9,7 @@ import sdf_cases
 from sdf_cases import CASES, DESIGN, GRAMMAR, MAP, NET, Refusal, cell, checks, file
 from support import ToolTest, lines
 from pdfgen_tools.cli.sdf import main
+from pdfgen_tools.sdf.conditions import ConditionReader
 
 SMALL_NET = lines("INPUT(a)", "OUTPUT(y)", "q = DFF(n)", "n = NOT(a)", "y = AND(q, n)")
 SMALL_MAP = lines("pdfgen map 2", "what,name,line,value", "clock,clk,,falling", "input,a,a,", "output,y,y,", "flip_flop,f,q,", "gate,u1,n,A",
@@ -90,7 +92,8 @@ class Sdf(ToolTest):
                                                      for word in ("--leave-out", other)))
             self.assertIn(f"ignored 1 (left out: {kind} 1)\n", self.call(main, *words, "--unit", "1000", "--leave-out", kind))
             none = re.sub(r"\([2-6]\)", "(0.0:0.0:0.0)", text) + paths
-            self.assertIn("read 2 ignored 0\n", self.call(main, *self.words(file(none, "(DIVIDER /)"), net=SMALL_NET, map_text=SMALL_MAP), "--unit", "1000"))
+            words = self.words(file(none, "(DIVIDER /)"), net=SMALL_NET, map_text=SMALL_MAP)
+            self.assertIn("read 2 ignored 0\n", self.call(main, *words, "--unit", "1000"))
 
     def test_another_edge_of_the_clock(self) -> None:
         text = file(cell("f", "(IOPATH (posedge C) Q (0))"), "")
@@ -111,6 +114,29 @@ class Sdf(ToolTest):
         self.assertEqual(self.call(main, *self.words(text, net=SMALL_NET, map_text=map_text)), (
             "pins 3 forgotten 2 edges 0 wires 0 of 3 read 2 ignored 2 (pins at a constant 2)\n"))
         self.assertIn("n,0,2\n", self.read("delays"))
+
+    def test_conditions_of_each_kind_of_gate(self) -> None:
+        """B is 0 under the first condition, 1 under the second: which of the output's edges counts says the gate."""
+        entries = cell("u1", "(COND !B (IOPATH A Y (1) (2)))", "(COND B (IOPATH A Y (3) (4)))")
+        for kind, rise, fall in (("XOR", 4, 3), ("XNOR", 3, 4), ("AND", 3, 4), ("NAND", 4, 3), ("OR", 1, 2), ("NOR", 2, 1)):
+            net = lines("INPUT(a)", "INPUT(b)", "OUTPUT(y)", f"y = {kind}(a, b)")
+            map_text = lines("pdfgen map 2", "what,name,line,value", "input,a,a,", "input,b,b,", "output,y,y,", "gate,u1,y,A B")
+            self.call(main, *self.words(file(entries, "(TIMESCALE 1ps)"), net=net, map_text=map_text), "--rise-fall")
+            self.assertIn(f"y,0,{rise},{fall}\n", self.read("delays"), kind)
+
+    def test_operators_of_conditions(self) -> None:
+        """At which values of A, B and C these hold, 000 to 111."""
+        for text, holds in (
+                ("A", "00001111"), ("!A", "11110000"), ("~A", "11110000"), ("A&&B", "00000011"), ("A||B", "00111111"), ("A&B", "00000011"),
+                ("A|B", "00111111"), ("A^B", "00111100"), ("A~^B", "11000011"), ("A^~B", "11000011"), ("A==B", "11000011"), ("A!=B", "00111100"),
+                ("A===1'b1", "00001111"), ("A!==1'B1", "11110000"), ("A==0", "11110000"), ("A||B&&C", "00011111"), ("(A||B)&&C", "00010101"),
+                ("A|B^C&A", "00111111"), ("A^B|C", "01111101"), ("A&B==C", "00001001"), ("!A==B", "00111100"), ("{A,B}==2'b01", "00110000"),
+                ("{A,B}==2", "00001100"), ("{A,{B,C}}==3'o6", "00000010"), ("{A,B}==2'd1", "00110000"), ("{A,B,C}==3'h5", "00000100"),
+                ("&{A,B}", "00000011"), ("~&{A,B}", "11111100"), ("|{A,B}", "00111111"), ("~|{A,B}", "11000000"), ("^{A,B,C}", "01101001"),
+                ("~^{A,B}", "11000011"), ("^~{A,B}", "11000011"), ("~{A,B}==2'b10", "00110000"), ("A?B:C", "01010011"), ("A?1:B?0:C", "01001111")):
+            condition = ConditionReader(text, 0).read()
+            found = "".join(str(int(condition.holds(dict(zip("ABC", values))))) for values in itertools.product((0, 1), repeat=3))
+            self.assertEqual(found, holds, text)
 
     def test_names_with_any_bytes(self) -> None:
         net = lines("INPUT(a%23b[3])", "OUTPUT(y)", "y = BUFF(a%23b[3])")
