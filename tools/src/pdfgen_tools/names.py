@@ -33,6 +33,7 @@ MAP_HEADS = ("pdfgen map 2", "what,name,line,value")
 NAME_BYTES_AT_MOST = 255
 LONGEST_ENDING = len("%clock_to_q")  # what is put behind names of the design
 PLAIN = set(range(33, 127)) - set(b'"#(),=%*')
+PLAIN_NAME = re.compile(r"[!$&'+\--<>-~]{1,%d}" % (NAME_BYTES_AT_MOST - LONGEST_ENDING))  # as it is in NET
 
 
 class Clock(NamedTuple):
@@ -202,6 +203,8 @@ def is_name(text: str) -> bool:
 
 def escaped(name: str) -> str:
     """A name of the design, a letter for each byte, as NET and MAP spell it."""
+    if PLAIN_NAME.fullmatch(name):
+        return name
     if any(ord(letter) > 255 for letter in name):
         raise Refused(f"a name has what is no byte: {ascii(name[:40])}")
     text = "".join(chr(byte) if byte in PLAIN else f"%{byte:02X}" for byte in name.encode("latin-1"))

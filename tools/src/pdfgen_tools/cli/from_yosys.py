@@ -59,9 +59,11 @@ def counts(map_: Map) -> str:
 
 def work(words: Sequence[str], files: Files) -> None:
     call = Call(words)
-    writer = Writer(Design(module_of(files.read(call.json), call.top), call.held), call.buffers)
+    design = Design(module_of(files.read(call.json), call.top), call.held)
+    writer = Writer(design, call.buffers)
     netlist = writer.netlist()
-    circuit_of(netlist)  # a loop is refused here, not only by pdfgen
+    if not design.is_loop_free():
+        circuit_of(netlist)  # refuses a loop, unless what never changes cuts it
     files.write((call.net, netlist), (call.map, text_of(writer.map)))
     print(counts(writer.map))
 

@@ -8,7 +8,7 @@ import re
 from typing import Dict, List, NamedTuple, Optional, Sequence, Set, Tuple
 
 from pdfgen_tools.errors import Refused
-from pdfgen_tools.yosys.json_file import Bit, Module, YosysCell
+from pdfgen_tools.yosys.json_file import Bit, Wire, YosysCell
 from pdfgen_tools.yosys.naming import NetNames
 
 FLIP_FLOP = re.compile(r"\$_DFF_([PN])(?:([PN])[01])?_")
@@ -46,8 +46,8 @@ def clock_of(flip_flops: Sequence[YosysCell], inputs: Set[int], names: NetNames)
 class Holding:
     """Which nets have to have which values so that no reset is active. Each demand is followed back to ports, constants and flip-flops."""
 
-    def __init__(self, cells: Sequence[YosysCell], inputs: Set[int], held: Dict[int, int], names: NetNames) -> None:
-        self.drivers = {cell.net("Q" if is_flip_flop(cell) else "Y"): cell for cell in cells}
+    def __init__(self, flip_flops: Sequence[YosysCell], gates: Sequence[YosysCell], inputs: Set[int], held: Dict[int, int], names: NetNames) -> None:
+        self.drivers = {**{cell.net("Q"): cell for cell in flip_flops}, **{cell.net("Y"): cell for cell in gates}}
         self.inputs, self.names = inputs, names
         self.values = dict(held)
         self.settled: Set[int] = set()
@@ -101,12 +101,11 @@ class Holding:
         raise Refused(f"the reset {self.told(net)} is no input port, nor held by a synchronizer (hold its ports: --hold PIN={value})")
 
 
-def roles_of(module: Module, names: NetNames, held: Dict[int, int]) -> Roles:
+def roles_of(ports: Sequence[Wire], flip_flops: Sequence[YosysCell], gates: Sequence[YosysCell], names: NetNames, held: Dict[int, int]) -> Roles:
     """What the tester holds of a module. held: nets of input ports that the call gives a value."""
-    inputs = {bit for port in module.ports if port.direction == "input" for bit in port.bits if isinstance(bit, int)}
-    flip_flops = [cell for cell in module.cells if is_flip_flop(cell)]
+    inputs = {bit for port in ports if port.direction == "input" for bit in port.bits if isinstance(bit, int)}
     clock = clock_of(flip_flops, inputs, names)
-    holding = Holding([cell for cell in module.cells if set(cell.pins) & {"Q", "Y"}], inputs, held, names)
+    holding = Holding(flip_flops, gates, inputs, held, names)
     for cell in flip_flops:
         if "R" in cell.pins:
             holding.release(cell)

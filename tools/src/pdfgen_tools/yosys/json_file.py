@@ -8,6 +8,7 @@ from pdfgen_tools.errors import Refused
 
 Bit = Union[int, str]  # a net's number, or a constant: "0", "1", "x", "z"
 NOT_OF_YOSYS = "JSON: not what yosys writes"
+CONSTANTS = ("0", "1", "x", "z")
 
 
 class Wire(NamedTuple):
@@ -76,9 +77,24 @@ def module_of(text: str, top: Optional[str]) -> Module:
 def object_of(text: str) -> Dict[str, object]:
     """The object that a text spells, in which no name stands twice."""
     try:
-        return members(json.loads(text, object_pairs_hook=once_each))
+        found = json.loads(text)
+        if text.count('":') != count_of_names(found):  # a name stands twice, or one has these two letters: look at each
+            found = json.loads(text, object_pairs_hook=once_each)
+        return members(found)
     except (ValueError, RecursionError):
         raise Refused(NOT_OF_YOSYS)
+
+
+def count_of_names(part: object) -> int:
+    """How many names all objects in a part have."""
+    count, left = 0, [part]
+    for inside in left:
+        if isinstance(inside, dict):
+            count += len(inside)
+            left += [value for value in inside.values() if type(value) is dict or type(value) is list]
+        elif isinstance(inside, list):
+            left += [value for value in inside if type(value) is dict or type(value) is list]
+    return count
 
 
 def once_each(pairs: List[Tuple[str, object]]) -> Dict[str, object]:
@@ -97,11 +113,8 @@ def members(part: object) -> Dict[str, object]:
 
 def bits_of(part: object) -> Sequence[Bit]:
     """A part that has to be a list of bits."""
-    if not isinstance(part, list):
+    if not isinstance(part, list) or not all(type(bit) is int or bit in CONSTANTS for bit in part):
         raise Refused(NOT_OF_YOSYS)
-    for bit in part:
-        if type(bit) is not int and bit not in ("0", "1", "x", "z"):
-            raise Refused(NOT_OF_YOSYS)
     return part
 
 

@@ -10,7 +10,7 @@ from pdfgen_tools.yosys.json_file import Bit, Module, Wire, YosysCell
 from pdfgen_tools.yosys.naming import NetNames, names_of_nets
 
 KINDS = {"$_BUF_": "BUFF", **{f"$_{kind}_": kind for kind in ("NOT", "AND", "NAND", "OR", "NOR", "XOR", "XNOR")}}
-ONE_PIN = ("BUFF", "NOT")
+PINS = {word: ("A",) if kind in ("BUFF", "NOT") else ("A", "B") for word, kind in KINDS.items()}
 CONTROLLING = {"AND": 0, "NAND": 0, "OR": 1, "NOR": 1}
 INVERTED = ("NOT", "NAND", "NOR", "XNOR")
 CLOCK_TO_Q, SETUP, OUTPUT = "%clock_to_q", "%setup", "%output"  # behind a line's or a port's name: the buffer that carries this delay
@@ -30,7 +30,7 @@ class Simple(NamedTuple):
 
 
 def pins_of(cell: YosysCell) -> Tuple[str, ...]:
-    return ("A",) if KINDS[cell.kind] in ONE_PIN else ("A", "B")
+    return PINS[cell.kind]
 
 
 def simplified(cell: YosysCell, roles: Roles) -> Simple:
@@ -50,22 +50,13 @@ def simplified(cell: YosysCell, roles: Roles) -> Simple:
     return Simple(kind if len(left) == len(values) else "NOT" if inverted else "BUFF", left, None)
 
 
-def in_order(gates: Sequence[YosysCell]) -> List[YosysCell]:
-    """Gates, each behind those that it reads; those of loops are left out."""
-    number_of = {gate.net("Y"): number for number, gate in enumerate(gates)}
-    reads = [{number_of[bit] for pin in pins_of(gate) for bit in [gate.bit(pin)] if isinstance(bit, int) and bit in number_of} for gate in gates]
-    readers: List[List[int]] = [[] for _ in gates]
-    for number, read in enumerate(reads):
-        for other in read:
-            readers[other].append(number)
-    unknown = [len(read) for read in reads]
-    order = [number for number, count in enumerate(unknown) if count == 0]
-    for number in order:
-        for reader in readers[number]:
-            unknown[reader] -= 1
-            if unknown[reader] == 0:
-                order.append(reader)
-    return [gates[number] for number in order]
+def readers_of(gates: Sequence[YosysCell]) -> Dict[Bit, List[int]]:
+    """The gates that read each net or constant, by their numbers, once for each pin."""
+    readers: Dict[Bit, List[int]] = {}
+    for number, gate in enumerate(gates):
+        for pin in pins_of(gate):
+            readers.setdefault(gate.bit(pin), []).append(number)
+    return readers
 
 
 class Design:
@@ -81,7 +72,8 @@ class Design:
                 raise Refused(f"cell {cell.name}: {cell.kind} is no gate of a .bench netlist")
         self.inputs = [bit for port in module.ports if port.direction == "input" for bit in port.bits if isinstance(bit, int)]
         self.refuse_twice_driven()
-        self.roles = roles_of(module, self.names, self.held_nets(held))
+        self.roles = roles_of(module.ports, self.flip_flops, self.gates, self.names, self.held_nets(held))
+        self.readers = readers_of(self.gates)
         self.simple = self.settle_gates()
         still = {*self.roles.values} | ({self.roles.clock[0]} if self.roles.clock else set())
         self.states = {cell.net("Q") for cell in self.flip_flops} - still
@@ -104,16 +96,31 @@ class Design:
         return {bit: held[name] for name, bit in ports.items() if name in held and isinstance(bit, int)}
 
     def settle_gates(self) -> Dict[str, Simple]:
-        """What is left of each gate, by its cell's name. Gates of loops stay as they are: NET's reader refuses them."""
-        simple = {gate.name: Simple(KINDS[gate.kind], pins_of(gate), None) for gate in self.gates}
-        for gate in in_order(self.gates):
-            simple[gate.name] = simplified(gate, self.roles)
-            value = simple[gate.name].value
-            if value is not None:
-                known = self.roles.values.setdefault(gate.net("Y"), value)
-                if known != value:
-                    raise Refused(f"cell {gate.name}: is {value} where a reset asks for {known}")
+        """What is left of each gate that reads what never changes, by its cell's name. Values of gates that never change are added to roles."""
+        simple: Dict[str, Simple] = {}
+        left: List[Bit] = ["0", "1", *self.roles.values]
+        for bit in left:
+            for gate in map(self.gates.__getitem__, self.readers.get(bit, ())):
+                found = simple[gate.name] = simplified(gate, self.roles)
+                net = gate.net("Y")
+                if found.value is not None and self.roles.values.get(net) != found.value:
+                    if net in self.roles.values:
+                        raise Refused(f"cell {gate.name}: is {found.value} where a reset asks for {self.roles.values[net]}")
+                    self.roles.values[net] = found.value
+                    left.append(net)
         return simple
+
+    def is_loop_free(self) -> bool:
+        """Whether no gate reads what it drives, through others or not."""
+        unknown = [len(pins_of(gate)) for gate in self.gates]
+        driven = {gate.net("Y") for gate in self.gates}
+        known = [bit for bit in self.readers if bit not in driven]
+        for bit in known:
+            for number in self.readers.get(bit, ()):
+                unknown[number] -= 1
+                if unknown[number] == 0:
+                    known.append(self.gates[number].net("Y"))
+        return not any(unknown)
 
     def told(self, net: int) -> str:
         """What a net is that no line of NET may read."""
@@ -209,8 +216,9 @@ class Writer:
         self.logic.append(f"{state} = DFF({data})")
 
     def write_gate(self, cell: YosysCell) -> None:
-        simple, name = self.design.simple[cell.name], escaped(cell.name)
-        still = tuple(pin for pin in pins_of(cell) if pin not in simple.pins or simple.value is not None)
+        pins, name = pins_of(cell), escaped(cell.name)
+        simple = self.design.simple.get(cell.name) or Simple(KINDS[cell.kind], pins, None)
+        still = tuple(pin for pin in pins if pin not in simple.pins)
         if still:
             self.map.stills.append(Cell(name, "", still))
         if simple.value is not None:
