@@ -11,7 +11,7 @@ from typing import Callable, Collection, Dict, Iterable, Iterator, List, NamedTu
 
 from pdfgen_tools.errors import Refused
 from pdfgen_tools.sdf.design import CLOCK, DATA, OUTPUT_OF_FLIP_FLOP, OUTPUT_OF_GATE, RESETS, Design, FlipFlopCell, GateCell, GatePin, Pin
-from pdfgen_tools.sdf.entries import BOTH, Cell, Check, DelayFile, Edge, Path, PortSpec, Value, Wire
+from pdfgen_tools.sdf.entries import BOTH, Cell, Check, DelayFile, Edge, Path, PortSpec, Triple, Value, Wire
 from pdfgen_tools.sdf.tables import Delay, NothingToAddTo, PathDelays, SetupTimes, WireDelays
 
 CORNERS = ("min", "typ", "max")
@@ -22,6 +22,7 @@ ADVICE = {
     OUTPUT_WIRES: "NET has no buffer for it (--output-delays of pdfgen-from-yosys; --leave-out output-wires)",
     CLOCK_WIRES: "NET has no clock (--leave-out clock-wires)"}
 ZERO = Decimal(0)
+NUMBERS_KEPT = 100000
 PORTS_AT_MOST = 8  # of a cell whose delays have conditions
 TYPE_OF_YOSYS = re.compile(r"\$_([A-Z]+)_")
 KINDS_OF_YOSYS = {"BUF": "BUFF"}
@@ -49,6 +50,7 @@ class Annotation:
         self.read = 0
         self.ignored: Dict[str, int] = collections.Counter()
         self.at, self.cell = 0, ""
+        self.numbers_known: Dict[Triple, Decimal] = {}
 
     def refuse(self, reason: str) -> NoReturn:
         """Refuses the entry that is being read."""
@@ -89,7 +91,7 @@ class Annotation:
 
     def take_path(self, path: Path, gate: Optional[GateCell], flip_flop: Optional[FlipFlopCell]) -> None:
         """An IOPATH: from an input of a cell to its output."""
-        values = self.numbers(path.values)
+        values = self.numbers(path.values, path.is_increment)
         output = OUTPUT_OF_FLIP_FLOP if flip_flop else OUTPUT_OF_GATE
         name, sink = self.name(path.source.name), self.name(path.sink)
         if not gate and not flip_flop:
@@ -136,7 +138,8 @@ class Annotation:
             found.take(path, values)
         except NothingToAddTo:
             self.refuse("INCREMENT where no delay stands before it")
-        self.refuse_negative(found.told() if path.is_increment else values)
+        if path.is_increment:
+            self.refuse_negative(found.told())
         self.read += 1
 
     def refuse_negative(self, values: Iterable[Delay]) -> None:
@@ -181,7 +184,7 @@ class Annotation:
 
     def take_wire(self, wire: Wire, is_scope: bool) -> None:
         """An INTERCONNECT, or a PORT: the wire to the pin at its end. Inside of a cell only its own pins are named, by PORT."""
-        values = self.numbers(wire.values)
+        values = self.numbers(wire.values, wire.is_increment)
         if not is_scope and wire.source:
             self.refuse("an INTERCONNECT inside of it")
         sink = self.pin(wire.sink)
@@ -238,12 +241,15 @@ class Annotation:
             self.add_wire(wire, pin, values)
 
     def add_wire(self, wire: Wire, pin: GatePin, values: Sequence[Delay]) -> None:
-        found = self.wires.setdefault(pin, WireDelays())
+        found = self.wires.get(pin)
+        if found is None:
+            found = self.wires[pin] = WireDelays()
         try:
             found.take(values, wire.is_increment)
         except NothingToAddTo:
             self.refuse("INCREMENT where no delay stands before it")
-        self.refuse_negative(found.found)
+        if wire.is_increment:
+            self.refuse_negative(found.found)
         self.read += 1
 
     def leave_out(self, kind: str, what: str, values: Sequence[Delay]) -> None:
@@ -257,26 +263,34 @@ class Annotation:
             most = max(value for value in values if value is not None)
             self.refuse(f"{what} of {most}: {ADVICE[kind]}")
 
-    def numbers(self, values: Sequence[Value]) -> List[Delay]:
+    def numbers(self, values: Sequence[Value], is_increment: bool) -> List[Delay]:
         """The delays of a rise and of a fall, out of one value or more. More than two are for transitions from or to z."""
         if len(values) > 2:
             self.ignored["values for z"] += len(values) - 2
-        found = [self.number(value) for value in values[:2]]
-        return found if len(found) == 2 else found * 2
+        rise = self.number(values[0])
+        fall = rise if len(values) == 1 else self.number(values[1])
+        if not is_increment and ((rise is not None and rise < 0) or (fall is not None and fall < 0)):
+            self.refuse("a negative delay")
+        return [rise, fall]
 
     def number(self, value: Value) -> Delay:
-        """The number of a value in the corner, or None of an empty one."""
+        """The number of a value in the corner, or None of an empty one. Most files have few values, each many times."""
         if value is None:
             return None
-        minimum, typical, maximum = value
-        if minimum is not maximum:
-            told = [Decimal(number) for number in value if number]
-            if any(one > two for one, two in zip(told, told[1:])):
-                self.refuse(f"({':'.join(value)}) descends from min to max")
-        text = value[self.corner]
-        if not text:
-            self.refuse(f"no {CORNERS[self.corner]} value in ({':'.join(value)})")
-        return Decimal(text)
+        if value not in self.numbers_known:
+            if len(self.numbers_known) == NUMBERS_KEPT:
+                self.numbers_known.clear()
+            self.numbers_known[value] = self.number_of_triple(value)
+        return self.numbers_known[value]
+
+    def number_of_triple(self, triple: Triple) -> Decimal:
+        """The number of a triple in the corner, which has to be there; no number may be less than one in front of it."""
+        told = [Decimal(number) for number in triple if number]
+        if told != sorted(told):
+            self.refuse(f"({':'.join(triple)}) descends from min to max")
+        if not triple[self.corner]:
+            self.refuse(f"no {CORNERS[self.corner]} value in ({':'.join(triple)})")
+        return Decimal(triple[self.corner])
 
     def delays(self) -> Iterator[ToldDelay]:
         """The delays of all pins of NET, gate after gate, in the file's unit."""
@@ -311,6 +325,10 @@ class Annotation:
 
     def pin(self, spelled: str) -> Pin:
         """The pin of a cell, or the port, that a wire begins or ends at, as named inside of the cell that is being read."""
-        *inside, name = self.parts(spelled)
-        return Pin(".".join([self.cell, *inside] if self.cell else inside), name)
-
+        if "\\" in spelled:
+            *inside, name = self.parts(spelled)
+            cell = ".".join(inside)
+        else:
+            cell, _, name = spelled.rpartition(self.divider)
+            cell = cell.replace(self.divider, ".")
+        return Pin(f"{self.cell}.{cell}" if self.cell and cell else self.cell or cell, name)

@@ -9,7 +9,7 @@ from __future__ import annotations
 
 import functools
 import re
-from typing import Callable, Collection, Dict, Iterator, List, NamedTuple, NoReturn, Optional, Pattern, Tuple
+from typing import Callable, Collection, Dict, Iterator, List, NamedTuple, NoReturn, Optional, Pattern, Sequence, Tuple
 
 from pdfgen_tools.errors import Refused
 from pdfgen_tools.sdf.conditions import Condition, ConditionReader, NoCondition
@@ -19,6 +19,7 @@ EDGES = {"POSEDGE": (Edge.RISE,), "NEGEDGE": (Edge.FALL,), "01": (Edge.RISE,), "
 EDGES_OF_Z = ("0Z", "Z1", "1Z", "Z0")
 FEMTOSECONDS = {"fs": 1, "ps": 10 ** 3, "ns": 10 ** 6, "us": 10 ** 9, "ms": 10 ** 12, "s": 10 ** 15}
 VALUES_AT_MOST = 12
+VALUES_KEPT = 100000
 
 NUMBER = r"[+-]?(?:[0-9]{1,40}(?:\.[0-9]{0,40})?|\.[0-9]{1,40})(?:[eE][+-]?[0-9]{1,2})?"
 TRIPLE = rf"(?:{NUMBER}|(?={NUMBER}|\s*:\s*{NUMBER}|\s*:\s*:\s*{NUMBER})(?:{NUMBER})?\s*:\s*(?:{NUMBER})?\s*:\s*(?:{NUMBER})?)"
@@ -37,9 +38,9 @@ CLOSE, QUOTED = pattern(r"\)"), pattern(STRING)
 WORD, WORD_OR_CLOSE = (pattern(rf"{close}\(\s*([A-Za-z]+)(?![A-Za-z0-9_$\\])") for close in ("", r"\)|\s*"))
 END, NEXT = pattern(r"\Z"), pattern(r"([()]|[^\s()]{1,20})?")
 LIST = pattern(r"(\([^()]{0,40}\))")
-ONE_VALUE = rf"(\()\s*({NUMBER})?\s*(?:(:)\s*({NUMBER})?\s*:\s*({NUMBER})?\s*)?\)"
-VALUE = pattern(ONE_VALUE)
-ONE_OR_TWO = pattern(rf"{ONE_VALUE}(?:\s*{ONE_VALUE})?\s*\)")  # and the end of an entry: what most have
+VALUE = pattern(rf"\(\s*({NUMBER})?\s*(?:(:)\s*({NUMBER})?\s*:\s*({NUMBER})?\s*)?\)")
+ONE_OR_TWO_LISTS = r"\s*(\([^()]*\))\s*(\([^()]*\))?\s*\)"  # values, if each is one, and the end of an entry
+ONE_OR_TWO = re.compile(ONE_OR_TWO_LISTS)
 PULSES = pattern(r"\((?=\s*\()")
 HEADER = {  # the parts of a header, and what stands in each
     **{word: pattern(STRING) for word in ("SDFVERSION", "DESIGN", "DATE", "VENDOR", "PROGRAM", "VERSION", "PROCESS")},
@@ -51,9 +52,11 @@ PASSED_CHECKS = {  # how many ports and values a check has that says nothing of 
 
 
 class NamedPatterns(NamedTuple):
-    """Patterns of what has names, with this divider between their parts. path: the text of that of a name."""
+    """Patterns of what has names, with this divider between their parts. path: the text of that of a name. plain: the whole of an IOPATH
+    without an edge or of an INTERCONNECT, with one or two plain values, which most entries are."""
     divider: str
     path: str
+    plain: Pattern[str]
     iopath: Pattern[str]
     wire: Pattern[str]
     port: Pattern[str]
@@ -68,12 +71,19 @@ def named(divider: str) -> NamedPatterns:
     port = rf"(?:\s+({path})\s+|\s*\(\s*({EDGE_WORD})\s+({path})\s*\)\s*)"
     return NamedPatterns(
         divider, path,
+        plain=re.compile(rf"\s*\(\s*(?:(IOPATH)|INTERCONNECT)\s+({path})\s+({path}){ONE_OR_TWO_LISTS}", re.ASCII),
         iopath=re.compile(rf"{port}({path})(?=[\s()])", re.ASCII),
         wire=re.compile(rf"\s+({path})\s+({path})(?=[\s()])", re.ASCII),
         port=re.compile(rf"\s+({path})(?=[\s()])", re.ASCII),
         port_spec=re.compile(rf"\s*(?:({path})(?=[\s()])|\(\s*({EDGE_WORD})\s+({path})\s*\))", re.ASCII),
         instance=re.compile(rf"\s*\(\s*INSTANCE(?:\s+({path})|\s*(\*))?\s*\)", re.ASCII | re.IGNORECASE),
         kind=re.compile(rf"\s*\(\s*CELLTYPE\s*({STRING})\s*\)", re.ASCII | re.IGNORECASE))
+
+
+@functools.lru_cache(maxsize=1024)
+def both_edges(name: str) -> PortSpec:
+    """A port without an edge."""
+    return PortSpec(name, BOTH, "")
 
 
 class Reader:
@@ -83,6 +93,7 @@ class Reader:
         self.text = without_comments(text)
         self.at = 0
         self.named = named(".")
+        self.values_known: Dict[str, Value] = {}
 
     def refuse(self, expected: str, at: Optional[int] = None) -> NoReturn:
         """Refuses what stands next, or at a place: another thing is expected."""
@@ -188,12 +199,28 @@ class Reader:
         """What stands in DELAY."""
         for word in self.lists("ABSOLUTE", "INCREMENT", "PATHPULSE", "PATHPULSEPERCENT"):
             if word in ("ABSOLUTE", "INCREMENT"):
+                self.plain_delays(word == "INCREMENT", cell)
                 for entry in self.lists("IOPATH", "INTERCONNECT", "PORT", "COND", "CONDELSE", "NETDELAY", "DEVICE"):
                     self.delay(entry, word == "INCREMENT", cell)
+                    self.plain_delays(word == "INCREMENT", cell)
             else:
                 self.take_if(self.named.wire)
                 self.values(2, cell.passed_over)
                 cell.passed_over.append(word)
+
+    def plain_delays(self, is_increment: bool, cell: Cell) -> None:
+        """The plain entries that come next, if any."""
+        match = self.named.plain.match
+        found = match(self.text, self.at)
+        while found:
+            begin, self.at = found.start(2), found.end()
+            is_path, source, sink, first, second = found.groups()
+            values = self.one_or_two_of(found, first, second)
+            if is_path:
+                cell.paths.append(Path(begin, both_edges(source), sink, values, None, False, is_increment))
+            else:
+                cell.wires.append(Wire(begin, source, sink, values, is_increment))
+            found = match(self.text, self.at)
 
     def delay(self, word: str, is_increment: bool, cell: Cell) -> None:
         """An entry of ABSOLUTE or INCREMENT, behind its word."""
@@ -218,7 +245,7 @@ class Reader:
         """An IOPATH, behind its word."""
         ports = self.take(self.named.iopath, "an input and an output")
         word, edge = ports[1], ports[2]
-        source = PortSpec(word, BOTH, "") if edge is None else self.edged(edge, ports[3])
+        source = both_edges(word) if edge is None else self.edged(edge, ports[3])
         values = self.one_or_two()
         while not values and self.take_if(RETAIN):
             self.values(3, cell.passed_over)
@@ -239,9 +266,25 @@ class Reader:
         if not found:
             return None
         self.at = found.end()
-        groups = found.groups("")
-        first = self.triple(*groups[1:5])
-        return [first, self.triple(*groups[6:])] if groups[5] else [first]
+        return self.one_or_two_of(found, *found.groups())
+
+    def one_or_two_of(self, found: "re.Match[str]", first: str, second: Optional[str]) -> List[Value]:
+        """The values that these texts are, the last groups of what was found."""
+        count = found.re.groups
+        values = [self.value_of(first, found.start(count - 1))]
+        if second is not None:
+            values.append(self.value_of(second, found.start(count)))
+        return values
+
+    def value_of(self, text: str, at: int) -> Value:
+        """The value at a place, where this text stands. Most files have few such texts, each many times."""
+        if text not in self.values_known:
+            if len(self.values_known) == VALUES_KEPT:
+                self.values_known.clear()
+            behind, self.at = self.at, at
+            self.values_known[text] = self.value()
+            self.at = behind
+        return self.values_known[text]
 
     def values(self, at_most: int, passed_over: List[str]) -> List[Value]:
         """The values of an entry, one at least, and its end. Of a value with limits of its pulses, ((1) (2) (3)), the first."""
@@ -267,10 +310,7 @@ class Reader:
                 self.refuse_at(text.start(1), f"{text[1]}: not a value")
             self.refuse("a value")
         self.at = found.end()
-        return self.triple(*found.groups("")[1:])
-
-    def triple(self, minimum: str, colon: str, typical: str, maximum: str) -> Value:
-        """The value of these numbers, which have a colon between them or are a single one."""
+        minimum, colon, typical, maximum = found.groups("")
         if not colon:
             return Triple(minimum, minimum, minimum) if minimum else None
         if not (minimum or typical or maximum):
@@ -324,7 +364,7 @@ class Reader:
             self.at = conditional.end()
             condition = self.condition().text
         found = self.take(self.named.port_spec, "a port")
-        port = PortSpec(found[1], BOTH, "") if found[1] is not None else self.edged(found[2], found[3])
+        port = both_edges(found[1]) if found[1] is not None else self.edged(found[2], found[3])
         if conditional:
             self.close()
         return port, condition

@@ -39,25 +39,29 @@ class PathDelays:
 
     def take(self, path: Path, values: Sequence[Delay]) -> None:
         """Takes in an entry with these values for a rise and a fall of the output. NothingToAddTo where it can't be added."""
-        is_plain = path.condition is None and not path.is_else
         for edge in path.source.edges:
             for out, value in enumerate(values):
                 if value is None:
                     continue
                 at = 2 * edge + out
-                if not is_plain:
+                if path.condition is not None or path.is_else:
                     self.take_special(path, at, value)
                 elif path.is_increment:
                     self.add(at, value)
                 else:
                     self.always[at] = value
-                    for table in self.special():
-                        table[at] = None
+                    if self.conditional or self.otherwise:
+                        self.drop_special(at)
 
     def special(self) -> List[List[Delay]]:
         """The numbers of CONDELSE and of conditions."""
         tables = [table for _, table in self.conditional.values()]
         return tables if self.otherwise is None else [self.otherwise, *tables]
+
+    def drop_special(self, at: int) -> None:
+        """Leaves no number of CONDELSE and of conditions for these edges."""
+        for table in self.special():
+            table[at] = None
 
     def take_special(self, path: Path, at: int, value: Decimal) -> None:
         """Takes in a number of CONDELSE or of a condition. One that it has to be added to may be that of entries without."""
@@ -88,8 +92,9 @@ class PathDelays:
     def delay(self, kind: str, edge: Edge, pin: str, sides: Sequence[str]) -> Delay:
         """The longest that an edge of this pin takes to show at the output of a gate of this kind, over all values of its other pins at
         which it does, and of the other ports that conditions read. None where one of them has no delay."""
+        outs = outs_of(kind, edge, len(sides))
         if not self.conditional and self.otherwise is None:
-            return longest(self.always[2 * edge + out] for out in outs_of(kind, edge, len(sides)))
+            return self.always[2 * edge + outs[0]] if len(outs) == 1 else longest(self.always[2 * edge + out] for out in outs)
         others = sorted(self.ports() - {pin, *sides})
         return longest(self.delay_at(2 * edge + out, {pin: 1 - edge, **values, **dict(zip(others, other_values))})
                        for values, out in side_values(kind, edge, sides) for other_values in itertools.product((0, 1), repeat=len(others)))
@@ -125,6 +130,7 @@ class SetupTimes:
 
 class WireDelays:
     """The delays of a wire, by the transition of its line."""
+    __slots__ = ("found",)
 
     def __init__(self) -> None:
         self.found: List[Delay] = [None, None]
@@ -157,7 +163,7 @@ def outs_of(kind: str, edge: Edge, sides: int) -> Sequence[Edge]:
     """The edges of a gate's output that an edge of one pin may cause."""
     if kind in ("XOR", "XNOR") and sides:
         return BOTH
-    return (Edge(1 - edge) if kind in INVERTING else edge,)
+    return (BOTH[1 - edge] if kind in INVERTING else edge,)
 
 
 def side_values(kind: str, edge: Edge, sides: Sequence[str]) -> Iterator[Tuple[Dict[str, int], Edge]]:
@@ -168,4 +174,4 @@ def side_values(kind: str, edge: Edge, sides: Sequence[str]) -> Iterator[Tuple[D
         return
     for values in itertools.product((0, 1), repeat=len(sides)):
         turned = (sum(values) + (kind == "XNOR")) % 2
-        yield dict(zip(sides, values)), Edge(edge ^ turned)
+        yield dict(zip(sides, values)), BOTH[edge ^ turned]
