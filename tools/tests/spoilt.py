@@ -20,7 +20,7 @@ from typing import Callable, Counter, Dict, List, NamedTuple, Sequence, Tuple
 
 import sdf_cases
 from support import EXAMPLES, REPORT_HEADER, Main, called, lines
-from pdfgen_tools.cli import check_tests, explain, from_yosys, sdf
+from pdfgen_tools.cli import check_tests, explain, from_yosys, log, sdf, stil
 
 STATUSES = {0, 1}  # of files that can be read and written
 BYTES = [chr(byte) for byte in (0, 9, 10, 13, 32, 34, 35, 37, 40, 41, 42, 43, 44, 45, 46, 47, 48, 49, 57, 58, 61, 65, 91, 92, 97, 120, 123, 125, 127, 128, 255)]
@@ -144,11 +144,49 @@ def sdf_case() -> Case:
                 ["sdf", "sdf", "sdf", "map", "net"])
 
 
+def scanned_files() -> Dict[str, str]:
+    """A run of mode broadside on two chains, one flip-flop on none, with a map, and cycles before the first load."""
+    net = lines("INPUT(a)", "INPUT(b[1])", "OUTPUT(y)", "OUTPUT(z)", "p = DFF(y)", "q = DFF(z)", "u = DFF(a)", "y = AND(a, q)", "z = OR(b[1], p)")
+    tests = lines("pdfgen tests 1", "sources a b[1] p q u", "observed y z a", "1 1 rise robust 00110 10010 101", "2 2 fall robust 01000 10010 101")
+    report = lines(REPORT_HEADER, "1,rise,1,a,y:0,robust,1,-,-", "1,fall,1,a,y:0,untestable,-,-,1", "2,rise,1,b[1],z:0,untestable,-,-,2",
+                   "2,fall,1,b[1],z:0,robust,2,-,-")
+    map_ = lines("pdfgen map 2", "what,name,line,value", "clock,ck,,falling", "held,b[0],,1", "settled,s,,1", "input,a,a,", "input,b[1],b[1],",
+                 "output,y,y,", "output,z,z,", "flip_flop,p%20,p,", "flip_flop,q,q,", "flip_flop,u,u,", "bus,b,,1:0")
+    return {"net": net, "scan": "p\n\nq\n\nu\n", "tests": tests, "report": report, "map": map_, "setup": lines("2 b[0]=0 ck=P", "a=1")}
+
+
+STIL_WORDS = ["net", "scan", "tests", "report", "stil", "--mode", "broadside", "--time", "70", "--slow", "1000", "--unmasked", "--map", "map", "--setup",
+              "setup", "--unscanned", "u", "--inverted", "q", "--hold", "h=0", "--leave-out", "--testbench", "testbench", "--module", "chip"]
+
+
+def stil_case() -> Case:
+    return Case(stil.main, scanned_files(), ["stil", "testbench"], STIL_WORDS)
+
+
+def log_case() -> Case:
+    """What pdfgen-stil writes of the same, and two fails of it."""
+    inputs = scanned_files()
+    with tempfile.TemporaryDirectory(prefix="pdfgen-spoilt-") as name:
+        folder = pathlib.Path(name)
+        for role, text in inputs.items():
+            (folder / role).write_text(text)
+        status, _, err = called(stil.main, [str(folder / word) if word in (*inputs, "stil", "testbench") else word for word in STIL_WORDS])
+        if status:
+            raise AssertionError(err)
+        inputs["stil"] = (folder / "stil").read_text()
+    inputs["fails"] = lines("cycle,pin,value", "8,y,0", "10,scan_out1,0")
+    del inputs["scan"], inputs["setup"]
+    return Case(log.main, inputs, ["log"], ["net", "tests", "report", "stil", "fails", "--map", "map", "--log", "log"],
+                ["stil", "stil", "stil", "fails", "tests", "map", "net", "report"])
+
+
 CASES: Dict[str, Callable[[], Case]] = {
     "pdfgen-check-tests": lambda: of_run(check_tests.main, [], "net", "tests", "report"),
     "pdfgen-explain": lambda: of_run(explain.main, [], "net", "tests", "report", "replay", "--delays", "delays"),
     "pdfgen-from-yosys": yosys_case,
     "pdfgen-sdf": sdf_case,
+    "pdfgen-stil": stil_case,
+    "pdfgen-log": log_case,
 }
 
 

@@ -6,6 +6,7 @@ delays take what was there before. It prints how many bits were compared and how
 +fails=FILE, as a tester does: cycle,pin,value."""
 from __future__ import annotations
 
+import re
 from typing import Dict, Iterator, List, Mapping, NamedTuple, Sequence, Tuple
 
 from pdfgen_tools.errors import Refused
@@ -180,6 +181,8 @@ def literal(letters: str) -> str:
 
 def spelled(name: str) -> str:
     """A name as an escaped one, which may have any letters but blanks."""
+    if not re.fullmatch("[!-~]+", name):
+        raise Refused(f"port {name}: a name with a blank is none of Verilog")
     return f"\\{name} "
 
 
