@@ -8,7 +8,7 @@ KINDS = ("AND", "NAND", "OR", "NOR", "XOR", "XNOR", "NOT")
 INPUTS, OUTPUTS = 100, 100
 NEAR = 3000  # how far back a gate reads: so levels are some tens
 REPORT_HEADER = "path,direction,length,source,steps,verdict,test,robust_proof,nonrobust_proof"
-PAIRS = 200
+PAIRS, TRIES_OF_PAIRS = 200, 20000
 
 
 def yosys_json(gates, flip_flops, seed=1):
@@ -79,30 +79,34 @@ def sdf(map_rows, circuit, seed=1):
 def run_of(circuit, count, seed=1):
     """TESTS, REPORT and SCAN of mode skewed: so many tests, each of a path of its own."""
     chance = random.Random(seed)
-    drawn = [skewed_pair(circuit, chance) for _ in range(PAIRS)]
-    pairs = judging.JudgedPairs(circuit, drawn)
-    reached = reached_by(pairs, circuit)
-    expected = pairs.values_after(circuit.observed)
     tests, faults, seen = [], [], set()
     while len(tests) < count:
-        pair, end = chance.randrange(PAIRS), chance.choice(circuit.observed)
-        source, steps = traced(circuit, pairs, reached, pair, end, chance)
-        if not steps or steps in seen:
-            continue
-        seen.add(steps)
-        number, (first, second) = len(tests) + 1, drawn[pair]
-        direction = "rise" if second[source] == "1" else "fall"
-        fault = run_files.Fault(number, direction, len(steps), source, steps, "", number, None, None)
-        kind = "robust" if pairs.meets(fault, "robust") >> pair & 1 else "nonrobust"
-        tests.append(f"{number} {number} {direction} {kind} {first} {second} {expected[pair]}")
-        named_steps = " ".join(f"{circuit.names[circuit.source_count + gate]}:{pin}" for gate, pin in steps)
-        for way in ("rise", "fall"):
-            verdict = f"{kind},{number},{'-' if kind == 'robust' else 1},-" if way == direction else "untestable,-,-,1"
-            faults.append(f"{number},{way},{len(steps)},{circuit.names[source]},{named_steps},{verdict}")
+        drawn = [skewed_pair(circuit, chance) for _ in range(PAIRS)]
+        pairs = judging.JudgedPairs(circuit, drawn)
+        reached, expected = reached_by(pairs, circuit), pairs.values_after(circuit.observed)
+        for _ in range(TRIES_OF_PAIRS):
+            pair, end = chance.randrange(PAIRS), chance.choice(circuit.observed)
+            source, steps = traced(circuit, pairs, reached, pair, end, chance)
+            if steps and steps not in seen and len(tests) < count:
+                seen.add(steps)
+                add_test(tests, faults, circuit, pairs, pair, drawn[pair], expected[pair], source, steps)
     heads = ["pdfgen tests 1", " ".join(["sources", *circuit.names[:circuit.source_count]]),
              " ".join(["observed", *(circuit.names[line] for line in circuit.observed)])]
     scan = "".join(circuit.names[line] + "\n" for line, _ in circuit.flip_flops)
     return "\n".join(heads + tests) + "\n", "\n".join([REPORT_HEADER, *faults]) + "\n", scan
+
+
+def add_test(tests, faults, circuit, pairs, pair, vectors, expected, source, steps):
+    """Adds the line of a test, and the two of its path."""
+    number, (first, second) = len(tests) + 1, vectors
+    direction = "rise" if second[source] == "1" else "fall"
+    fault = run_files.Fault(number, direction, len(steps), source, steps, "", number, None, None)
+    kind = "robust" if pairs.meets(fault, "robust") >> pair & 1 else "nonrobust"
+    tests.append(f"{number} {number} {direction} {kind} {first} {second} {expected}")
+    named_steps = " ".join(f"{circuit.names[circuit.source_count + gate]}:{pin}" for gate, pin in steps)
+    for way in ("rise", "fall"):
+        verdict = f"{kind},{number},{'-' if kind == 'robust' else 1},-" if way == direction else "untestable,-,-,1"
+        faults.append(f"{number},{way},{len(steps)},{circuit.names[source]},{named_steps},{verdict}")
 
 
 def reached_by(pairs, circuit):

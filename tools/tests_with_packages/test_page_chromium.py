@@ -87,7 +87,7 @@ class Page(ToolTest):
         self.assertIn("each that begins with the source of path 2", detail(self.page("#fault=4")))
 
     def test_10000_paths(self) -> None:
-        names = [self.write(name, text) for name, text in zip(("n", "t", "r", "p"), large_run(self.folder, 3000, 10000))]
+        names = [self.write(name, text) for name, text in zip(("n", "t", "r", "p"), large_run(self.folder, 15000, 10000))]
         self.assertIn("paths 10000", self.call(main, *names, self.path("page.html")))
         found = re.search(r'data-ready="([0-9]+)"', opened(self.folder / "page.html", "#fault=17"))
         self.assertIsNotNone(found)
