@@ -20,10 +20,14 @@ from typing import Callable, Counter, Dict, List, NamedTuple, Sequence, Tuple
 
 import sdf_cases
 from support import EXAMPLES, REPORT_HEADER, Main, called, lines
-from pdfgen_tools.cli import check_tests, explain, from_yosys, log, sdf, stil
+from pdfgen_tools.cli import check_tests, explain, from_yosys, log, page, sdf, stil, waves
 
 STATUSES = {0, 1}  # of files that can be read and written
 BYTES = [chr(byte) for byte in (0, 9, 10, 13, 32, 34, 35, 37, 40, 41, 42, 43, 44, 45, 46, 47, 48, 49, 57, 58, 61, 65, 91, 92, 97, 120, 123, 125, 127, 128, 255)]
+
+
+PROOFS = lines("pdfgen proofs 1", "1 refutes nonrobust rise 1 1 V0 X H0 X V0 X X", "2 refutes robust fall 1 1 X", "3 spent robust rise 2 2 V0 O X",
+               "4 refutes nonrobust fall 2 0 X")
 
 
 class Case(NamedTuple):
@@ -109,7 +113,7 @@ def run_files() -> Dict[str, str]:
                    "2,fall,2,a,m:0 y:1,untestable,-,-,4")
     tests = lines("pdfgen tests 1", "sources a", "observed y", "1 1 fall nonrobust 1 0 0", "2 2 rise nonrobust 0 1 0")
     return {"net": (EXAMPLES / "hazard.bench").read_text(), "tests": tests, "report": report, "replay": lines("1 1 differs", "2 0 same"),
-            "delays": (EXAMPLES / "hazard.csv").read_text(), "scan": ""}
+            "delays": (EXAMPLES / "hazard.csv").read_text(), "proofs": PROOFS}
 
 
 def of_run(main: Main, outputs: Sequence[str], *words: str) -> Case:
@@ -184,6 +188,8 @@ CASES: Dict[str, Callable[[], Case]] = {
     "pdfgen-check-tests": lambda: of_run(check_tests.main, [], "net", "tests", "report"),
     "pdfgen-explain": lambda: of_run(explain.main, [], "net", "tests", "report", "replay", "--delays", "delays"),
     "pdfgen-from-yosys": yosys_case,
+    "pdfgen-waves": lambda: of_run(waves.main, ["vcd"], "net", "delays", "tests", "report", "vcd", "--test", "2", "--time", "3", "--all"),
+    "pdfgen-page": lambda: of_run(page.main, ["page"], "net", "tests", "report", "proofs", "page"),
     "pdfgen-sdf": sdf_case,
     "pdfgen-stil": stil_case,
     "pdfgen-log": log_case,
