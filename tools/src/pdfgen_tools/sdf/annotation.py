@@ -7,7 +7,7 @@ from __future__ import annotations
 import collections
 import re
 from decimal import Decimal
-from typing import Callable, Collection, Dict, Iterable, Iterator, List, NamedTuple, NoReturn, Optional, Sequence, Tuple
+from typing import Callable, Collection, Counter, Dict, Iterable, Iterator, List, NamedTuple, NoReturn, Optional, Sequence, Tuple
 
 from pdfgen_tools.errors import Refused
 from pdfgen_tools.sdf.design import CLOCK, DATA, OUTPUT_OF_FLIP_FLOP, OUTPUT_OF_GATE, RESETS, Design, FlipFlopCell, GateCell, GatePin, Pin
@@ -48,7 +48,7 @@ class Annotation:
         self.setups: Dict[GatePin, SetupTimes] = {}
         self.wires: Dict[GatePin, WireDelays] = {}
         self.read = 0
-        self.ignored: Dict[str, int] = collections.Counter()
+        self.ignored: Counter[str] = collections.Counter()
         self.at, self.cell = 0, ""
         self.numbers_known: Dict[Triple, Decimal] = {}
 
@@ -64,8 +64,7 @@ class Annotation:
 
     def take_cell(self, cell: Cell) -> None:
         self.cell = ".".join(self.parts(cell.instance))
-        for word in cell.passed_over:
-            self.ignored[word] += 1
+        self.ignored.update(cell.passed_over)
         gate, flip_flop = self.design.gates.get(self.cell), self.design.flip_flops.get(self.cell)
         is_scope = self.cell == "" or self.cell in self.design.scopes
         if gate:

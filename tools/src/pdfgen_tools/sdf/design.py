@@ -68,8 +68,7 @@ class Design:
         self.clocks = {unescaped(clock.port) for clock in map_.clocks}
         self.constants = {unescaped(row.name) for row in map_.constants}
         self.active = map_.clocks[0].edge if map_.clocks else "rising"
-        self.drivers: Dict[Pin, Optional[int]] = {}
-        self.find_drivers(map_)
+        self.drivers = self.find_drivers(map_)
         self.scopes = self.find_scopes()
         self.wire_count = sum(len(gate.pins) for gate in self.gates.values()) + len(setups) + len(wires)
 
@@ -96,19 +95,16 @@ class Design:
         wire = wires.get(row.name)
         return OutputPort(self.circuit.line_of[row.line] if wire is None else self.circuit.gates[wire.gate].pins[0], wire)
 
-    def find_drivers(self, map_: Map) -> None:
-        """Finds the line that each output of a cell and each input port drives."""
-        behind = {row.name: row.line for row in map_.clock_to_qs}
-        for row in map_.inputs:
-            self.drivers[Pin("", unescaped(row.name))] = self.circuit.line_of[row.line]
-        for gate in map_.gates:
-            self.drivers[Pin(unescaped(gate.name), OUTPUT_OF_GATE)] = self.circuit.line_of[gate.line]
-        for row in map_.flip_flops:
-            self.drivers[Pin(unescaped(row.name), OUTPUT_OF_FLIP_FLOP)] = self.circuit.line_of[behind.get(row.name, row.line)]
-        for name in [unescaped(row.name) for row in map_.held] + sorted(self.clocks):
-            self.drivers[Pin("", name)] = None
-        for name in self.left_out:
-            self.drivers[Pin(name, OUTPUT_OF_GATE)] = self.drivers[Pin(name, OUTPUT_OF_FLIP_FLOP)] = None
+    def find_drivers(self, map_: Map) -> Dict[Pin, Optional[int]]:
+        """The line that each output of a cell and each input port drives."""
+        line_of, behind = self.circuit.line_of, {row.name: row.line for row in map_.clock_to_qs}
+        without_line = [Pin("", name) for name in [*(unescaped(row.name) for row in map_.held), *self.clocks]]
+        without_line += [Pin(name, output) for name in self.left_out for output in (OUTPUT_OF_GATE, OUTPUT_OF_FLIP_FLOP)]
+        return {
+            **{Pin("", unescaped(row.name)): line_of[row.line] for row in map_.inputs},
+            **{Pin(unescaped(gate.name), OUTPUT_OF_GATE): line_of[gate.line] for gate in map_.gates},
+            **{Pin(unescaped(row.name), OUTPUT_OF_FLIP_FLOP): line_of[behind.get(row.name, row.line)] for row in map_.flip_flops},
+            **dict.fromkeys(without_line)}
 
     def find_scopes(self) -> Set[str]:
         """The names of instances that have cells inside: beginnings of flattened names, up to a point."""
