@@ -134,6 +134,8 @@ CASES: Dict[str, Case] = {
     "no entry for the other value": Case(cell("u3", "(COND !B (IOPATH A Y (1) (2)))") + cell("u1", "(IOPATH A Y (1))"), {"n,0": (1, 1)}),
     "a condition that a gate needs": Case(cell("core/u4", "(COND B (IOPATH A Y (1) (2)))", "(COND !B (IOPATH A Y (8) (9)))"),
                                           {"w,0": (1, 2)}, judged=False),
+    "a condition on the pin that changes": Case(cell("u1", "(COND A (IOPATH A Y (1) (2)))", "(COND !A (IOPATH A Y (8) (9)))"),
+                                               {"n,0": (2, 8)}, judged=False),  # it has its new value
     "one without a condition replaces": Case(cell("u3", "(COND B (IOPATH A Y (9) (9)))", "(IOPATH A Y (3) (4))"), {"z,0": (4, 4)}),
     "a condition behind one without": Case(cell("u3", "(IOPATH A Y (3) (4))", "(COND B (IOPATH A Y (9) (1)))"), {"z,0": (3, 9)}, judged=False),
     "added to all": Case(cell("u3", "(COND !B (IOPATH A Y (1) (2)))", "(COND B (IOPATH A Y (3) (4)))") +
